@@ -57,7 +57,7 @@ module _ (session : SessionState) (old : HeapState) where
   pub bound_step : (slot_words k : ℕ) (text : List ℕ) (new : HeapState) → old.held ≡ empty
       → new ≡ bound_put old (class_with old.kind old slot_words) k → KeepsRules new → text ≡ bound_text (class_with old.kind old slot_words)
       → Step (run_at session old) (Bound slot_words k) (said text) (run_at session new)
-  bound_step slot_words k text new none is rules told =
+  bound_step slot_words k text new none is rules shown =
       let n : len old.held ≡ 0 = ap (λ (m : Held). len m) none ∙ len-empty nat_cmp Placed in
       let here : class_to_bound old slot_words ≡ class_with old.kind old slot_words =
       ap (λ i. if nat_eq i 0 then class_with old.kind old slot_words else None) n in
@@ -65,7 +65,7 @@ module _ (session : SessionState) (old : HeapState) where
         heap = is ∙ ap (λ (o : Option ℕ). bound_put old o k) (sym here);
         rules = rules;
         session = refl;
-        reply_is = ap said (told ∙ ap bound_text (sym here));
+        reply_is = ap said (shown ∙ ap bound_text (sym here));
       }
 
 -- an id is live, so no class gets a bound
@@ -87,6 +87,6 @@ pub steps_line : (k : Kind) (s : SessionState) (cost seen b m w : ℕ) (line aft
     → after_cost ≡ line ++ with_number (codes "steps last ") seen → after_bound ≡ after_cost ++ with_number (codes " bound ") b
     → after_moves ≡ after_bound ++ with_number (codes " moves ") m
     → after_words ≡ after_moves ++ with_number (codes " words ") w → after_words ≡ line ++ steps_text k s cost
-steps_line k s cost seen b m w line after_cost after_bound after_moves after_words kind told_cost told_bound told_moves told_words first second third fourth =
-    rw (fourth, third, second, first, told_cost, told_bound, told_moves, told_words)
+steps_line k s cost seen b m w line after_cost after_bound after_moves after_words kind shown_cost shown_bound shown_moves shown_words first second third fourth =
+    rw (fourth, third, second, first, shown_cost, shown_bound, shown_moves, shown_words)
     (elim kind [ inl e ↦ rw e (simp append_assoc) | inr e ↦ rw e (simp append_assoc) ])

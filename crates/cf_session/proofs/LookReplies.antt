@@ -1,4 +1,4 @@
--- What a command that only looks writes on the line.
+-- What a command that changes nothing writes on its line.
 use Rattle.std.proofs.Common.{◌≡◌, ◌∙◌, ◌+◌, ◌<◌, ◌≤◌, ◌/◌, ◌%◌, ◌^◌, ◌++◌, ℕ, List, ◌∷◌, Option, Some, None, Err, option_map}
 use Rattle.std.proofs.Common.{length, take, drop, nat_eq, false, refl, sym, ap, arith, lit<}
 use Rattle.std.specs.Prelude.{codes, slice_index}
@@ -26,10 +26,10 @@ use Rattle.cf_session.specs.declared.outcome.Outcome.{Outcome}
 use Rattle.cf_session.specs.declared.outcome.Outcome.TheVariants.{Other}
 use Rattle.cf_session.specs.declared.short.OneLine.TheVariants as reply
 
--- a text that was written after its lead
+-- a text that was written after the lead of its line
 pub written : (lead begun line text : List ℕ) (outcome : Outcome) → begun ≡ lead → line ≡ begun ++ text → length line < 9000 → outcome ≡ outcome_in text
     → SaidOn (lines_at lead line) text (reply.Written outcome)
-written lead begun line text outcome begins is short tells = (is ∙ ap (λ (l : List ℕ). l ++ text) begins, short, tells)
+written lead begun line text outcome begins is short shows = (is ∙ ap (λ (l : List ℕ). l ++ text) begins, short, shows)
 
 -- the text for a part that the object has, and for one that passes its end
 pub read_within : (x : Placed) (from count : ℕ) → from + count ≤ length x.bytes

@@ -21,7 +21,7 @@ use Rattle.cf_io.proofs.CallerLemmas.{puts_line}
 use Rattle.script_reader.specs.declared.command.Command.{Command}
 use Rattle.script_reader.specs.declared.command.Command.TheVariants.{Walk, Frag}
 use Rattle.run_model.specs.Answering.{Moment}
-use Rattle.run_model.specs.Replies.{object_of, read_text, told, write_text}
+use Rattle.run_model.specs.Replies.{object_of, read_text, shown, write_text}
 use Rattle.run_model.specs.Reports.{class_line, total_line, frag_of, walk_of, live_classes}
 use Rattle.run_model.specs.Runs.{Turn}
 use Rattle.run_model.specs.Sessions.{AreTied, IsGoing, RunState, SessionState}
@@ -31,7 +31,7 @@ use Rattle.run_model.proofs.CallerLemmas.{step_meets_bounds, step_going}
 use Rattle.cf_session.proofs.LookReplies.{fault_said, read_said}
 use Rattle.cf_session.specs.Apply.{Applies, outcome_in, outcome_of, run_at}
 use Rattle.cf_session.specs.Apply.{IsEnded}
-use Rattle.cf_session.specs.OneLine.{HasRoom, IsTold, SaidOn, lines_at}
+use Rattle.cf_session.specs.OneLine.{HasRoom, IsPut, SaidOn, lines_at}
 use Rattle.cf_session.specs.Short.{short_text}
 use Rattle.cf_session.specs.declared.short.OneLine.{OneLine}
 use Rattle.cf_session.specs.declared.short.OneLine.TheVariants as reply
@@ -43,14 +43,14 @@ use Rattle.cf_session.specs.declared.short.Short.{Short}
 turn : (old new : RunState) (c : Command) (reply : Reply) → IsGoing old → Step old c reply new → Turn old c reply new
 turn old new c reply going step = record { step = step; bounds = step_meets_bounds old new c reply going step }
 
-abbrev Told : Type 0
-Told = Option (List ℕ)
+abbrev Bytes : Type 0
+Bytes = Option (List ℕ)
 
-abbrev at : RunState → Told → Moment
+abbrev at : RunState → Bytes → Moment
 at run written = record { run = run; written = written }
 
 -- the reply of a step was put, with its outcome
-module _ (old new : RunState) (c : Command) (lead : List ℕ) (reply : Reply) (w y : Told) (going : IsGoing old) (step : Step old c reply new) where
+module _ (old new : RunState) (c : Command) (lead : List ℕ) (reply : Reply) (w y : Bytes) (going : IsGoing old) (step : Step old c reply new) where
   pub applied : (outcome : Outcome) → outcome ≡ outcome_of reply → y ≡ appended w (led lead reply)
       → Applies (at old w) (record { command = c; lead = lead }) (Ok outcome) (at new y)
   applied outcome is put = (record { reply = reply; turn = turn old new c reply going step; written = put }, is)
@@ -74,39 +74,39 @@ walk_other HalfFit s = refl
 pub frag_other : (s : HeapState) → Other ≡ outcome_of (frag_of s)
 frag_other s = refl
 
-pub reported : (old new : RunState) (c : Command) (lead : List ℕ) (reply : Reply) (w y : Told) (r : Result Unit Failed) (outcome : Outcome)
+pub reported : (old new : RunState) (c : Command) (lead : List ℕ) (reply : Reply) (w y : Bytes) (r : Result Unit Failed) (outcome : Outcome)
     (answer : Result Outcome Failed) → IsGoing old → Step old c reply new → outcome ≡ outcome_of reply
     → Puts w (led lead reply) r y → IsEnded r outcome answer → Applies (at old w) (record { command = c; lead = lead }) answer (at new y)
-reported old new c lead reply w y (Ok u) outcome answer going step told put is =
+reported old new c lead reply w y (Ok u) outcome answer going step shown put is =
     let P : Result Outcome Failed → Type 0 = λ a. Applies (at old w) (record { command = c; lead = lead }) a (at new y) in
-    subst P (sym is) (applied old new c lead reply w y going step outcome told put)
-reported old new c lead reply w y (Err e) outcome answer going step told put is =
+    subst P (sym is) (applied old new c lead reply w y going step outcome shown put)
+reported old new c lead reply w y (Err e) outcome answer going step shown put is =
     let P : Result Outcome Failed → Type 0 = λ a. Applies (at old w) (record { command = c; lead = lead }) a (at new y) in
     subst P (sym is) (applied_cut old new c lead reply w y going step e put)
 
-pub reported_walk : (old : RunState) (lead : List ℕ) (w y : Told) (c : Command) (r : Result Unit Failed) (answer : Result Outcome Failed) → c ≡ Walk
+pub reported_walk : (old : RunState) (lead : List ℕ) (w y : Bytes) (c : Command) (r : Result Unit Failed) (answer : Result Outcome Failed) → c ≡ Walk
     → IsGoing old
     → Puts w (led lead (walk_of old.heap.kind old.heap)) r y → IsEnded r Other answer
     → Applies (at old w) (record { command = c; lead = lead }) answer (at old y)
-reported_walk old lead w y c r answer is going put told =
+reported_walk old lead w y c r answer is going put shown =
     let P : Command → Type 0 = λ k. Applies (at old w) (record { command = k; lead = lead }) answer (at old y) in
     let other = walk_other old.heap.kind old.heap in
-    subst P (sym is) (reported old old Walk lead (walk_of old.heap.kind old.heap) w y r Other answer going (refl, refl) other put told)
+    subst P (sym is) (reported old old Walk lead (walk_of old.heap.kind old.heap) w y r Other answer going (refl, refl) other put shown)
 
-pub reported_frag : (old : RunState) (lead : List ℕ) (w y : Told) (c : Command) (r : Result Unit Failed) (answer : Result Outcome Failed) → c ≡ Frag
+pub reported_frag : (old : RunState) (lead : List ℕ) (w y : Bytes) (c : Command) (r : Result Unit Failed) (answer : Result Outcome Failed) → c ≡ Frag
     → IsGoing old
     → Puts w (led lead (frag_of old.heap)) r y → IsEnded r Other answer
     → Applies (at old w) (record { command = c; lead = lead }) answer (at old y)
-reported_frag old lead w y c r answer is going put told =
+reported_frag old lead w y c r answer is going put shown =
     let P : Command → Type 0 = λ k. Applies (at old w) (record { command = k; lead = lead }) answer (at old y) in
-    subst P (sym is) (reported old old Frag lead (frag_of old.heap) w y r Other answer going (refl, refl) (frag_other old.heap) put told)
+    subst P (sym is) (reported old old Frag lead (frag_of old.heap) w y r Other answer going (refl, refl) (frag_other old.heap) put shown)
 
 -- a text that was put after a step
-pub told_step : (old new : RunState) (asked c : Command) (lead text : List ℕ) (w y : Told) (answer : Result Outcome Failed) → asked ≡ c → IsGoing old
-    → Step old c (said text) new → IsTold text lead w answer y → Applies (at old w) (record { command = asked; lead = lead }) answer (at new y)
-told_step old new asked c lead text w y answer is going step told =
+pub shown_step : (old new : RunState) (asked c : Command) (lead text : List ℕ) (w y : Bytes) (answer : Result Outcome Failed) → asked ≡ c → IsGoing old
+    → Step old c (said text) new → IsPut text lead w answer y → Applies (at old w) (record { command = asked; lead = lead }) answer (at new y)
+shown_step old new asked c lead text w y answer is going step shown =
     subst (λ (k : Command). Applies (at old w) (record { command = k; lead = lead }) answer (at new y)) (sym is)
-    (reported old new c lead (said text) w y told.written (outcome_in text) answer going step refl told.puts told.ended)
+    (reported old new c lead (said text) w y shown.written (outcome_in text) answer going step refl shown.puts shown.ended)
 
 -- a reply on the line has room for the line feed
 pub has_room : (lead line text : List ℕ) (o : OneLine) → SaidOn (lines_at lead line) text o → HasRoom line o
@@ -114,64 +114,64 @@ has_room lead line text (reply.Short short) on = tt
 has_room lead line text (reply.Written outcome) on = on.1
 
 -- a short reply that was put
-pub told_short : (lead line text : List ℕ) (w y : Told) (o : OneLine) (short : Short) (answer : Result Outcome Failed) → o ≡ reply.Short short
-    → SaidOn (lines_at lead line) text o → IsTold (short_text short) lead w answer y → IsTold text lead w answer y
-told_short lead line text w y o short answer is on told =
+pub shown_short : (lead line text : List ℕ) (w y : Bytes) (o : OneLine) (short : Short) (answer : Result Outcome Failed) → o ≡ reply.Short short
+    → SaidOn (lines_at lead line) text o → IsPut (short_text short) lead w answer y → IsPut text lead w answer y
+shown_short lead line text w y o short answer is on shown =
     let same : short_text short ≡ text = subst (λ (p : OneLine). SaidOn (lines_at lead line) text p) is on in
-    subst (λ (t : List ℕ). IsTold t lead w answer y) same told
+    subst (λ (t : List ℕ). IsPut t lead w answer y) same shown
 
 -- a line that was written after its lead, and put
-pub told_written : (lead line text : List ℕ) (w y : Told) (o : OneLine) (outcome : Outcome) (r : Result Unit Failed) (answer : Result Outcome Failed)
+pub shown_written : (lead line text : List ℕ) (w y : Bytes) (o : OneLine) (outcome : Outcome) (r : Result Unit Failed) (answer : Result Outcome Failed)
     → o ≡ reply.Written outcome → SaidOn (lines_at lead line) text o → Puts w (line ++ 10 ∷ []) r y → IsEnded r outcome answer
-    → IsTold text lead w answer y
-told_written lead line text w y o outcome r answer is on put told =
+    → IsPut text lead w answer y
+shown_written lead line text w y o outcome r answer is on put shown =
     let here : SaidOn (lines_at lead line) text (reply.Written outcome) = subst (λ (p : OneLine). SaidOn (lines_at lead line) text p) is on in
     record {
       written = r;
       puts = puts_line w y lead text line r here.0 put;
-      ended = subst (λ (p : Outcome). IsEnded r p answer) here.2 told;
+      ended = subst (λ (p : Outcome). IsEnded r p answer) here.2 shown;
     }
 
 -- the bytes that were read, spelled and put
-pub told_bytes : (s : HeapState) (part : Part) (count : ℕ) (bytes lead seen : List ℕ) (w y : Told) (r : Result Unit Failed) (answer : Result Outcome Failed)
+pub shown_bytes : (s : HeapState) (part : Part) (count : ℕ) (bytes lead seen : List ℕ) (w y : Bytes) (r : Result Unit Failed) (answer : Result Outcome Failed)
     → ReadsBytes s part count bytes → seen ≡ led lead (said (codes "=" ++ encode_lower bytes)) → Puts w seen r y → IsEnded r Good answer
-    → IsTold (read_text (get s.held part.number) part.from count) lead w answer y
-told_bytes s part count bytes lead seen w y r answer reads spelled put told =
-    subst (λ (t : List ℕ). IsTold t lead w answer y) (sym (read_said s part count bytes reads))
-    (record { written = r; puts = subst (λ (l : List ℕ). Puts w l r y) spelled put; ended = told })
+    → IsPut (read_text (get s.held part.number) part.from count) lead w answer y
+shown_bytes s part count bytes lead seen w y r answer reads spelled put shown =
+    subst (λ (t : List ℕ). IsPut t lead w answer y) (sym (read_said s part count bytes reads))
+    (record { written = r; puts = subst (λ (l : List ℕ). Puts w l r y) spelled put; ended = shown })
 
 -- a reply for an object is one for its id
-pub told_named : (session : SessionState) (heap : HeapState) (id h from count len : ℕ) (lead : List ℕ) (w y : Told) (answer : Result Outcome Failed)
-    → Some h ≡ get session.ids id → IsTold (read_text (get heap.held h) from count) lead w answer y → count ≡ len
-    → IsTold (read_text (object_of (run_at session heap) id) from len) lead w answer y
-told_named session heap id h from count len lead w y answer named put same =
-    let there : IsTold (read_text (get heap.held h) from len) lead w answer y =
-    subst (λ (n : ℕ). IsTold (read_text (get heap.held h) from n) lead w answer y) same put in
-    subst (λ (o : Option ℕ). IsTold (read_text (elim o [ None ↦ None | Some q ↦ get heap.held q ]) from len) lead w answer y) named there
+pub shown_named : (session : SessionState) (heap : HeapState) (id h from count len : ℕ) (lead : List ℕ) (w y : Bytes) (answer : Result Outcome Failed)
+    → Some h ≡ get session.ids id → IsPut (read_text (get heap.held h) from count) lead w answer y → count ≡ len
+    → IsPut (read_text (object_of (run_at session heap) id) from len) lead w answer y
+shown_named session heap id h from count len lead w y answer named put same =
+    let there : IsPut (read_text (get heap.held h) from len) lead w answer y =
+    subst (λ (n : ℕ). IsPut (read_text (get heap.held h) from n) lead w answer y) same put in
+    subst (λ (o : Option ℕ). IsPut (read_text (elim o [ None ↦ None | Some q ↦ get heap.held q ]) from len) lead w answer y) named there
 
 -- a refused read, by its cause
-pub told_fault : (s : HeapState) (part : Part) (count : ℕ) (fault : AccessFault) (short : Short) (lead : List ℕ) (w y : Told)
-    (answer : Result Outcome Failed) → IsFault s part count fault → short_text short ≡ write_text (Err fault) → IsTold (short_text short) lead w answer y
-    → IsTold (read_text (get s.held part.number) part.from count) lead w answer y
-told_fault s part count fault short lead w y answer cause is told =
-    subst (λ (t : List ℕ). IsTold t lead w answer y) (is ∙ fault_said s part count fault cause) told
+pub shown_fault : (s : HeapState) (part : Part) (count : ℕ) (fault : AccessFault) (short : Short) (lead : List ℕ) (w y : Bytes)
+    (answer : Result Outcome Failed) → IsFault s part count fault → short_text short ≡ write_text (Err fault) → IsPut (short_text short) lead w answer y
+    → IsPut (read_text (get s.held part.number) part.from count) lead w answer y
+shown_fault s part count fault short lead w y answer cause is shown =
+    subst (λ (t : List ℕ). IsPut t lead w answer y) (is ∙ fault_said s part count fault cause) shown
 
 -- the line of a short reply without a lead
-pub put_bare : (w y : Told) (lead text seen : List ℕ) (r : Result Unit Failed) → length lead ≡ 0 → seen ≡ text ++ 10 ∷ [] → Puts w seen r y
+pub put_bare : (w y : Bytes) (lead text seen : List ℕ) (r : Result Unit Failed) → length lead ≡ 0 → seen ≡ text ++ 10 ∷ [] → Puts w seen r y
     → Puts w (led lead (said text)) r y
 put_bare w y lead text seen r none is put =
     puts_line w y lead text text r (ap (λ (l : List ℕ). l ++ text) (sym (nil_from_length lead none)))
     (subst (λ (s : List ℕ). Puts w s r y) is put)
 
 -- and of one after its lead
-pub put_after : (w y : Told) (lead text seen before line : List ℕ) (r : Result Unit Failed) → before ≡ lead → line ≡ before ++ seen → seen ≡ text ++ 10 ∷ []
+pub put_after : (w y : Bytes) (lead text seen before line : List ℕ) (r : Result Unit Failed) → before ≡ lead → line ≡ before ++ seen → seen ≡ text ++ 10 ∷ []
     → Puts w line r y → Puts w (led lead (said text)) r y
 put_after w y lead text seen before line r begun pushed is put =
     puts_line w y lead text (lead ++ text) r refl
     (subst (λ (s : List ℕ). Puts w s r y) (pushed ∙ ap₂ (λ (b s : List ℕ). b ++ s) begun is ∙ sym (append_assoc lead text (10 ∷ []))) put)
 
 -- a run that goes on does so after an answer
-pub applied_going : (old new : RunState) (c : Command) (lead : List ℕ) (w y : Told) (answer : Result Outcome Failed) → IsGoing old
+pub applied_going : (old new : RunState) (c : Command) (lead : List ℕ) (w y : Bytes) (answer : Result Outcome Failed) → IsGoing old
     → Applies (at old w) (record { command = c; lead = lead }) answer (at new y) → IsGoing new
 applied_going old new c lead w y (Ok outcome) going a = step_going old new c a.0.reply going a.0.turn.step
 applied_going old new c lead w y (Err e) going a = step_going old new c a.reply going a.turn.step

@@ -29,7 +29,7 @@ HasRoom line (reply.Short short) = Unit {0}
 HasRoom line (reply.Written outcome) = length line < line_room
 
 -- the text was put after its lead, with its outcome; or a prefix of it was put
-pub record IsTold (text lead : List ℕ) (before : Option (List ℕ)) (answer : Result Outcome Failed) (after : Option (List ℕ)) : Type 0 where
+pub record IsPut (text lead : List ℕ) (before : Option (List ℕ)) (answer : Result Outcome Failed) (after : Option (List ℕ)) : Type 0 where
   pub written : Result Unit Failed
   pub puts : Puts before (led lead (said text)) written after
   pub ended : IsEnded written (outcome_in text) answer

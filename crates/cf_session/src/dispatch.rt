@@ -8,10 +8,10 @@ ghost use Rattle.script_reader.specs.Owned.{owned_command};
 ghost use Rattle.run_model.specs.Sessions.{IsGoing};
 
 use crate::changes::{free, malloc, resize, set_bound, write};
-use crate::looks::{block, peek, place, read, tell_steps};
+use crate::looks::{block, peek, place, put_steps_line, read};
 use crate::outcome::Outcome;
 use crate::records::Records;
-use crate::reply::{ended, tell, tell_short};
+use crate::reply::{ended, put_reply, put_short_line};
 use crate::short::Short;
 use cf_base::Failed;
 use cf_io::{Line, Sink};
@@ -20,8 +20,8 @@ use frag_report::{frag_line, walk_lines};
 use script_reader::CommandRef;
 use step_ledger::Steps;
 
-/// Does the command and writes its reply, each line after the lead, in one chunk. `r` reads bytes into
-/// `room` and writes their digits into `text`.
+/// Does the command and writes its reply: each line, after the lead, in one call of the sink. `r` reads
+/// bytes into `room` and writes their digits into `text`.
 // One match, so that the compiler inlines the one branch for a caller that knows the command.
 pub(crate) fn answer<H: Manager, K: Sink>(
     records: &mut Records,
@@ -49,11 +49,11 @@ pub(crate) fn answer<H: Manager, K: Sink>(
 {
     match c {
         CommandRef::Malloc { id, bytes } => {
-            tell_short(malloc(records, heap, id, bytes, steps), lead, line, out)
+            put_short_line(malloc(records, heap, id, bytes, steps), lead, line, out)
         }
-        CommandRef::Free { id } => tell_short(free(records, heap, id, steps), lead, line, out),
+        CommandRef::Free { id } => put_short_line(free(records, heap, id, steps), lead, line, out),
         CommandRef::Write { id, at, bytes } => {
-            tell_short(write(records, heap, id, at, bytes, steps), lead, line, out)
+            put_short_line(write(records, heap, id, at, bytes, steps), lead, line, out)
         }
         CommandRef::Read { id, at, len } => {
             read(
@@ -61,29 +61,34 @@ pub(crate) fn answer<H: Manager, K: Sink>(
             )
         }
         CommandRef::Resize { id, bytes } => {
-            tell_short(resize(records, heap, id, bytes, steps), lead, line, out)
+            put_short_line(resize(records, heap, id, bytes, steps), lead, line, out)
         }
         CommandRef::Bound { slot_words, k } => {
-            tell_short(set_bound(records, heap, slot_words, k), lead, line, out)
+            put_short_line(set_bound(records, heap, slot_words, k), lead, line, out)
         }
-        CommandRef::Place { id } => tell(
+        CommandRef::Place { id } => put_reply(
             place(records, heap, id, lead, line, steps),
             lead,
             line,
             out,
         ),
         CommandRef::Block { id, i } => {
-            tell(
+            put_reply(
                 block(records, heap, id, i, lead, line, steps),
                 lead,
                 line,
                 out,
             )
         }
-        CommandRef::Peek { word } => tell(peek(heap, word, lead, line, steps), lead, line, out),
-        CommandRef::Steps => tell(tell_steps(records, heap, lead, line), lead, line, out),
+        CommandRef::Peek { word } => put_reply(
+            peek(heap, word, lead, line, steps),
+            lead,
+            line,
+            out,
+        ),
+        CommandRef::Steps => put_reply(put_steps_line(records, heap, lead, line), lead, line, out),
         CommandRef::Walk => ended(walk_lines(heap, lead, line, out, steps), Outcome::Other),
         CommandRef::Frag => ended(frag_line(heap, lead, line, out, steps), Outcome::Other),
-        _ => tell_short(Short::Lacking, lead, line, out),
+        _ => put_short_line(Short::Lacking, lead, line, out),
     }
 }

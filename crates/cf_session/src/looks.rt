@@ -5,7 +5,7 @@ ghost use Rattle.std.specs.FinMap as map;
 ghost use Rattle.cf_io.specs.Feeds.{FailsLast};
 ghost use Rattle.cf_io.specs.Lines.{line_room};
 ghost use Rattle.hex.specs.Hex.{encode_lower};
-ghost use Rattle.cf_session.specs.OneLine.{IsTold, SaidOn, lines_at};
+ghost use Rattle.cf_session.specs.OneLine.{IsPut, SaidOn, lines_at};
 ghost use Rattle.cf_session.specs.Records.{run_with, session_of};
 ghost use Rattle.run_model.specs.Replies.{block_text_at, object_of, peek_text, place_text, read_text, steps_text};
 ghost use Rattle.run_model.specs.Sessions.{AreTied};
@@ -13,7 +13,7 @@ ghost use Rattle.run_model.specs.Texts.{led, said};
 
 use crate::outcome::Outcome;
 use crate::records::Records;
-use crate::reply::{ended, tell_short};
+use crate::reply::{ended, put_short_line};
 use crate::short::{OneLine, Short, fault_reply};
 use cf_base::{Failed, Handle, Kind};
 use cf_io::{Line, Sink, begin_line, push_field, put_all};
@@ -40,14 +40,14 @@ pub(crate) fn read<H: Manager, K: Sink>(
     requires place { length room.old ≡ 4096 }
     requires text { length text.old ≡ 8202 }
     requires lead { length lead.now ≤ 8 }
-    ensures told { IsTold (read_text (object_of (run_with records.now (H.state heap.now)) id) at len) lead.now
+    ensures shown { IsPut (read_text (object_of (run_with records.now (H.state heap.now)) id) at len) lead.now
         (K.written out.old) result (K.written out.new) }
     ensures grows { K.faults out.old ≤ K.faults out.new }
     ensures same { OnOk result (K.faults out.new ≡ K.faults out.old) }
     ensures failed { OnErr result (FailsLast (K.faults out.old) (K.faults out.new) (K.last_failed out.new)) }
 {
     let Some(h) = records.ids.handle(id) else {
-        return tell_short(Short::Unknown, lead, line, out);
+        return put_short_line(Short::Unknown, lead, line, out);
     };
     read_part(
         heap,
@@ -79,7 +79,7 @@ fn read_part<H: Manager, K: Sink>(
     requires few { length room.old ≤ 4096 }
     requires text { length text.old ≡ 8202 }
     requires lead { length lead.now ≤ 8 }
-    ensures told { IsTold (read_text (map.get (H.state heap.now).held h.0) at (length room.old)) lead.now
+    ensures shown { IsPut (read_text (map.get (H.state heap.now).held h.0) at (length room.old)) lead.now
         (K.written out.old) result (K.written out.new) }
     ensures grows { K.faults out.old ≤ K.faults out.new }
     ensures same { OnOk result (K.faults out.new ≡ K.faults out.old) }
@@ -90,7 +90,7 @@ fn read_part<H: Manager, K: Sink>(
             let n = spell_bytes(text, lead, room);
             ended(put_all(out, &text[..n]), Outcome::Good)
         }
-        Err(fault) => tell_short(fault_reply(fault), lead, line, out),
+        Err(fault) => put_short_line(fault_reply(fault), lead, line, out),
     }
 }
 
@@ -196,7 +196,7 @@ pub(crate) fn peek<H: Manager>(
 }
 
 /// `steps`: writes the cost of the last call; with pages also its bound, and what moved.
-pub(crate) fn tell_steps<H: Manager>(
+pub(crate) fn put_steps_line<H: Manager>(
     records: &Records,
     heap: &H,
     lead: &[u8],

@@ -2,7 +2,7 @@
 ghost use Rattle.std.specs.Prelude.{◌≤◌, List, ℕ, OnErr, length, OnOk, ◌≡◌};
 ghost use Rattle.cf_io.specs.Feeds.{Puts, FailsLast};
 ghost use Rattle.cf_session.specs.Apply.{IsEnded};
-ghost use Rattle.cf_session.specs.OneLine.{HasRoom, IsTold, SaidOn, lines_at};
+ghost use Rattle.cf_session.specs.OneLine.{HasRoom, IsPut, SaidOn, lines_at};
 ghost use Rattle.cf_session.specs.Short.{short_text};
 ghost use Rattle.run_model.specs.Texts.{led, said};
 
@@ -22,7 +22,7 @@ pub fn ended(written: Result<(), Failed>, outcome: Outcome) -> Result<Outcome, F
 }
 
 /// Puts a reply of one line: a short one, or the text on the line after the lead.
-pub(crate) fn tell<K: Sink>(
+pub(crate) fn put_reply<K: Sink>(
     reply: OneLine,
     lead: &[u8],
     line: &mut Line,
@@ -30,27 +30,27 @@ pub(crate) fn tell<K: Sink>(
 ) -> Result<Outcome, Failed>
     requires lead { length lead.now ≤ 8 }
     requires room { HasRoom line.old reply }
-    ensures told { (text : List ℕ) → SaidOn (lines_at lead.now line.old) text reply
-        → IsTold text lead.now (K.written out.old) result (K.written out.new) }
+    ensures shown { (text : List ℕ) → SaidOn (lines_at lead.now line.old) text reply
+        → IsPut text lead.now (K.written out.old) result (K.written out.new) }
     ensures grows { K.faults out.old ≤ K.faults out.new }
     ensures same { OnOk result (K.faults out.new ≡ K.faults out.old) }
     ensures failed { OnErr result (FailsLast (K.faults out.old) (K.faults out.new) (K.last_failed out.new)) }
 {
     match reply {
-        OneLine::Short(short) => tell_short(short, lead, line, out),
+        OneLine::Short(short) => put_short_line(short, lead, line, out),
         OneLine::Written(outcome) => ended(put_line(line, out), outcome),
     }
 }
 
 /// Puts a short reply after the lead.
-pub(crate) fn tell_short<K: Sink>(
+pub(crate) fn put_short_line<K: Sink>(
     short: Short,
     lead: &[u8],
     line: &mut Line,
     out: &mut K,
 ) -> Result<Outcome, Failed>
     requires { length lead.now ≤ 8 }
-    ensures told { IsTold (short_text short) lead.now (K.written out.old) result (K.written out.new) }
+    ensures shown { IsPut (short_text short) lead.now (K.written out.old) result (K.written out.new) }
     ensures grows { K.faults out.old ≤ K.faults out.new }
     ensures same { OnOk result (K.faults out.new ≡ K.faults out.old) }
     ensures failed { OnErr result (FailsLast (K.faults out.old) (K.faults out.new) (K.last_failed out.new)) }

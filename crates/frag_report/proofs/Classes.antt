@@ -43,12 +43,12 @@ class_past c n x is = elim (cases_lt c n) [
   | inr le ↦ le
 ]
 
-abbrev Told : Type 0
-Told = Option (List ℕ)
+abbrev Written : Type 0
+Written = Option (List ℕ)
 
 -- lines were put, and then more lines; or the first lines were cut
-module _ (lead : List ℕ) (lines more : Reply) (w y : Told) where
-  pub lines_then : {T : Type 0} (x : Told) (r : Result T Failed) → x ≡ appended w (led lead lines) → Puts x (led lead more) r y
+module _ (lead : List ℕ) (lines more : Reply) (w y : Written) where
+  pub lines_then : {T : Type 0} (x : Written) (r : Result T Failed) → x ≡ appended w (led lead lines) → Puts x (led lead more) r y
       → Puts w (led lead (lines ++ more)) r y
   lines_then {T = T} x r first next =
       subst (λ (bytes : List ℕ). Puts {T = T} w bytes r y) (sym (led-append lead lines more)) (puts_then w x y (led lead lines) (led lead more) r first next)
@@ -76,10 +76,10 @@ module _ (p : Paging) (m : Held) where
       ∙ ap (λ (r : Reply). classes_below p m c ++ r) (line_is c ∙ ap class_if_live (sym is))
 
   -- the lines of all classes below c are put, and then that of c
-  pub class_put : (lead : List ℕ) (c : ℕ) (f : Figures) (w x y : Told) → f ≡ figures_of p m c → x ≡ appended w (led lead (classes_below p m c))
+  pub class_put : (lead : List ℕ) (c : ℕ) (f : Figures) (w x y : Written) → f ≡ figures_of p m c → x ≡ appended w (led lead (classes_below p m c))
       → y ≡ appended x (led lead (class_if_live f)) → y ≡ appended w (led lead (classes_below p m (c + 1)))
   class_put lead c f w x y is first next =
-      next ∙ ap (λ (o : Told). appended o (led lead (class_if_live f))) first
+      next ∙ ap (λ (o : Written). appended o (led lead (class_if_live f))) first
       ∙ appended_then w (led lead (classes_below p m c)) (led lead (class_if_live f))
       ∙ ap (appended w) (sym (led-append lead (classes_below p m c) (class_if_live f)) ∙ ap (led lead) (sym (below_more c f is)))
 
@@ -94,7 +94,7 @@ module _ (p : Paging) (m : Held) where
             ∙ ap (λ (r : Reply). r ++ lines_of p m (range_with_len (0 + (c + 1)) (n - (c + 1)))) (below_more c f is),
       )
 
-  pub class_cut : (lead : List ℕ) (c n : ℕ) (f : Figures) (w x y : Told) (e : Failed) → c < n → f ≡ figures_of p m c
+  pub class_cut : (lead : List ℕ) (c n : ℕ) (f : Figures) (w x y : Written) (e : Failed) → c < n → f ≡ figures_of p m c
       → x ≡ appended w (led lead (classes_below p m c)) → Puts {T = Unit {0}} x (led lead (class_if_live f)) (Err e) y
       → Puts {T = Unit {0}} w (led lead (classes_below p m n)) (Err e) y
   class_cut lead c n f w x y e lt is first cut =

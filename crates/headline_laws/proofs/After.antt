@@ -26,7 +26,7 @@ use Rattle.run_model.specs.Replies.{malloc_text, resize_text}
 use Rattle.run_model.specs.Steps.{class_to_bound}
 use Rattle.run_model.specs.Texts.{Reply, said}
 use Rattle.run_model.proofs.CallerLemmas.{bytes_held, unmoved_changes_cost}
-use Rattle.run_laws.specs.Told.{changed, done_by, is_ok}
+use Rattle.run_laws.specs.IdBytes.{changed, done_by, is_ok}
 use Rattle.transcript_laws.specs.ById.{ById}
 use Rattle.transcript_laws.specs.Replies.{bounds_with, class_bounded}
 use Rattle.headline_laws.specs.Headline.{Frees, IsAnswer, Mallocs, RefitsElsewhere, RefitsInPlace, Resizes, Writes, with_object}
@@ -37,11 +37,11 @@ abbrev pub view : ShownHeap → ById
 view t = record { kind = t.heap.kind; profile = t.heap.profile; bounds = t.heap.bounds; objects = objects t.heap.held }
 
 -- the class whose bound a `k` line sets; `None` if an object is live, if no class has such slots, and with blocks
-abbrev pub class_told : ById → ℕ → Option ℕ
-class_told v slot_words = elim (family_of v.kind) [ paged ↦ class_bounded v slot_words | tiled ↦ None ]
+abbrev pub class_shown : ById → ℕ → Option ℕ
+class_shown v slot_words = elim (family_of v.kind) [ paged ↦ class_bounded v slot_words | tiled ↦ None ]
 
 abbrev pub bounds_by : ById → Command → List ℕ
-bounds_by v (Bound slot_words k) = bounds_with v.bounds (class_told v slot_words) k
+bounds_by v (Bound slot_words k) = bounds_with v.bounds (class_shown v slot_words) k
 bounds_by v command = v.bounds
 
 -- after a command and its reply
@@ -146,11 +146,11 @@ module _ (t new : ShownHeap) where
           ∙ insert_again (objects t.heap.held) id (resized x.bytes n)
 
   -- k
-  class_in : (f : Family) → family_of t.heap.kind ≡ f → (words : ℕ) → class_to_bound t.heap words ≡ class_told (view t) words
-  class_in paged is words = rw (is, class_told, class_with) (ap (λ n. cond (nat_eq n 0) (position (λ w. nat_eq w words) (paging_in t.heap).sizes) None) (sym (len-objects t.heap.held)))
-  class_in tiled is words = rw (is, class_told, class_with) (sym (either (nat_eq (len t.heap.held) 0) None))
+  class_in : (f : Family) → family_of t.heap.kind ≡ f → (words : ℕ) → class_to_bound t.heap words ≡ class_shown (view t) words
+  class_in paged is words = rw (is, class_shown, class_with) (ap (λ n. cond (nat_eq n 0) (position (λ w. nat_eq w words) (paging_in t.heap).sizes) None) (sym (len-objects t.heap.held)))
+  class_in tiled is words = rw (is, class_shown, class_with) (sym (either (nat_eq (len t.heap.held) 0) None))
 
-  pub class_is : (words : ℕ) → class_to_bound t.heap words ≡ class_told (view t) words
+  pub class_is : (words : ℕ) → class_to_bound t.heap words ≡ class_shown (view t) words
   class_is words = class_in (family_of t.heap.kind) refl words
 
   put_view : (c : Option ℕ) (k : ℕ) (reply : Reply) → new ≡ record t { heap = bound_put t.heap c k } → view new ≡ record (view t) { bounds = bounds_with t.heap.bounds c k }

@@ -5,7 +5,7 @@ use Rattle.std.specs.List.{range_with_len}
 use Rattle.std.specs.FinMap.{get, len}
 use Rattle.cf_lemmas.proofs.Ranges.{one}
 use Rattle.cf_lemmas.proofs.Renaming.{CountAlike}
-use Rattle.page_model.specs.Arrangement.{IsSound, LacksRoom, class_at, home_pages, is_on, live, not_full_pages, objects_on, standing_on, used_pages}
+use Rattle.page_model.specs.Arrangement.{IsSound, LacksRoom, class_at, home_pages, is_on, live, not_full_pages, objects_on, count_on, used_pages}
 use Rattle.page_model.specs.Figures.{asked_bytes, figures_of, taken_bytes, totals_of}
 use Rattle.page_model.specs.Held.{Held, Placed, objects}
 use Rattle.page_model.specs.Paging.{Paging, bound_of, class_for, classes, page_of, slot_words, slots_of}
@@ -17,8 +17,8 @@ module _ (p : Paging) (m n : Held) (a : CountAlike m n) where
   unfolding objects_on
   on_alike c page = a.sums (λ x. one (is_on p c page x))
 
-  standing_alike : (page : ℕ) → standing_on p n page ≡ standing_on p m page
-  unfolding standing_on
+  standing_alike : (page : ℕ) → count_on p n page ≡ count_on p m page
+  unfolding count_on
   standing_alike page = a.sums (λ (x : Placed). one (nat_eq (page_of p x.place) page))
 
   not_full_alike : (c : ℕ) → not_full_pages p n c ≡ not_full_pages p m c

@@ -66,6 +66,7 @@ module _ (kind : Kind) where
       let held : held_by_id s.session.ids s.heap.held ≡ empty = (λ i. held_by_id (b i).ids s.heap.held) ∙ none_by_id s.heap.held in
       λ i. record {
         heap = record (begins.heap i) { held = held i; words = []; order = None };
+        numbers = (b i).ids;
         step_bound = (b i).bound;
         moves = (b i).moves;
         moved_words = (b i).words;

@@ -38,27 +38,27 @@ use Rattle.run_model.specs.Reports.{class_line, frag_line, frag_of, live_classes
 use Rattle.run_model.specs.Steps.{bound_text}
 use Rattle.run_model.specs.Texts.{Reply, said}
 use Rattle.run_model.proofs.CallerLemmas.{bytes_held, bytes_missing}
-use Rattle.run_laws.specs.Told.{changed, is_ok}
+use Rattle.run_laws.specs.IdBytes.{changed, is_ok}
 use Rattle.transcript_laws.specs.AtOne.{classes_in_use, figures_at_one, totals_at_one, walk_at_one}
 use Rattle.transcript_laws.specs.ById.{ById, begun}
 use Rattle.transcript_laws.specs.Replies.{after_by_id, bounds_with, class_bounded, free_said, malloc_fault, malloc_leaves, malloc_said, ok_or, passes_pages}
 use Rattle.transcript_laws.specs.Replies.{put_unless, read_said, reply_by_id, resize_fault, resize_leaves, resize_said, write_leaves, write_said}
-use Rattle.transcript_laws.specs.Transcripts.{ArePlaceless, IsAtOne, IsPlaceless, StaysAtOne, TellsNoPlace, IsItemAtOne, after_at, replies_from, reply_at, transcript}
+use Rattle.transcript_laws.specs.Transcripts.{ArePlaceless, IsAtOne, IsPlaceless, StaysAtOne, ShowsNoPlace, IsItemAtOne, after_at, replies_from, reply_at, transcript}
 use Rattle.transcript_laws.proofs.CallerLemmas.{figures_are, totals_are}
 use Rattle.transcript_laws.proofs.CallerLemmas.{said_alike}
 use Rattle.headline_laws.specs.Headline.{Answers, Frees, IsAnswer, Mallocs, MeetsHeadline, Opens, RefitsElsewhere, RefitsInPlace, Resizes, Writes}
 use Rattle.headline_laws.specs.ShownHeap.{IsArranged, ShownHeap, heap_opened}
-use Rattle.headline_laws.proofs.After.{changed_there, class_is, class_told, either, view, view_after, view_is}
+use Rattle.headline_laws.proofs.After.{changed_there, class_is, class_shown, either, view, view_after, view_is}
 
-freed_told : (o : Option (List ℕ)) (m : Objects) (id : ℕ) → get m id ≡ o → remove m id ≡ cond (is_ok (said (free_said o))) (remove m id) m
-freed_told None m id is = remove_missing m id is
-freed_told (Some v) m id is = refl
+freed_shown : (o : Option (List ℕ)) (m : Objects) (id : ℕ) → get m id ≡ o → remove m id ≡ cond (is_ok (said (free_said o))) (remove m id) m
+freed_shown None m id is = remove_missing m id is
+freed_shown (Some v) m id is = refl
 
-written_told : (o : Option (List ℕ)) (m : Objects) (id at : ℕ) (bytes : List ℕ) → get m id ≡ o
+written_shown : (o : Option (List ℕ)) (m : Objects) (id at : ℕ) (bytes : List ℕ) → get m id ≡ o
     → write_leaves o m (record { id = id; at = at; bytes = bytes })
     ≡ cond (is_ok (said (write_said o at (length bytes)))) (changed m id (λ v. written v at bytes)) m
-written_told None m id at bytes is = refl
-written_told (Some v) m id at bytes is = go (nat_le (at + length bytes) (length v))
+written_shown None m id at bytes is = refl
+written_shown (Some v) m id at bytes is = go (nat_le (at + length bytes) (length v))
   where
     go : (b : Bool) → put_unless (cond b None (Some access.Range)) m id (written v at bytes)
         ≡ cond (is_ok (said (ok_or (λ e. write_text (Err e)) (cond b None (Some access.Range))))) (changed m id (λ v. written v at bytes)) m
@@ -82,8 +82,8 @@ resize_put (Some resize.Space) m id n v is = refl
 
 -- What is known after the transcript's reply is what the transcript leaves.
 module _ (h : ById) (is_paged : IsPaged h.kind) where
-  class_at_one : (words : ℕ) → class_told h words ≡ class_bounded h words
-  class_at_one words = rw (is_paged, class_told) refl
+  class_at_one : (words : ℕ) → class_shown h words ≡ class_bounded h words
+  class_at_one words = rw (is_paged, class_shown) refl
 
   malloc_after : (o : Option (List ℕ)) (id n : ℕ) → cond (is_ok (said (malloc_said o h n))) (insert h.objects id (replicate n 0)) h.objects
       ≡ malloc_leaves o h (record { number = id; length = n })
@@ -100,8 +100,8 @@ module _ (h : ById) (is_paged : IsPaged h.kind) where
 
   after_is : (c : Command) → view_after h c (reply_by_id h c) ≡ after_by_id h c
   after_is (Malloc id n) = ap With (malloc_after (get h.objects id) id n)
-  after_is (Free id) = ap With (sym (freed_told (get h.objects id) h.objects id refl))
-  after_is (Write id at bytes) = ap With (sym (written_told (get h.objects id) h.objects id at bytes refl))
+  after_is (Free id) = ap With (sym (freed_shown (get h.objects id) h.objects id refl))
+  after_is (Write id at bytes) = ap With (sym (written_shown (get h.objects id) h.objects id at bytes refl))
   after_is (Resize id n) = ap With (resize_after (get h.objects id) id n refl)
   after_is (Bound words k) = λ i. record h { bounds = bounds_with h.bounds (class_at_one words i) k; objects = sym (either (is_ok (reply_by_id h (Bound words k))) h.objects) i }
   after_is (Read id at count) = ap With (sym (either (is_ok (reply_by_id h (Read id at count))) h.objects))
@@ -279,7 +279,7 @@ module _ (t : ShownHeap) where
   read_is (Some x) id at count there = ap (λ o. read_said o at count) (sym (bytes_held t.heap.held id x there))
 
 -- each reply is the transcript's
-reply_is : (t : ShownHeap) → IsPaged t.heap.kind → IsArranged t.heap → (c : Command) (reply : Reply) (new : ShownHeap) → IsAtOne (view t) c → TellsNoPlace c
+reply_is : (t : ShownHeap) → IsPaged t.heap.kind → IsArranged t.heap → (c : Command) (reply : Reply) (new : ShownHeap) → IsAtOne (view t) c → ShowsNoPlace c
     → IsAnswer t c reply new → reply ≡ reply_by_id (view t) c
 reply_is t is arranged (Malloc id n) reply new ones none r = malloc_is t is arranged ones (get t.heap.held id) id n reply new refl r
 reply_is t is arranged (Free id) reply new ones none r = free_is t (get t.heap.held id) id reply new refl r

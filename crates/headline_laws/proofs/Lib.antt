@@ -1,5 +1,6 @@
 pub mod Alike
 pub mod Shown
+pub mod Words
 pub mod Steps
 pub mod Claims
 pub mod After

@@ -1,20 +1,21 @@
 -- Runs over the same items on managers with an order have one outcome.
-use Rattle.std.proofs.Common.{◌≡◌, ℕ, ◌+◌, ◌*◌, Bool, true, false, List, [], ◌∷◌, Option, Some, None, Result, Ok, Err, sym, ◌∙◌, ap, subst}
-use Rattle.std.specs.Prelude.{IsSome, IsTrue, ⊤, is_some, replicate}
+use Rattle.std.proofs.Common.{◌≡◌, ℕ, ◌+◌, ◌*◌, Bool, true, false, List, [], ◌∷◌, Option, Some, None, Result, Ok, Err, refl, sym, ◌∙◌, ap, subst}
+use Rattle.std.specs.Prelude.{IsSome, IsTrue, ⊤, codes, is_some}
 use Rattle.std.specs.FinMap.{get, remove}
 use Rattle.cf_base.specs.Settings.{Profile}
 use Rattle.cf_base.specs.declared.answers.AccessFault.{AccessFault}
 use Rattle.cf_base.specs.declared.answers.Freed.{Freed}
 use Rattle.cf_base.specs.declared.kind.Kind.{Kind}
-use Rattle.page_model.specs.Order.{Order, first_order}
+use Rattle.page_model.specs.Order.{Order}
 use Rattle.page_model.specs.Steps.{Request}
+use Rattle.block_model.proofs.CallerLemmas.{opening_lists}
 use Rattle.cf_model.specs.Answers.{bound_put}
 use Rattle.cf_model.specs.Costs.{resize_bound}
-use Rattle.cf_model.specs.Ordered.{FreeInOrder, MallocInOrder, ResizeInOrder}
-use Rattle.cf_model.specs.Rules.{IsPaged, KeepsRules}
-use Rattle.cf_model.specs.State.{HeapState, paging_in, region_words}
-use Rattle.cf_model.specs.Steps.{IsOpeningOrder, IsOpeningWords, IsWriteStep, Part, empty_heap, ordered_heap}
-use Rattle.cf_model.proofs.CallerLemmas.{free_same, one_malloc, one_resize, one_write, order_stays}
+use Rattle.cf_model.specs.Ordered.{FreeByOrder, MallocByOrder, ResizeByOrder}
+use Rattle.cf_model.specs.Rules.{AreInRange, KeepsRules}
+use Rattle.cf_model.specs.State.{HeapState}
+use Rattle.cf_model.specs.Steps.{IsOpeningOrder, IsWriteStep, Part, opening_order, ordered_heap}
+use Rattle.cf_model.proofs.CallerLemmas.{free_same, one_malloc, one_resize, one_write, order_stays, ordered_there, same_words}
 use Rattle.script_reader.specs.Items.{Item, Saying, asks, bad, gives_or_breaks, is_bound, item, items, items_at, items_by, line_says, nothing, stage_after_command, starts, verdict, wrong}
 use Rattle.script_reader.specs.Lines.{lines}
 use Rattle.script_reader.specs.declared.command.Command.{Command}
@@ -22,11 +23,13 @@ use Rattle.script_reader.specs.declared.command.Command.TheVariants.{Malloc, Fre
 use Rattle.script_reader.specs.declared.stage.Stage.{Stage}
 use Rattle.script_reader.specs.declared.stage.Stage.TheVariants.{Opening, Bounding, Running}
 use Rattle.run_model.specs.Replies.{malloc_text, resize_text, write_text}
-use Rattle.run_model.specs.Runs.{Begins, ItemStep, Run}
-use Rattle.run_model.specs.Sessions.{IsGoing, RunState, SessionState, counted}
+use Rattle.run_model.specs.Runs.{Begins, BeginsOne, ItemStep, Run, Turn}
+use Rattle.run_model.specs.Sessions.{IsGoing, RunState, SessionState, counted, fresh_session}
 use Rattle.run_model.specs.Steps.{Step, class_to_bound, ids_given, session_resized}
 use Rattle.run_model.specs.Texts.{Reply, said}
-use Rattle.run_model.proofs.CallerLemmas.{FreesAt, MallocsAt, ResizesAt, WritesAt, begins_going, step_going, step_same}
+use Rattle.run_model.proofs.CallerLemmas.{FreesAt, MallocsAt, ResizesAt, WritesAt, begins_going, step_going}
+use Rattle.run_laws.specs.Sayable.{AreSayable}
+use Rattle.run_laws.proofs.CallerLemmas.{IsOn, items_sayable, kind_goes_on, run_there, step_on}
 use Rattle.headline_laws.specs.OneOutput.{BeginNone, BeginOnce, IsOrdered}
 
 same_run : (a b : RunState) → b.session ≡ a.session → b.heap ≡ a.heap → b ≡ a
@@ -35,14 +38,14 @@ same_run a b e f = λ i. record { session = e i; heap = f i }
 -- ---- one command
 
 -- two steps of one command from one state of a manager with an order
-module _ (old new next : RunState) (paged : IsPaged old.heap.kind) (some : IsSome old.heap.order) (rules : KeepsRules old.heap) where
+module _ (old new next : RunState) (some : IsSome old.heap.order) (rules : KeepsRules old.heap) where
   abbrev Same : Reply → Reply → Type 0
   Same reply other = (other ≡ reply) × (next ≡ new)
 
   malloc_once : (o : Option ℕ) (asked : Request) (reply other : Reply) → MallocsAt o old asked reply new → MallocsAt o old asked other next → Same reply other
   malloc_once (Some h) asked reply other g f = (f.0 ∙ sym g.0, f.1 ∙ sym g.1)
   malloc_once None asked reply other g f =
-      let (answer, heap) = one_malloc old.heap new.heap next.heap paged some rules g.rules f.rules asked.length g.answer f.answer g.step g.ordered f.step f.ordered in (
+      let (answer, heap) = one_malloc old.heap new.heap next.heap some rules g.rules f.rules asked.length g.answer f.answer g.step g.ordered f.step f.ordered in (
         f.reply_is ∙ ap (λ a. said (malloc_text a)) (sym answer) ∙ sym g.reply_is,
         same_run new next
             (f.session ∙ ap (λ a. record old.session { ids = ids_given old.session.ids asked.number a; bound = 64 }) (sym answer) ∙ sym g.session) heap,
@@ -51,7 +54,7 @@ module _ (old new next : RunState) (paged : IsPaged old.heap.kind) (some : IsSom
   free_once : (o : Option ℕ) (id : ℕ) (reply other : Reply) → FreesAt o old id reply new → FreesAt o old id other next → Same reply other
   free_once None id reply other g f = (f.0 ∙ sym g.0, f.1 ∙ sym g.1)
   free_once (Some h) id reply other g f =
-      let (freed, heap) = free_same old.heap new.heap next.heap paged some rules g.rules f.rules h g.freed f.freed g.step g.ordered f.step f.ordered in
+      let (freed, heap) = free_same old.heap new.heap next.heap some rules g.rules f.rules h g.freed f.freed g.step g.ordered f.step f.ordered in
       let left : Freed → SessionState = λ (x : Freed). counted (record old.session { ids = remove old.session.ids id; bound = 96 + 2 * x.slot_words }) x.moved x.slot_words in
       (f.reply_is ∙ sym g.reply_is, same_run new next (f.session ∙ ap left (sym freed) ∙ sym g.session) heap)
 
@@ -59,13 +62,13 @@ module _ (old new next : RunState) (paged : IsPaged old.heap.kind) (some : IsSom
       → Same reply other
   write_once None at bytes reply other g f = (f.0 ∙ sym g.0, f.1 ∙ sym g.1)
   write_once (Some h) at bytes reply other g f =
-      let (answer, heap) = one_write old.heap new.heap next.heap paged g.rules f.rules (record { number = h; from = at }) bytes g.answer f.answer g.step f.step in
+      let (answer, heap) = one_write old.heap new.heap next.heap g.rules f.rules (record { number = h; from = at }) bytes g.answer f.answer g.step f.step in
       (f.reply_is ∙ ap (λ a. said (write_text a)) (sym answer) ∙ sym g.reply_is, same_run new next (f.session ∙ sym g.session) heap)
 
   resize_once : (o : Option ℕ) (bytes : ℕ) (reply other : Reply) → ResizesAt o old bytes reply new → ResizesAt o old bytes other next → Same reply other
   resize_once None bytes reply other g f = (f.0 ∙ sym g.0, f.1 ∙ sym g.1)
   resize_once (Some h) bytes reply other g f =
-      let (answer, heap) = one_resize old.heap new.heap next.heap paged some rules g.rules f.rules (record { number = h; length = bytes }) g.answer f.answer
+      let (answer, heap) = one_resize old.heap new.heap next.heap some rules g.rules f.rules (record { number = h; length = bytes }) g.answer f.answer
       g.step g.ordered f.step f.ordered in (
         f.reply_is ∙ ap (λ a. said (resize_text a)) (sym answer) ∙ sym g.reply_is,
         same_run new next (f.session ∙ ap (λ a. session_resized (record old.session { bound = resize_bound a }) a) (sym answer) ∙ sym g.session) heap,
@@ -89,11 +92,11 @@ module _ (old new : RunState) where
 
   malloc_keeps : (o : Option ℕ) (asked : Request) (reply : Reply) → MallocsAt o old asked reply new → Stays
   malloc_keeps (Some h) asked reply g = still g.1
-  malloc_keeps None asked reply g = order_stays (MallocInOrder old.heap asked.length g.answer new.heap) old.heap.order new.heap.order g.ordered
+  malloc_keeps None asked reply g = order_stays (MallocByOrder old.heap asked.length g.answer new.heap) old.heap.order new.heap.order g.ordered
 
   free_keeps : (o : Option ℕ) (id : ℕ) (reply : Reply) → FreesAt o old id reply new → Stays
   free_keeps None id reply g = still g.1
-  free_keeps (Some h) id reply g = order_stays (FreeInOrder old.heap h (Ok g.freed) new.heap) old.heap.order new.heap.order g.ordered
+  free_keeps (Some h) id reply g = order_stays (FreeByOrder old.heap h (Ok g.freed) new.heap) old.heap.order new.heap.order g.ordered
 
   written_keeps : (part : Part) (bytes : List ℕ) (answer : Result Unit AccessFault) → IsWriteStep old.heap part bytes answer new.heap → Stays
   written_keeps part bytes (Ok u) step = ap (λ (h : HeapState). is_some h.order) step.whole
@@ -105,7 +108,7 @@ module _ (old new : RunState) where
 
   resize_keeps : (o : Option ℕ) (bytes : ℕ) (reply : Reply) → ResizesAt o old bytes reply new → Stays
   resize_keeps None bytes reply g = still g.1
-  resize_keeps (Some h) bytes reply g = order_stays (ResizeInOrder old.heap (record { number = h; length = bytes }) g.answer new.heap) old.heap.order
+  resize_keeps (Some h) bytes reply g = order_stays (ResizeByOrder old.heap (record { number = h; length = bytes }) g.answer new.heap) old.heap.order
       new.heap.order g.ordered
 
   put_keeps : (c : Option ℕ) (k : ℕ) → new.heap ≡ bound_put old.heap c k → Stays
@@ -122,19 +125,13 @@ module _ (old new : RunState) where
 
 -- ---- many items
 
--- a run in progress is of a kind with pages, and has an order
+-- a run in progress has an order
 abbrev IsReady : Option RunState → Type 0
 IsReady None = ⊤
-IsReady (Some s) = IsGoing s × (IsPaged s.heap.kind × IsSome s.heap.order)
+IsReady (Some s) = IsGoing s × IsSome s.heap.order
 
 ready_after : (old new : RunState) (c : Command) (reply : Reply) → IsReady (Some old) → Step old c reply new → IsReady (Some new)
-ready_after old new c reply ready step = (
-  step_going old new c reply ready.0 step,
-  (
-    subst IsPaged (sym (step_same old new c reply ready.0.rules step).kind) ready.1.0,
-    step_keeps old new c reply step ∙ ready.1.1,
-  ),
-)
+ready_after old new c reply ready step = (step_going old new c reply ready.0 step, step_keeps old new c reply step ∙ ready.1)
 
 module _ (kind : Kind) where
   abbrev AreSame : List Reply → Option RunState → List Reply → Option RunState → Type 0
@@ -149,7 +146,7 @@ module _ (kind : Kind) where
   item_once (Some old) (asks c) reply other mid also may ready g f =
       let (s, turn, is) = g in
       let (t, turn', is') = f in
-      let (same, state) = one_step old s t ready.1.0 ready.1.1 ready.0.rules c reply other turn.step turn'.step in
+      let (same, state) = one_step old s t ready.1 ready.0.rules c reply other turn.step turn'.step in
       (same, is' ∙ ap Some state ∙ sym is, subst IsReady (sym is) (ready_after old s c reply ready turn.step))
   item_once old (bad n) reply other mid also may ready g f = (f.0 ∙ sym g.0, f.1 ∙ sym g.1, subst IsReady (sym g.1) ready)
 
@@ -184,53 +181,100 @@ module _ (kind : Kind) where
       λ there. item_before old i reply mid (may.0, tt) step (ordered_before mid rest more end may.1 run there)
 
   -- two managers of this kind that begin with an order begin alike
-  first_one : (p : Profile) (o : Option Order) → IsSome o → IsOpeningOrder kind p o → o ≡ Some (first_order (paging_in (empty_heap kind p [])) p.proxies)
+  first_one : (p : Profile) (o : Option Order) → IsSome o → IsOpeningOrder kind p o → o ≡ Some (opening_order kind p)
   first_one p None some is = absurd (let e : false ≡ true = some in cc)
-  first_one p (Some o) some is = ap Some is.1
+  first_one p (Some o) some is = ap Some is
 
-  begun_once : (p : Profile) (new next : RunState) → IsPaged kind → IsSome new.heap.order → IsSome next.heap.order → Begins kind p new → Begins kind p next
-      → next ≡ new
-  begun_once p new next paged some also g f =
-      let zeros : new.heap.words ≡ replicate (region_words p) 0 = rw (paged, IsOpeningWords) at g.words in
-      let zeros' : next.heap.words ≡ replicate (region_words p) 0 = rw (paged, IsOpeningWords) at f.words in
-      let words : next.heap.words ≡ new.heap.words = zeros' ∙ sym zeros in
+  begun_once : (p : Profile) (new next : RunState) → IsSome new.heap.order → IsSome next.heap.order → Begins kind p new → Begins kind p next → next ≡ new
+  begun_once p new next some also g f =
       let order : next.heap.order ≡ new.heap.order = first_one p next.heap.order also f.order ∙ sym (first_one p new.heap.order some g.order) in
+      let words : next.heap.words ≡ new.heap.words = same_words new.heap next.heap some g.rules f.rules
+      (ap (λ (h : HeapState). h.kind) f.heap ∙ sym (ap (λ (h : HeapState). h.kind) g.heap))
+      (ap (λ (h : HeapState). h.profile) f.heap ∙ sym (ap (λ (h : HeapState). h.profile) g.heap))
+      (ap (λ (h : HeapState). h.held) f.heap ∙ sym (ap (λ (h : HeapState). h.held) g.heap))
+      (ap (λ (h : HeapState). h.tiling) f.heap ∙ sym (ap (λ (h : HeapState). h.tiling) g.heap)) order in
       let heap : next.heap ≡ new.heap = f.heap ∙ ap (λ w. ordered_heap kind p w next.heap.order) words ∙ ap (λ o. ordered_heap kind p new.heap.words o) order
       ∙ sym g.heap in
       same_run new next (f.session ∙ sym g.session) heap
 
-  pub begun_alike : (items : List Item) (replies others : List Reply) (end last : Option RunState) → IsPaged kind → BeginOnce items
+  pub begun_alike : (items : List Item) (replies others : List Reply) (end last : Option RunState) → BeginOnce items
       → IsOrdered end → IsOrdered last → Run kind None items replies end → Run kind None items others last → AreSame replies end others last
-  begun_alike [] replies others end last paged once some also g f = (f.0 ∙ sym g.0, f.1 ∙ sym g.1)
-  begun_alike (starts p ∷ rest) replies others end last paged once some also g f =
+  begun_alike [] replies others end last once some also g f = (f.0 ∙ sym g.0, f.1 ∙ sym g.1)
+  begun_alike (starts p ∷ rest) replies others end last once some also g f =
       let (mid, reply, more, step, are, run) = g in
       let (mid', reply', more', step', are', run') = f in
       let (s, begun, is) = step in
       let (t, begun', is') = step' in
       let here : IsSome s.heap.order = subst IsOrdered is (ordered_before mid rest more end once run some) in
       let there : IsSome t.heap.order = subst IsOrdered is' (ordered_before mid' rest more' last once run' also) in
-      let same : t ≡ s = begun_once p s t paged here there begun.0 begun'.0 in
+      let same : t ≡ s = begun_once p s t here there begun.0 begun'.0 in
       let state : mid' ≡ mid = is' ∙ ap Some same ∙ sym is in
-      let of_kind : IsPaged s.heap.kind = subst IsPaged (sym (ap (λ (h : HeapState). h.kind) begun.0.heap)) paged in
-      let ready : IsReady mid = subst IsReady (sym is) (begins_going kind p s begun.0, (of_kind, here)) in
+      let ready : IsReady mid = subst IsReady (sym is) (begins_going kind p s begun.0, here) in
       let (tail, final) = further_once mid rest more more' end last once ready run (subst (λ o. Run kind o rest more' last) state run') in
       (are' ∙ ap (λ r. r ∷ more') (begun'.1 ∙ sym begun.1) ∙ ap (λ l. reply ∷ l) tail ∙ sym are, final)
-  begun_alike (asks c ∷ rest) replies others end last paged once some also g f = further_once None (asks c ∷ rest) replies others end last (tt, once) tt g f
-  begun_alike (bad n ∷ rest) replies others end last paged once some also g f = further_once None (bad n ∷ rest) replies others end last (tt, once) tt g f
+  begun_alike (asks c ∷ rest) replies others end last once some also g f = further_once None (asks c ∷ rest) replies others end last (tt, once) tt g f
+  begun_alike (bad n ∷ rest) replies others end last once some also g f = further_once None (bad n ∷ rest) replies others end last (tt, once) tt g f
+
+-- ---- there is such a run
+
+module _ (kind : Kind) where
+  -- an order before is there at the end
+  item_after : (old : Option RunState) (i : Item) (reply : Reply) (mid : Option RunState) → BeginNone (i ∷ []) → ItemStep kind old i reply mid → IsOrdered old
+      → IsOrdered mid
+  item_after old (starts p) reply mid may g here = absurd may.0
+  item_after None (asks c) reply mid may g here = subst IsOrdered (sym g.1) tt
+  item_after (Some old) (asks c) reply mid may g here = (let (s, turn, is) = g in subst IsOrdered (sym is) (step_keeps old s c reply turn.step ∙ here))
+  item_after old (bad n) reply mid may g here = subst IsOrdered (sym g.1) here
+
+  ordered_after : (old : Option RunState) (items : List Item) (replies : List Reply) (end : Option RunState) → BeginNone items → Run kind old items replies end
+      → IsOrdered old → IsOrdered end
+  ordered_after old [] replies end may g here = subst IsOrdered (sym g.1) here
+  ordered_after old (i ∷ rest) replies end may g here =
+      let (mid, reply, more, step, are, run) = g in
+      ordered_after mid rest more end may.1 run (item_after old i reply mid (may.0, tt) step here)
+
+  -- a manager opens with an order
+  begun_ordered : (p : Profile) → AreInRange p → (s : RunState) × Begins kind p s × IsSome s.heap.order
+  begun_ordered p ok =
+      let first = ordered_there p ok opening_lists kind in (
+        record { session = fresh_session; heap = ordered_heap kind p first.0 (Some (opening_order kind p)) },
+        record { session = refl; words = first.1; order = refl; heap = refl; rules = first.2 },
+        refl,
+      )
+
+  abbrev HasRun : Option RunState → List Item → Type 0
+  HasRun old items = (replies : List Reply) × (end : Option RunState) × Run kind old items replies end × IsOrdered end
+
+  run_from : (old : Option RunState) (items : List Item) → IsOn (BeginsOne kind) Turn (kind_goes_on kind) old → IsOrdered old → BeginNone items → AreSayable items
+      → HasRun old items
+  run_from old items on here may can =
+      let (replies, end, run) = run_there (BeginsOne kind) Turn (kind_goes_on kind) old items on can in
+      (replies, end, run, ordered_after old items replies end may run here)
+
+  ordered_run : (items : List Item) → BeginOnce items → AreSayable items → HasRun None items
+  ordered_run [] once can = ([], None, (refl, refl), tt)
+  ordered_run (starts p ∷ rest) once can =
+      let (s, begun, some) = begun_ordered p can.0 in
+      let step : ItemStep kind None (starts p) (said (codes "ok")) (Some s) = (s, (begun, refl), refl) in
+      let on = step_on (BeginsOne kind) Turn (kind_goes_on kind) None (starts p) (said (codes "ok")) (Some s) tt can.0 step in
+      let (replies, end, run, ordered) = run_from (Some s) rest on some once can.1 in
+      (said (codes "ok") ∷ replies, end, (Some s, said (codes "ok"), replies, step, refl, run), ordered)
+  ordered_run (asks c ∷ rest) once can = run_from None (asks c ∷ rest) tt tt (tt, once) can
+  ordered_run (bad n ∷ rest) once can = run_from None (bad n ∷ rest) tt tt (tt, once) can
 
 -- a run leaves its manager open
-abbrev IsOn : Option RunState → Type 0
-IsOn None = ⊤
-IsOn (Some s) = IsGoing s
+abbrev IsOpenRun : Option RunState → Type 0
+IsOpenRun None = ⊤
+IsOpenRun (Some s) = IsGoing s
 
-on_after : (kind : Kind) (old : Option RunState) → IsOn old → (i : Item) (reply : Reply) (new : Option RunState) → ItemStep kind old i reply new → IsOn new
+on_after : (kind : Kind) (old : Option RunState) → IsOpenRun old → (i : Item) (reply : Reply) (new : Option RunState) → ItemStep kind old i reply new → IsOpenRun new
 on_after kind old on (starts p) reply new (s, begins, is) = rw is (begins_going kind p s begins.0)
 on_after kind None on (asks c) reply new (none, is) = rw is tt
 on_after kind (Some old) on (asks c) reply new (s, turn, is) = rw is (step_going old s c reply on turn.step)
 on_after kind old on (bad n) reply new (named, is) = rw is on
 
-on_at_end : (kind : Kind) (old : Option RunState) → IsOn old → (items : List Item) (replies : List Reply) (new : Option RunState)
-    → Run kind old items replies new → IsOn new
+on_at_end : (kind : Kind) (old : Option RunState) → IsOpenRun old → (items : List Item) (replies : List Reply) (new : Option RunState)
+    → Run kind old items replies new → IsOpenRun new
 on_at_end kind old on [] replies new (none, same) = rw same on
 on_at_end kind old on (i ∷ items) replies new (mid, reply, more, step, are, run) =
     on_at_end kind mid (on_after kind old on i reply mid step) items more new run
@@ -285,3 +329,8 @@ once_from (line ∷ rest) n = line_first n (items_at rest (n + 1)) (none_behind 
 
 pub begins_once : (bytes : List ℕ) (ended : Bool) → BeginOnce (items bytes ended)
 begins_once bytes ended = once_from (lines bytes ended) 0
+
+-- every script has a run that ends with an order
+pub run_in_order : (kind : Kind) (bytes : List ℕ) (ended : Bool)
+    → (replies : List Reply) × (end : Option RunState) × Run kind None (items bytes ended) replies end × IsOrdered end
+run_in_order kind bytes ended = ordered_run kind (items bytes ended) (begins_once bytes ended) (items_sayable bytes ended)

@@ -28,9 +28,9 @@ use Rattle.headline_laws.proofs.Shown.{object_is, shown}
 use Rattle.headline_laws.proofs.Steps.{arranged}
 
 -- all runs over these items have these replies
-pub one_told : (kind : Kind) (items : List Item) (replies : List Reply) (last : Option RunState) → IsPaged kind → StaysAtOne kind None items
+pub one_shown : (kind : Kind) (items : List Item) (replies : List Reply) (last : Option RunState) → IsPaged kind → StaysAtOne kind None items
     → ArePlaceless items → Run kind None items replies last → replies ≡ transcript kind items
-one_told kind items replies last paged ones less run = headline_is_transcript kind items replies paged ones less (headline_met kind items replies last run)
+one_shown kind items replies last paged ones less run = headline_is_transcript kind items replies paged ones less (headline_met kind items replies last run)
 
 -- what may follow asks for no bound, and no address
 further_command : (c : Command) → IsFurther (asks c) → AsksForOne (asks c) × IsPlaceless (asks c)

@@ -109,9 +109,9 @@ module _ {S V : Type 0} (begins : Profile → Reply → S → Type 0) (turns : S
   parted_from_none items a b end other one two same = parted items None None a b end other tt tt refl one two same
 
 -- replies with the same text are the same
-pub told_by_text : (kind : Kind) (items : List Item) (replies others : List Reply) → MeetsHeadline kind items replies → MeetsHeadline kind items others
+pub shown_by_text : (kind : Kind) (items : List Item) (replies others : List Reply) → MeetsHeadline kind items replies → MeetsHeadline kind items others
     → text_of [] others ≡ text_of [] replies → others ≡ replies
-told_by_text kind items replies others first second same = parted_from_none (Opens kind) Answers view (λ t. IsArranged t.heap)
+shown_by_text kind items replies others first second same = parted_from_none (Opens kind) Answers view (λ t. IsArranged t.heap)
     (λ p. view (heap_opened kind p)) view_after lines_of
     (λ p reply s opens. (one (codes "ok") reply opens.0 refl, ap view opens.1, opens.2))
     (λ old c reply new good answers. (shape old c reply new answers.0, view_is old new good c reply answers.0, answers.1))

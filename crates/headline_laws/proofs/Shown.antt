@@ -35,7 +35,7 @@ abbrev pub heap_of : RunState → HeapState
 heap_of s = record s.heap { held = held_by_id s.session.ids s.heap.held; words = []; order = None }
 
 abbrev pub shown : RunState → ShownHeap
-shown s = record { heap = heap_of s; step_bound = s.session.bound; moves = s.session.moves; moved_words = s.session.words }
+shown s = record { heap = heap_of s; numbers = s.session.ids; step_bound = s.session.bound; moves = s.session.moves; moved_words = s.session.words }
 
 -- the object that moved, and its id
 abbrev pub IsNamed : Ids → Option Handle → Option ℕ → Type 0

@@ -1,6 +1,6 @@
 -- What each step of a run shows.
 use Rattle.std.proofs.Common.{◌≡◌, ℕ, ◌+◌, ◌*◌, ◌<◌, ◌++◌, Bool, List, [], Option, Some, None, Result, Ok, Err, max, map, cond, length, arith, sym, ◌∙◌, ap, refl, subst, inl, inr}
-use Rattle.std.specs.Prelude.{◌⊎◌, codes, filter, nat_eq, nat_le, not, slice_get, slice_index}
+use Rattle.std.specs.Prelude.{◌⊎◌, codes, filter, nat_eq, nat_le, nat_lt, not, slice_get, slice_index}
 use Rattle.std.specs.List.{range_with_len}
 use Rattle.std.proofs.lemmas.Bool.{cases_lt}
 use Rattle.std.proofs.lemmas.Option.{slice_get-get_or, slice_get_past}
@@ -34,7 +34,7 @@ use Rattle.cf_model.specs.Steps.{tiling_left}
 use Rattle.cf_model.proofs.CallerLemmas.{not_none_found}
 use Rattle.run_model.specs.Replies.{block_text, block_text_at, malloc_text, peek_text, resize_text, write_text}
 use Rattle.run_model.specs.Reports.{blocks_line, class_line, frag_line, frag_of, pages_report, total_line, walk_of}
-use Rattle.run_model.specs.Sessions.{CostsAtMost, Ids, IsGoing, RunState, SessionState, counted}
+use Rattle.run_model.specs.Sessions.{CostsAtMost, CostsByKind, Ids, IsGoing, RunState, SessionState, counted}
 use Rattle.run_model.specs.Steps.{Bounds as GetsBound, Frees as FreesStep, bound_text, class_to_bound, ids_given, session_resized}
 use Rattle.run_model.specs.Texts.{Reply, said}
 use Rattle.run_model.proofs.CallerLemmas.{FreesAt, MallocsAt, ResizesAt, WritesAt, counted_bound, counted_ids, pages_kept, resized_ids}
@@ -45,6 +45,7 @@ use Rattle.headline_laws.specs.ShownHeap.{IsArranged, ShownHeap, with_move}
 use Rattle.headline_laws.proofs.Alike.{asked_alike, figures_same, lacks_same, live_alike, place_same, sound_same, totals_same}
 use Rattle.headline_laws.proofs.Shown.{IsNamed, apart, counts, frames_by_id, heap_of, held_by_id, missing, moves_by_id, nothing, numbered, object}
 use Rattle.headline_laws.proofs.Shown.{refitted_by_id, shown, still_named, without_by_id}
+use Rattle.headline_laws.proofs.Words.{word_shown}
 
 -- a session and its heap as a run
 pub run_is : (s new : RunState) → new.session ≡ s.session → new.heap ≡ s.heap → new ≡ s
@@ -65,10 +66,10 @@ words_named ids s base None (Some r) n is e = absurd is
 words_named ids s base (Some q) None n is e = absurd is
 words_named ids s base (Some q) (Some r) n is e = rw e refl
 
-counted_is : (base t : ShownHeap) (moved : Option ℕ) (n : ℕ) → t.heap ≡ base.heap → t.step_bound ≡ base.step_bound → t.moves ≡ (with_move base moved n).moves
+counted_is : (base t : ShownHeap) (moved : Option ℕ) (n : ℕ) → t.heap ≡ base.heap → t.numbers ≡ base.numbers → t.step_bound ≡ base.step_bound → t.moves ≡ (with_move base moved n).moves
     → t.moved_words ≡ (with_move base moved n).moved_words → t ≡ with_move base moved n
-counted_is base t None n h b m w = λ i. record { heap = h i; step_bound = b i; moves = m i; moved_words = w i }
-counted_is base t (Some r) n h b m w = λ i. record { heap = h i; step_bound = b i; moves = m i; moved_words = w i }
+counted_is base t None n h u b m w = λ i. record { heap = h i; numbers = u i; step_bound = b i; moves = m i; moved_words = w i }
+counted_is base t (Some r) n h u b m w = λ i. record { heap = h i; numbers = u i; step_bound = b i; moves = m i; moved_words = w i }
 
 module _ (s : RunState) (going : IsGoing s) where
   abbrev t : ShownHeap
@@ -132,24 +133,16 @@ module _ (s : RunState) (going : IsGoing s) where
   block_here (Some x) i = block_in s.heap.kind x i
 
   pub peek_here : (word : ℕ) (reply : Reply) → reply ≡ said (peek_text (slice_get s.heap.words word)) → (new : ShownHeap) → new ≡ t → Peeks t word reply new
-  peek_here word reply r new same = (let region = going.rules.region in elim (cases_lt word (region_words s.heap.profile)) [
-    | inl lt ↦ (
-      slice_index s.heap.words word,
-      (
-        r ∙ ap (λ o. said (peek_text o)) (slice_get-get_or s.heap.words word 0 (omega arith)
-            ∙ sym (ap (λ b. cond b (Some (slice_index s.heap.words word)) None) (lt_yes word (region_words s.heap.profile) lt))),
-        same,
-      ),
-    )
-    | inr ge ↦ (
-      0,
-      (
-        r ∙ ap (λ o. said (peek_text o)) (slice_get_past s.heap.words word (omega arith)
-            ∙ sym (ap (λ b. cond b (Some 0) None) (lt_no word (region_words s.heap.profile) ge))),
-        same,
-      ),
-    )
-  ])
+  peek_here word reply r new same =
+      let value : ℕ = slice_index s.heap.words word in
+      let region = going.rules.region in
+      let text : reply ≡ said (peek_text (cond (nat_lt word (region_words s.heap.profile)) (Some value) None)) = elim (cases_lt word (region_words s.heap.profile)) [
+        | inl lt ↦ r ∙ ap (λ o. said (peek_text o)) (slice_get-get_or s.heap.words word 0 (omega arith)
+            ∙ sym (ap (λ b. cond b (Some value) None) (lt_yes word (region_words s.heap.profile) lt)))
+        | inr ge ↦ r ∙ ap (λ o. said (peek_text o)) (slice_get_past s.heap.words word (omega arith)
+            ∙ sym (ap (λ b. cond b (Some value) None) (lt_no word (region_words s.heap.profile) ge)))
+      ] in
+      (value, (text, same), word_shown s going word)
 
   -- the causes of refusals
   lacks_in : (k : Kind) (f : Family) → family_of k ≡ f → (n : ℕ) → LacksRoomIn k s.heap n → LacksRoomIn k (heap_of s) n
@@ -187,6 +180,9 @@ module _ (s : RunState) (going : IsGoing s) where
     cost_is : (n : ℕ) → CostsAtMost new.heap.kind new.heap.cost n → CostsAtMost s.heap.kind new.heap.cost n
     cost_is n cost = subst (λ k. CostsAtMost k new.heap.cost n) same cost
 
+    within : (n m : ℕ) → CostsByKind new.heap.kind new.heap.cost n m → CostsByKind s.heap.kind new.heap.cost n m
+    within n m cost = subst (λ k. CostsByKind k new.heap.cost n m) same cost
+
     -- m
     placed_in : (k : Kind) (f : Family) → family_of k ≡ f → (asked : Request) (place : ℕ) → IsPlacedBy k s.heap asked place new.heap
         → IsPlacedBy k (heap_of s) asked place (heap_of new)
@@ -194,7 +190,7 @@ module _ (s : RunState) (going : IsGoing s) where
     placed_in k tiled is asked place placed = rw (is, IsPlacedBy) (rw (is, IsPlacedBy) at placed)
 
     malloc_answer : (id n : ℕ) (reply : Reply) (answer : Result Handle Refusal) → IsMallocStep s.heap n answer new.heap
-        → CostsAtMost new.heap.kind new.heap.cost 64 → new.session ≡ record s.session { ids = ids_given ids id answer; bound = 64 } → reply ≡ said (malloc_text answer)
+        → CostsByKind new.heap.kind new.heap.cost 64 25 → new.session ≡ record s.session { ids = ids_given ids id answer; bound = 64 } → reply ≡ said (malloc_text answer)
         → IsMalloc t id n reply (shown new) ⊎ IsRefusedMalloc t n reply (shown new)
     malloc_answer id n reply (Ok h) step cost e r =
         let held : held_by_id new.session.ids new.heap.held ≡ insert by_ids id (zeros_at step.place n) =
@@ -204,11 +200,14 @@ module _ (s : RunState) (going : IsGoing s) where
           few = subst (λ k. k < s.heap.profile.proxies) (sym (counts s going).count) step.few;
           place = step.place;
           number = h.0;
+          in_range = step.in_range;
+          unused = λ other is. (let x = object s going other h.0 is in not_none_found m h.0 x.0 x.1 step.unused);
           placed = placed_in s.heap.kind (family_of s.heap.kind) refl _ step.place step.placed;
-          steps = cost_is 64 cost;
+          steps = within 64 25 cost;
           reply_is = r;
           heap_is = λ i. record {
             heap = record (step.whole i) { held = held i; words = []; order = None };
+            numbers = (e i).ids;
             step_bound = (e i).bound;
             moves = (e i).moves;
             moved_words = (e i).words;
@@ -217,10 +216,11 @@ module _ (s : RunState) (going : IsGoing s) where
     malloc_answer id n reply (Err f) step cost e r = inr (record {
       refusal = f;
       cause = refused_shown n f step.0;
-      steps = cost_is 64 cost;
+      steps = within 64 25 cost;
       reply_is = r;
       heap_is = λ i. record {
         heap = record (step.1 i) { held = held_by_id (e i).ids (step.1 i).held; words = []; order = None };
+        numbers = (e i).ids;
         step_bound = (e i).bound;
         moves = (e i).moves;
         moved_words = (e i).words;
@@ -283,12 +283,13 @@ module _ (s : RunState) (going : IsGoing s) where
             tiling = tiling_left s.heap.kind (heap_of s) x.place;
             cost = new.heap.cost;
           };
+          numbers = remove ids id;
           step_bound = 96 + 2 * n;
         } in
         record {
           moved = b.0;
           moves = b.1;
-          steps = subst (λ k. CostsAtMost s.heap.kind new.heap.cost (96 + 2 * k)) slot (cost_is _ step.cost);
+          steps = subst (λ k. CostsByKind s.heap.kind new.heap.cost (96 + 2 * k) (41 + k)) slot (within _ _ step.cost);
           reply_is = step.reply_is;
           heap_is = counted_is base (shown new) b.0 n
               (λ i. record {
@@ -303,6 +304,7 @@ module _ (s : RunState) (going : IsGoing s) where
                 tiling = step.step.tiling i;
                 cost = new.heap.cost;
               })
+              names
               (ap (λ (z : SessionState). z.bound) step.session ∙ counted_bound before moved step.freed.slot_words ∙ ap (λ k. 96 + 2 * k) slot)
               (ap (λ (z : SessionState). z.moves) step.session ∙ moves_named ids before base moved b.0 step.freed.slot_words b.2 refl
               ∙ ap (λ k. (with_move base b.0 k).moves) slot)
@@ -332,6 +334,7 @@ module _ (s : RunState) (going : IsGoing s) where
         (λ i. held_by_id (e i).ids (step.whole i).held) ∙ changed_renamed nothing ids m going.tied.ids id h named (record x { bytes = written x.bytes at bytes }) in
         let left : shown new ≡ written_at id x at bytes = λ i. record {
           heap = record (step.whole i) { held = held i; words = []; order = None };
+          numbers = (e i).ids;
           step_bound = (e i).bound;
           moves = (e i).moves;
           moved_words = (e i).words;
@@ -435,6 +438,7 @@ module _ (s : RunState) (going : IsGoing s) where
           reply_is = r;
           heap_is = counted_is base (shown new) f.0 (slot_for p (length x.bytes))
               (λ i. record (step.whole i) { held = (heap_of new).held; words = []; frames = frames i; order = None })
+              names
               (ap (λ (z : SessionState). z.bound) e ∙ counted_bound before done.moved done.old_slot_words ∙ bound)
               (ap (λ (z : SessionState). z.moves) e ∙ moves_named ids before base done.moved f.0 done.old_slot_words f.1 refl
               ∙ ap (λ k. (with_move base f.0 k).moves) slot)
@@ -450,7 +454,7 @@ module _ (s : RunState) (going : IsGoing s) where
           steps = cost_is _ cost;
           reply_is = r;
           still = still_in s.heap.kind (family_of s.heap.kind) refl names step.1;
-          heap_is = λ i. record { heap = heap_of new; step_bound = (e i).bound; moves = (e i).moves; moved_words = (e i).words };
+          heap_is = λ i. record { heap = heap_of new; numbers = (e i).ids; step_bound = (e i).bound; moves = (e i).moves; moved_words = (e i).words };
         }))
 
     pub resize_shown : (o : Option ℕ) (id n : ℕ) (reply : Reply) → get ids id ≡ o → ResizesAt o s n reply new
@@ -472,5 +476,5 @@ module _ (s : RunState) (going : IsGoing s) where
         let heap = put_shown (class_to_bound s.heap words) k (ap (λ (z : SessionState). z.ids) e) step.heap
         ∙ ap (λ c. bound_put (heap_of s) c k) (class_here words) in (
           step.reply_is ∙ ap (λ c. said (bound_text c)) (class_here words),
-          (λ i. record { heap = heap i; step_bound = (e i).bound; moves = (e i).moves; moved_words = (e i).words }),
+          (λ i. record { heap = heap i; numbers = (e i).ids; step_bound = (e i).bound; moves = (e i).moves; moved_words = (e i).words }),
         )

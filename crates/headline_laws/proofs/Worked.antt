@@ -13,7 +13,7 @@ use Rattle.cf_base.specs.Settings.{Profile}
 use Rattle.cf_base.specs.declared.answers.Refusal.{Refusal}
 use Rattle.cf_base.specs.declared.answers.Refusal.TheVariants as refusal
 use Rattle.cf_base.specs.declared.kind.Kind.{Kind}
-use Rattle.cf_base.specs.declared.kind.Kind.TheVariants.{Moving}
+use Rattle.cf_base.specs.declared.kind.Kind.TheVariants.{Moving, Tlsf}
 use Rattle.cf_io.specs.Numbers.{is_digit, number_in}
 use Rattle.cf_io.proofs.CallerLemmas.{number_of_decimal, spells}
 use Rattle.cf_lemmas.proofs.Maps.{get_inserted, get_insert_other}
@@ -27,9 +27,9 @@ use Rattle.cf_model.specs.Families.{paged, family_of}
 use Rattle.cf_model.specs.State.{HeapState, paging_in}
 use Rattle.script_reader.specs.Items.{Item, asks, items, starts}
 use Rattle.script_reader.specs.declared.command.Command.{Command}
-use Rattle.script_reader.specs.declared.command.Command.TheVariants.{Free, Malloc, Place, Steps, Walk}
+use Rattle.script_reader.specs.declared.command.Command.TheVariants.{Free, Malloc, Peek, Place, Steps, Walk}
 use Rattle.run_model.specs.Plays.{PlayRun, PlayStep}
-use Rattle.run_model.specs.Replies.{malloc_text, place_text}
+use Rattle.run_model.specs.Replies.{malloc_text, peek_text, place_text}
 use Rattle.run_model.specs.Reports.{class_line, total_line}
 use Rattle.run_model.specs.Texts.{Reply, said, with_number}
 use Rattle.transcript_laws.specs.AtOne.{classes_in_use, figures_at_one, part_pages, totals_at_one}
@@ -38,6 +38,7 @@ use Rattle.transcript_laws.specs.Replies.{after_by_id, reply_by_id}
 use Rattle.transcript_laws.proofs.CallerLemmas.{counted, got, got_none, listed, listed_none, stays_at_one}
 use Rattle.headline_laws.specs.Headline.{Answers, IsMalloc, Mallocs, MeetsHeadline, Opens, steps_line, steps_shown}
 use Rattle.headline_laws.specs.ShownHeap.{IsArranged, ShownHeap, heap_opened}
+use Rattle.headline_laws.specs.ShownWords.{ShowsPageWord}
 use Rattle.headline_laws.proofs.Exact.{headline_is_transcript}
 
 ruleset maps = (got, got_none, counted, listed, listed_none)
@@ -157,8 +158,8 @@ abbrev line_at : Reply → ℕ → List ℕ
 line_at r i = get_or r i []
 
 -- `refused space` while there is room
-pub refused_in_vain : MeetsHeadline Moving (items (codes "heap 2 512 1 8\nm 1 176\n") true) (said (codes "ok") ∷ said (codes "refused space") ∷ []) → ⊥
-refused_in_vain meets = (let e : said (codes "refused space") ≡ said (codes "ok") = ap second (malloc_meets _ meets) in cc)
+pub refused_wrongly : MeetsHeadline Moving (items (codes "heap 2 512 1 8\nm 1 176\n") true) (said (codes "ok") ∷ said (codes "refused space") ∷ []) → ⊥
+refused_wrongly meets = (let e : said (codes "refused space") ≡ said (codes "ok") = ap second (malloc_meets _ meets) in cc)
 
 -- `refused size` of an object that fits
 pub refused_for_size : MeetsHeadline Moving (items (codes "heap 2 512 1 8\nm 1 176\n") true) (said (codes "ok") ∷ said (codes "refused size") ∷ []) → ⊥
@@ -288,6 +289,49 @@ steps_in_excess meets =
     let line : text ≡ steps_line one.0.heap.cost one.0.step_bound one.0.moves one.0.moved_words =
     said_once _ _ (two.1.0.0 ∙ ap (λ k. said (steps_shown k one.0)) kind) in
     let e : 65 ≡ one.0.heap.cost = shown_once 65 one.0.heap.cost _ _ (lit≤ tt) (omega arith) refl refl (ap (drop 11) (sym shown_steps ∙ line)) in
+    omega arith
+
+-- more steps than a malloc of TLSF may take
+shown_last : codes "steps last 26" ≡ with_number (codes "steps last ") 26
+unfolding digits
+shown_last = refl
+
+pub block_steps_in_excess : MeetsHeadline Tlsf (items (codes "heap 2 512 1 8\nm 1 176\nsteps\n") true) (said (codes "ok") ∷ said (codes "ok")
+    ∷ said (codes "steps last 26") ∷ []) → ⊥
+block_steps_in_excess meets =
+    let text : List ℕ = codes "steps last 26" in
+    let with_blocks : ShownHeap = heap_opened Tlsf settings in
+    let start = after_opening Tlsf (asks (Malloc 1 176) ∷ asks Steps ∷ []) (said (codes "ok")) (said (codes "ok") ∷ said text ∷ []) settings
+    (subst (λ l. Rest Tlsf None l (said (codes "ok") ∷ said (codes "ok") ∷ said text ∷ [])) asked_steps meets) in
+    let one = after_command Tlsf (asks Steps ∷ []) (said (codes "ok")) (said text ∷ []) with_blocks (Malloc 1 176) start in
+    let m = given with_blocks one.0 1 176 (none_held 1) one.1 in
+    let two = after_command Tlsf [] (said text) [] one.0 Steps one.2 in
+    let kind : one.0.heap.kind ≡ Tlsf = ap (λ (t : ShownHeap). t.heap.kind) m.heap_is in
+    let cost : one.0.heap.cost ≤ 25 = m.steps in
+    let line : text ≡ with_number (codes "steps last ") one.0.heap.cost = said_once _ _ (two.1.0.0 ∙ ap (λ k. said (steps_shown k one.0)) kind) in
+    let e : 26 ≡ one.0.heap.cost = shown_once 26 one.0.heap.cost [] [] (lit≤ tt) (omega arith) tt tt
+    (ap (λ l. drop 11 l ++ []) (sym shown_last ∙ line)) in
+    omega arith
+
+-- a word other than 0 of a heap without objects
+asked_word : items (codes "heap 2 512 1 8\np 0\n") true ≡ starts settings ∷ asks (Peek 0) ∷ []
+unfolding decode_pairs
+asked_word = refl
+
+word_of_zero : peek_text (Some 0) ≡ codes "0000000000000000"
+unfolding encode_with
+word_of_zero = refl
+
+pub word_in_nothing : MeetsHeadline Moving (items (codes "heap 2 512 1 8\np 0\n") true) (said (codes "ok") ∷ said (codes "0000000000000001") ∷ []) → ⊥
+word_in_nothing meets =
+    let text : List ℕ = codes "0000000000000001" in
+    let start = after_opening Moving (asks (Peek 0) ∷ []) (said (codes "ok")) (said text ∷ []) settings
+    (subst (λ l. Rest Moving None l (said (codes "ok") ∷ said text ∷ [])) asked_word meets) in
+    let one = after_command Moving [] (said text) [] opened (Peek 0) start in
+    let shows : ShowsPageWord opened 0 one.1.0.0 = one.1.0.2 in
+    let zero : one.1.0.0 ≡ 0 = shows.zero (λ id x there. absurd (let none = none_held id in let e : None ≡ Some x = sym none ∙ there in cc)) in
+    let e : said text ≡ said (codes "0000000000000000") = one.1.0.1.0 ∙ ap (λ v. said (peek_text (Some v))) zero ∙ ap said word_of_zero in
+    let digit : ◌≡◌ {A = ℕ} 49 48 = ap (λ r. get_or (line_at r 0) 15 0) e in
     omega arith
 
 -- one address of two objects

@@ -2,9 +2,9 @@
 --
 -- The replies meet the headline if there is one for each item, and heaps between them, such that each reply and each heap follow from the heap before and the
 -- item. `IsAnswer` says how, command by command. All is fixed but these choices of the manager: which of the free places a malloc takes, which object moves, how
--- many steps a call takes within its bound, and what word `p` shows.
+-- many steps a call takes within its bound, which unused number an object gets, which only its header shows, and with blocks word 1 of a free block.
 use Rattle.std.specs.Prelude.{◌≡◌, ◌≢◌, ℕ, ◌⊎◌, ◌+◌, ◌*◌, ◌≤◌, ◌<◌, List, ◌++◌, Option, Some, None, Err, codes, if◌then◌else◌, length, max, nat_le, nat_lt}
-use Rattle.std.specs.FinMap.{get, insert, len}
+use Rattle.std.specs.FinMap.{get, insert, len, remove}
 use Rattle.cf_base.specs.Classes.{need}
 use Rattle.cf_base.specs.Settings.{Profile}
 use Rattle.cf_base.specs.declared.answers.Refusal.{Refusal}
@@ -26,27 +26,32 @@ use Rattle.script_reader.specs.declared.command.Command.TheVariants.{Malloc, Fre
 use Rattle.run_model.specs.Plays.{PlayRun}
 use Rattle.run_model.specs.Replies.{block_text_at, malloc_text, peek_text, place_text, read_text, resize_text}
 use Rattle.run_model.specs.Reports.{frag_of, walk_of}
-use Rattle.run_model.specs.Sessions.{CostsAtMost}
+use Rattle.run_model.specs.Sessions.{CostsAtMost, CostsByKind}
 use Rattle.run_model.specs.Steps.{bound_text, class_to_bound}
 use Rattle.run_model.specs.Texts.{Reply, said, with_number}
 use Rattle.headline_laws.specs.ShownHeap.{IsArranged, ShownHeap, heap_opened, with_move}
+use Rattle.headline_laws.specs.ShownWords.{ShowsWord}
 
 -- one line, and nothing changes
 abbrev pub OnlyReplies : ShownHeap → List ℕ → Reply → ShownHeap → Type 0
 OnlyReplies old text reply new = (reply ≡ said text) × (new ≡ old)
 
 -- m, `ok`: n zeros under the id. With pages they get a free slot of their class, on a partly full page if the class has one, else on a free page; with blocks
--- a block of the least bucket that serves. `number` is the manager's own number for the object: no reply shows it.
+-- a block of the least bucket that serves. `number` is the manager's own number for the object, below the proxies, and no other object has it; only `p` shows
+-- it.
 pub record IsMalloc (old : ShownHeap) (id n : ℕ) (reply : Reply) (new : ShownHeap) : Type 0 where
   pub fits : need n ≤ old.heap.profile.page_words
   pub few : len old.heap.held < old.heap.profile.proxies
   pub place : ℕ
   pub number : ℕ
+  pub in_range : number < old.heap.profile.proxies
+  pub unused : (other : ℕ) → get old.numbers other ≢ Some number
   pub placed : IsPlacedBy old.heap.kind old.heap (record { number = number; length = n }) place new.heap
-  pub steps : CostsAtMost old.heap.kind new.heap.cost 64
+  pub steps : CostsByKind old.heap.kind new.heap.cost 64 25
   pub reply_is : reply ≡ said (codes "ok")
   pub heap_is : new ≡ record old {
     heap = record old.heap { held = insert old.heap.held id (zeros_at place n); tiling = new.heap.tiling; cost = new.heap.cost };
+    numbers = insert old.numbers id number;
     step_bound = 64;
   }
 
@@ -55,7 +60,7 @@ pub record IsMalloc (old : ShownHeap) (id n : ℕ) (reply : Reply) (new : ShownH
 pub record IsRefusedMalloc (old : ShownHeap) (n : ℕ) (reply : Reply) (new : ShownHeap) : Type 0 where
   pub refusal : Refusal
   pub cause : IsRefusedBy old.heap n refusal
-  pub steps : CostsAtMost old.heap.kind new.heap.cost 64
+  pub steps : CostsByKind old.heap.kind new.heap.cost 64 25
   pub reply_is : reply ≡ said (malloc_text (Err refusal))
   pub heap_is : new ≡ record old { heap = record old.heap { cost = new.heap.cost }; step_bound = 64 }
 
@@ -68,7 +73,7 @@ Mallocs None old id n reply new = IsMalloc old id n reply new ⊎ IsRefusedMallo
 pub record IsFree (old : ShownHeap) (id : ℕ) (x : Placed) (reply : Reply) (new : ShownHeap) : Type 0 where
   pub moved : Option ℕ
   pub moves : MovesIn old.heap.kind old.heap x moved
-  pub steps : CostsAtMost old.heap.kind new.heap.cost (96 + 2 * slot_in old.heap.kind old.heap x)
+  pub steps : CostsByKind old.heap.kind new.heap.cost (96 + 2 * slot_in old.heap.kind old.heap x) (41 + slot_in old.heap.kind old.heap x)
   pub reply_is : reply ≡ said (codes "ok")
   pub heap_is : new ≡ with_move (record old {
     heap = record old.heap {
@@ -77,6 +82,7 @@ pub record IsFree (old : ShownHeap) (id : ℕ) (x : Placed) (reply : Reply) (new
       tiling = tiling_left old.heap.kind old.heap x.place;
       cost = new.heap.cost;
     };
+    numbers = remove old.numbers id;
     step_bound = 96 + 2 * slot_in old.heap.kind old.heap x;
   }) moved (slot_in old.heap.kind old.heap x)
 
@@ -142,9 +148,10 @@ abbrev pub Bounds : ShownHeap → ℕ → ℕ → Reply → ShownHeap → Type 0
 Bounds old slot_words k reply new = (reply ≡ said (bound_text (class_to_bound old.heap slot_words)))
     × (new ≡ record old { heap = bound_put old.heap (class_to_bound old.heap slot_words) k })
 
--- p: a word in 16 digits
+-- p: a word in 16 digits, which shows the objects and the blocks; `range` past the region
 abbrev pub Peeks : ShownHeap → ℕ → Reply → ShownHeap → Type 0
 Peeks old word reply new = (value : ℕ) × OnlyReplies old (peek_text (if nat_lt word (region_words old.heap.profile) then Some value else None)) reply new
+    × ShowsWord old word value
 
 -- steps: those of the last malloc, free or resize; with pages also their bound, how many objects moved, and the words of their slots
 abbrev pub steps_line : ℕ → ℕ → ℕ → ℕ → List ℕ

@@ -1,3 +1,4 @@
 pub mod ShownHeap
+pub mod ShownWords
 pub mod Headline
 pub mod OneOutput

@@ -1,5 +1,6 @@
 -- The heap that a script and its replies show.
 use Rattle.std.specs.Prelude.{ℕ, [], Option, Some, None}
+use Rattle.std.specs.FinMap.{empty}
 use Rattle.cf_base.specs.Settings.{Profile}
 use Rattle.cf_base.specs.declared.kind.Kind.{Kind}
 use Rattle.page_model.specs.Arrangement.{IsSound}
@@ -8,21 +9,23 @@ use Rattle.block_model.specs.Tiling.{IsTiling}
 use Rattle.cf_model.specs.Families.{paged, tiled, family_of}
 use Rattle.cf_model.specs.State.{HeapState, paging_in, region_words}
 use Rattle.cf_model.specs.Steps.{empty_heap}
-use Rattle.run_model.specs.Sessions.{more_by}
+use Rattle.run_model.specs.Sessions.{Ids, more_by}
 
 -- The state of a manager whose objects are numbered by the ids of the script: the settings, the bound of each class, and by id the address and the bytes of each
 -- object; with blocks the blocks of the region, with a block table that table, and the steps of the last malloc, free or resize. The words of the region stay
--- the empty list, and the order stays none: the headline claims nothing of either. Beside it: the bound on those steps, 0 before the first call; how many
--- objects moved; the words of their slots.
+-- the empty list, since the objects and the blocks show them (`ShowsWord`), and the order stays none: the headline claims nothing of it. Beside it: the
+-- manager's own number of each object, which only its header shows; the bound on those steps, 0 before the first call; how many objects moved; the words of
+-- their slots.
 pub record ShownHeap : Type 0 where
   pub heap : HeapState
+  pub numbers : Ids
   pub step_bound : ℕ
   pub moves : ℕ
   pub moved_words : ℕ
 
 -- after the `heap` line
 abbrev pub heap_opened : Kind → Profile → ShownHeap
-heap_opened kind p = record { heap = empty_heap kind p []; step_bound = 0; moves = 0; moved_words = 0 }
+heap_opened kind p = record { heap = empty_heap kind p []; numbers = empty; step_bound = 0; moves = 0; moved_words = 0 }
 
 -- one more object moved, if one did, from a slot of n words
 abbrev pub with_move : ShownHeap → Option ℕ → ℕ → ShownHeap

@@ -4,7 +4,7 @@
 
 ghost use Rattle.std.specs.Prelude.{◌≡◌, Bool, codes, IsSome, ℕ, List, [], ◌∷◌, None, Option, Some, true};
 ghost use Rattle.cf_base.specs.declared.kind.Kind.{Kind};
-ghost use Rattle.cf_base.specs.declared.kind.Kind.TheVariants.{Moving};
+ghost use Rattle.cf_base.specs.declared.kind.Kind.TheVariants.{Moving, Tlsf};
 ghost use Rattle.cf_model.specs.Rules.{IsPaged};
 ghost use Rattle.cf_model.specs.State.{paging_in};
 ghost use Rattle.page_model.specs.Paging.{AreOne};
@@ -26,7 +26,7 @@ pub fn the_headline()
 
 /// The text of the output determines the replies that meet the headline: no other replies with the same
 /// text meet it. So the output shows which lines are the reply to which command.
-pub fn the_output_tells_the_replies()
+pub fn the_output_shows_the_replies()
     ensures { (kind : Kind) (items : List Item) (replies others : List Reply)
         → MeetsHeadline kind items replies → MeetsHeadline kind items others
         → text_of [] others ≡ text_of [] replies → others ≡ replies }
@@ -44,7 +44,8 @@ pub fn at_bound_one_the_headline_is_the_transcript()
 /// is room: `refused space`, `refused size`, no line, no reply, or a reply more than there are items; a
 /// page more than the object needs and may have; a total that is not the sum of the lines above it; more
 /// steps than a malloc may take; `ok` for a free of an id that isn't live; one address of two objects;
-/// and another address of an object, though nothing was freed or resized.
+/// another address of an object, though nothing was freed or resized; a word other than 0 of a heap
+/// without objects. With blocks, of TLSF: more steps than a malloc may take.
 pub fn wrong_replies_fall_short()
     ensures room { ¬ MeetsHeadline Moving (items (codes "heap 2 512 1 8\nm 1 176\n") true)
         (said (codes "ok") ∷ said (codes "refused space") ∷ []) }
@@ -73,6 +74,10 @@ pub fn wrong_replies_fall_short()
     ensures moved { ¬ MeetsHeadline Moving (items (codes "heap 2 512 1 8\nm 1 176\nq 1\nm 2 176\nq 1\n") true)
         (said (codes "ok") ∷ said (codes "ok") ∷ said (codes "at 0") ∷ said (codes "ok")
         ∷ said (codes "at 23") ∷ []) }
+    ensures word { ¬ MeetsHeadline Moving (items (codes "heap 2 512 1 8\np 0\n") true)
+        (said (codes "ok") ∷ said (codes "0000000000000001") ∷ []) }
+    ensures blocks { ¬ MeetsHeadline Tlsf (items (codes "heap 2 512 1 8\nm 1 176\nsteps\n") true)
+        (said (codes "ok") ∷ said (codes "ok") ∷ said (codes "steps last 26") ∷ []) }
 {}
 
 /// Of a kind with pages, all runs over these items have one list of replies if every bound is 1 and
@@ -86,30 +91,31 @@ pub fn one_transcript()
 /// If every bound is 1, after two histories that leave equal objects by id under equal settings, the
 /// same further items get the same replies.
 pub fn equal_objects_get_equal_replies()
-    ensures { (one other : RunState) (items : List Item) (replies told : List Reply)
+    ensures { (one other : RunState) (items : List Item) (replies shown : List Reply)
         (last end : Option RunState)
         → IsGoing one → IsGoing other → IsPaged one.heap.kind → AreAlike one other
         → AreOne (paging_in one.heap) → AreOne (paging_in other.heap) → AreFurther items
         → Run one.heap.kind (Some one) items replies last
-        → Run one.heap.kind (Some other) items told end
-        → told ≡ replies }
+        → Run one.heap.kind (Some other) items shown end
+        → shown ≡ replies }
 {}
 
-/// One script has one output of a manager with pages that has an order: two runs over the same items
+/// One script has one output of a manager of any kind that has an order: two runs over the same items
 /// have the same replies, with each address, block, word and cost, and lead to the same state. It is
-/// enough that both managers have an order at the end. The same holds of two runs that go on from one
-/// state.
+/// enough that both managers have an order at the end, and there is such a run. The same holds of two
+/// runs that go on from one state.
 pub fn one_output()
+    ensures there { (kind : Kind) (bytes : List ℕ) (ended : Bool)
+        → (replies : List Reply) × (last : Option RunState) × Run kind None (items bytes ended) replies last × IsOrdered last }
     ensures script { (kind : Kind) (bytes : List ℕ) (ended : Bool) (replies others : List Reply) (last end : Option RunState)
-        → IsPaged kind
         → Run kind None (items bytes ended) replies last → Run kind None (items bytes ended) others end
         → IsOrdered last → IsOrdered end → (others ≡ replies) × (end ≡ last) }
     ensures items { (kind : Kind) (items : List Item) (replies others : List Reply) (last end : Option RunState)
-        → IsPaged kind → BeginOnce items
+        → BeginOnce items
         → Run kind None items replies last → Run kind None items others end
         → IsOrdered last → IsOrdered end → (others ≡ replies) × (end ≡ last) }
     ensures further { (kind : Kind) (one : RunState) (items : List Item) (replies others : List Reply) (last end : Option RunState)
-        → IsGoing one → IsPaged one.heap.kind → IsSome one.heap.order → BeginNone items
+        → IsGoing one → IsSome one.heap.order → BeginNone items
         → Run kind (Some one) items replies last → Run kind (Some one) items others end
         → (others ≡ replies) × (end ≡ last) }
 {}

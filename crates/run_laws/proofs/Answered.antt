@@ -21,7 +21,7 @@ use Rattle.cf_model.specs.Ordered.{Follows, IsOrderedFree, IsOrderedMalloc, IsOr
 use Rattle.cf_model.specs.Rules.{AreObjects, KeepsRules}
 use Rattle.cf_model.specs.State.{HeapState}
 use Rattle.cf_model.specs.Steps.{FreesObject, IsMallocStep, IsResizeStep, IsWriteStep, Part}
-use Rattle.run_model.specs.Sessions.{CostsAtMost}
+use Rattle.run_model.specs.Sessions.{CostsAtMost, CostsByKind}
 use Rattle.run_model.proofs.CallerLemmas.{bytes_held}
 use Rattle.cf_lemmas.proofs.Searches.{len_without}
 
@@ -95,7 +95,7 @@ module _ (old : HeapState) where
     pub step : IsMallocStep old n answer heap
     pub ordered : IsOrderedMalloc old n answer heap
     pub kept : KeepsRules heap
-    pub cost : CostsAtMost heap.kind heap.cost 64
+    pub cost : CostsByKind heap.kind heap.cost 64 25
 
   pub record HasFree (h : ℕ) : Type 0 where
     pub freed : Freed
@@ -103,7 +103,7 @@ module _ (old : HeapState) where
     pub step : FreesObject old h freed heap
     pub ordered : IsOrderedFree old h (Ok freed) heap
     pub kept : KeepsRules heap
-    pub cost : CostsAtMost heap.kind heap.cost (96 + 2 * freed.slot_words)
+    pub cost : CostsByKind heap.kind heap.cost (96 + 2 * freed.slot_words) (41 + freed.slot_words)
 
   pub record HasWrite (part : Part) (bytes : List ℕ) : Type 0 where
     pub answer : Result Unit AccessFault

@@ -13,7 +13,7 @@ use Rattle.cf_model.specs.Steps.{empty_heap}
 use Rattle.cf_model.proofs.CallerLemmas.{empty_there}
 use Rattle.script_reader.specs.declared.command.Command.{Command}
 use Rattle.script_reader.specs.declared.command.Command.TheVariants.{Malloc, Free, Write, Bound, Resize}
-use Rattle.run_model.specs.Replies.{malloc_text, resize_text, told, write_text}
+use Rattle.run_model.specs.Replies.{malloc_text, resize_text, shown, write_text}
 use Rattle.run_model.specs.Runs.{Begins, Turn}
 use Rattle.run_model.specs.Sessions.{IsGoing, RunState, counted, fresh_session}
 use Rattle.run_model.specs.Steps.{Step, bound_text, class_to_bound, ids_given, session_resized}
@@ -90,7 +90,7 @@ module _ (old : RunState) (going : IsGoing old) where
     new = record { session = old.session; heap = bound_put old.heap (class_to_bound old.heap slot_words) k };
     done = record { heap = refl; rules = heap.bound slot_words k can.formed.0 can.formed.1; session = refl; reply_is = refl };
   }
-  step_there c can = record { reply = told old c; new = old; done = (refl, refl) }
+  step_there c can = record { reply = shown old c; new = old; done = (refl, refl) }
 
 -- every well-formed command gets a reply
 pub turn_there : (old : RunState) (c : Command) → IsGoing old → IsSayable c → (reply : Reply) × (new : RunState) × Turn old c reply new

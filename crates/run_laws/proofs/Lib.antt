@@ -8,6 +8,7 @@ pub mod PageMalloc
 pub mod PageFree
 pub mod PageResize
 pub mod PageAnswers
+pub mod LinkedWords
 pub mod BlockAnswers
 pub mod HeapAnswers
 pub mod CommandAnswers

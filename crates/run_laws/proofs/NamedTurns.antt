@@ -12,7 +12,7 @@ use Rattle.id_table.specs.Ties.{AreTiedTo}
 use Rattle.page_model.specs.Bytes.{written}
 use Rattle.page_model.specs.Held.{Objects}
 use Rattle.page_model.specs.Steps.{resized}
-use Rattle.run_laws.specs.Told.{AreReadsOf, IsReadOf, Told, changed, done_by, is_ok, read_told, told_after}
+use Rattle.run_laws.specs.IdBytes.{AreReadsOf, IsReadOf, IdBytes, changed, done_by, is_ok, read_shown, shown_after}
 use Rattle.run_model.specs.Plays.{PlayRun, PlayStep}
 use Rattle.run_model.specs.Texts.{Reply, said}
 use Rattle.script_reader.specs.Items.{Item, asks, bad, starts}
@@ -25,33 +25,33 @@ through o None = None
 through o (Some h) = get o h
 
 -- each id has the bytes that follow from the lines
-abbrev pub IsTold : Ids → Objects → Told → Type 0
-IsTold ids o m = (q : ℕ) → get m q ≡ through o (get ids q)
+abbrev pub AreBytesOf : Ids → Objects → IdBytes → Type 0
+AreBytesOf ids o m = (q : ℕ) → get m q ≡ through o (get ids q)
 
-module _ (ids : Ids) (o : Objects) (m : Told) (names : AreTiedTo ids o) (told : IsTold ids o m) (id h : ℕ) where
+module _ (ids : Ids) (o : Objects) (m : IdBytes) (names : AreTiedTo ids o) (shown : AreBytesOf ids o m) (id h : ℕ) where
   -- a number other than h keeps its bytes
   through_other : (v : List ℕ) (r : Option ℕ) → (r ≡ Some h → ⊥) → through (insert o h v) r ≡ through o r
   through_other v None other = refl
   through_other v (Some q) other = get_insert_other o h v q (λ is. other (ap (λ k. Some k) is))
 
-  pub told_added : (v : List ℕ) → get o h ≡ None → IsTold (insert ids id h) (insert o h v) (insert m id v)
-  told_added v unused q = elim (cases_eq q id) [
+  pub shown_added : (v : List ℕ) → get o h ≡ None → AreBytesOf (insert ids id h) (insert o h v) (insert m id v)
+  shown_added v unused q = elim (cases_eq q id) [
     | inl is ↦ rw is (get_inserted m id v ∙ sym (ap (through (insert o h v)) (get_inserted ids id h) ∙ get_inserted o h v))
-    | inr ne ↦ get_insert_other m id v q ne ∙ told q ∙ sym (ap (through (insert o h v)) (get_insert_other ids id h q ne)
+    | inr ne ↦ get_insert_other m id v q ne ∙ shown q ∙ sym (ap (through (insert o h v)) (get_insert_other ids id h q ne)
         ∙ through_other v (get ids q) (λ is. (let x = names.named q h is in let e : get o h ≡ Some x.0 = x.1 in cc)))
   ]
 
   module _ (some : get ids id ≡ Some h) where
-    pub told_changed : (v : List ℕ) → IsTold ids (insert o h v) (insert m id v)
-    told_changed v q = elim (cases_eq q id) [
+    pub shown_changed : (v : List ℕ) → AreBytesOf ids (insert o h v) (insert m id v)
+    shown_changed v q = elim (cases_eq q id) [
       | inl is ↦ rw is (get_inserted m id v ∙ sym (ap (through (insert o h v)) some ∙ get_inserted o h v))
-      | inr ne ↦ get_insert_other m id v q ne ∙ told q ∙ sym (through_other v (get ids q) (λ is. ne (names.once id q h some is)))
+      | inr ne ↦ get_insert_other m id v q ne ∙ shown q ∙ sym (through_other v (get ids q) (λ is. ne (names.once id q h some is)))
     ]
 
-    pub told_gone : IsTold (remove ids id) (remove o h) (remove m id)
-    told_gone q = elim (cases_eq q id) [
+    pub shown_gone : AreBytesOf (remove ids id) (remove o h) (remove m id)
+    shown_gone q = elim (cases_eq q id) [
       | inl is ↦ rw is (get_removed m id ∙ sym (ap (through (remove o h)) (get_removed ids id)))
-      | inr ne ↦ get_remove_other m id q ne ∙ told q ∙ sym (ap (through (remove o h)) (get_remove_other ids id q ne)
+      | inr ne ↦ get_remove_other m id q ne ∙ shown q ∙ sym (ap (through (remove o h)) (get_remove_other ids id q ne)
           ∙ still (get ids q) (λ is. ne (names.once id q h some is)))
     ]
       where
@@ -60,11 +60,11 @@ module _ (ids : Ids) (o : Objects) (m : Told) (names : AreTiedTo ids o) (told : 
         still (Some k) other = get_remove_other o h k (λ is. other (ap (λ j. Some j) is))
 
     -- the bytes of the id that follow from the lines
-    pub told_here : (v : List ℕ) → get o h ≡ Some v → get m id ≡ Some v
-    told_here v there = told id ∙ ap (through o) some ∙ there
+    pub shown_here : (v : List ℕ) → get o h ≡ Some v → get m id ≡ Some v
+    shown_here v there = shown id ∙ ap (through o) some ∙ there
 
-pub changed_is : (m : Told) (id : ℕ) (f : List ℕ → List ℕ) (v : List ℕ) → get m id ≡ Some v → changed m id f ≡ insert m id (f v)
-changed_is m id f v here = ap (λ (o : Option (List ℕ)). elim o as (λ _. Told) [ None ↦ m | Some u ↦ insert m id (f u) ]) here
+pub changed_is : (m : IdBytes) (id : ℕ) (f : List ℕ → List ℕ) (v : List ℕ) → get m id ≡ Some v → changed m id f ≡ insert m id (f v)
+changed_is m id f v here = ap (λ (o : Option (List ℕ)). elim o as (λ _. IdBytes) [ None ↦ m | Some u ↦ insert m id (f u) ]) here
 
 -- the live ids with their handles, and the objects by handle
 pub record Named : Type 0 where
@@ -82,11 +82,11 @@ pub record IsSame (old new : Named) : Type 0 where
 
 -- the reply isn't `ok`, and nothing changed
 pub record Refuses (old : Named) (reply : Reply) (new : Named) : Type 0 where
-  pub told : is_ok reply ≡ false
+  pub shown : is_ok reply ≡ false
   pub same : IsSame old new
 
 pub refuses : {old new : Named} {reply : Reply} (text : List ℕ) → is_ok (said text) ≡ false → reply ≡ said text → IsSame old new → Refuses old reply new
-refuses text fails is rest = record { told = ap is_ok is ∙ fails; same = rest }
+refuses text fails is rest = record { shown = ap is_ok is ∙ fails; same = rest }
 
 -- a state that stays the same names the same
 pub same_named : {S : Type 0} (named : S → Named) {old new : S} → new ≡ old → IsSame (named old) (named new)
@@ -95,7 +95,7 @@ same_named named is = record { ids = ap (λ s. (named s).ids) is; objects = ap (
 -- the id, which wasn't live, gets an object of n zeros under a handle that wasn't live
 pub record Adds (old : Named) (id n : ℕ) (reply : Reply) (new : Named) : Type 0 where
   pub handle : ℕ
-  pub told : is_ok reply ≡ true
+  pub shown : is_ok reply ≡ true
   pub free : get old.ids id ≡ None
   pub unused : get old.objects handle ≡ None
   pub ids : new.ids ≡ insert old.ids id handle
@@ -104,7 +104,7 @@ pub record Adds (old : Named) (id n : ℕ) (reply : Reply) (new : Named) : Type 
 -- the id and its object are removed
 pub record Takes (old : Named) (id : ℕ) (reply : Reply) (new : Named) : Type 0 where
   pub handle : ℕ
-  pub told : is_ok reply ≡ true
+  pub shown : is_ok reply ≡ true
   pub live : get old.ids id ≡ Some handle
   pub ids : new.ids ≡ remove old.ids id
   pub objects : new.objects ≡ remove old.objects handle
@@ -113,7 +113,7 @@ pub record Takes (old : Named) (id : ℕ) (reply : Reply) (new : Named) : Type 0
 pub record Changes (old : Named) (id : ℕ) (f : List ℕ → List ℕ) (reply : Reply) (new : Named) : Type 0 where
   pub handle : ℕ
   pub bytes : List ℕ
-  pub told : is_ok reply ≡ true
+  pub shown : is_ok reply ≡ true
   pub live : get old.ids id ≡ Some handle
   pub found : get old.objects handle ≡ Some bytes
   pub ids : new.ids ≡ old.ids
@@ -125,7 +125,7 @@ NamedTurn old (Malloc id n) reply new = Adds old id n reply new ⊎ Refuses old 
 NamedTurn old (Free id) reply new = Takes old id reply new ⊎ Refuses old reply new
 NamedTurn old (Write id at bytes) reply new = Changes old id (λ v. written v at bytes) reply new ⊎ Refuses old reply new
 NamedTurn old (Resize id n) reply new = Changes old id (λ v. resized v n) reply new ⊎ Refuses old reply new
-NamedTurn old (Read id at count) reply new = (reply ≡ said (read_told (bytes_of old id) at count)) × IsSame old new
+NamedTurn old (Read id at count) reply new = (reply ≡ said (read_shown (bytes_of old id) at count)) × IsSame old new
 NamedTurn old c reply new = IsSame old new
 
 -- ---- the ids stay those of the objects
@@ -153,49 +153,49 @@ module _ (old new : Named) (tied : AreTiedTo old.ids old.objects) where
 
 -- ---- the bytes after a reply
 
-abbrev pub next : Command → Told → Reply → Told
+abbrev pub next : Command → IdBytes → Reply → IdBytes
 next c m reply = cond (is_ok reply) (done_by c m) m
 
-module _ (old new : Named) (m : Told) (tied : AreTiedTo old.ids old.objects) (told : IsTold old.ids old.objects m) where
+module _ (old new : Named) (m : IdBytes) (tied : AreTiedTo old.ids old.objects) (shown : AreBytesOf old.ids old.objects m) where
   -- the same for equal ids and objects
-  told_with : (ids : Ids) (o : Objects) (after : Told) → new.ids ≡ ids → new.objects ≡ o → IsTold ids o after → IsTold new.ids new.objects after
-  told_with ids o after e f is = subst (λ i. IsTold i new.objects after) (sym e) (subst (λ b. IsTold ids b after) (sym f) is)
+  shown_with : (ids : Ids) (o : Objects) (after : IdBytes) → new.ids ≡ ids → new.objects ≡ o → AreBytesOf ids o after → AreBytesOf new.ids new.objects after
+  shown_with ids o after e f is = subst (λ i. AreBytesOf i new.objects after) (sym e) (subst (λ b. AreBytesOf ids b after) (sym f) is)
 
-  moved : (c : Command) (reply : Reply) → is_ok reply ≡ true → IsTold new.ids new.objects (done_by c m) → IsTold new.ids new.objects (next c m reply)
+  moved : (c : Command) (reply : Reply) → is_ok reply ≡ true → AreBytesOf new.ids new.objects (done_by c m) → AreBytesOf new.ids new.objects (next c m reply)
   moved c reply passes after = rw passes after
 
-  refused : (c : Command) (reply : Reply) → Refuses old reply new → IsTold new.ids new.objects (next c m reply)
-  refused c reply r = let fails = r.told in rw fails (told_with _ _ m (r.same).ids (r.same).objects told)
+  refused : (c : Command) (reply : Reply) → Refuses old reply new → AreBytesOf new.ids new.objects (next c m reply)
+  refused c reply r = let fails = r.shown in rw fails (shown_with _ _ m (r.same).ids (r.same).objects shown)
 
   -- a command that changes no bytes
-  kept_told : (b : Bool) → IsSame old new → IsTold new.ids new.objects (cond b m m)
-  kept_told true s = told_with _ _ m s.ids s.objects told
-  kept_told false s = told_with _ _ m s.ids s.objects told
+  kept_shown : (b : Bool) → IsSame old new → AreBytesOf new.ids new.objects (cond b m m)
+  kept_shown true s = shown_with _ _ m s.ids s.objects shown
+  kept_shown false s = shown_with _ _ m s.ids s.objects shown
 
   -- the bytes of one id change
-  changed_told : (id : ℕ) (f : List ℕ → List ℕ) (reply : Reply) → Changes old id f reply new → IsTold new.ids new.objects (changed m id f)
-  changed_told id f reply c =
-      let here = told_here old.ids old.objects m tied told id c.handle c.live c.bytes c.found in
-      subst (λ t. IsTold new.ids new.objects t) (sym (changed_is m id f c.bytes here))
-      (told_with old.ids (insert old.objects c.handle (f c.bytes)) (insert m id (f c.bytes)) c.ids c.objects
-      (told_changed old.ids old.objects m tied told id c.handle c.live (f c.bytes)))
+  changed_shown : (id : ℕ) (f : List ℕ → List ℕ) (reply : Reply) → Changes old id f reply new → AreBytesOf new.ids new.objects (changed m id f)
+  changed_shown id f reply c =
+      let here = shown_here old.ids old.objects m tied shown id c.handle c.live c.bytes c.found in
+      subst (λ t. AreBytesOf new.ids new.objects t) (sym (changed_is m id f c.bytes here))
+      (shown_with old.ids (insert old.objects c.handle (f c.bytes)) (insert m id (f c.bytes)) c.ids c.objects
+      (shown_changed old.ids old.objects m tied shown id c.handle c.live (f c.bytes)))
 
-  turn_told : (c : Command) (reply : Reply) → NamedTurn old c reply new → IsTold new.ids new.objects (next c m reply)
-  turn_told (Malloc id n) reply (inl a) = moved (Malloc id n) reply a.told
-      (told_with _ _ _ a.ids a.objects (told_added old.ids old.objects m tied told id a.handle (replicate n 0) a.unused))
-  turn_told (Malloc id n) reply (inr r) = refused (Malloc id n) reply r
-  turn_told (Free id) reply (inl t) = moved (Free id) reply t.told
-      (told_with _ _ _ t.ids t.objects (told_gone old.ids old.objects m tied told id t.handle t.live))
-  turn_told (Free id) reply (inr r) = refused (Free id) reply r
-  turn_told (Write id at bytes) reply (inl c) = moved (Write id at bytes) reply c.told (changed_told id (λ v. written v at bytes) reply c)
-  turn_told (Write id at bytes) reply (inr r) = refused (Write id at bytes) reply r
-  turn_told (Resize id n) reply (inl c) = moved (Resize id n) reply c.told (changed_told id (λ v. resized v n) reply c)
-  turn_told (Resize id n) reply (inr r) = refused (Resize id n) reply r
-  turn_told (Read id at count) reply turn = kept_told (is_ok reply) turn.1
-  turn_told c reply turn = kept_told (is_ok reply) turn
+  turn_shown : (c : Command) (reply : Reply) → NamedTurn old c reply new → AreBytesOf new.ids new.objects (next c m reply)
+  turn_shown (Malloc id n) reply (inl a) = moved (Malloc id n) reply a.shown
+      (shown_with _ _ _ a.ids a.objects (shown_added old.ids old.objects m tied shown id a.handle (replicate n 0) a.unused))
+  turn_shown (Malloc id n) reply (inr r) = refused (Malloc id n) reply r
+  turn_shown (Free id) reply (inl t) = moved (Free id) reply t.shown
+      (shown_with _ _ _ t.ids t.objects (shown_gone old.ids old.objects m tied shown id t.handle t.live))
+  turn_shown (Free id) reply (inr r) = refused (Free id) reply r
+  turn_shown (Write id at bytes) reply (inl c) = moved (Write id at bytes) reply c.shown (changed_shown id (λ v. written v at bytes) reply c)
+  turn_shown (Write id at bytes) reply (inr r) = refused (Write id at bytes) reply r
+  turn_shown (Resize id n) reply (inl c) = moved (Resize id n) reply c.shown (changed_shown id (λ v. resized v n) reply c)
+  turn_shown (Resize id n) reply (inr r) = refused (Resize id n) reply r
+  turn_shown (Read id at count) reply turn = kept_shown (is_ok reply) turn.1
+  turn_shown c reply turn = kept_shown (is_ok reply) turn
 
   turn_reads : (c : Command) (reply : Reply) → NamedTurn old c reply new → IsReadOf (Some m) (asks c) reply
-  turn_reads (Read id at count) reply turn = turn.0 ∙ ap (λ (o : Option (List ℕ)). said (read_told o at count)) (sym (told id))
+  turn_reads (Read id at count) reply turn = turn.0 ∙ ap (λ (o : Option (List ℕ)). said (read_shown o at count)) (sym (shown id))
   turn_reads c reply turn = tt
 
 -- The rules of a run, seen as ids and objects: a run begins without ids, its ids are those of its objects, and each command changes them as it should.
@@ -208,53 +208,53 @@ pub record NamesObjects {S : Type 0} (begins : Profile → Reply → S → Type 
   pub still_going : (old : S) (c : Command) (reply : Reply) (new : S) → is_going old → turns old c reply new → is_going new
   pub turns_named : (old : S) (c : Command) (reply : Reply) (new : S) → is_going old → turns old c reply new → NamedTurn (named old) c reply (named new)
 
-no_read : (t : Option Told) (reply : Reply) (p : Profile) → IsReadOf t (starts p) reply
+no_read : (t : Option IdBytes) (reply : Reply) (p : Profile) → IsReadOf t (starts p) reply
 no_read None reply p = tt
 no_read (Some m) reply p = tt
 
-no_bad : (t : Option Told) (reply : Reply) (n : ℕ) → IsReadOf t (bad n) reply
+no_bad : (t : Option IdBytes) (reply : Reply) (n : ℕ) → IsReadOf t (bad n) reply
 no_bad None reply n = tt
 no_bad (Some m) reply n = tt
 
 module _ {S : Type 0} (begins : Profile → Reply → S → Type 0) (turns : S → Command → Reply → S → Type 0) (rules : NamesObjects begins turns) where
   -- a run, and the bytes that follow from its lines
-  abbrev AreTogether : Option S → Option Told → Type 0
+  abbrev AreTogether : Option S → Option IdBytes → Type 0
   AreTogether None None = Unit {0}
   AreTogether None (Some m) = ⊥
   AreTogether (Some s) None = ⊥
-  AreTogether (Some s) (Some m) = rules.is_going s × IsTold (rules.named s).ids (rules.named s).objects m
+  AreTogether (Some s) (Some m) = rules.is_going s × AreBytesOf (rules.named s).ids (rules.named s).objects m
 
-  fresh_told : (p : Profile) (reply : Reply) (s : S) → begins p reply s → IsTold (rules.named s).ids (rules.named s).objects empty
-  fresh_told p reply s begun q = get-empty nat_cmp q
+  fresh_shown : (p : Profile) (reply : Reply) (s : S) → begins p reply s → AreBytesOf (rules.named s).ids (rules.named s).objects empty
+  fresh_shown p reply s begun q = get-empty nat_cmp q
       ∙ sym (ap (through (rules.named s).objects) (ap (λ (t : Ids). get t q) (rules.begins_empty p reply s begun) ∙ get-empty nat_cmp q))
 
-  item_told : (old : Option S) (t : Option Told) (item : Item) (reply : Reply) (new : Option S) → AreTogether old t
-      → PlayStep begins turns old item reply new → AreTogether new (told_after t item reply) × IsReadOf t item reply
-  item_told old t (starts p) reply new with_it step = (
-    subst (λ s. AreTogether s (Some empty)) (sym step.2) (rules.begins_going p reply step.0 step.1, fresh_told p reply step.0 step.1),
+  item_shown : (old : Option S) (t : Option IdBytes) (item : Item) (reply : Reply) (new : Option S) → AreTogether old t
+      → PlayStep begins turns old item reply new → AreTogether new (shown_after t item reply) × IsReadOf t item reply
+  item_shown old t (starts p) reply new with_it step = (
+    subst (λ s. AreTogether s (Some empty)) (sym step.2) (rules.begins_going p reply step.0 step.1, fresh_shown p reply step.0 step.1),
     no_read t reply p,
   )
-  item_told None None (asks c) reply new with_it step = (subst (λ s. AreTogether s None) (sym step.1) tt, tt)
-  item_told None (Some m) (asks c) reply new with_it step = absurd with_it
-  item_told (Some old) None (asks c) reply new with_it step = absurd with_it
-  item_told (Some old) (Some m) (asks c) reply new with_it step =
+  item_shown None None (asks c) reply new with_it step = (subst (λ s. AreTogether s None) (sym step.1) tt, tt)
+  item_shown None (Some m) (asks c) reply new with_it step = absurd with_it
+  item_shown (Some old) None (asks c) reply new with_it step = absurd with_it
+  item_shown (Some old) (Some m) (asks c) reply new with_it step =
       let turn = rules.turns_named old c reply step.0 with_it.0 step.1 in
       let names = rules.tied old with_it.0 in (
         subst (λ s. AreTogether s (Some (next c m reply))) (sym step.2)
-            (rules.still_going old c reply step.0 with_it.0 step.1, turn_told (rules.named old) (rules.named step.0) m names with_it.1 c reply turn),
+            (rules.still_going old c reply step.0 with_it.0 step.1, turn_shown (rules.named old) (rules.named step.0) m names with_it.1 c reply turn),
         turn_reads (rules.named old) (rules.named step.0) m names with_it.1 c reply turn,
       )
-  item_told old t (bad n) reply new with_it step = (subst (λ s. AreTogether s t) (sym step.1) with_it, no_bad t reply n)
+  item_shown old t (bad n) reply new with_it step = (subst (λ s. AreTogether s t) (sym step.1) with_it, no_bad t reply n)
 
-  run_reads : (old : Option S) (t : Option Told) (items : List Item) (replies : List Reply) (new : Option S) → AreTogether old t
+  run_reads : (old : Option S) (t : Option IdBytes) (items : List Item) (replies : List Reply) (new : Option S) → AreTogether old t
       → PlayRun begins turns old items replies new → AreReadsOf t items replies
   run_reads old t [] replies new with_it run = tt
   run_reads old t (item ∷ rest) replies new with_it run =
-      let one = item_told old t item run.1 run.0 with_it run.3 in
+      let one = item_shown old t item run.1 run.0 with_it run.3 in
       let e = run.4 in
-      rw e (one.1, run_reads run.0 (told_after t item run.1) rest run.2 new one.0 run.5)
+      rw e (one.1, run_reads run.0 (shown_after t item run.1) rest run.2 new one.0 run.5)
 
   -- over a run, reads print the bytes that follow from the lines and their replies
-  pub any_reads_are_told : (items : List Item) (replies : List Reply) (new : Option S) → PlayRun begins turns None items replies new
+  pub any_reads_are_shown : (items : List Item) (replies : List Reply) (new : Option S) → PlayRun begins turns None items replies new
       → AreReadsOf None items replies
-  any_reads_are_told items replies new run = run_reads None None items replies new tt run
+  any_reads_are_shown items replies new run = run_reads None None items replies new tt run

@@ -11,7 +11,7 @@ use Rattle.page_model.specs.Paging.{Paging}
 use Rattle.page_model.specs.Steps.{Leaves, Moves, RemovesObject, without}
 use Rattle.page_model.proofs.CallerLemmas.{can_free, free_frames, free_objects, some_move, sound_free}
 use Rattle.cf_model.specs.ExactCosts.{free_cost}
-use Rattle.cf_model.specs.Ordered.{FreeInOrder, IsOrderedFree}
+use Rattle.cf_model.specs.Ordered.{FreeByOrder, IsOrderedFree}
 use Rattle.cf_model.specs.Rules.{IsPaged, KeepsRules, KeepsTable}
 use Rattle.cf_model.specs.State.{HeapState, paging_in}
 use Rattle.cf_model.specs.Steps.{MovesIn, frames_left, leaves_of, number_of, slot_in, tiling_left}
@@ -19,7 +19,7 @@ use Rattle.run_model.proofs.CallerLemmas.{bytes_held}
 use Rattle.run_laws.proofs.Answered.{AreFew, HasFree, few_left, follows_none, follows_some}
 use Rattle.run_laws.proofs.ByKind.{handle_of, number_of_handle, table_stepped}
 use Rattle.run_laws.proofs.OrderCosts.{free_few}
-use Rattle.run_laws.proofs.PageRules.{becomes, costs, few_old, order_old, pages, table_old}
+use Rattle.run_laws.proofs.PageRules.{becomes, costs_by_kind, few_old, order_old, pages, table_old}
 
 module _ (old : HeapState) (rules : KeepsRules old) (paged : IsPaged old.kind) (h : ℕ) (x : Placed) (there : get old.held h ≡ Some x) where
   abbrev p : Paging
@@ -75,7 +75,7 @@ module _ (old : HeapState) (rules : KeepsRules old) (paged : IsPaged old.kind) (
         };
         ordered = ordered new.words;
         kept = new.kept;
-        cost = costs old rules paged cost (96 + 2 * slot_in old.kind old x) le;
+        cost = costs_by_kind old rules paged cost (96 + 2 * slot_in old.kind old x) (41 + slot_in old.kind old x) le;
       }
 
   by_order : (o : Option Order) → old.order ≡ o → HasFree old h
@@ -84,7 +84,7 @@ module _ (old : HeapState) (rules : KeepsRules old) (paged : IsPaged old.kind) (
       let move = some_move p ps.paging old.held ps.sound h x there in
       let moved = handle_of move.0 in
       freed_with moved (subst (Moves p old.held x) (sym (number_of_handle move.0)) move.1) None 0 tt
-      (λ words. follows_none (FreeInOrder old h (Ok (freed moved)) (next moved words None 0)) old.order None none refl) (omega arith)
+      (λ words. follows_none (FreeByOrder old h (Ok (freed moved)) (next moved words None 0)) old.order None none refl) (omega arith)
   by_order (Some was) some =
       let ps = pages old rules paged in
       let c = can_free p ps.paging old.held ps.sound old.profile.proxies was (order_old old rules paged was some) h x there (rules.numbers.handles h x there) in
@@ -93,8 +93,8 @@ module _ (old : HeapState) (rules : KeepsRules old) (paged : IsPaged old.kind) (
       let cost = free_cost old was h (Ok (freed moved)) in
       freed_with moved (subst (Moves p old.held x) same c.moves) (Some c.new) cost
       (subst (λ q. IsOrderOf p (without old.held h x.place q) old.profile.proxies c.new) same c.is_order)
-      (λ words. follows_some (FreeInOrder old h (Ok (freed moved)) (next moved words (Some c.new) cost)) old.order (Some c.new) was c.new some refl
-      (record { choice = subst (λ q. FreeFollows p old.held h q was c.new) same c.follows; cost = refl }))
+      (λ words. follows_some (FreeByOrder old h (Ok (freed moved)) (next moved words (Some c.new) cost)) old.order (Some c.new) was c.new some refl
+      (rw (paged, FreeByOrder) (record { choice = subst (λ q. FreeFollows p old.held h q was c.new) same c.follows; cost = refl })))
       (free_few old was h x there (freed moved) slot_is)
 
   -- every free of a live object succeeds

@@ -16,14 +16,14 @@ use Rattle.page_model.specs.Steps.{IsFreePlace, zeros_at}
 use Rattle.page_model.proofs.CallerLemmas.{can_malloc, class_fits, len-objects, malloc_objects, sound_malloc, zeros_are_bytes}
 use Rattle.cf_model.specs.Answers.{place_of}
 use Rattle.cf_model.specs.ExactCosts.{malloc_cost}
-use Rattle.cf_model.specs.Ordered.{IsOrderedMalloc, MallocInOrder}
+use Rattle.cf_model.specs.Ordered.{IsOrderedMalloc, MallocByOrder}
 use Rattle.cf_model.specs.Rules.{IsPaged, KeepsRules}
 use Rattle.cf_model.specs.State.{HeapState, paging_in}
 use Rattle.cf_model.specs.Steps.{IsPlacedBy, IsRefusedBy, LacksRoomIn}
 use Rattle.run_model.proofs.CallerLemmas.{bytes_missing}
 use Rattle.run_laws.proofs.Answered.{AreFew, HasMalloc, few_added, follows_none, follows_same, follows_some}
 use Rattle.run_laws.proofs.OrderCosts.{malloc_few}
-use Rattle.run_laws.proofs.PageRules.{becomes, costs, few_old, order_old, pages, rules_still, table_old}
+use Rattle.run_laws.proofs.PageRules.{becomes, costs_by_kind, few_old, order_old, pages, rules_still, table_old}
 use Rattle.run_laws.proofs.Room.{has_room, room_or_not}
 
 module _ (old : HeapState) (rules : KeepsRules old) (paged : IsPaged old.kind) where
@@ -35,9 +35,10 @@ module _ (old : HeapState) (rules : KeepsRules old) (paged : IsPaged old.kind) w
     answer = Err e;
     heap = record old { cost = 1 };
     step = (cause, refl);
-    ordered = follows_same (MallocInOrder old n (Err e) (record old { cost = 1 })) old.order (λ was. record { choice = tt; cost = refl });
+    ordered = follows_same (MallocByOrder old n (Err e) (record old { cost = 1 })) old.order
+        (λ was. rw (paged, MallocByOrder) (record { choice = tt; cost = refl }));
     kept = rules_still old rules paged 1;
-    cost = costs old rules paged 1 64 (omega arith);
+    cost = costs_by_kind old rules paged 1 64 25 (omega arith);
   }
 
   abbrev with_object : ℕ → ℕ → ℕ → Held
@@ -72,7 +73,7 @@ module _ (old : HeapState) (rules : KeepsRules old) (paged : IsPaged old.kind) w
         };
         ordered = ordered after.words;
         kept = after.kept;
-        cost = costs old rules paged cost 64 le;
+        cost = costs_by_kind old rules paged cost 64 25 le;
       }
 
   -- a place is left: any of them without an order, and otherwise the next one
@@ -81,7 +82,7 @@ module _ (old : HeapState) (rules : KeepsRules old) (paged : IsPaged old.kind) w
   with_room n fits few a free None none =
       let key = fresh_key old.profile.proxies old.held few in
       given n key.0 a fits few key.1 key.2 free None 0 tt
-      (λ words. follows_none (MallocInOrder old n (Ok (record { 0 = key.0 })) (record old { held = with_object n key.0 a; words = words; order = None; cost = 0 }))
+      (λ words. follows_none (MallocByOrder old n (Ok (record { 0 = key.0 })) (record old { held = with_object n key.0 a; words = words; order = None; cost = 0 }))
       old.order None none refl) (omega arith)
   with_room n fits few a free (Some was) some =
       let ps = pages old rules paged in
@@ -94,10 +95,10 @@ module _ (old : HeapState) (rules : KeepsRules old) (paged : IsPaged old.kind) w
       let new : HeapState = record old { held = with_object n c.number c.place; words = words; order = Some c.new; cost = cost } in
       let at : place_of new c.number ≡ Some c.place =
       ap (option_map (λ (x : Placed). x.place)) (get_inserted old.held c.number (zeros_at c.place n)) in
-      follows_some (MallocInOrder old n (Ok h) new) old.order (Some c.new) was c.new some refl (record {
+      follows_some (MallocByOrder old n (Ok h) new) old.order (Some c.new) was c.new some refl (rw (paged, MallocByOrder) (record {
         choice = subst (λ o. IfSome o (λ a. MallocFollows p old.held (record { number = c.number; length = n }) a was c.new)) (sym at) c.follows;
         cost = refl;
-      })))
+      }))))
       (malloc_few old was n h)
 
   -- every malloc has a result

@@ -21,7 +21,7 @@ use Rattle.page_model.proofs.CallerLemmas.{can_resize, change_is, changes_class,
 use Rattle.page_model.proofs.CallerLemmas.{some_move, sound_resize}
 use Rattle.cf_model.specs.Costs.{resize_bound}
 use Rattle.cf_model.specs.ExactCosts.{resize_cost}
-use Rattle.cf_model.specs.Ordered.{IsOrderedResize, ResizeInOrder}
+use Rattle.cf_model.specs.Ordered.{IsOrderedResize, ResizeByOrder}
 use Rattle.cf_model.specs.Rules.{IsPaged, KeepsRules, KeepsTable}
 use Rattle.cf_model.specs.State.{HeapState, paging_in}
 use Rattle.cf_model.specs.Steps.{IsResizeFault, IsUnmoved, frames_left, number_of}
@@ -60,7 +60,7 @@ module _ (old : HeapState) (rules : KeepsRules old) (paged : IsPaged old.kind) (
     answer = Err e;
     heap = record old { cost = cost };
     step = (cause, rw (paged, IsUnmoved) refl);
-    ordered = follows_same (ResizeInOrder old asked (Err e) (record old { cost = cost })) old.order (λ was. record { choice = tt; cost = is was });
+    ordered = follows_same (ResizeByOrder old asked (Err e) (record old { cost = cost })) old.order (λ was. rw (paged, ResizeByOrder) (record { choice = tt; cost = is was }));
     kept = rules_still old rules paged cost;
     cost = costs old rules paged cost 160 le;
   }
@@ -101,7 +101,7 @@ module _ (old : HeapState) (rules : KeepsRules old) (paged : IsPaged old.kind) (
     -- without an order
     unordered : old.order ≡ None → RefitsObject p old.held asked after → HasResize old asked
     unordered none step = resized_with step None 0 tt
-        (λ words. follows_none (ResizeInOrder old asked (Ok done) (next words None 0)) old.order None none refl) (omega arith)
+        (λ words. follows_none (ResizeByOrder old asked (Ok done) (next words None 0)) old.order None none refl) (omega arith)
 
   moved_on : need asked.length ≤ old.profile.page_words → class_for p asked.length ≢ class_at p x → (a : ℕ) → IsFreePlace p old.held asked.length a
       → old.order ≡ None → HasResize old asked
@@ -132,8 +132,11 @@ module _ (old : HeapState) (rules : KeepsRules old) (paged : IsPaged old.kind) (
       let cost = resize_cost old was asked (Ok d) in
       let class = (ps.sound.slots asked.number x there).class in
       resized_with fits m moved (subst (λ q. RefitsObject p old.held asked (record { held = m; moved = q })) same c.step) (Some c.new) cost c.is_order
-      (λ words. follows_some (ResizeInOrder old asked (Ok d) (next fits m moved words (Some c.new) cost)) old.order (Some c.new) was c.new some refl
-      (record { choice = subst (λ q. ResizeFollows p old.held asked (record { held = m; moved = q }) was c.new) same c.follows; cost = refl }))
+      (λ words. follows_some (ResizeByOrder old asked (Ok d) (next fits m moved words (Some c.new) cost)) old.order (Some c.new) was c.new some refl
+      (rw (paged, ResizeByOrder) (record {
+        choice = subst (λ q. ResizeFollows p old.held asked (record { held = m; moved = q }) was c.new) same c.follows;
+        cost = refl;
+      })))
       (resize_few old was asked x there d refl (class_holds p ps.paging (length x.bytes) class) (class_holds p ps.paging asked.length lt))
 
   by_order : need asked.length ≤ old.profile.page_words → (class_for p asked.length ≢ class_at p x → (a : ℕ) × IsFreePlace p old.held asked.length a)

@@ -9,7 +9,7 @@ use Rattle.page_model.specs.Paging.{Paging}
 use Rattle.page_model.proofs.CallerLemmas.{own_words}
 use Rattle.cf_model.specs.Rules.{IsPaged, KeepsPages, KeepsRules, KeepsRulesOf, KeepsTable}
 use Rattle.cf_model.specs.State.{HeapState, paging_in, region_words}
-use Rattle.run_model.specs.Sessions.{CostsAtMost}
+use Rattle.run_model.specs.Sessions.{CostsAtMost, CostsByKind}
 use Rattle.run_model.proofs.CallerLemmas.{pages_kept}
 use Rattle.run_laws.proofs.Images.{sound_image}
 use Rattle.run_laws.proofs.Answered.{AreFew, few_in, objects_in}
@@ -30,6 +30,9 @@ module _ (old : HeapState) (rules : KeepsRules old) (paged : IsPaged old.kind) w
 
   pub costs : (cost bound : ℕ) → cost ≤ bound → CostsAtMost old.kind cost bound
   costs cost bound le = rw (paged, CostsAtMost) le
+
+  pub costs_by_kind : (cost bound other : ℕ) → cost ≤ bound → CostsByKind old.kind cost bound other
+  costs_by_kind cost bound other le = rw (paged, CostsByKind) le
 
   -- the order that it has
   pub order_old : (was : Order) → old.order ≡ Some was → IsOrderOf p old.held old.profile.proxies was

@@ -28,11 +28,11 @@ use Rattle.run_model.proofs.CallerLemmas.{FreesAt, MallocsAt, ResizesAt, WritesA
 use Rattle.run_model.specs.Texts.{Reply, said}
 use Rattle.run_model.proofs.CallerLemmas.{begins_going, step_going}
 use Rattle.run_model.proofs.CallerLemmas.{bytes_held, bytes_missing, counted_ids, names_of_objects, resized_ids, unmoved_held}
-use Rattle.run_laws.specs.Told.{AreReadsOf, is_ok, read_told}
-use Rattle.run_laws.proofs.NamedTurns.{Adds, Named, NamedTurn, NamesObjects, Refuses, bytes_of, any_reads_are_told, same_named, through}
+use Rattle.run_laws.specs.IdBytes.{AreReadsOf, is_ok, read_shown}
+use Rattle.run_laws.proofs.NamedTurns.{Adds, Named, NamedTurn, NamesObjects, Refuses, bytes_of, any_reads_are_shown, same_named, through}
 
 -- a read prints the bytes of the object
-pub read_same : (o : Option Placed) (at count : ℕ) → read_text o at count ≡ read_told (option_map (λ (x : Placed). x.bytes) o) at count
+pub read_same : (o : Option Placed) (at count : ℕ) → read_text o at count ≡ read_shown (option_map (λ (x : Placed). x.bytes) o) at count
 read_same None at count = refl
 read_same (Some x) at count = refl
 
@@ -43,17 +43,17 @@ named s = record { ids = s.session.ids; objects = objects s.heap.held }
 module _ (old new : RunState) where
   refuses : (text : List ℕ) (reply : Reply) → is_ok (said text) ≡ false → reply ≡ said text → new.session.ids ≡ old.session.ids
       → new.heap.held ≡ old.heap.held → Refuses (named old) reply (named new)
-  refuses text reply fails is e f = record { told = ap is_ok is ∙ fails; same = record { ids = e; objects = ap objects f } }
+  refuses text reply fails is e f = record { shown = ap is_ok is ∙ fails; same = record { ids = e; objects = ap objects f } }
 
   stays : (text : List ℕ) (reply : Reply) → is_ok (said text) ≡ false → reply ≡ said text → new ≡ old → Refuses (named old) reply (named new)
-  stays text reply fails is e = record { told = ap is_ok is ∙ fails; same = same_named named e }
+  stays text reply fails is e = record { shown = ap is_ok is ∙ fails; same = same_named named e }
 
   malloc_turn : (id n : ℕ) (answer : Result Handle Refusal) (reply : Reply) → get old.session.ids id ≡ None → IsMallocStep old.heap n answer new.heap
       → new.session.ids ≡ ids_given old.session.ids id answer → reply ≡ said (malloc_text answer)
       → Adds (named old) id n reply (named new) ⊎ Refuses (named old) reply (named new)
   malloc_turn id n (Ok h) reply free step e is = inl (record {
     handle = h.0;
-    told = ap is_ok is;
+    shown = ap is_ok is;
     free = free;
     unused = bytes_missing old.heap.held h.0 step.unused;
     ids = e;
@@ -73,7 +73,7 @@ module _ (old new : RunState) where
   free_at None id reply some step = inr (stays (codes "unknown") reply refl step.0 step.1)
   free_at (Some h) id reply some step = inl (record {
     handle = h;
-    told = ap is_ok step.reply_is;
+    shown = ap is_ok step.reply_is;
     live = some;
     ids = ap (λ (s : SessionState). s.ids) step.session ∙ counted_ids _ step.freed.moved _;
     objects = step.step.left;
@@ -85,7 +85,7 @@ module _ (old new : RunState) where
   write_turn id h at bytes (Ok u) reply some step e is = inl (record {
     handle = h;
     bytes = step.object.bytes;
-    told = ap is_ok is;
+    shown = ap is_ok is;
     live = some;
     found = bytes_held old.heap.held h step.object step.found;
     ids = ap (λ (s : SessionState). s.ids) e;
@@ -107,7 +107,7 @@ module _ (old new : RunState) where
   resize_turn id h n (Ok done) reply some step e is = inl (record {
     handle = h;
     bytes = step.object.bytes;
-    told = ap is_ok is;
+    shown = ap is_ok is;
     live = some;
     found = bytes_held old.heap.held h step.object step.found;
     ids = e;
@@ -133,8 +133,8 @@ module _ (old new : RunState) where
   bound_held (Some c) k is = ap (λ (s : HeapState). s.held) is
 
   -- the bytes of an id are the object's
-  object_told : (id : ℕ) → option_map (λ (x : Placed). x.bytes) (object_of old id) ≡ bytes_of (named old) id
-  object_told id = go (get old.session.ids id)
+  object_shown : (id : ℕ) → option_map (λ (x : Placed). x.bytes) (object_of old id) ≡ bytes_of (named old) id
+  object_shown id = go (get old.session.ids id)
     where
       go : (o : Option ℕ) → option_map (λ (x : Placed). x.bytes) (elim o [ None ↦ None | Some h ↦ get old.heap.held h ]) ≡ through (objects old.heap.held) o
       go None = refl
@@ -150,7 +150,7 @@ module _ (old new : RunState) where
     objects = ap objects (bound_held (class_to_bound old.heap slot_words) k step.heap);
   }
   turn_named (Read id at count) reply step = (
-    step.0 ∙ ap said (read_same (object_of old id) at count ∙ ap (λ (o : Option (List ℕ)). read_told o at count) (object_told id)),
+    step.0 ∙ ap said (read_same (object_of old id) at count ∙ ap (λ (o : Option (List ℕ)). read_shown o at count) (object_shown id)),
     same_named named step.1,
   )
   turn_named c reply step = same_named named step.1
@@ -168,6 +168,6 @@ kind_names kind = record {
 }
 
 -- over a run, reads print the bytes that follow from the lines and their replies
-pub reads_are_told : (kind : Kind) (items : List Item) (replies : List Reply) (new : Option RunState) → Run kind None items replies new
+pub reads_are_shown : (kind : Kind) (items : List Item) (replies : List Reply) (new : Option RunState) → Run kind None items replies new
     → AreReadsOf None items replies
-reads_are_told kind = any_reads_are_told (BeginsOne kind) Turn (kind_names kind)
+reads_are_shown kind = any_reads_are_shown (BeginsOne kind) Turn (kind_names kind)

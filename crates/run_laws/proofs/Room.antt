@@ -2,7 +2,7 @@
 use Rattle.std.proofs.Common.{◌≡◌, ℕ, ◌<◌, arith, ◌∙◌, ap, inl, inr}
 use Rattle.std.specs.Prelude.{◌⊎◌}
 use Rattle.std.proofs.lemmas.Bool.{cases_eq, cases_lt}
-use Rattle.page_model.specs.Arrangement.{IsSound, LacksRoom, not_full_pages, standing_on}
+use Rattle.page_model.specs.Arrangement.{IsSound, LacksRoom, not_full_pages, count_on}
 use Rattle.page_model.specs.Held.{Held}
 use Rattle.page_model.specs.Paging.{IsPaging, Paging, address_of, class_for, classes, page_of}
 use Rattle.page_model.specs.Steps.{IsFreePlace}
@@ -10,8 +10,8 @@ use Rattle.page_model.proofs.CallerLemmas.{IsOpen, address_is_slot, nothing_on, 
 use Rattle.cf_lemmas.proofs.Searches.{search_below}
 
 -- a page has objects or none
-bare_or_not : (p : Paging) (m : Held) (page : ℕ) → (0 < standing_on p m page) ⊎ (standing_on p m page ≡ 0)
-bare_or_not p m page = elim (cases_lt 0 (standing_on p m page)) [
+bare_or_not : (p : Paging) (m : Held) (page : ℕ) → (0 < count_on p m page) ⊎ (count_on p m page ≡ 0)
+bare_or_not p m page = elim (cases_lt 0 (count_on p m page)) [
   | inl some ↦ inl some
   | inr none ↦ inr (omega arith)
 ]
@@ -28,7 +28,7 @@ module _ (p : Paging) (ok : IsPaging p) (m : Held) (s : IsSound p m) where
       (address_of p (class_for p n) page free.0, record { slot = at.0; unused = free.2; choice = inl (rw on some, rw on less) })
 
   -- on a page without objects
-  place_alone : (n : ℕ) → class_for p n < classes p → not_full_pages p m (class_for p n) ≡ 0 → (page : ℕ) → page < p.pages → standing_on p m page ≡ 0
+  place_alone : (n : ℕ) → class_for p n < classes p → not_full_pages p m (class_for p n) ≡ 0 → (page : ℕ) → page < p.pages → count_on p m page ≡ 0
       → (a : ℕ) × IsFreePlace p m n a
   place_alone n lt none page within bare =
       let at = address_is_slot p ok (class_for p n) lt page 0 within (slots_some p ok (class_for p n) lt) in
@@ -45,7 +45,7 @@ module _ (p : Paging) (ok : IsPaging p) (m : Held) (s : IsSound p m) where
   pub room_or_not : (n : ℕ) → class_for p n < classes p → LacksRoom p m (class_for p n) ⊎ ((a : ℕ) × IsFreePlace p m n a)
   room_or_not n lt = elim (cases_eq (not_full_pages p m (class_for p n)) 0) [
     | inr ne ↦ inr (let at = open_page p m (class_for p n) (omega arith) in place_beside n lt at.0 at.1)
-    | inl none ↦ elim (search_below (λ g. 0 < standing_on p m g) (λ g. standing_on p m g ≡ 0) (bare_or_not p m) p.pages) [
+    | inl none ↦ elim (search_below (λ g. 0 < count_on p m g) (λ g. count_on p m g ≡ 0) (bare_or_not p m) p.pages) [
       | inl all ↦ inl (record { full = none; taken = all })
       | inr bare ↦ inr (place_alone n lt none bare.0 bare.1 bare.2)
     ]

@@ -69,10 +69,10 @@ module _ (k : Kind) (paged : IsPaged k) (s : HeapState) (rules : KeepsRules s) (
 
   refused_exactly : (answer : Result Handle Refusal) (new : HeapState) (reply : Reply) → IsMallocStep s bytes answer new → reply ≡ said (malloc_text answer)
       → RefusesForWant reply ↔ IsWanting s bytes
-  refused_exactly (Ok h) new reply step told = (
+  refused_exactly (Ok h) new reply step shown = (
     (λ refused. absurd (elim refused [
-      | inl e ↦ (let z : said (codes "ok") ≡ said (codes "refused proxy") = sym told ∙ e in cc)
-      | inr e ↦ (let z : said (codes "ok") ≡ said (codes "refused space") = sym told ∙ e in cc)
+      | inl e ↦ (let z : said (codes "ok") ≡ said (codes "refused proxy") = sym shown ∙ e in cc)
+      | inr e ↦ (let z : said (codes "ok") ≡ said (codes "refused space") = sym shown ∙ e in cc)
     ])),
     (λ wanting. absurd (elim wanting [
       | inl all ↦ (let few = step.few in omega arith)
@@ -80,11 +80,11 @@ module _ (k : Kind) (paged : IsPaged k) (s : HeapState) (rules : KeepsRules s) (
           (placed_in s.kind (record { number = h.0; length = bytes }) step.place new (subst IsPaged (sym is) paged) step.placed) (by_need.1 more)
     ])),
   )
-  refused_exactly (Err refusal.Size) new reply step told = absurd (let large = step.0 in omega arith)
-  refused_exactly (Err refusal.Proxy) new reply step told = ((λ _. inl step.0.all), (λ _. inl told))
-  refused_exactly (Err refusal.Space) new reply step told = (
+  refused_exactly (Err refusal.Size) new reply step shown = absurd (let large = step.0 in omega arith)
+  refused_exactly (Err refusal.Proxy) new reply step shown = ((λ _. inl step.0.all), (λ _. inl shown))
+  refused_exactly (Err refusal.Space) new reply step shown = (
     (λ _. inr (by_need.0 (lacking_in s.kind (subst IsPaged (sym is) paged) step.0.lacking))),
-    (λ _. inr told),
+    (λ _. inr shown),
   )
 
 refuses_at : (k : Kind) (o : Option ℕ) (old : RunState) (asked : Request) (reply : Reply) (new : RunState) → IsPaged k → KeepsRules old.heap → old.heap.kind ≡ k

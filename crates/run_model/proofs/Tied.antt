@@ -20,7 +20,7 @@ use Rattle.cf_model.specs.State.{HeapState}
 use Rattle.cf_model.specs.Steps.{ChangesCost, IsMallocStep, IsResizeStep, IsUnmoved, IsWriteStep, Part}
 use Rattle.script_reader.specs.declared.command.Command.{Command}
 use Rattle.script_reader.specs.declared.command.Command.TheVariants.{Malloc, Free, Write, Bound, Resize}
-use Rattle.run_model.specs.Sessions.{AreTied, CostsAtMost, Ids, RunState, SessionState, counted}
+use Rattle.run_model.specs.Sessions.{AreTied, CostsAtMost, CostsByKind, Ids, RunState, SessionState, counted}
 use Rattle.run_model.specs.Steps.{Frees, Mallocs, Resizes, Step, class_to_bound, ids_given, session_resized}
 use Rattle.run_model.proofs.NamedIds.{FreesAt, MallocsAt, ResizesAt, WritesAt}
 use Rattle.run_model.specs.Texts.{Reply}
@@ -78,6 +78,14 @@ unmoved_changes_cost k old new is = by_family (family_of k) refl
 pub unmoved_held : (k : Kind) (old new : HeapState) → IsUnmoved k old new → new.held ≡ old.held
 unmoved_held k old new is = ap (λ (s : HeapState). s.held) (unmoved_changes_cost k old new is)
 
+-- a cost within the bound of its kind is within the bound with pages, if the kind has pages
+pub costs_with_pages : (k : Kind) (cost n m : ℕ) → CostsByKind k cost n m → CostsAtMost k cost n
+costs_with_pages k cost n m within = by_family (family_of k) refl
+  where
+    by_family : (f : Family) → family_of k ≡ f → CostsAtMost k cost n
+    by_family paged is = (let le = rw (is, CostsByKind) at within in rw (is, CostsAtMost) le)
+    by_family tiled is = rw (is, CostsAtMost) tt
+
 module _ (old new : RunState) (tied : AreTied old.session old.heap) where
   abbrev names : AreTiedTo old.session.ids old.heap.held
   names = tied.ids
@@ -99,13 +107,15 @@ module _ (old new : RunState) (tied : AreTied old.session old.heap) where
 
   malloc_tied : (asked : Request) (reply : Reply) → get old.session.ids asked.number ≡ None → Mallocs old asked reply new → AreTied new.session new.heap
   malloc_tied asked reply none step = tied_with _ _ _ 64 step.session refl refl refl
-      (malloc_names asked.number asked.length step.answer none step.step) step.cost
+      (malloc_names asked.number asked.length step.answer none step.step)
+      (costs_with_pages new.heap.kind new.heap.cost _ _ step.cost)
 
   free_tied : (id h : ℕ) (reply : Reply) → get old.session.ids id ≡ Some h → Frees old (record { id = id; number = h }) reply new → AreTied new.session new.heap
   free_tied id h reply some step =
       let gone = tied_less old.session.ids (objects old.heap.held) (names_of_objects old.session.ids old.heap.held names) id h some in
       let left = names_of_held (remove old.session.ids id) new.heap.held (subst (λ m. AreTiedTo (remove old.session.ids id) m) (sym step.step.left) gone) in
-      tied_with _ _ _ _ step.session (counted_ids _ step.freed.moved _) (counted_bound _ step.freed.moved _) refl left step.cost
+      tied_with _ _ _ _ step.session (counted_ids _ step.freed.moved _) (counted_bound _ step.freed.moved _) refl left
+      (costs_with_pages new.heap.kind new.heap.cost _ _ step.cost)
 
   write_tied : (part : Part) (bytes : List ℕ) (answer : Result Unit AccessFault) → new.session ≡ old.session → IsWriteStep old.heap part bytes answer new.heap
       → AreTied new.session new.heap

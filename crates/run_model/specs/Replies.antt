@@ -90,17 +90,17 @@ steps_text kind s cost = elim (family_of kind) [
 
 -- the reply of a command that changes nothing; `none` for the words of modes that do more; commands with a step of their own get their replies there, and the
 -- last row isn't used for them
-abbrev pub told : RunState → Command → Reply
-told s (Read id at count) = said (read_text (object_of s id) at count)
-told s (Place id) = said (place_text (object_of s id))
-told s (Block id i) = said (block_text_at s.heap (object_of s id) i)
-told s (Peek word) = said (peek_text (slice_get s.heap.words word))
-told s Walk = walk_of s.heap.kind s.heap
-told s Frag = frag_of s.heap
-told s Steps = said (steps_text s.heap.kind s.session s.heap.cost)
-told s Slice = said (codes "none")
-told s (Task task) = said (codes "none")
-told s (Quota task pages) = said (codes "none")
-told s (Need task bytes count) = said (codes "none")
-told s (Admit task) = said (codes "none")
-told s command = said (codes "none")
+abbrev pub shown : RunState → Command → Reply
+shown s (Read id at count) = said (read_text (object_of s id) at count)
+shown s (Place id) = said (place_text (object_of s id))
+shown s (Block id i) = said (block_text_at s.heap (object_of s id) i)
+shown s (Peek word) = said (peek_text (slice_get s.heap.words word))
+shown s Walk = walk_of s.heap.kind s.heap
+shown s Frag = frag_of s.heap
+shown s Steps = said (steps_text s.heap.kind s.session s.heap.cost)
+shown s Slice = said (codes "none")
+shown s (Task task) = said (codes "none")
+shown s (Quota task pages) = said (codes "none")
+shown s (Need task bytes count) = said (codes "none")
+shown s (Admit task) = said (codes "none")
+shown s command = said (codes "none")

@@ -44,6 +44,10 @@ pub record RunState : Type 0 where
 abbrev pub CostsAtMost : Kind → ℕ → ℕ → Type 0
 CostsAtMost kind cost n = elim (family_of kind) [ paged ↦ cost ≤ n | tiled ↦ ⊤ ]
 
+-- with pages the cost is at most n, with blocks at most m
+abbrev pub CostsByKind : Kind → ℕ → ℕ → ℕ → Type 0
+CostsByKind kind cost n m = elim (family_of kind) [ paged ↦ cost ≤ n | tiled ↦ cost ≤ m ]
+
 -- each live id names one live handle and each handle has one id; with pages the last cost is within its bound
 pub record AreTied (session : SessionState) (heap : HeapState) : Type 0 where
   pub ids : AreTiedTo session.ids heap.held

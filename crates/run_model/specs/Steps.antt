@@ -17,8 +17,8 @@ use Rattle.cf_model.specs.State.{HeapState}
 use Rattle.cf_model.specs.Steps.{FreesObject, IsMallocStep, IsResizeStep, IsWriteStep, Part}
 use Rattle.script_reader.specs.declared.command.Command.{Command}
 use Rattle.script_reader.specs.declared.command.Command.TheVariants.{Malloc, Free, Write, Bound, Resize}
-use Rattle.run_model.specs.Replies.{malloc_text, resize_text, told, write_text}
-use Rattle.run_model.specs.Sessions.{CostsAtMost, Ids, RunState, SessionState, counted}
+use Rattle.run_model.specs.Replies.{malloc_text, resize_text, shown, write_text}
+use Rattle.run_model.specs.Sessions.{CostsAtMost, CostsByKind, Ids, RunState, SessionState, counted}
 use Rattle.run_model.specs.Texts.{Reply, said}
 
 -- the command does nothing, and gets this reply
@@ -36,7 +36,7 @@ pub record Mallocs (old : RunState) (asked : Request) (reply : Reply) (new : Run
   pub step : IsMallocStep old.heap asked.length answer new.heap
   pub ordered : IsOrderedMalloc old.heap asked.length answer new.heap
   pub rules : KeepsRules new.heap
-  pub cost : CostsAtMost new.heap.kind new.heap.cost 64
+  pub cost : CostsByKind new.heap.kind new.heap.cost 64 25
   pub session : new.session ≡ record old.session { ids = ids_given old.session.ids asked.number answer; bound = 64 }
   pub reply_is : reply ≡ said (malloc_text answer)
 
@@ -51,7 +51,7 @@ pub record Frees (old : RunState) (named : Named) (reply : Reply) (new : RunStat
   pub step : FreesObject old.heap named.number freed new.heap
   pub ordered : IsOrderedFree old.heap named.number (Ok freed) new.heap
   pub rules : KeepsRules new.heap
-  pub cost : CostsAtMost new.heap.kind new.heap.cost (96 + 2 * freed.slot_words)
+  pub cost : CostsByKind new.heap.kind new.heap.cost (96 + 2 * freed.slot_words) (41 + freed.slot_words)
   pub session : new.session ≡ counted (record old.session { ids = remove old.session.ids named.id; bound = 96 + 2 * freed.slot_words }) freed.moved
       freed.slot_words
   pub reply_is : reply ≡ said (codes "ok")
@@ -106,4 +106,4 @@ Step old (Write id at bytes) reply new =
 Step old (Resize id bytes) reply new =
     MatchOption (get old.session.ids id) (Stays old (codes "unknown") reply new) (λ h. Resizes old (record { number = h; length = bytes }) reply new)
 Step old (Bound slot_words k) reply new = Bounds old slot_words k reply new
-Step old command reply new = (reply ≡ told old command) × (new ≡ old)
+Step old command reply new = (reply ≡ shown old command) × (new ≡ old)

@@ -7,7 +7,7 @@ use Rattle.std.proofs.Math.Nat.{mul-mod_left}
 use Rattle.cf_lemmas.proofs.Ranges.{one}
 use Rattle.page_model.specs.Held.{Held, Objects, objects}
 use Rattle.page_model.specs.Paging.{Paging, IsPaging, AreOne, classes, slot_words, slots_of, class_for}
-use Rattle.page_model.specs.Counts.{Stand, ceil_div}
+use Rattle.page_model.specs.Counts.{LieOn, ceil_div}
 use Rattle.page_model.specs.Figures.{asked_bytes, figures_of, taken_bytes, totals_of}
 use Rattle.page_model.specs.Arrangement.{live, home_pages, not_full_pages, pages_needed, pages_needed_with, IsSound}
 use Rattle.cf_lemmas.proofs.Tests.{eq_no, eq_yes}
@@ -22,7 +22,7 @@ leaves : (n m : ℕ) → 0 < n % m → part_pages n m ≡ 1
 leaves n m some = (let e = eq_no (n % m) 0 (λ is. omega arith) in rw e)
 
 -- at most one page is partly full, and none if the objects fill the pages
-part_is : (h n m q : ℕ) → 0 < m → Stand h n m 1 q → q ≡ part_pages n m
+part_is : (h n m q : ℕ) → 0 < m → LieOn h n m 1 q → q ≡ part_pages n m
 part_is h n m zero pos s =
     let e : h - 0 ≡ h = omega arith in
     let low : h * m + 0 ≤ n = rw e at s.least in
@@ -41,8 +41,8 @@ part_is h n m (suc (suc q)) pos s = absurd (omega (arith, s.few))
 
 module _ (p : Paging) (ok : IsPaging p) (ones : AreOne p) (m : Held) (s : IsSound p m) where
   module _ (c : ℕ) (lt : c < classes p) where
-    stand_at_one : Stand (home_pages p m c) (live p (objects m) c) (slots_of p c) 1 (not_full_pages p m c)
-    stand_at_one = subst (λ k. Stand (home_pages p m c) (live p (objects m) c) (slots_of p c) k (not_full_pages p m c)) (ones c lt) (sound_stand p ok c lt m s)
+    stand_at_one : LieOn (home_pages p m c) (live p (objects m) c) (slots_of p c) 1 (not_full_pages p m c)
+    stand_at_one = subst (λ k. LieOn (home_pages p m c) (live p (objects m) c) (slots_of p c) k (not_full_pages p m c)) (ones c lt) (sound_stand p ok c lt m s)
 
     home_is : home_pages p m c ≡ ceil_div (live p (objects m) c) (slots_of p c)
     home_is = can_hold_one (home_pages p m c) (live p (objects m) c) (slots_of p c) (slots_some p ok c lt) (not_full_pages p m c, stand_at_one)

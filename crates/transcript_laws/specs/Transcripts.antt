@@ -57,15 +57,15 @@ AskForOne [] = ⊤
 AskForOne (item ∷ rest) = AsksForOne item × AskForOne rest
 
 -- the command asks for no address and no cost: it isn't `q`, `b`, `p` and `steps`
-abbrev pub TellsNoPlace : Command → Type 0
-TellsNoPlace (Place id) = ⊥
-TellsNoPlace (Block id i) = ⊥
-TellsNoPlace (Peek word) = ⊥
-TellsNoPlace Steps = ⊥
-TellsNoPlace command = ⊤
+abbrev pub ShowsNoPlace : Command → Type 0
+ShowsNoPlace (Place id) = ⊥
+ShowsNoPlace (Block id i) = ⊥
+ShowsNoPlace (Peek word) = ⊥
+ShowsNoPlace Steps = ⊥
+ShowsNoPlace command = ⊤
 
 abbrev pub IsPlaceless : Item → Type 0
-IsPlaceless (asks command) = TellsNoPlace command
+IsPlaceless (asks command) = ShowsNoPlace command
 IsPlaceless item = ⊤
 
 -- none of the items asks for an address or a cost

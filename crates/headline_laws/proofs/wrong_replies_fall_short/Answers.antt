@@ -1,8 +1,9 @@
-use Rattle.headline_laws.proofs.Worked.{address_changed, address_shared, freed_in_vain, no_reply, one_over, page_in_excess, refused_for_size, refused_in_vain, silent, steps_in_excess, total_in_excess}
+use Rattle.headline_laws.proofs.Worked.{address_changed, address_shared, block_steps_in_excess, freed_in_vain, no_reply, one_over, page_in_excess, refused_for_size, refused_wrongly, silent, steps_in_excess, total_in_excess}
+use Rattle.headline_laws.proofs.Worked.{word_in_nothing}
 use Rattle.headline_laws.proofs.wrong_replies_fall_short.Goals as goal
 
 pub returns-clause-room : goal.returns-clause-room
-returns-clause-room c = refused_in_vain
+returns-clause-room c = refused_wrongly
 
 pub returns-clause-size : goal.returns-clause-size
 returns-clause-size c = refused_for_size
@@ -33,3 +34,9 @@ returns-clause-shared c = address_shared
 
 pub returns-clause-moved : goal.returns-clause-moved
 returns-clause-moved c = address_changed
+
+pub returns-clause-word : goal.returns-clause-word
+returns-clause-word c = word_in_nothing
+
+pub returns-clause-blocks : goal.returns-clause-blocks
+returns-clause-blocks c = block_steps_in_excess

@@ -2,64 +2,64 @@ use Rattle.std.proofs.Common.{ap, refl}
 use Rattle.script_reader.specs.Owned.{owned_command}
 use Rattle.script_reader.specs.declared.command.Command.TheVariants.{Malloc, Free, Write, Read, Resize, Bound, Place, Block, Peek, Steps}
 use Rattle.cf_session.proofs.Lacking.{lacking}
-use Rattle.cf_session.proofs.Reporting.{has_room, reported_walk, reported_frag, told_step}
+use Rattle.cf_session.proofs.Reporting.{has_room, reported_walk, reported_frag, shown_step}
 use Rattle.cf_session.proofs.dispatch.answer.Goals as goal
 
 pub returns-in-Malloc-clause-answers : goal.returns-in-Malloc-clause-answers
-returns-in-Malloc-clause-answers g c = told_step _ _ _ (Malloc _ _) c.args.lead.now _ _ _ _
+returns-in-Malloc-clause-answers g c = shown_step _ _ _ (Malloc _ _) c.args.lead.now _ _ _ _
     (ap owned_command c.in-Malloc.is) c.requires.going c.malloc.ensures.step
-    c.tell_short.ensures.told
+    c.put_short_line.ensures.shown
 
 pub returns-in-Free-clause-answers : goal.returns-in-Free-clause-answers
-returns-in-Free-clause-answers g c = told_step _ _ _ (Free _) c.args.lead.now _ _ _ _ (ap owned_command c.in-Free.is) c.requires.going c.free.ensures.step
-    c.tell_short-in-Free.ensures.told
+returns-in-Free-clause-answers g c = shown_step _ _ _ (Free _) c.args.lead.now _ _ _ _ (ap owned_command c.in-Free.is) c.requires.going c.free.ensures.step
+    c.put_short_line-in-Free.ensures.shown
 
 pub returns-in-Write-clause-answers : goal.returns-in-Write-clause-answers
-returns-in-Write-clause-answers g c = told_step _ _ _ (Write _ _ _) c.args.lead.now _ _ _ _
+returns-in-Write-clause-answers g c = shown_step _ _ _ (Write _ _ _) c.args.lead.now _ _ _ _
     (ap owned_command c.in-Write.is) c.requires.going c.write.ensures.step
-    c.tell_short-in-Write.ensures.told
+    c.put_short_line-in-Write.ensures.shown
 
 pub returns-in-Resize-clause-answers : goal.returns-in-Resize-clause-answers
-returns-in-Resize-clause-answers g c = told_step _ _ _ (Resize _ _) c.args.lead.now _ _ _ _
+returns-in-Resize-clause-answers g c = shown_step _ _ _ (Resize _ _) c.args.lead.now _ _ _ _
     (ap owned_command c.in-Resize.is) c.requires.going c.resize.ensures.step
-    c.tell_short-in-Resize.ensures.told
+    c.put_short_line-in-Resize.ensures.shown
 
 pub returns-in-Bound-clause-answers : goal.returns-in-Bound-clause-answers
-returns-in-Bound-clause-answers g c = told_step _ _ _ (Bound _ _) c.args.lead.now _ _ _ _
+returns-in-Bound-clause-answers g c = shown_step _ _ _ (Bound _ _) c.args.lead.now _ _ _ _
     (ap owned_command c.in-Bound.is) c.requires.going c.set_bound.ensures.step
-    c.tell_short-in-Bound.ensures.told
+    c.put_short_line-in-Bound.ensures.shown
 
-pub tell-requires-clause-room : goal.tell-requires-clause-room
-tell-requires-clause-room g c = has_room c.args.lead.now _ _ _ c.place.ensures
+pub put_reply-requires-clause-room : goal.put_reply-requires-clause-room
+put_reply-requires-clause-room g c = has_room c.args.lead.now _ _ _ c.place.ensures
 
 pub returns-in-Place-clause-answers : goal.returns-in-Place-clause-answers
-returns-in-Place-clause-answers g c = told_step _ _ _ (Place _) c.args.lead.now _ _ _ _ (ap owned_command c.in-Place.is) c.requires.going (refl, refl)
-    (c.tell.ensures.told _ c.place.ensures)
+returns-in-Place-clause-answers g c = shown_step _ _ _ (Place _) c.args.lead.now _ _ _ _ (ap owned_command c.in-Place.is) c.requires.going (refl, refl)
+    (c.put_reply.ensures.shown _ c.place.ensures)
 
-pub tell-requires-in-Block-clause-room : goal.tell-requires-in-Block-clause-room
-tell-requires-in-Block-clause-room g c = has_room c.args.lead.now _ _ _ c.block.ensures
+pub put_reply-requires-in-Block-clause-room : goal.put_reply-requires-in-Block-clause-room
+put_reply-requires-in-Block-clause-room g c = has_room c.args.lead.now _ _ _ c.block.ensures
 
 pub returns-in-Block-clause-answers : goal.returns-in-Block-clause-answers
-returns-in-Block-clause-answers g c = told_step _ _ _ (Block _ _) c.args.lead.now _ _ _ _ (ap owned_command c.in-Block.is) c.requires.going (refl, refl)
-    (c.tell-in-Block.ensures.told _ c.block.ensures)
+returns-in-Block-clause-answers g c = shown_step _ _ _ (Block _ _) c.args.lead.now _ _ _ _ (ap owned_command c.in-Block.is) c.requires.going (refl, refl)
+    (c.put_reply-in-Block.ensures.shown _ c.block.ensures)
 
-pub tell-requires-in-Peek-clause-room : goal.tell-requires-in-Peek-clause-room
-tell-requires-in-Peek-clause-room g c = has_room c.args.lead.now _ _ _ c.peek.ensures
+pub put_reply-requires-in-Peek-clause-room : goal.put_reply-requires-in-Peek-clause-room
+put_reply-requires-in-Peek-clause-room g c = has_room c.args.lead.now _ _ _ c.peek.ensures
 
 pub returns-in-Peek-clause-answers : goal.returns-in-Peek-clause-answers
-returns-in-Peek-clause-answers g c = told_step _ _ _ (Peek _) c.args.lead.now _ _ _ _ (ap owned_command c.in-Peek.is) c.requires.going (refl, refl)
-    (c.tell-in-Peek.ensures.told _ c.peek.ensures)
+returns-in-Peek-clause-answers g c = shown_step _ _ _ (Peek _) c.args.lead.now _ _ _ _ (ap owned_command c.in-Peek.is) c.requires.going (refl, refl)
+    (c.put_reply-in-Peek.ensures.shown _ c.peek.ensures)
 
-pub tell-requires-in-Steps-clause-room : goal.tell-requires-in-Steps-clause-room
-tell-requires-in-Steps-clause-room g c = has_room c.args.lead.now _ _ _ c.tell_steps.ensures
+pub put_reply-requires-in-Steps-clause-room : goal.put_reply-requires-in-Steps-clause-room
+put_reply-requires-in-Steps-clause-room g c = has_room c.args.lead.now _ _ _ c.put_steps_line.ensures
 
 pub returns-in-Steps-clause-answers : goal.returns-in-Steps-clause-answers
-returns-in-Steps-clause-answers g c = told_step _ _ _ Steps c.args.lead.now _ _ _ _ (ap owned_command c.in-Steps.is) c.requires.going (refl, refl)
-    (c.tell-in-Steps.ensures.told _ c.tell_steps.ensures)
+returns-in-Steps-clause-answers g c = shown_step _ _ _ Steps c.args.lead.now _ _ _ _ (ap owned_command c.in-Steps.is) c.requires.going (refl, refl)
+    (c.put_reply-in-Steps.ensures.shown _ c.put_steps_line.ensures)
 
 pub returns-in-Read-clause-answers : goal.returns-in-Read-clause-answers
-returns-in-Read-clause-answers g c = told_step _ _ _ (Read _ _ _) c.args.lead.now _ _ _ _ (ap owned_command c.in-Read.is) c.requires.going (refl, refl)
-    c.read.ensures.told
+returns-in-Read-clause-answers g c = shown_step _ _ _ (Read _ _ _) c.args.lead.now _ _ _ _ (ap owned_command c.in-Read.is) c.requires.going (refl, refl)
+    c.read.ensures.shown
 
 pub returns-in-Walk-clause-answers : goal.returns-in-Walk-clause-answers
 returns-in-Walk-clause-answers g c = reported_walk _ c.args.lead.now _ _ _ c.walk_lines.result c.ended.result (ap owned_command c.in-Walk.is)
@@ -72,6 +72,6 @@ returns-in-Frag-clause-answers g c = reported_frag _ c.args.lead.now _ _ _ c.fra
 pub returns-in_default-clause-answers : goal.returns-in_default-clause-answers
 returns-in_default-clause-answers g c =
     let d = c.in_default in
-    told_step _ _ _ (owned_command c.args.c) c.args.lead.now _ _ _ _ refl c.requires.going
+    shown_step _ _ _ (owned_command c.args.c) c.args.lead.now _ _ _ _ refl c.requires.going
     (lacking _ c.args.c d.not-Malloc d.not-Free d.not-Write d.not-Read d.not-Place d.not-Block d.not-Peek d.not-Walk d.not-Frag d.not-Steps d.not-Bound
-    d.not-Resize) c.tell_short-in_default.ensures.told
+    d.not-Resize) c.put_short_line-in_default.ensures.shown

@@ -12,8 +12,8 @@ use Rattle.script_reader.specs.declared.command.Command.TheVariants.{Malloc, Fre
 use Rattle.run_model.specs.Texts.{Reply, said}
 
 -- the bytes of each id
-abbrev pub Told : Type 0
-Told = FinMap nat_cmp (List ℕ)
+abbrev pub IdBytes : Type 0
+IdBytes = FinMap nat_cmp (List ℕ)
 
 -- whether the reply is `ok`
 abbrev pub is_ok : Reply → Bool
@@ -21,11 +21,11 @@ is_ok [] = false
 is_ok (text ∷ rest) = bytes_eq text (codes "ok")
 
 -- f applied to the id's bytes, if it has any
-abbrev pub changed : Told → ℕ → (List ℕ → List ℕ) → Told
+abbrev pub changed : IdBytes → ℕ → (List ℕ → List ℕ) → IdBytes
 changed m id f = elim (get m id) [ None ↦ m | Some v ↦ insert m id (f v) ]
 
 -- the effect of a command with the reply `ok`: a malloc makes zeros, a write replaces bytes, a resize cuts them or adds zeros
-abbrev pub done_by : Command → Told → Told
+abbrev pub done_by : Command → IdBytes → IdBytes
 done_by (Malloc id bytes) m = insert m id (replicate bytes 0)
 done_by (Free id) m = remove m id
 done_by (Write id at bytes) m = changed m id (λ v. written v at bytes)
@@ -33,24 +33,24 @@ done_by (Resize id bytes) m = changed m id (λ v. resized v bytes)
 done_by command m = m
 
 -- the bytes after an item and its reply; none before the `heap` line
-abbrev pub told_after : Option Told → Item → Reply → Option Told
-told_after told (starts p) reply = Some empty
-told_after None (asks command) reply = None
-told_after (Some m) (asks command) reply = Some (if is_ok reply then done_by command m else m)
-told_after told (bad n) reply = told
+abbrev pub shown_after : Option IdBytes → Item → Reply → Option IdBytes
+shown_after shown (starts p) reply = Some empty
+shown_after None (asks command) reply = None
+shown_after (Some m) (asks command) reply = Some (if is_ok reply then done_by command m else m)
+shown_after shown (bad n) reply = shown
 
 -- the reply to a read: `=` and the id's bytes in hexadecimal
-abbrev pub read_told : Option (List ℕ) → ℕ → ℕ → List ℕ
-read_told None at count = codes "unknown"
-read_told (Some v) at count = if nat_le (at + count) (length v) then codes "=" ++ encode_lower (take count (drop at v)) else codes "range"
+abbrev pub read_shown : Option (List ℕ) → ℕ → ℕ → List ℕ
+read_shown None at count = codes "unknown"
+read_shown (Some v) at count = if nat_le (at + count) (length v) then codes "=" ++ encode_lower (take count (drop at v)) else codes "range"
 
 -- if the item is a read, its reply has the id's bytes
-abbrev pub IsReadOf : Option Told → Item → Reply → Type 0
-IsReadOf (Some m) (asks (Read id at count)) reply = reply ≡ said (read_told (get m id) at count)
-IsReadOf told item reply = ⊤
+abbrev pub IsReadOf : Option IdBytes → Item → Reply → Type 0
+IsReadOf (Some m) (asks (Read id at count)) reply = reply ≡ said (read_shown (get m id) at count)
+IsReadOf shown item reply = ⊤
 
 -- the reply to every read has the bytes that follow from the lines before it and their replies
-abbrev pub AreReadsOf : Option Told → List Item → List Reply → Type 0
-AreReadsOf told [] replies = ⊤
-AreReadsOf told (item ∷ rest) [] = ⊥
-AreReadsOf told (item ∷ rest) (reply ∷ more) = IsReadOf told item reply × AreReadsOf (told_after told item reply) rest more
+abbrev pub AreReadsOf : Option IdBytes → List Item → List Reply → Type 0
+AreReadsOf shown [] replies = ⊤
+AreReadsOf shown (item ∷ rest) [] = ⊥
+AreReadsOf shown (item ∷ rest) (reply ∷ more) = IsReadOf shown item reply × AreReadsOf (shown_after shown item reply) rest more
