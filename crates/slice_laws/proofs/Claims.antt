@@ -28,7 +28,8 @@ opened quantum p s b =
 abbrev shown_at : Option SliceRun → Option ShownSlices
 shown_at s = option_map shown s
 
-abbrev GoesOn : Option SliceRun → Type 0
+-- the run goes on, if it has begun
+abbrev pub GoesOn : Option SliceRun → Type 0
 GoesOn None = ⊤
 GoesOn (Some s) = IsGoingSliced s
 

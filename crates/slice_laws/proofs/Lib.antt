@@ -3,6 +3,7 @@ pub mod Slicing
 pub mod Steps
 pub mod Claims
 pub mod OneTranscript
+pub mod OneOutput
 pub mod Worked
 pub mod ShownLaws
 pub mod Ending

@@ -27,24 +27,24 @@ module _ (quantum : ℕ) where
   replies_from t [] = []
   replies_from t (item ∷ rest) = reply_at t item ∷ replies_from (after_at t item) rest
 
-  command_told : (old : ShownSlices) (c : Command) (reply : Reply) (new : ShownSlices) → IsNoPeek (asks c) → Answers old c reply new
+  command_shown : (old : ShownSlices) (c : Command) (reply : Reply) (new : ShownSlices) → IsNoPeek (asks c) → Answers old c reply new
       → (reply ≡ said (line_of old c)) × (new ≡ after old c)
-  command_told old (Peek word) reply new no' a = absurd no'
-  command_told old c reply new no' a = a
+  command_shown old (Peek word) reply new no' a = absurd no'
+  command_shown old c reply new no' a = a
 
-  item_told : (old : Option ShownSlices) (item : Item) (reply : Reply) (new : Option ShownSlices) → IsNoPeek item
+  item_shown : (old : Option ShownSlices) (item : Item) (reply : Reply) (new : Option ShownSlices) → IsNoPeek item
       → PlayStep (Opens quantum) Answers old item reply new → (reply ≡ reply_at old item) × (new ≡ after_at old item)
-  item_told old (starts p) reply new no' step = (step.1.0, step.2 ∙ ap (λ t. Some t) step.1.1)
-  item_told None (asks c) reply new no' step = step
-  item_told (Some old) (asks c) reply new no' step = (let a = command_told old c reply step.0 no' step.1 in (a.0, step.2 ∙ ap (λ t. Some t) a.1))
-  item_told old (bad n) reply new no' step = step
+  item_shown old (starts p) reply new no' step = (step.1.0, step.2 ∙ ap (λ t. Some t) step.1.1)
+  item_shown None (asks c) reply new no' step = step
+  item_shown (Some old) (asks c) reply new no' step = (let a = command_shown old c reply step.0 no' step.1 in (a.0, step.2 ∙ ap (λ t. Some t) a.1))
+  item_shown old (bad n) reply new no' step = step
 
-  run_told : (items : List Item) (old : Option ShownSlices) (replies : List Reply) (new : Option ShownSlices) → AreNoPeeks items
+  run_shown : (items : List Item) (old : Option ShownSlices) (replies : List Reply) (new : Option ShownSlices) → AreNoPeeks items
       → PlayRun (Opens quantum) Answers old items replies new → replies ≡ replies_from old items
-  run_told [] old replies new no' run = run.0
-  run_told (item ∷ rest) old replies new no' run =
-      let one = item_told old item run.1 run.0 no'.0 run.3 in
-      let more = run_told rest run.0 run.2 new no'.1 run.5 in
+  run_shown [] old replies new no' run = run.0
+  run_shown (item ∷ rest) old replies new no' run =
+      let one = item_shown old item run.1 run.0 no'.0 run.3 in
+      let more = run_shown rest run.0 run.2 new no'.1 run.5 in
       run.4 ∙ (λ i. one.0 i ∷ more i) ∙ ap (λ t. reply_at old item ∷ replies_from t rest) one.1
 
   command_there : (old : ShownSlices) (c : Command) → IsNoPeek (asks c) → Answers old c (said (line_of old c)) (after old c)
@@ -66,7 +66,7 @@ module _ (quantum : ℕ) where
       (more.0, (after_at old item, reply_at old item, replies_from (after_at old item) rest, item_there old item no'.0, refl, more.1))
 
   pub is_transcript : (items : List Item) (replies : List Reply) → AreNoPeeks items → MeetsSliced quantum items replies → replies ≡ replies_from None items
-  is_transcript items replies no' meets = run_told items None replies meets.0 no' meets.1
+  is_transcript items replies no' meets = run_shown items None replies meets.0 no' meets.1
 
   pub transcript_meets : (items : List Item) → AreNoPeeks items → MeetsSliced quantum items (replies_from None items)
   transcript_meets items no' = run_there items None no'

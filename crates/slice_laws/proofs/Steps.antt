@@ -121,16 +121,16 @@ module _ (s : SliceRun) (going : IsGoingSliced s) where
     within_so : pages_needed_with p (objects m) n ≤ s.heap.profile.pages → space_test ≡ false
     within_so within = lt_no s.heap.profile.pages (pages_needed_with p (by_id s) n) (let e = needed_is in omega arith)
 
-    refusal_told : (e : SliceRefusal) → IsRefusedBy (plan_in s.heap) state n e → slice_refusal (shown s) n ≡ Some e
-    refusal_told refusal.Size why = λ i. refusal_by (lt_yes s.heap.profile.page_words (need n) why i) proxy_test space_test busy_test
-    refusal_told refusal.Proxy why = λ i. refusal_by (fits_so why.fits i)
+    refusal_shown : (e : SliceRefusal) → IsRefusedBy (plan_in s.heap) state n e → slice_refusal (shown s) n ≡ Some e
+    refusal_shown refusal.Size why = λ i. refusal_by (lt_yes s.heap.profile.page_words (need n) why i) proxy_test space_test busy_test
+    refusal_shown refusal.Proxy why = λ i. refusal_by (fits_so why.fits i)
         (eq_yes (len (by_id s)) s.heap.profile.proxies (len_is ∙ why.all) i) space_test busy_test
-    refusal_told refusal.Space why =
+    refusal_shown refusal.Space why =
         let over = why.over in
         let e = needed_is in
         let yes = lt_yes s.heap.profile.pages (pages_needed_with p (by_id s) n) (omega arith) in
         λ i. refusal_by (fits_so why.fits i) (few_so why.few i) (yes i) busy_test
-    refusal_told refusal.Busy why =
+    refusal_shown refusal.Busy why =
         let kept = going.rules.consistent.kept in
         let lt = class_fits p going.rules.plan.paging n why.fits in
         let over = (lacks_room_at_one p going.rules.plan.paging going.rules.plan.ones (with_slot (plan_in s.heap) m (job_slot s.heap.job)) kept.sound n lt).0
@@ -139,8 +139,8 @@ module _ (s : SliceRun) (going : IsGoingSliced s) where
         let yes = lt_yes s.heap.profile.pages (needed_beside (shown s) n) (omega arith) in
         λ i. refusal_by (fits_so why.fits i) (few_so why.few i) (within_so why.within i) (yes i)
 
-    given_told : (h : ℕ) (new : Sliced) → GivesObject (plan_in s.heap) state (record { number = h; length = n }) new → slice_refusal (shown s) n ≡ None
-    given_told h new g =
+    given_shown : (h : ℕ) (new : Sliced) → GivesObject (plan_in s.heap) state (record { number = h; length = n }) new → slice_refusal (shown s) n ≡ None
+    given_shown h new g =
         let kept = going.rules.consistent.kept in
         let plan = going.rules.plan in
         let never = given_or_refused (plan_in s.heap) going.rules.plan state going.rules.consistent.kept (record { number = h; length = n }) new g in
@@ -163,9 +163,9 @@ module _ (s : SliceRun) (going : IsGoingSliced s) where
         let no' = lt_no s.heap.profile.pages (needed_beside (shown s) n) room in
         λ i. refusal_by (fits_so g.fits i) (few_so g.few i) (within_so within i) (no' i)
 
-    pub answer_told : (answer : Result Handle SliceRefusal) (new : SlicedState) → Does s.heap (Malloc n answer) new → slice_refusal (shown s) n ≡ refused answer
-    answer_told (Ok h) new d = given_told h.0 (working_in new).state d.happens.gives
-    answer_told (Err e) new d = refusal_told e d.happens.0
+    pub answer_shown : (answer : Result Handle SliceRefusal) (new : SlicedState) → Does s.heap (Malloc n answer) new → slice_refusal (shown s) n ≡ refused answer
+    answer_shown (Ok h) new d = given_shown h.0 (working_in new).state d.happens.gives
+    answer_shown (Err e) new d = refusal_shown e d.happens.0
 
 -- the same settings
 pub stays_shown : (old new : SliceRun) (event : Event) → Does old.heap event new.heap
@@ -208,9 +208,9 @@ module _ (old new : SliceRun) (going : IsGoingSliced old) (later : IsGoingSliced
       → MatchOption o (MallocsSliced old id n reply new) (λ h. StaysSliced old (codes "live") reply new) → Answered (command.Malloc id n)
   malloc_answered id n None none st =
       let no' = gone_by_id old.ids (objects old.heap.held) id none in
-      let told = answer_told old going n st.answer new.heap st.does in (
-        st.reply_is ∙ ap said (text_is st.answer ∙ sym (ap (λ o. malloc_line o t n) no' ∙ ap (ok_or (λ e. slice_malloc_text (Err e))) told)),
-        malloc_is id n none st.answer st.does st.ids ∙ sym (λ i. after_malloc (no' i) (told i) t id n),
+      let stated = answer_shown old going n st.answer new.heap st.does in (
+        st.reply_is ∙ ap said (text_is st.answer ∙ sym (ap (λ o. malloc_line o t n) no' ∙ ap (ok_or (λ e. slice_malloc_text (Err e))) stated)),
+        malloc_is id n none st.answer st.does st.ids ∙ sym (λ i. after_malloc (no' i) (stated i) t id n),
       )
     where
       text_is : (answer : Result Handle SliceRefusal) → slice_malloc_text answer ≡ ok_or (λ e. slice_malloc_text (Err e)) (refused answer)
@@ -260,17 +260,17 @@ module _ (old new : SliceRun) (going : IsGoingSliced old) (later : IsGoingSliced
         job = Some (record { class = class_for (plan_by s q).paging (length (bytes_are i)); done = 0; filled = false });
       })))
 
-  free_told : (id h : ℕ) (v : List ℕ) → get old.ids id ≡ Some h → get (objects old.heap.held) h ≡ Some v → (answer : Option SliceFault)
+  free_shown : (id h : ℕ) (v : List ℕ) → get old.ids id ≡ Some h → get (objects old.heap.held) h ≡ Some v → (answer : Option SliceFault)
       → Does old.heap (Free h answer) new.heap → new.ids ≡ ids_without old.ids id answer
       → (answer ≡ slice_fault (Some v) t.job) × (shown new ≡ after_free (Some v) t.job t id)
-  free_told id h v named there None d ids =
+  free_shown id h v named there None d ids =
       let idle = job_is_none d.happens.removes.idle in
       (sym (ap (slice_fault (Some v)) idle), freed_is id h v named there d ids ∙ sym (ap (λ j. after_free (Some v) j t id) idle))
-  free_told id h v named there (Some fault.Unknown) d ids = absurd (
+  free_shown id h v named there (Some fault.Unknown) d ids = absurd (
       let none = get-map_values (λ (x : Placed). x.bytes) old.heap.held h ∙ ap (option_map (λ (x : Placed). x.bytes)) d.happens.0 in
       let e : Some v ≡ None = sym there ∙ none in
       cc)
-  free_told id h v named there (Some fault.Busy) d ids =
+  free_shown id h v named there (Some fault.Busy) d ids =
       let j = job_is_some d.happens.0.pending in (
         sym (ap (slice_fault (Some v)) j.1),
         stays_shown old new (Free h (Some fault.Busy)) d
@@ -287,9 +287,9 @@ module _ (old new : SliceRun) (going : IsGoingSliced old) (later : IsGoingSliced
       )
   free_answered id (Some h) named st =
       let v = found old going id h named in
-      let told = free_told id h v.0 named v.1 st.answer st.does st.ids in (
-        st.reply_is ∙ ap (λ a. said (slice_free_text a)) told.0 ∙ sym (ap (λ o. said (slice_free_text (slice_fault o t.job))) v.2),
-        told.1 ∙ sym (ap (λ o. after_free o t.job t id) v.2),
+      let stated = free_shown id h v.0 named v.1 st.answer st.does st.ids in (
+        st.reply_is ∙ ap (λ a. said (slice_free_text a)) stated.0 ∙ sym (ap (λ o. said (slice_free_text (slice_fault o t.job))) v.2),
+        stated.1 ∙ sym (ap (λ o. after_free o t.job t id) v.2),
       )
 
   -- w: no object comes or goes, or moves
@@ -314,11 +314,11 @@ module _ (old new : SliceRun) (going : IsGoingSliced old) (later : IsGoingSliced
             nat_le (slots_of (plan_by s q).paging k.class) (n + 1);
       })) (on_same k.class (page_of (plan_by s q).paging k.address))
 
-  write_told : (id h from : ℕ) (bytes v : List ℕ) → get old.ids id ≡ Some h → get (objects old.heap.held) h ≡ Some v → (answer : Option AccessFault)
+  write_shown : (id h from : ℕ) (bytes v : List ℕ) → get old.ids id ≡ Some h → get (objects old.heap.held) h ≡ Some v → (answer : Option AccessFault)
       → Does old.heap (Write (record { number = h; from = from }) bytes answer) new.heap → new.ids ≡ old.ids
       → (slice_write_text answer ≡ write_said (Some v) from (length bytes))
       × (shown new ≡ with_objects t (put_unless (write_fault v from (length bytes)) (by_id old) id (written v from bytes)))
-  write_told id h from bytes v named there None d ids =
+  write_shown id h from bytes v named there None d ids =
       let o = on_map old new going (Write (record { number = h; from = from }) bytes None) d in
       let is : Some o.0 ≡ Some v = sym o.1 ∙ there in
       let same : o.0 ≡ v = cc in
@@ -337,9 +337,9 @@ module _ (old new : SliceRun) (going : IsGoingSliced old) (later : IsGoingSliced
             ∙ (λ i. record { heap = heap_with s (objects_are i); quantum = q; job = job i })
             ∙ sym (ap (λ f. with_objects t (put_unless f (by_id old) id (written v from bytes))) yes),
       )
-  write_told id h from bytes v named there (Some access.Unknown) d ids =
+  write_shown id h from bytes v named there (Some access.Unknown) d ids =
       absurd (let e : Some v ≡ None = sym there ∙ d.happens.0 in cc)
-  write_told id h from bytes v named there (Some access.Range) d ids =
+  write_shown id h from bytes v named there (Some access.Range) d ids =
       let o = d.happens.0 in
       let is : Some o.0 ≡ Some v = sym o.1 ∙ there in
       let same : o.0 ≡ v = cc in
@@ -363,9 +363,9 @@ module _ (old new : SliceRun) (going : IsGoingSliced old) (later : IsGoingSliced
       )
   write_answered id from bytes (Some h) named st =
       let v = found old going id h named in
-      let told = write_told id h from bytes v.0 named v.1 st.answer st.does st.ids in (
-        st.reply_is ∙ ap said (told.0 ∙ sym (ap (λ o. write_said o from (length bytes)) v.2)),
-        told.1 ∙ sym (ap (λ o. with_objects t (write_leaves o (by_id old) (record { id = id; at = from; bytes = bytes }))) v.2),
+      let stated = write_shown id h from bytes v.0 named v.1 st.answer st.does st.ids in (
+        st.reply_is ∙ ap said (stated.0 ∙ sym (ap (λ o. write_said o from (length bytes)) v.2)),
+        stated.1 ∙ sym (ap (λ o. with_objects t (write_leaves o (by_id old) (record { id = id; at = from; bytes = bytes }))) v.2),
       )
 
   -- s

@@ -4,6 +4,7 @@
 
 ghost use Rattle.std.specs.Prelude.{◌≡◌, ◌≢◌, ℕ, ◌+◌, ◌-◌, ◌*◌, ◌<◌, ◌≤◌, ◌↔◌, codes, length, take, List, [], ◌∷◌, ◌++◌, None, Option, Some};
 ghost use Rattle.std.specs.FinMap.{get};
+ghost use Rattle.std.specs.Option.{option_map};
 ghost use Rattle.page_model.specs.Arrangement.{pages_needed_with};
 ghost use Rattle.page_model.specs.Paging.{IsPaging, class_for, slot_words};
 ghost use Rattle.run_model.specs.Texts.{Reply, said};
@@ -11,7 +12,7 @@ ghost use Rattle.script_loop.specs.Semantics.{RunBy};
 ghost use Rattle.script_reader.specs.Items.{Item};
 ghost use Rattle.script_reader.specs.declared.command.Command.TheVariants.{Free, Slice};
 ghost use Rattle.slice_model.specs.declared.answers.SliceRefusal.TheVariants.{Busy};
-ghost use Rattle.slice_session.specs.Playing.{RunsSliced, SlicePlay, slices};
+ghost use Rattle.slice_session.specs.Playing.{RunsSliced, SlicePlay, run_of_play, slices};
 ghost use Rattle.slice_session.specs.SliceRun.{SliceRun};
 ghost use Rattle.slice_laws.specs.ShownSlices.{ShownJob, ShownSlices, paging_shown, words_left};
 ghost use Rattle.slice_laws.specs.SliceHeadline.{AreNoPeeks, MeetsSliced, after, after_slices, line_of, slice_refusal};
@@ -31,6 +32,19 @@ pub fn one_sliced_transcript()
         → MeetsSliced quantum items replies → MeetsSliced quantum items others → others ≡ replies }
     ensures some { (quantum : ℕ) (items : List Item) → AreNoPeeks items
         → (replies : List Reply) × MeetsSliced quantum items replies }
+{}
+
+/// One script has one output in mode slice: two runs over the same items, with the same words of a slice,
+/// have the same replies, also the words that `p` prints while a job is half done. They lead to the same
+/// ids, the same heap with its words, and the same order. The same holds of the replies of the mode handler.
+pub fn one_sliced_output()
+    ensures run { (quantum : ℕ) (items : List Item) (replies others : List Reply) (last end : Option SliceRun)
+        → RunsSliced quantum None items replies last → RunsSliced quantum None items others end
+        → (others ≡ replies) × (end ≡ last) }
+    ensures play { (from other : SlicePlay) (items : List Item) (replies others : List Reply) (last end : Option SlicePlay)
+        → from.quantum ≡ other.quantum
+        → RunBy slices from None items replies last → RunBy slices other None items others end
+        → (others ≡ replies) × (option_map run_of_play end ≡ option_map run_of_play last) }
 {}
 
 /// Which calls wait for a job, and how long. A free of a live id prints `busy` if and only if a job is

@@ -15,4 +15,7 @@ pub use Rattle.slice_model.proofs.OneMap.{objects_sliced, call_on_map}
 pub use Rattle.slice_model.proofs.Results.{slice_there, free_answered}
 pub use Rattle.slice_model.proofs.JobSlices.{followed_once, slices_idle, slices_split, slot_advanced}
 pub use Rattle.slice_model.proofs.PendingTime.{begun_fresh, begun_once}
+pub use Rattle.slice_model.proofs.OrderOnce.{one_free, one_malloc, one_slice, one_write, order_happens}
+pub use Rattle.slice_model.proofs.FirstOrder.{first_is_order}
+pub use Rattle.slice_model.proofs.OrderThere.{can_give, can_remove, can_slice, order_kept}
 pub use Rattle.slice_model.proofs.SparePage.{ceil_one_more, sum_one_more}

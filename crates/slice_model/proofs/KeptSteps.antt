@@ -154,8 +154,8 @@ job_goes_on p m (Clear k) d lt is = record { class = is.class; under_way = lt k 
 job_goes_on p m (Move h k) d lt is = (record { class = is.0.class; under_way = lt k refl }, is.1)
 
 -- what kind a page is, by whether it counts
-part_told : (n s : ℕ) → one (part_full n s) ≡ 1 → (0 < n) × (n < s)
-part_told n s is = elim (cases_lt 0 n) [
+part_shown : (n s : ℕ) → one (part_full n s) ≡ 1 → (0 < n) × (n < s)
+part_shown n s is = elim (cases_lt 0 n) [
   | inr none ↦ absurd (let z = part_empty n s (omega arith) in omega arith)
   | inl some ↦ elim (cases_lt n s) [
     | inl less ↦ (some, less)
@@ -163,8 +163,8 @@ part_told n s is = elim (cases_lt 0 n) [
   ]
 ]
 
-full_told : (n s : ℕ) → 0 < n → one (part_full n s) ≡ 0 → s ≤ n
-full_told n s some is = elim (cases_lt n s) [
+full_shown : (n s : ℕ) → 0 < n → one (part_full n s) ≡ 0 → s ≤ n
+full_shown n s some is = elim (cases_lt n s) [
   | inl less ↦ absurd (let y = part_yes n s some less in omega arith)
   | inr over ↦ over
 ]
@@ -330,8 +330,8 @@ module _ (plan : Plan) (ok : IsPlan plan) where
         let more = one_more in
         let part : one (part_full (objects_on plan.paging m k.class page) (slots_of plan.paging k.class)) ≡ 1 = omega arith in
         let none' : one (part_full (objects_on plan.paging all k.class page) (slots_of plan.paging k.class)) ≡ 0 = omega arith in
-        let b = part_told (objects_on plan.paging m k.class page) (slots_of plan.paging k.class) part in
-        let c = full_told (objects_on plan.paging all k.class page) (slots_of plan.paging k.class) (omega arith) none' in
+        let b = part_shown (objects_on plan.paging m k.class page) (slots_of plan.paging k.class) part in
+        let c = full_shown (objects_on plan.paging all k.class page) (slots_of plan.paging k.class) (omega arith) none' in
         record { some = b.0; filled = (let x = b.1 in omega arith); other = omega arith }
 
     pub two_is_must : not_full_pages plan.paging m k.class ≡ 2 → MustMove plan.paging all (placeholder plan.paging k)

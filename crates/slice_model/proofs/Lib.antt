@@ -13,4 +13,8 @@ pub mod JobSlices
 pub mod OneMap
 pub mod PendingTime
 pub mod Results
+pub mod OneWords
+pub mod OrderOnce
+pub mod FirstOrder
+pub mod OrderThere
 pub mod CallerLemmas

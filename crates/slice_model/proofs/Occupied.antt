@@ -10,7 +10,7 @@ use Rattle.std.proofs.lemmas.List.Sums.{fails_before_first}
 use Rattle.std.specs.FinMap.{get, insert, remove}
 use Rattle.cf_base.specs.Classes.{need}
 use Rattle.cf_lemmas.proofs.Maps.{equal_maps, get_inserted, get_insert_other, some_inserted}
-use Rattle.page_model.specs.Arrangement.{IsSlotAt, LacksRoom, class_at, not_full_pages, objects_on, standing_on}
+use Rattle.page_model.specs.Arrangement.{IsSlotAt, LacksRoom, class_at, not_full_pages, objects_on, count_on}
 use Rattle.page_model.specs.Held.{Held, Placed}
 use Rattle.page_model.specs.Paging.{IsPaging, Paging, address_of, class_for, classes, page_of, slot_words}
 use Rattle.page_model.specs.Steps.{IsFreePlace}
@@ -187,8 +187,8 @@ module _ (plan : Plan) (ok : IsPlan plan) (s : Sliced) (kept : IsKept plan s) wh
       (address_of p c page free.0, usable_of c (address_of p c page free.0) at.0 free.2 (rw on some))
 
   -- a free page holds nothing at all
-  bare : (page : ℕ) → IsFreePage p s page → standing_on p all page ≡ 0
-  bare page f = elim (cases_lt 0 (standing_on p all page)) [
+  bare : (page : ℕ) → IsFreePage p s page → count_on p all page ≡ 0
+  bare page f = elim (cases_lt 0 (count_on p all page)) [
     | inr none ↦ omega arith
     | inl some ↦ absurd (
         let o = standing p all page some in
@@ -198,10 +198,10 @@ module _ (plan : Plan) (ok : IsPlan plan) (s : Sliced) (kept : IsKept plan s) wh
         ])
   ]
 
-  free_where_bare : (page : ℕ) → page < p.pages → standing_on p all page ≡ 0 → IsFreePage p s page
+  free_where_bare : (page : ℕ) → page < p.pages → count_on p all page ≡ 0 → IsFreePage p s page
   free_where_bare page lt none = record {
     within = lt;
-    empty = elim (cases_lt 0 (standing_on p s.held page)) [
+    empty = elim (cases_lt 0 (count_on p s.held page)) [
       | inr zero' ↦ omega arith
       | inl some ↦ absurd (let o = standing p s.held page some in nothing_on p all page none o.0 o.1 (beside o.0 o.1 o.2) o.3)
     ];
@@ -253,7 +253,7 @@ module _ (plan : Plan) (ok : IsPlan plan) (s : Sliced) (kept : IsKept plan s) wh
       | inl some ↦ absurd (let o = open_page p all c some in let u = open_usable c o.0 lt o.1 in none.unusable u.0 u.1)
       | inr zero' ↦ omega arith
     ];
-    taken = λ page within. elim (cases_lt 0 (standing_on p all page)) [
+    taken = λ page within. elim (cases_lt 0 (count_on p all page)) [
       | inl some ↦ some
       | inr zero' ↦ absurd (none.taken page (free_where_bare page within (omega arith)))
     ];
@@ -267,7 +267,7 @@ module _ (plan : Plan) (ok : IsPlan plan) (s : Sliced) (kept : IsKept plan s) wh
         let o = open_page p all (class_for p n) some in
         let u = open_usable (class_for p n) o.0 lt o.1 in
         (u.0, record { slot = u.1.slot; choice = inl u.1 }))
-    | inr none ↦ elim (search_below (λ g. 0 < standing_on p all g) (λ g. standing_on p all g ≡ 0) bare_or_not p.pages) [
+    | inr none ↦ elim (search_below (λ g. 0 < count_on p all g) (λ g. count_on p all g ≡ 0) bare_or_not p.pages) [
       | inl taken ↦ inr (lacking_is_no_place (class_for p n) (record { full = omega arith; taken = taken }))
       | inr (page, within, alone) ↦ inl (
           let at = address_is_slot p ok.paging (class_for p n) lt page 0 within (slots_some p ok.paging (class_for p n) lt) in
@@ -278,8 +278,8 @@ module _ (plan : Plan) (ok : IsPlan plan) (s : Sliced) (kept : IsKept plan s) wh
     ]
   ]
     where
-      bare_or_not : (g : ℕ) → (0 < standing_on p all g) ⊎ (standing_on p all g ≡ 0)
-      bare_or_not g = elim (cases_lt 0 (standing_on p all g)) [
+      bare_or_not : (g : ℕ) → (0 < count_on p all g) ⊎ (count_on p all g ≡ 0)
+      bare_or_not g = elim (cases_lt 0 (count_on p all g)) [
         | inl some ↦ inl some
         | inr zero' ↦ inr (omega arith)
       ]

@@ -4,7 +4,7 @@ use Rattle.std.specs.FinMap.{get, insert}
 pub use Rattle.slice_model.specs.declared.job_slot.JobSlot.{JobSlot}
 use Rattle.page_model.specs.Held.{Held, Placed}
 use Rattle.page_model.specs.Paging.{Paging, IsPaging, AreOne, classes, slot_words, slots_of, page_of}
-use Rattle.page_model.specs.Arrangement.{IsSound, IsSlotAt, class_at, objects_on, standing_on, not_full_pages}
+use Rattle.page_model.specs.Arrangement.{IsSound, IsSlotAt, class_at, objects_on, count_on, not_full_pages}
 
 -- the pages, how many objects may live, and the words of one slice
 pub record Plan : Type 0 where
@@ -18,7 +18,7 @@ pub record IsPlan (plan : Plan) : Type 0 where
   pub ones : AreOne plan.paging
   pub quantum : 1 ≤ plan.quantum
 
--- the pending job: none, or to clear its slot, or to carry an object from its slot to the object's address
+-- the pending job: none, or to clear its slot, or to move an object from its slot to the object's address
 pub data Job : Type 0 where
   Idle : Job
   Clear : JobSlot → Job
@@ -66,7 +66,7 @@ pub record IsUnderWay (p : Paging) (k : JobSlot) : Type 0 where
   pub class : k.class < classes p
   pub under_way : k.done < slot_words p k.class
 
--- a job clears a slot, or carries a live object of the slot's class
+-- a job clears a slot, or moves a live object of the slot's class
 abbrev pub IsJobOf : Paging → Held → Job → Type 0
 IsJobOf p m Idle = ⊤
 IsJobOf p m (Clear k) = IsUnderWay p k
@@ -96,7 +96,7 @@ pub record IsUsable (p : Paging) (s : Sliced) (c a : ℕ) : Type 0 where
 -- a page is free: it holds no object, and no slot that a job holds
 pub record IsFreePage (p : Paging) (s : Sliced) (page : ℕ) : Type 0 where
   pub within : page < p.pages
-  pub empty : standing_on p s.held page ≡ 0
+  pub empty : count_on p s.held page ≡ 0
   pub unheld : (k : JobSlot) → job_slot s.job ≡ Some k → page_of p k.address ≢ page
 
 -- no slot of class c is usable, and no page is free
@@ -110,7 +110,7 @@ pub record IsPlaceFor (p : Paging) (s : Sliced) (c a : ℕ) : Type 0 where
   pub choice : IsUsable p s c a ⊎ (((b : ℕ) → ¬ IsUsable p s c b) × IsFreePage p s (page_of p a))
 
 -- What the objects alone are like beside a job: the slot's page is of its class, and has but one slot free if a second page is partly full.
-pub record StandBeside (p : Paging) (m : Held) (k : JobSlot) : Type 0 where
+pub record LieBeside (p : Paging) (m : Held) (k : JobSlot) : Type 0 where
   pub address : (h : ℕ) (x : Placed) → get m h ≡ Some x → x.place ≢ k.address
   pub class : (h : ℕ) (x : Placed) → get m h ≡ Some x → page_of p x.place ≡ page_of p k.address → class_at p x ≡ k.class
   pub others : (c : ℕ) → c < classes p → c ≢ k.class → not_full_pages p m c ≤ 1

@@ -57,13 +57,13 @@ IsMalloc plan old bytes (Err e) new = IsRefusedBy plan old bytes e × (new ≡ o
 abbrev pub fresh_slot : ℕ → ℕ → JobSlot
 fresh_slot a c = record { address = a; class = c; done = 0 }
 
--- object q gets the address a, and is to be carried there from its old slot of class c
+-- object q gets the address a, and is to be moved there from its old slot of class c
 pub record Carries (m : Held) (q a c : ℕ) (new : Sliced) : Type 0 where
   pub object : Placed
   pub found : get m q ≡ Some object
   pub whole : new ≡ record { held = insert m q (record { place = a; bytes = object.bytes }); job = Move q (fresh_slot object.place c) }
 
--- the slot of class c at a is vacant: the object that moves is to be carried there; if none moves, the slot is to be cleared
+-- the slot of class c at a is vacant: an object is to be moved there; if none moves, the slot is to be cleared
 abbrev pub Vacates : Held → ℕ → ℕ → Option ℕ → Sliced → Type 0
 Vacates m a c None new = new ≡ record { held = m; job = Clear (fresh_slot a c) }
 Vacates m a c (Some q) new = Carries m q a c new
@@ -76,7 +76,7 @@ pub record IsBeside (p : Paging) (m : Held) (a c q : ℕ) : Type 0 where
   pub page : page_of p object.place ≢ page_of p a
   pub not_full : objects_on p m c (page_of p object.place) < slots_of p c
 
--- the class has a second partly full page: an object of that page is to be carried to the job's slot
+-- the class has a second partly full page: an object of that page is to be moved to the job's slot
 pub record Chains (p : Paging) (m : Held) (k : JobSlot) (new : Sliced) : Type 0 where
   pub two : not_full_pages p m k.class ≡ 2
   pub object : ℕ
@@ -114,7 +114,7 @@ abbrev pub AreSlices : Plan → ℕ → Sliced → Sliced → Type 0
 AreSlices plan zero old new = new ≡ old
 AreSlices plan (suc n) old new = (mid : Sliced) × IsSlice plan old mid × AreSlices plan n mid new
 
--- the job of this slot is over: there is none, or the next one, which carries an object from another slot of the class and has yet to begin
+-- the job of this slot is over: there is none, or the next one, which moves an object from another slot of the class and has not begun yet
 abbrev pub IsOver : JobSlot → Job → Type 0
 IsOver k j = (j ≡ Idle) ⊎ ((h : ℕ) × (g : JobSlot) × (j ≡ Move h g) × (g.class ≡ k.class) × (g.done ≡ 0))
 

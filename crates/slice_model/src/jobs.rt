@@ -43,8 +43,9 @@ pub fn each_malloc_between_prolongs_a_job_once()
         → new.state.job ≡ Idle }
 {}
 
-/// If nothing else is called in between, a malloc that had to wait is done after the slices of both.
-pub fn a_waiting_malloc_is_done_after_the_slices()
+/// A malloc that waits for a pending job can be served after the slices of that job and those of one
+/// more whole slot of the job's class, if nothing else is called in between.
+pub fn a_waiting_malloc_is_served_after_the_slices()
     ensures { (plan : Plan) (old new : Sliced) (bytes : ℕ) (k : JobSlot) → IsPlan plan → IsKept plan old
         → WantsSlot plan old bytes → job_slot old.job ≡ Some k
         → AreSlices plan (ceil_div (slot_words plan.paging k.class - k.done) plan.quantum + ceil_div (slot_words plan.paging k.class) plan.quantum) old new

@@ -5,7 +5,7 @@ ghost use Rattle.page_model.specs.Arrangement.{IsSlotAt, IsSound, class_at};
 ghost use Rattle.page_model.specs.Held.{Placed};
 ghost use Rattle.page_model.specs.Paging.{page_of};
 ghost use Rattle.page_model.specs.Steps.{Request};
-ghost use Rattle.slice_model.specs.State.{Idle, IsKept, IsPlan, JobSlot, Plan, Sliced, StandBeside, job_slot};
+ghost use Rattle.slice_model.specs.State.{Idle, IsKept, IsPlan, JobSlot, Plan, Sliced, LieBeside, job_slot};
 ghost use Rattle.slice_model.specs.Steps.{GivesObject, IsSlice, RemovesObject};
 
 /// Without objects and without a job the state keeps the rules.
@@ -52,5 +52,5 @@ pub fn what_the_rules_say_of_pages()
         → class_at plan.paging x ≡ class_at plan.paging y }
     ensures idle { (plan : Plan) (s : Sliced) → IsKept plan s → s.job ≡ Idle → IsSound plan.paging s.held }
     ensures pending { (plan : Plan) (s : Sliced) (k : JobSlot) → IsPlan plan → IsKept plan s
-        → job_slot s.job ≡ Some k → StandBeside plan.paging s.held k }
+        → job_slot s.job ≡ Some k → LieBeside plan.paging s.held k }
 {}

@@ -7,6 +7,7 @@ mod answers;
 mod job_slot;
 mod jobs;
 mod kept;
+mod order;
 mod places;
 mod room;
 mod runs;
@@ -16,12 +17,17 @@ pub use answers::{SliceFault, SliceRefusal};
 pub use job_slot::JobSlot;
 pub use jobs::{
     a_job_advances_by_its_slices, a_job_ends_after_its_words_over_the_quantum,
-    a_waiting_malloc_is_done_after_the_slices, each_malloc_between_prolongs_a_job_once,
+    a_waiting_malloc_is_served_after_the_slices, each_malloc_between_prolongs_a_job_once,
     slices_alone_end_every_job,
 };
 pub use kept::{
     a_free_keeps_the_rules, a_malloc_keeps_the_rules, a_slice_keeps_the_rules,
     a_write_keeps_the_rules, nothing_keeps_the_rules, what_the_rules_say_of_pages,
+};
+pub use order::{
+    a_call_keeps_an_order, a_free_can_follow_an_order_beside_a_job,
+    a_malloc_can_follow_an_order_beside_a_job, a_slice_can_follow_an_order,
+    an_order_leaves_no_choice_beside_a_job, rising_numbers_are_an_order,
 };
 pub use places::places_are_those_beside_the_job;
 pub use room::{

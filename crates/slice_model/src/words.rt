@@ -11,8 +11,9 @@ ghost use Rattle.slice_model.specs.State.{Idle, IsKept, IsPlan, JobSlot, Move, P
 ghost use Rattle.slice_model.specs.Steps.{GivesObject, IsSlice, RemovesObject};
 ghost use Rattle.slice_model.specs.Words.{DoesWords, HasWords, IsClosed, RewritesObject, byte_read};
 
-/// Without a job the words are the image of the objects. With one every word is that the job does not
-/// hold open; and the words of an object in motion that are yet to be carried lie in the job's slot.
+/// Without a job the words are the image of the objects. With one this holds of every word that the
+/// job does not hold open; and the words of an object in motion that have still to move are in the
+/// job's slot.
 pub fn words_are_the_image_but_for_the_job()
     ensures idle { (p : Paging) (m : Held) (words : List ℕ)
         → HasWords p (record { held = m; job = Idle }) words ↔ IsSlotImage p m words }

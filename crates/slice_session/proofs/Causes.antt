@@ -6,6 +6,7 @@ use Rattle.std.specs.FinMap.{get}
 use Rattle.cf_base.specs.declared.answers.Handle.{Handle}
 use Rattle.cf_io.specs.Texts.{Reply, said}
 use Rattle.script_reader.specs.declared.command.Command.TheVariants as command
+use Rattle.page_model.specs.Order.{Order}
 use Rattle.slice_model.specs.Runs.{Working, Malloc, Free}
 use Rattle.slice_model.specs.State.{Idle, Sliced}
 use Rattle.slice_model.specs.Steps.{IsFaultOf, IsRefusedBy}
@@ -26,13 +27,15 @@ use Rattle.sliced_heap.specs.Shown.{StaysOpen}
 use Rattle.slice_session.specs.SliceRun.{slice_run}
 
 -- the same heap, with the same words
-abbrev heap_by : Bool → Profile → ℕ → Working → SlicedState
-heap_by b p q w = record { is_open = b; profile = p; quantum = q; held = w.state.held; job = w.state.job; words = w.words }
+abbrev heap_by : Bool → Profile → ℕ → Working → Order → SlicedState
+heap_by b p q w o = record { is_open = b; profile = p; quantum = q; held = w.state.held; job = w.state.job; words = w.words; order = o }
 
-heap_same : (old new : SlicedState) → StaysOpen old new → working_in new ≡ working_in old → new ≡ old
-heap_same old new s is = ap (λ b. heap_by b new.profile new.quantum (working_in new)) s.is_open
-    ∙ ap (λ p. heap_by old.is_open p new.quantum (working_in new)) s.profile
-    ∙ ap (λ q. heap_by old.is_open old.profile q (working_in new)) s.quantum ∙ ap (heap_by old.is_open old.profile old.quantum) is
+heap_same : (old new : SlicedState) → StaysOpen old new → working_in new ≡ working_in old → new.order ≡ old.order → new ≡ old
+heap_same old new s is order = ap (λ b. heap_by b new.profile new.quantum (working_in new) new.order) s.is_open
+    ∙ ap (λ p. heap_by old.is_open p new.quantum (working_in new) new.order) s.profile
+    ∙ ap (λ q. heap_by old.is_open old.profile q (working_in new) new.order) s.quantum
+    ∙ ap (λ w. heap_by old.is_open old.profile old.quantum w new.order) is
+    ∙ ap (heap_by old.is_open old.profile old.quantum (working_in old)) order
 
 -- the refusal of a text: by one of its letters
 abbrev refusal_in : List ℕ → Option SliceRefusal
@@ -50,27 +53,27 @@ abbrev refusal_of : Result Handle SliceRefusal → Option SliceRefusal
 refusal_of (Ok h) = None
 refusal_of (Err e) = Some e
 
-refusal_told : (a : Result Handle SliceRefusal) → refusal_in (slice_malloc_text a) ≡ refusal_of a
-refusal_told (Ok h) = refl
-refusal_told (Err refusal.Size) = refl
-refusal_told (Err refusal.Proxy) = refl
-refusal_told (Err refusal.Space) = refl
-refusal_told (Err refusal.Busy) = refl
+refusal_shown : (a : Result Handle SliceRefusal) → refusal_in (slice_malloc_text a) ≡ refusal_of a
+refusal_shown (Ok h) = refl
+refusal_shown (Err refusal.Size) = refl
+refusal_shown (Err refusal.Proxy) = refl
+refusal_shown (Err refusal.Space) = refl
+refusal_shown (Err refusal.Busy) = refl
 
 same_refusal : (a : Result Handle SliceRefusal) (e : SliceRefusal) → said (slice_malloc_text (Err e)) ≡ said (slice_malloc_text a) → a ≡ Err e
-same_refusal a e is = go a (sym (refusal_told (Err e)) ∙ ap (first refusal_in) is ∙ refusal_told a)
+same_refusal a e is = go a (sym (refusal_shown (Err e)) ∙ ap (first refusal_in) is ∙ refusal_shown a)
   where
     go : (a : Result Handle SliceRefusal) → Some e ≡ refusal_of a → a ≡ Err e
     go (Ok h) is = absurd (let z : Some e ≡ None = is in cc)
     go (Err f) is = (let z : Some e ≡ Some f = is in cc)
 
-fault_told : (a : Option SliceFault) → fault_in (slice_free_text a) ≡ a
-fault_told None = refl
-fault_told (Some fault.Unknown) = refl
-fault_told (Some fault.Busy) = refl
+fault_shown : (a : Option SliceFault) → fault_in (slice_free_text a) ≡ a
+fault_shown None = refl
+fault_shown (Some fault.Unknown) = refl
+fault_shown (Some fault.Busy) = refl
 
 same_fault : (a : Option SliceFault) (e : SliceFault) → said (slice_free_text (Some e)) ≡ said (slice_free_text a) → a ≡ Some e
-same_fault a e is = sym (sym (fault_told (Some e)) ∙ ap (first fault_in) is ∙ fault_told a)
+same_fault a e is = sym (sym (fault_shown (Some e)) ∙ ap (first fault_in) is ∙ fault_shown a)
 
 module _ (old new : SliceRun) (id : ℕ) where
   -- a malloc for an id that isn't live, and a free of one that is
@@ -97,7 +100,7 @@ module _ (old new : SliceRun) (id : ℕ) where
       let is : m.answer ≡ Err e = same_refusal m.answer e m.reply_is in
       let d = subst (λ (a : Result Handle SliceRefusal). Does old.heap (Malloc n a) new.heap) is m.does in
       let ids : new.ids ≡ old.ids = m.ids ∙ ap (ids_with old.ids id) is in
-      (d.happens.0, ap₂ slice_run ids (heap_same old.heap new.heap d.stays d.happens.1))
+      (d.happens.0, ap₂ slice_run ids (heap_same old.heap new.heap d.stays d.happens.1 d.ordered.1))
 
   pub free_cause : (h : ℕ) (e : SliceFault) → get old.ids id ≡ Some h → SliceStep old (command.Free id) (said (slice_free_text (Some e))) new
       → IsFaultOf (working_in old.heap).state h e × (new ≡ old)
@@ -106,13 +109,13 @@ module _ (old new : SliceRun) (id : ℕ) where
       let is : f.answer ≡ Some e = same_fault f.answer e f.reply_is in
       let d = subst (λ (a : Option SliceFault). Does old.heap (Free h a) new.heap) is f.does in
       let ids : new.ids ≡ old.ids = f.ids ∙ ap (ids_without old.ids id) is in
-      (d.happens.0, ap₂ slice_run ids (heap_same old.heap new.heap d.stays d.happens.1))
+      (d.happens.0, ap₂ slice_run ids (heap_same old.heap new.heap d.stays d.happens.1 d.ordered.1))
 
   -- a cause that holds is the one of the reply
-  pub cause_told : (n : ℕ) (e : SliceRefusal) (reply : Reply) → IsGoingSliced old → get old.ids id ≡ None
+  pub cause_shown : (n : ℕ) (e : SliceRefusal) (reply : Reply) → IsGoingSliced old → get old.ids id ≡ None
       → IsRefusedBy (plan_in old.heap) (working_in old.heap).state n e → SliceStep old (command.Malloc id n) reply new
       → reply ≡ said (slice_malloc_text (Err e))
-  cause_told n e reply going none cause step = (let m = mallocs_at n reply none step in go m.answer m.does m.reply_is)
+  cause_shown n e reply going none cause step = (let m = mallocs_at n reply none step in go m.answer m.does m.reply_is)
     where
       go : (a : Result Handle SliceRefusal) → Does old.heap (Malloc n a) new.heap → reply ≡ said (slice_malloc_text a)
           → reply ≡ said (slice_malloc_text (Err e))

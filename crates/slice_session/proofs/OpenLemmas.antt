@@ -14,6 +14,7 @@ use Rattle.page_model.proofs.CallerLemmas.{first_ones, first_paged}
 use Rattle.id_table.proofs.CallerLemmas.{none_tied}
 use Rattle.slice_model.specs.Runs.{IsConsistent}
 use Rattle.slice_model.specs.State.{Idle, Plan}
+use Rattle.slice_model.proofs.CallerLemmas.{first_is_order}
 use Rattle.sliced_heap.specs.Shown.{KeepsRules, SlicedState, opened_state, plan_in}
 use Rattle.slice_session.specs.Playing.{BeginsSliced, IsQuantum, first_heap}
 use Rattle.slice_session.specs.SliceRun.{IsGoingSliced, SliceRun, slice_run}
@@ -48,4 +49,5 @@ first_rules law quantum p q can = record {
   };
   consistent = law (plan_in (first_heap quantum p)) (p.pages * p.page_words);
   region = length-replicate {A = ℕ} (p.pages * p.page_words) 0;
+  order = first_is_order (plan_in (first_heap quantum p)).paging p.proxies;
 }

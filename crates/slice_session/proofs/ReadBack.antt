@@ -1,8 +1,8 @@
 -- In a run, reads return the bytes that follow from the lines and their replies.
 use Rattle.std.proofs.Common.{ℕ, List, Option, None}
 use Rattle.cf_io.specs.Texts.{Reply}
-use Rattle.run_laws.specs.Told.{AreReadsOf}
-use Rattle.run_laws.proofs.CallerLemmas.{NamesObjects, any_reads_are_told}
+use Rattle.run_laws.specs.IdBytes.{AreReadsOf}
+use Rattle.run_laws.proofs.CallerLemmas.{NamesObjects, any_reads_are_shown}
 use Rattle.script_reader.specs.Items.{Item}
 use Rattle.slice_session.specs.Playing.{BeginsSlices, RunsSliced}
 use Rattle.slice_session.specs.SliceRun.{IsGoingSliced, SliceRun, SliceStep}
@@ -21,6 +21,6 @@ slices_name quantum = record {
   turns_named = λ old c reply new going step. turn_named old new going reply c step;
 }
 
-pub reads_are_told : (quantum : ℕ) (items : List Item) (replies : List Reply) (new : Option SliceRun) → RunsSliced quantum None items replies new
+pub reads_are_shown : (quantum : ℕ) (items : List Item) (replies : List Reply) (new : Option SliceRun) → RunsSliced quantum None items replies new
     → AreReadsOf None items replies
-reads_are_told quantum = any_reads_are_told (BeginsSlices quantum) SliceStep (slices_name quantum)
+reads_are_shown quantum = any_reads_are_shown (BeginsSlices quantum) SliceStep (slices_name quantum)

@@ -1,13 +1,16 @@
 -- What a command of a session over a sliced heap did, together with the part of its reply that was written.
-use Rattle.std.proofs.Common.{◌≡◌, ◌∙◌, ◌<◌, ℕ, ◌++◌, List, Option, Result, Ok, Err, length, take, drop, Some, None, ap, refl, sym}
-use Rattle.std.specs.Prelude.{codes, option_map}
+use Rattle.std.proofs.Common.{◌≡◌, ◌∙◌, ◌<◌, ℕ, ◌++◌, List, Option, Result, Ok, Err, length, take, drop, Some, None, false, ap, refl, subst, sym}
+use Rattle.std.specs.Prelude.{codes, is_some, option_map}
+use Rattle.std.specs.Option.{MatchOption}
+use Rattle.std.proofs.lemmas.Bool.{false≢true}
 use Rattle.std.specs.FinMap.{get}
 use Rattle.hex.specs.Hex.{encode_lower}
 use Rattle.cf_base.specs.declared.answers.AccessFault.{AccessFault}
 use Rattle.cf_base.specs.declared.answers.AccessFault.TheVariants as access
 use Rattle.cf_base.specs.declared.answers.Failed.{Failed}
+use Rattle.cf_base.specs.declared.answers.Handle.{Handle}
 use Rattle.cf_io.specs.Lines.{line_room}
-use Rattle.cf_io.specs.Texts.{said, with_number}
+use Rattle.cf_io.specs.Texts.{Reply, said, with_number}
 use Rattle.cf_lemmas.proofs.MapValues.{get-map_values}
 use Rattle.cf_session.proofs.CallerLemmas.{read_past, read_within}
 use Rattle.cf_session.specs.declared.outcome.Outcome.{Outcome}
@@ -24,17 +27,28 @@ use Rattle.slice_model.specs.State.{left_of}
 use Rattle.slice_model.proofs.CallerLemmas.{call_on_map}
 use Rattle.sliced_heap.specs.Shown.{KeepsRules, SlicedState, plan_in, working_in}
 use Rattle.slice_session.specs.Playing.{sliced}
-use Rattle.slice_session.specs.SliceRun.{Does, IsGoingSliced, SliceRun, SliceStep, slice_run, slice_write_text, sliced_object_of}
+use Rattle.slice_session.specs.SliceRun.{Does, IsGoingSliced, MallocsSliced, SliceRun, SliceStep, StaysSliced, slice_run, slice_write_text, sliced_object_of}
 use Rattle.slice_session.proofs.RunInvariant.{still_going}
 
-abbrev Told : Type 0
-Told = Option (List ℕ)
+abbrev Written : Type 0
+Written = Option (List ℕ)
 
 -- a run stays in progress after a command
-pub applied_going : (old new : SliceRun) (c : Command) (w y : Told) (answer : Result Outcome Failed) → IsGoingSliced old
+pub applied_going : (old new : SliceRun) (c : Command) (w y : Written) (answer : Result Outcome Failed) → IsGoingSliced old
     → Applies sliced (snapshot old w) c answer (snapshot new y) → IsGoingSliced new
 applied_going old new c w y (Ok outcome) going a = still_going old new going a.0.reply c a.0.turns
 applied_going old new c w y (Err e) going a = still_going old new going a.turns.reply c a.turns.turn
+
+-- an id without a handle isn't live
+pub no_handle : (o : Option Handle) (live : Option ℕ) → option_map (λ (h : Handle). h.0) o ≡ live → is_some o ≡ false → live ≡ None
+no_handle None live is none = sym is
+no_handle (Some h) live is none = absurd (false≢true (sym none))
+
+-- a malloc for an id that isn't live
+pub malloc_step : (old new : SliceRun) (id n : ℕ) (reply : Reply) → get old.ids id ≡ None → MallocsSliced old id n reply new
+    → SliceStep old (command.Malloc id n) reply new
+malloc_step old new id n reply none m =
+    subst (λ o. MatchOption o (MallocsSliced old id n reply new) (λ h. StaysSliced old (codes "live") reply new)) (sym none) m
 
 -- a slice
 pub speaks_left : (ids : Ids) (old new : SlicedState) (line : List ℕ) → Does old Step new

@@ -11,7 +11,7 @@ use Rattle.cf_io.specs.Texts.{Reply, said}
 use Rattle.cf_lemmas.proofs.MapValues.{get-map_values}
 use Rattle.id_table.specs.Ids.{Ids}
 use Rattle.page_model.specs.Held.{Placed, objects}
-use Rattle.run_laws.specs.Told.{is_ok, read_told}
+use Rattle.run_laws.specs.IdBytes.{is_ok, read_shown}
 use Rattle.run_laws.proofs.CallerLemmas.{Named, NamedTurn, bytes_of, read_same, refuses, same_named, still_tied, through}
 use Rattle.script_reader.specs.declared.command.Command.{Command}
 use Rattle.script_reader.specs.declared.command.Command.TheVariants as command
@@ -22,7 +22,8 @@ use Rattle.slice_model.specs.declared.answers.SliceFault.{SliceFault}
 use Rattle.slice_model.specs.declared.answers.SliceFault.TheVariants as fault
 use Rattle.slice_model.specs.declared.answers.SliceRefusal.{SliceRefusal}
 use Rattle.slice_model.specs.declared.answers.SliceRefusal.TheVariants as refusal
-use Rattle.slice_model.proofs.CallerLemmas.{call_on_map}
+use Rattle.slice_model.specs.Ordered.{IsOrderBeside}
+use Rattle.slice_model.proofs.CallerLemmas.{call_on_map, order_kept}
 use Rattle.sliced_heap.specs.Shown.{KeepsRules, SlicedState, plan_in, working_in}
 use Rattle.sliced_heap.proofs.CallerLemmas.{plan_stays}
 use Rattle.slice_session.specs.SliceRun.{Does, IsGoingSliced, SliceRun, SliceStep, ids_with, ids_without, live_in, slice_run, sliced_object_of}
@@ -43,6 +44,8 @@ done_on_map old new rules event d =
         plan = subst IsPlan (sym same) rules.plan;
         consistent = subst (λ (p : Plan). IsConsistent p (working_in new)) (sym same) one.1;
         region = d.stays.region ∙ rules.region ∙ ap region_of (sym d.stays.profile);
+        order = subst (λ (p : Plan). IsOrderBeside p (working_in new).state new.order) (sym same)
+            (order_kept (plan_in old) rules.plan (working_in old) event (working_in new) old.order new.order rules.consistent.kept rules.order d.ordered);
       },
     )
 
@@ -67,7 +70,7 @@ module _ (old new : SliceRun) (going : IsGoingSliced old) (reply : Reply) where
   malloc_turn : (id n : ℕ) (answer : Result Handle SliceRefusal) → get old.ids id ≡ None → HappensOnMap (live_in old) (Malloc n answer) (live_in new)
       → new.ids ≡ ids_with old.ids id answer → reply ≡ said (slice_malloc_text answer) → NamedTurn (named old) (command.Malloc id n) reply (named new)
   malloc_turn id n (Ok h) free (unused, on) e is =
-      inl (record { handle = h.0; told = ap is_ok is; free = free; unused = unused; ids = e; objects = on })
+      inl (record { handle = h.0; shown = ap is_ok is; free = free; unused = unused; ids = e; objects = on })
   malloc_turn id n (Err refusal.Size) free on e is = inr (refuses (codes "refused size") refl is (record { ids = e; objects = on }))
   malloc_turn id n (Err refusal.Proxy) free on e is = inr (refuses (codes "refused proxy") refl is (record { ids = e; objects = on }))
   malloc_turn id n (Err refusal.Space) free on e is = inr (refuses (codes "refused space") refl is (record { ids = e; objects = on }))
@@ -75,7 +78,7 @@ module _ (old new : SliceRun) (going : IsGoingSliced old) (reply : Reply) where
 
   free_turn : (id h : ℕ) (answer : Option SliceFault) → get old.ids id ≡ Some h → HappensOnMap (live_in old) (Free h answer) (live_in new)
       → new.ids ≡ ids_without old.ids id answer → reply ≡ said (slice_free_text answer) → NamedTurn (named old) (command.Free id) reply (named new)
-  free_turn id h None live (_, on) e is = inl (record { handle = h; told = ap is_ok is; live = live; ids = e; objects = on })
+  free_turn id h None live (_, on) e is = inl (record { handle = h; shown = ap is_ok is; live = live; ids = e; objects = on })
   free_turn id h (Some fault.Unknown) live (_, on) e is = inr (refuses (codes "unknown") refl is (record { ids = e; objects = on }))
   free_turn id h (Some fault.Busy) live (_, on) e is = inr (refuses (codes "busy") refl is (record { ids = e; objects = on }))
 
@@ -83,25 +86,25 @@ module _ (old new : SliceRun) (going : IsGoingSliced old) (reply : Reply) where
       → HappensOnMap (live_in old) (Write (record { number = h; from = from }) bytes answer) (live_in new) → new.ids ≡ old.ids
       → reply ≡ said (slice_write_text answer) → NamedTurn (named old) (command.Write id from bytes) reply (named new)
   write_turn id h from bytes None live (v, found, fits, on) e is =
-      inl (record { handle = h; bytes = v; told = ap is_ok is; live = live; found = found; ids = e; objects = on })
+      inl (record { handle = h; bytes = v; shown = ap is_ok is; live = live; found = found; ids = e; objects = on })
   write_turn id h from bytes (Some access.Unknown) live (_, on) e is = inr (refuses (codes "unknown") refl is (record { ids = e; objects = on }))
   write_turn id h from bytes (Some access.Range) live (_, on) e is = inr (refuses (codes "range") refl is (record { ids = e; objects = on }))
 
   malloc_at : (o : Option ℕ) (id n : ℕ) → get old.ids id ≡ o → MatchOption o (MallocsSliced old id n reply new) (λ h. StaysSliced old (codes "live") reply new)
       → NamedTurn (named old) (command.Malloc id n) reply (named new)
-  malloc_at (Some h) id n is (told, rest) = inr (refuses (codes "live") refl told (same_named named rest))
+  malloc_at (Some h) id n is (shown, rest) = inr (refuses (codes "live") refl shown (same_named named rest))
   malloc_at None id n is m = malloc_turn id n m.answer is (on_map old new going (Malloc n m.answer) m.does) m.ids m.reply_is
 
   free_at : (o : Option ℕ) (id : ℕ) → get old.ids id ≡ o
       → MatchOption o (StaysSliced old (codes "unknown") reply new) (λ h. FreesSliced old id h reply new)
       → NamedTurn (named old) (command.Free id) reply (named new)
-  free_at None id is (told, rest) = inr (refuses (codes "unknown") refl told (same_named named rest))
+  free_at None id is (shown, rest) = inr (refuses (codes "unknown") refl shown (same_named named rest))
   free_at (Some h) id is f = free_turn id h f.answer is (on_map old new going (Free h f.answer) f.does) f.ids f.reply_is
 
   write_at : (o : Option ℕ) (id from : ℕ) (bytes : List ℕ) → get old.ids id ≡ o
       → MatchOption o (StaysSliced old (codes "unknown") reply new) (λ h. WritesSliced old h from bytes reply new)
       → NamedTurn (named old) (command.Write id from bytes) reply (named new)
-  write_at None id from bytes is (told, rest) = inr (refuses (codes "unknown") refl told (same_named named rest))
+  write_at None id from bytes is (shown, rest) = inr (refuses (codes "unknown") refl shown (same_named named rest))
   write_at (Some h) id from bytes is w = write_turn id h from bytes w.answer is
       (on_map old new going (Write (record { number = h; from = from }) bytes w.answer) w.does) w.ids w.reply_is
 
@@ -120,7 +123,7 @@ module _ (old new : SliceRun) (going : IsGoingSliced old) (reply : Reply) where
   turn_named (command.Write id from bytes) step = write_at (get old.ids id) id from bytes refl step
   turn_named command.Slice step = record { ids = step.ids; objects = on_map old new going Step step.does }
   turn_named (command.Read id from count) step = (
-    step.0 ∙ ap said (read_same (sliced_object_of old id) from count ∙ ap (λ (o : Option (List ℕ)). read_told o from count) (bytes_same id)),
+    step.0 ∙ ap said (read_same (sliced_object_of old id) from count ∙ ap (λ (o : Option (List ℕ)). read_shown o from count) (bytes_same id)),
     same_named named step.1,
   )
   turn_named (command.Resize id n) step = inr (refuses (codes "none") refl step.0 (same_named named step.1))

@@ -2,8 +2,11 @@
 use Rattle.std.specs.Prelude.{◌≡◌, ◌≤◌, ◌*◌, ℕ, true, List, Option, codes, replicate}
 use Rattle.std.specs.FinMap.{empty}
 use Rattle.cf_base.specs.Settings.{Profile}
+use Rattle.cf_base.specs.declared.kind.Layout.TheVariants.{Words}
 use Rattle.cf_io.specs.Texts.{Reply, said}
 use Rattle.id_table.specs.Ids.{Ids}
+use Rattle.page_model.specs.Order.{first_order}
+use Rattle.page_model.specs.Paging.{first_bounds, paging_of}
 use Rattle.run_model.specs.Plays.{PlayRun}
 use Rattle.script_loop.specs.Semantics.{Semantics}
 use Rattle.script_reader.specs.Items.{Item}
@@ -21,6 +24,7 @@ first_heap quantum p = record {
   held = empty;
   job = Idle;
   words = replicate (p.pages * p.page_words) 0;
+  order = first_order (paging_of (record p { k = 1 }) Words (first_bounds (record p { k = 1 }) Words)) p.proxies;
 }
 
 -- a heap with slices of `quantum` words was opened, with a new session

@@ -4,7 +4,7 @@ use Rattle.std.specs.Option.{MatchOption}
 use Rattle.std.specs.FinMap.{get, insert, remove}
 use Rattle.cf_base.specs.declared.answers.AccessFault.{AccessFault}
 use Rattle.cf_base.specs.declared.answers.Handle.{Handle}
-use Rattle.cf_base.specs.declared.answers.Refusal.TheVariants as told
+use Rattle.cf_base.specs.declared.answers.Refusal.TheVariants as shown
 use Rattle.cf_io.specs.Texts.{Reply, said, with_number}
 use Rattle.cf_model.specs.Costs.{words_touched}
 use Rattle.id_table.specs.Ids.{Ids}
@@ -13,6 +13,7 @@ use Rattle.run_model.specs.Replies.{malloc_text, peek_text, read_text, write_tex
 use Rattle.script_reader.specs.declared.command.Command.{Command}
 use Rattle.script_reader.specs.declared.command.Command.TheVariants as command
 use Rattle.id_table.specs.Ties.{AreTiedTo}
+use Rattle.slice_model.specs.Ordered.{HappensInOrder}
 use Rattle.slice_model.specs.Runs.{Event, Happens, Malloc, Free, Step, Write}
 use Rattle.slice_model.specs.State.{left_of}
 use Rattle.slice_model.specs.declared.answers.SliceFault.{SliceFault}
@@ -46,9 +47,9 @@ sliced_object_of s id = elim (get s.ids id) [ None ↦ None | Some h ↦ get s.h
 -- m: as on every manager, and `busy` if a pending job still holds the last free page
 abbrev pub slice_malloc_text : Result Handle SliceRefusal → List ℕ
 slice_malloc_text (Ok h) = malloc_text (Ok h)
-slice_malloc_text (Err refusal.Size) = malloc_text (Err told.Size)
-slice_malloc_text (Err refusal.Proxy) = malloc_text (Err told.Proxy)
-slice_malloc_text (Err refusal.Space) = malloc_text (Err told.Space)
+slice_malloc_text (Err refusal.Size) = malloc_text (Err shown.Size)
+slice_malloc_text (Err refusal.Proxy) = malloc_text (Err shown.Proxy)
+slice_malloc_text (Err refusal.Space) = malloc_text (Err shown.Space)
 slice_malloc_text (Err refusal.Busy) = codes "busy"
 
 -- f: None if it was done
@@ -71,9 +72,10 @@ abbrev pub ids_without : Ids → ℕ → Option SliceFault → Ids
 ids_without ids id None = remove ids id
 ids_without ids id (Some e) = ids
 
--- the heap did this call, and stays open with its pages and its quantum
+-- the heap did this call in its order, and stays open with its pages and its quantum
 pub record Does (old : SlicedState) (event : Event) (new : SlicedState) : Type 0 where
   pub happens : Happens (plan_in old) (working_in old) event (working_in new)
+  pub ordered : HappensInOrder (plan_in old) (working_in old) event (working_in new) old.order new.order
   pub stays : StaysOpen old new
 
 -- the command does nothing, and gets this reply

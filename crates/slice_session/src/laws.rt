@@ -6,7 +6,7 @@ ghost use Rattle.cf_base.specs.Settings.{Profile};
 ghost use Rattle.cf_io.specs.Texts.{Reply, said, text_of};
 ghost use Rattle.cf_model.specs.Rules.{AreInRange};
 ghost use Rattle.run_laws.specs.Sayable.{IsSayable};
-ghost use Rattle.run_laws.specs.Told.{AreReadsOf};
+ghost use Rattle.run_laws.specs.IdBytes.{AreReadsOf};
 ghost use Rattle.script_loop.specs.Consequences.{IsPrefixBy};
 ghost use Rattle.script_loop.specs.ScriptOutcome.{Effects, WroteInPart, items_within};
 ghost use Rattle.script_loop.specs.Semantics.{RunBy};
@@ -36,7 +36,7 @@ pub fn reads_give_what_was_written()
 /// The reply to a refused command is its cause, and nothing has changed. The reply to a malloc or a free
 /// is `busy` only if a job is pending. The reply to a malloc is `refused space` if and only if the
 /// objects need more pages than there are, whether a job is pending or not.
-pub fn replies_tell_their_causes()
+pub fn replies_show_their_causes()
     ensures malloc { (old new : SliceRun) (id n : ℕ) (e : SliceRefusal) → get old.ids id ≡ None
         → SliceStep old (Malloc id n) (said (slice_malloc_text (Err e))) new
         → IsRefusedBy (plan_in old.heap) (working_in old.heap).state n e × (new ≡ old) }

@@ -9,7 +9,7 @@ mod session;
 
 pub use laws::{
     a_sliced_run_can_always_go_on, each_command_has_its_turn, plays_are_runs,
-    reads_give_what_was_written, replies_tell_their_causes, what_was_cut_is_a_prefix,
+    reads_give_what_was_written, replies_show_their_causes, what_was_cut_is_a_prefix,
 };
 pub use player::{SlicePlayer, run_slices};
 pub use session::SliceSession;

@@ -53,14 +53,9 @@ impl Player<SlicedHeap> for SlicePlayer {
         sink: &mut K,
     ) -> Result<(), OpenFault> {
         // Every class has the bound 1, whatever bound the line has.
-        match heap.open_heap(settings, self.quantum) {
-            Ok(()) => {}
-            Err(_) => return Err(OpenFault::OutOfMemory),
-        }
-        match put_all(sink, b"ok\n") {
-            Ok(()) => Ok(()),
-            Err(_) => Err(OpenFault::Failed),
-        }
+        heap.open_heap(settings, self.quantum)?;
+        put_all(sink, b"ok\n")?;
+        Ok(())
     }
 
     fn answer<K: Sink>(
@@ -69,10 +64,9 @@ impl Player<SlicedHeap> for SlicePlayer {
         command: CommandRef,
         sink: &mut K,
     ) -> Result<(), Failed> {
-        match self.session.apply_ref(heap, command, sink, &mut self.meter) {
-            Ok(_) => Ok(()),
-            Err(failed) => Err(failed),
-        }
+        self.session
+            .apply_ref(heap, command, sink, &mut self.meter)?;
+        Ok(())
     }
 }
 

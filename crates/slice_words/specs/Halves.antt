@@ -1,4 +1,4 @@
--- The addresses of an object's words while it is carried, and the bytes in them.
+-- The addresses of an object's words while it is in motion, and the bytes in them.
 use Rattle.std.specs.Prelude.{◌≢◌, ℕ, ◌+◌, ◌-◌, ◌*◌, ◌/◌, ◌%◌, ◌<◌, ◌≤◌, List, slice_index, if◌then◌else◌, nat_eq, nat_le, min}
 use Rattle.page_model.specs.Bytes.{byte_of}
 use Rattle.slice_model.specs.State.{Job, Idle, Clear, Move}
@@ -20,7 +20,7 @@ first_bytes s at count = min (8 * (s.done - 1) - at) count
 abbrev pub AreApart : Halves → ℕ → Type 0
 AreApart s n = (i k : ℕ) → i < s.done → s.done ≤ k → k < n → s.to + i ≢ s.from + k
 
--- an object that isn't carried
+-- an object that isn't in motion
 abbrev pub together : ℕ → Halves
 together a = record { to = a; from = a; done = 0 }
 

@@ -12,9 +12,9 @@ use step_ledger::Steps;
 /// The bytes of a word.
 const CELL: usize = 8;
 
-/// The addresses of the words of an object, its header among them: the first `done` from word `to` on, at
-/// its new address, and those behind as far from word `from` on. Of an object that isn't carried
-/// both are its address.
+/// The addresses of the words of an object, its header among them: word i is at `to + i`, its new
+/// address, if i is below `done`, else at `from + i`. If the object isn't in motion, `to` and `from`
+/// are both its address.
 #[derive(Clone, Copy, Debug, PartialEq, Eq)]
 pub struct Halves {
     pub to: u32,

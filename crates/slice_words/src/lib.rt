@@ -1,6 +1,6 @@
-//! The words of an object while a sliced heap carries it from one slot to another: the first of them
+//! The words of an object while a sliced heap moves it from one slot to another: the first of them
 //! lie at its new address, the others in the slot that it leaves. Its bytes are read and written in
-//! place, in at most two pieces; and the next words of a job are cleared or carried.
+//! place, in at most two runs of words; and the next words of a job are cleared or moved.
 #![tactic(auto)]
 
 mod halves;

@@ -13,7 +13,7 @@ use Rattle.page_model.specs.Held.{Held, Placed, objects, places}
 use Rattle.page_model.specs.Image.{slot_for}
 use Rattle.page_model.specs.Paging.{Paging, class_for, slot_words}
 use Rattle.page_model.proofs.CallerLemmas.{bytes_held, inserted_there, length-written, written_are_bytes, live_rewritten}
-use Rattle.page_slots.specs.Occupying.{Occupies, Tell}
+use Rattle.page_slots.specs.Occupying.{Occupies, Serve}
 use Rattle.page_slots.proofs.CallerLemmas.{rewritten_occupied}
 use Rattle.proxy_table.specs.Proxies.{AreBelowLimit}
 use Rattle.slice_model.specs.declared.job_slot.JobSlot.{JobSlot}
@@ -145,7 +145,7 @@ module _ (h : Heap) (k : IsValid h) (q : ℕ) (x : Placed) (there : get (state_o
       addresses = ap (λ (y : Heap). y.proxies.places) rest ∙ places_are h k ∙ sym places_same;
       limit = ap (λ (y : Heap). y.proxies.limit) rest;
       handles = subst AreBelowLimit (sym (ap (λ (y : Heap). y.proxies) rest)) k.handles;
-      tell = subst (Tell (paging_at h)) (sym (ap tables_in rest)) k.tell;
+      serve = subst (Serve (paging_at h)) (sym (ap tables_in rest)) k.serve;
       occupied = subst (Occupies (paging_at h) (occupied (plan_of h) t)) (sym (ap tables_in rest)) stands;
       live_long = ap (λ (y : Heap). length y.live) rest ∙ k.live_long;
       counted = λ c lt. ap (λ (y : Heap). get_or y.live c 0) rest ∙ k.counted c lt ∙ sym (live_same c);
@@ -194,9 +194,9 @@ module _ (h : Heap) (k : IsValid h) (q a : ℕ) (known : get h.proxies.places q 
       let e : s.from ≡ (halves_of h.job q x.place).from = ap (λ (y : Halves). y.from) halves_are in omega arith)
 
   -- the length that the header holds
-  module _ (size : ℕ) (told : size ≡ get_or h.words (place_of_word s 0) 0 / 2 ^ 32) where
+  module _ (size : ℕ) (shown : size ≡ get_or h.words (place_of_word s 0) 0 / 2 ^ 32) where
     size_is : size ≡ length x.bytes
-    size_is = told ∙ head_length h k q x found.1 (place_of_word s 0) (ap (λ y. place_of_word y 0) halves_are ∙ word_by_halves h.job q x 0)
+    size_is = shown ∙ head_length h k q x found.1 (place_of_word s 0) (ap (λ y. place_of_word y 0) halves_are ∙ word_by_halves h.job q x 0)
 
     pub passes : (from count : ℕ) → size < from + count → IsOutOfReach (objects (state_of h).held) (record { number = q; from = from }) count access.Range
     passes from count more = (let e = size_is in out_of_reach h k q x found.1 from count (omega arith))

@@ -3,22 +3,24 @@ use Rattle.std.proofs.Common.{◌≡◌, ◌≢◌, ℕ, ◌+◌, ◌-◌, ◌<�
 use Rattle.std.specs.FinMap.{insert}
 use Rattle.page_model.specs.Arrangement.{not_full_pages}
 use Rattle.page_model.specs.Held.{Held}
+use Rattle.page_model.specs.Order.{IsNextToMove, slot_freed}
 use Rattle.page_model.specs.Paging.{page_of, slot_words}
 use Rattle.page_model.specs.Steps.{MustMove}
 use Rattle.page_model.proofs.CallerLemmas.{within_or}
 use Rattle.page_slots.specs.Release.{Vacates}
 use Rattle.page_slots.specs.Occupying.{Occupies, class_table}
 use Rattle.page_slots.specs.Tables.{AreTables, IsUsed, page_at, slot_at}
-use Rattle.page_slots.proofs.CallerLemmas.{vacated_occupied, vacated_tell}
+use Rattle.page_slots.proofs.CallerLemmas.{vacated_occupied, vacated_order, vacated_serve}
 use Rattle.proxy_table.specs.Proxies.{AreBelowLimit}
 use Rattle.size_classes.specs.Table.{ClassTable}
 use Rattle.slice_model.specs.declared.job_slot.JobSlot.{JobSlot}
 use Rattle.slice_model.specs.State.{Sliced, IsKept, occupied, placeholder, Idle, Clear}
+use Rattle.slice_model.specs.Ordered.{EndFollows}
 use Rattle.slice_model.specs.Steps.{Ends}
 use Rattle.slice_model.specs.Words.{HasWords}
 use Rattle.slice_model.proofs.CallerLemmas.{kept_slice, two_is_must}
 use Rattle.sliced_heap.specs.Heap.{Heap}
-use Rattle.sliced_heap.specs.Layout.{IsValid, paging_at, plan_of, state_of, tables_in}
+use Rattle.sliced_heap.specs.Layout.{IsValid, order_in, paging_at, plan_of, state_of, tables_in}
 use Rattle.sliced_heap.specs.Steps.{IsFilled}
 use Rattle.sliced_heap.proofs.Facts.{held_bytes, paging_ok, places_are, plan_ok, table_is}
 use Rattle.sliced_heap.proofs.FillLemmas.{all_are, at_last, class_in, kept_clear, last_done, none_there, occupied_clear, sound_clear}
@@ -26,12 +28,24 @@ use Rattle.sliced_heap.proofs.FillLemmas.{stand_class, stand_there, two, words_c
 use Rattle.sliced_heap.proofs.Preserved.{Becomes, becomes_plan, becomes_state, becomes_valid}
 use Rattle.cf_lemmas.proofs.Maps.{remove_fresh}
 
--- if an object is to be carried to the slot, the next job follows
+-- if an object is to move to the slot, the next job follows
 pub filled_ends : (h : Heap) (k : IsValid h) (g : JobSlot) → h.job ≡ Clear g → (n : Heap) → IsFilled h g n → Ends (paging_at h) (state_of h).held g (state_of n)
 filled_ends h k g at n f =
     let must : MustMove (paging_at h) (insert (state_of h).held h.settings.proxies (placeholder (paging_at h) g)) (placeholder (paging_at h) g) =
     subst (λ o. MustMove (paging_at h) o (placeholder (paging_at h) g)) (all_are h k g at) f.must in
     inr (record { two = two h k g at must; object = f.object; beside = f.beside; carries = f.carries })
+
+-- it is the next object to move, and no slot becomes free
+pub filled_follows : (h : Heap) (k : IsValid h) (g : JobSlot) → h.job ≡ Clear g → (n : Heap) → IsFilled h g n
+    → EndFollows (plan_of h) (state_of h).held g n.job (order_in h) (order_in n)
+filled_follows h k g at n f =
+    subst (λ (s : Sliced). EndFollows (plan_of h) (state_of h).held g s.job (order_in h) (order_in n)) (sym f.carries.whole)
+    (record {
+      object = f.beside.object;
+      found = f.beside.found;
+      next = subst (λ o. IsNextToMove (paging_at h) o (order_in h) g.class f.beside.object) (all_are h k g at) f.next;
+      same = f.order;
+    })
 
 module _ (h : Heap) (k : IsValid h) (g : JobSlot) (at : h.job ≡ Clear g) where
   abbrev m : Held
@@ -97,11 +111,11 @@ module _ (h : Heap) (k : IsValid h) (g : JobSlot) (at : h.job ≡ Clear g) where
       addresses = ap (λ (z : Heap). z.proxies.places) rest ∙ places_are h k;
       limit = ap (λ (z : Heap). z.proxies.limit) rest;
       handles = subst AreBelowLimit (sym (ap (λ (z : Heap). z.proxies) rest)) k.handles;
-      tell = vacated_tell (paging_ok h k) k.tell.part (occupied_clear h k g at) of_table (sound_clear h k g at) h.settings.proxies
+      serve = vacated_serve (paging_ok h k) k.serve.part (occupied_clear h k g at) of_table (sound_clear h k g at) h.settings.proxies
           (stand_there h k g at) at_table
-          (stand_class h k g at) refl refl k.tell.whole;
+          (stand_class h k g at) refl refl k.serve.whole;
       occupied = subst (λ o. Occupies (paging_at h) o (tables_in n)) (remove_fresh m h.settings.proxies (placeholder (paging_at h) g) (none_there h k g at))
-          (vacated_occupied (paging_ok h k) k.tell.part (occupied_clear h k g at) of_table (sound_clear h k g at) h.settings.proxies
+          (vacated_occupied (paging_ok h k) k.serve.part (occupied_clear h k g at) of_table (sound_clear h k g at) h.settings.proxies
           (stand_there h k g at) at_table
           (stand_class h k g at) refl refl);
       live_long = ap (λ (z : Heap). length z.live) rest ∙ k.live_long;
@@ -116,6 +130,15 @@ module _ (h : Heap) (k : IsValid h) (g : JobSlot) (at : h.job ≡ Clear g) where
     pub idle_plan : plan_of n ≡ plan_of h
     idle_plan = becomes_plan h n k s becomes
 
+    -- its slot becomes free in the order
+    freed : order_in n ≡ slot_freed (paging_at h) (insert m h.settings.proxies (placeholder (paging_at h) g)) (order_in h) g.class
+        (page_of (paging_at h) g.address)
+    freed = ap order_in rest
+        ∙ vacated_order (paging_ok h k) k.serve.part (occupied_clear h k g at) of_table (class_in h k g at) h.proxies.free at_table
+
+    pub idle_follows : EndFollows (plan_of h) (state_of h).held g n.job (order_in h) (order_in n)
+    idle_follows = subst (λ j. EndFollows (plan_of h) m g j (order_in h) (order_in n)) (sym (ap (λ (z : Heap). z.job) rest)) freed
+
     pub idle_ends : Ends (paging_at h) (state_of h).held g (state_of n)
     idle_ends = subst (Ends (paging_at h) m g) (sym (becomes_state h n k s becomes)) ends_idle
 
@@ -125,9 +148,13 @@ pub idle_at : (h : Heap) (k : IsValid h) (g : JobSlot) → h.job ≡ Clear g →
     → ((i : ℕ) → i < slot_words (paging_at h) g.class → get_or h.words (g.address + i) 0 ≡ 0) → (t n : Heap) → t ≡ h
     → n ≡ record t { maps = n.maps; lists = n.lists; pool = n.pool; job = Idle }
     → Vacates (tables_in t) g.class (page_at t.classes g.address) (slot_at t.classes g.class g.address) (tables_in n) → AreTables t.classes (tables_in n)
-    → IsValid n × Ends (paging_at h) (state_of h).held g (state_of n)
+    → IsValid n × Ends (paging_at h) (state_of h).held g (state_of n) × EndFollows (plan_of h) (state_of h).held g n.job (order_in h) (order_in n)
 idle_at h k g at stays zeros t n same =
     subst (λ (t : Heap). n ≡ record t { maps = n.maps; lists = n.lists; pool = n.pool; job = Idle }
     → Vacates (tables_in t) g.class (page_at t.classes g.address) (slot_at t.classes g.class g.address) (tables_in n) → AreTables t.classes (tables_in n)
-    → IsValid n × Ends (paging_at h) (state_of h).held g (state_of n)) (sym same)
-    (λ rest v tables. (idle_valid h k g at stays zeros n rest v tables, idle_ends h k g at stays zeros n rest v tables))
+    → IsValid n × Ends (paging_at h) (state_of h).held g (state_of n) × EndFollows (plan_of h) (state_of h).held g n.job (order_in h) (order_in n)) (sym same)
+    (λ rest v tables. (
+      idle_valid h k g at stays zeros n rest v tables,
+      idle_ends h k g at stays zeros n rest v tables,
+      idle_follows h k g at stays zeros n rest v tables,
+    ))

@@ -34,18 +34,18 @@ module _ (h : Heap) (k : IsValid h) where
   as_many = ap (λ (t : ClassTable). length t.sizes) k.table
 
   pub few_classes : classes (paging_at h) ≤ 67
-  few_classes = k.tell.part.tables.table.are_sizes.few
+  few_classes = k.serve.part.tables.table.are_sizes.few
 
   pub tables_ok : AreTables h.classes (tables_in h)
-  tables_ok = subst (λ t. AreTables t (tables_in h)) table_is k.tell.part.tables
+  tables_ok = subst (λ t. AreTables t (tables_in h)) table_is k.serve.part.tables
 
   pub table_ok : IsClassTable h.classes.page_words h.classes.sizes
-  table_ok = subst (λ (t : ClassTable). IsClassTable t.page_words t.sizes) table_is k.tell.part.tables.table
+  table_ok = subst (λ (t : ClassTable). IsClassTable t.page_words t.sizes) table_is k.serve.part.tables.table
 
   pub region_small : length h.words < 2 ^ 32
   region_small = (let long = k.words_long in let small = h.settings.small_region in omega arith)
 
-  -- the addresses are the proxies', and what has none isn't held
+  -- the objects' addresses are those of the proxies; a number without one has no object
   pub places_are : h.proxies.places ≡ places (state_of h).held
   places_are = sym (places-held_at (completed (paging_at h) h.job h.proxies.places h.words) h.proxies.places)
 

@@ -10,12 +10,14 @@ use Rattle.class_lists.specs.declared.Which.TheVariants.{NotFull}
 use Rattle.page_model.specs.Arrangement.{IsSound, class_at, live, not_full_pages, objects_on, pages_needed}
 use Rattle.page_model.specs.Bytes.{AreBytes}
 use Rattle.page_model.specs.Held.{Held, Placed, objects}
+use Rattle.page_model.specs.Order.{IsNextToMove}
 use Rattle.page_model.specs.Paging.{bound_of, classes, page_of, slot_words, slots_of}
 use Rattle.page_model.specs.Steps.{MustMove}
 use Rattle.page_slots.specs.Release.{IsFiller, MovesObject, steps_to_drop}
-use Rattle.page_slots.specs.Occupying.{Occupies, Tell, class_table}
+use Rattle.page_slots.specs.Occupying.{Occupies, Serve, class_table}
+use Rattle.page_slots.specs.Orders.{order_of}
 use Rattle.page_slots.specs.Tables.{IsOf, page_at, slot_at, slots_on}
-use Rattle.page_slots.proofs.CallerLemmas.{drop_same, filler, filler_is, filler_not_full, found_class, found_page, moves_is, moves_some}
+use Rattle.page_slots.proofs.CallerLemmas.{drop_same, filler, filler_is, filler_next, filler_not_full, found_class, found_page, moves_is, moves_some}
 use Rattle.proxy_table.specs.Proxies.{AreBelowLimit, with_place}
 use Rattle.size_classes.specs.Table.{ClassTable}
 use Rattle.slice_model.specs.declared.job_slot.JobSlot.{JobSlot}
@@ -25,7 +27,7 @@ use Rattle.slice_model.specs.Words.{HasWords, word_at}
 use Rattle.slice_model.proofs.CallerLemmas.{changed_places, kept_slice, must_is_two, no_placeholder, objects_sliced, on_more}
 use Rattle.slice_model.proofs.CallerLemmas.{other_than, some_beside, placeholder_class, words_to_carry}
 use Rattle.sliced_heap.specs.Heap.{Heap}
-use Rattle.sliced_heap.specs.Layout.{IsValid, paging_at, plan_of, state_of, tables_in}
+use Rattle.sliced_heap.specs.Layout.{IsValid, order_in, paging_at, plan_of, state_of, tables_in}
 use Rattle.sliced_heap.specs.Steps.{IsFilled, IsPartlyFull}
 use Rattle.sliced_heap.proofs.Facts.{held_bytes, ones, paging_ok, place_known, places_are, plan_ok, table_is}
 use Rattle.sliced_heap.proofs.Headers.{head_number, holds, inside}
@@ -107,16 +109,16 @@ module _ (h : Heap) (k : IsValid h) (g : JobSlot) (at : h.job ≡ Clear g) where
 
   -- what the test of a move asks for
   pub page_within : page_at h.classes g.address < length h.maps
-  page_within = (let lt = found_page (paging_ok h k) k.tell.part occupied_clear h.settings.proxies stand_there in let e = page_is in rw e lt)
+  page_within = (let lt = found_page (paging_ok h k) k.serve.part occupied_clear h.settings.proxies stand_there in let e = page_is in rw e lt)
 
   pub class_listed : g.class < h.lists.classes
-  class_listed = (let lt = found_class (paging_ok h k) k.tell.part occupied_clear h.settings.proxies stand_there in rw stand_class at lt)
+  class_listed = (let lt = found_class (paging_ok h k) k.serve.part occupied_clear h.settings.proxies stand_there in rw stand_class at lt)
 
   -- and what follows from it
   pub must_is : MovesObject (slice_index_or h.maps (page_at h.classes g.address) []) (length (pages_in h.lists g.class NotFull)) 1
       ↔ MustMove (paging_at h) (insert (state_of h).held h.settings.proxies (placeholder (paging_at h) g)) (placeholder (paging_at h) g)
   must_is =
-      let is = moves_is (paging_ok h k) k.tell.part occupied_clear h.settings.proxies stand_there in
+      let is = moves_is (paging_ok h k) k.serve.part occupied_clear h.settings.proxies stand_there in
       let bound : bound_of (paging_at h) g.class ≡ 1 = ones h k g.class class_in in
       let c = stand_class in
       let same : MovesObject (slice_index_or h.maps (page_at h.classes g.address) []) (length (pages_in h.lists g.class NotFull)) 1
@@ -134,7 +136,7 @@ module _ (h : Heap) (k : IsValid h) (g : JobSlot) (at : h.job ≡ Clear g) where
     two = must_is_two (plan_of h) (plan_ok h k) m g none_there class_in sound_clear must
 
     pub one_listed : 1 ≤ length (pages_in h.lists g.class NotFull)
-    one_listed = (let some = moves_some (paging_ok h k) k.tell.part occupied_clear h.settings.proxies stand_there must (rw stand_class class_in) in
+    one_listed = (let some = moves_some (paging_ok h k) k.serve.part occupied_clear h.settings.proxies stand_there must (rw stand_class class_in) in
         rw stand_class at some)
 
     -- the object that fills the slot
@@ -143,7 +145,7 @@ module _ (h : Heap) (k : IsValid h) (g : JobSlot) (at : h.job ≡ Clear g) where
       f' = subst (λ t. IsFiller t h.maps h.lists g.class a) (sym (table_is h k)) f
 
       abbrev found : (q : ℕ) × (y : Placed) × (get all q ≡ Some y) × (y.place ≡ a)
-      found = filler (paging_ok h k) k.tell.part occupied_clear f'
+      found = filler (paging_ok h k) k.serve.part occupied_clear f'
 
       abbrev q : ℕ
       q = found.0
@@ -153,10 +155,10 @@ module _ (h : Heap) (k : IsValid h) (g : JobSlot) (at : h.job ≡ Clear g) where
 
       is : (class_at (paging_at h) y ≡ g.class) × (page_of (paging_at h) y.place ≡ f'.page)
           × (slot_at (class_table (paging_at h)) g.class y.place ≡ f'.slot)
-      is = filler_is (paging_ok h k) k.tell.part occupied_clear f' sound_clear q found.2 found.3
+      is = filler_is (paging_ok h k) k.serve.part occupied_clear f' sound_clear q found.2 found.3
 
       less : objects_on (paging_at h) all g.class (page_of (paging_at h) y.place) < slots_of (paging_at h) g.class
-      less = filler_not_full (paging_ok h k) k.tell.part occupied_clear f' sound_clear q found.2 found.3
+      less = filler_not_full (paging_ok h k) k.serve.part occupied_clear f' sound_clear q found.2 found.3
 
       pub other_page : page_of (paging_at h) y.place ≢ page_of (paging_at h) g.address
       other_page e =
@@ -179,7 +181,7 @@ module _ (h : Heap) (k : IsValid h) (g : JobSlot) (at : h.job ≡ Clear g) where
       page_partly =
           let u = (occupied_clear.stands q y found.2).of in
           let of : IsOf (tables_in h) g.class (page_of (paging_at h) y.place) = rw is.0 at u in
-          let steps = drop_same k.tell.part occupied_clear class_in [] (page_of (paging_at h) y.place) of in
+          let steps = drop_same k.serve.part occupied_clear class_in [] (page_of (paging_at h) y.place) of in
           let few = drop_partly (objects_on (paging_at h) all g.class (page_of (paging_at h) y.place)) (slots_of (paging_at h) g.class) less in
           let at_place : page_at h.classes a ≡ page_of (paging_at h) y.place =
           ap (λ (t : ClassTable). a / t.page_words) k.table ∙ ap (page_of (paging_at h)) (sym found.3) in
@@ -208,7 +210,7 @@ module _ (h : Heap) (k : IsValid h) (g : JobSlot) (at : h.job ≡ Clear g) where
       }
 
       -- it gets the slot's address, and is to be carried there
-      module _ (fresh : g.done ≡ 0) (n : Heap) (handles : AreBelowLimit n.proxies) (whole : n ≡ record h {
+      module _ (fresh : g.done ≡ 0) (n : Heap) (handles : AreBelowLimit n.proxies) (free : n.proxies.free ≡ h.proxies.free) (whole : n ≡ record h {
         proxies = with_place h.proxies (get_or h.words a 0 % 2 ^ 32) g.address;
         job = Move (get_or h.words a 0 % 2 ^ 32) (fresh_slot a g.class);
       }) where
@@ -262,7 +264,7 @@ module _ (h : Heap) (k : IsValid h) (g : JobSlot) (at : h.job ≡ Clear g) where
               ∙ sym (map_values-insert (λ (x : Placed). x.place) m q (record { place = g.address; bytes = y.bytes }));
           limit = ap (λ (z : Heap). z.proxies.limit) rest;
           handles = handles;
-          tell = subst (Tell (paging_at h)) (sym (ap tables_in rest)) k.tell;
+          serve = subst (Serve (paging_at h)) (sym (ap tables_in rest)) k.serve;
           occupied = subst (Occupies (paging_at h) (occupied (plan_of h) s)) (sym (ap tables_in rest)) stands;
           live_long = ap (λ (z : Heap). length z.live) rest ∙ k.live_long;
           counted = λ c lt. ap (λ (z : Heap). get_or z.live c 0) rest ∙ k.counted c lt ∙ ap (λ o. live (paging_at h) o c) (sym objects_same);
@@ -273,15 +275,26 @@ module _ (h : Heap) (k : IsValid h) (g : JobSlot) (at : h.job ≡ Clear g) where
         pub carried_valid : IsValid n
         carried_valid = becomes_valid h n k s becomes
 
+        -- it is the next to move
+        is_next : IsNextToMove (paging_at h) (occupied (plan_of h) (state_of h)) (order_in h) g.class y
+        is_next = subst (λ o. IsNextToMove (paging_at h) o (order_in h) g.class y) (sym all_are)
+            (filler_next (paging_ok h k) k.serve.part occupied_clear class_in h.proxies.free f' y found.3)
+
+        order_same : order_in n ≡ order_in h
+        order_same = ap order_in rest ∙ ap (order_of (classes (paging_at h)) (tables_in h)) (sym (ap (λ (z : Heap). z.proxies.free) rest) ∙ free)
+
         pub is_filled : IsFilled h g n
+        unfolding lies_beside
         is_filled = record {
           must = subst (λ o. MustMove (paging_at h) o stand) (sym all_are) must;
           object = q;
           beside = lies_beside;
+          next = is_next;
           carries = record { object = y; found = y_there; whole = becomes_state h n k s becomes };
           words = ap (λ (z : Heap). z.words) rest;
           plan = becomes_plan h n k s becomes;
           quantum = ap (λ (z : Heap). z.quantum) rest;
+          order = order_same;
         }
 
         pub carried_partly : (f : JobSlot) → job_slot n.job ≡ Some f → IsPartlyFull n f

@@ -25,12 +25,12 @@ module _ (h : Heap) (k : IsValid h) (idle : h.job ≡ Idle) (q a : ℕ) (known :
   head_at = sym w.2 ∙ (let e : w.0.place ≡ w.0.place + 0 = omega arith in e) ∙ sym (ap (λ j. word_at j q w.0 0) idle)
 
   -- its header holds its length
-  module _ (size : ℕ) (told : size ≡ get_or h.words a 0 / 2 ^ 32) where
-    pub length_told : size ≡ length (found h k q a known).0.bytes
-    length_told = told ∙ head_length h k q w.0 w.1 a head_at
+  module _ (size : ℕ) (shown : size ≡ get_or h.words a 0 / 2 ^ 32) where
+    pub length_shown : size ≡ length (found h k q a known).0.bytes
+    length_shown = shown ∙ head_length h k q w.0 w.1 a head_at
 
     known_class : class_of h.classes.sizes size ≡ Some (class_at (paging_at h) w.0)
-    known_class = ap (class_of h.classes.sizes) length_told ∙ class_known_at h k q w.0 w.1
+    known_class = ap (class_of h.classes.sizes) length_shown ∙ class_known_at h k q w.0 w.1
 
     pub has_class : None ≡ class_of h.classes.sizes size → ⊥
     has_class none = (let z : None ≡ Some (class_at (paging_at h) w.0) = none ∙ known_class in cc)

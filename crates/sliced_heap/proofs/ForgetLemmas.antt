@@ -13,7 +13,7 @@ use Rattle.page_model.specs.Arrangement.{class_at, live, pages_needed}
 use Rattle.page_model.specs.Held.{Held, Placed, objects}
 use Rattle.page_model.specs.Paging.{slot_words, slots_of}
 use Rattle.page_model.proofs.CallerLemmas.{bytes_held, live_taken, sound_exchanged}
-use Rattle.page_slots.specs.Occupying.{Occupies, Tell}
+use Rattle.page_slots.specs.Occupying.{Occupies, Serve}
 use Rattle.proxy_table.specs.Proxies.{AreBelowLimit, without_place}
 use Rattle.size_classes.specs.Table.{ClassTable}
 use Rattle.slice_model.specs.State.{Plan, IsPlan, Sliced, IsKept, occupied, Idle, Clear}
@@ -21,7 +21,7 @@ use Rattle.slice_model.specs.Steps.{fresh_slot}
 use Rattle.slice_model.specs.Words.{HasWords}
 use Rattle.slice_model.proofs.CallerLemmas.{no_placeholder, other_than, placeholder_class, words_to_clear}
 use Rattle.sliced_heap.specs.Heap.{Heap}
-use Rattle.sliced_heap.specs.Layout.{IsValid, opens, paging_at, plan_of, state_of, tables_in}
+use Rattle.sliced_heap.specs.Layout.{IsValid, opens, order_in, paging_at, plan_of, state_of, tables_in}
 use Rattle.sliced_heap.specs.Steps.{Forgets}
 use Rattle.sliced_heap.proofs.Counts.{needed_more, needed_taken}
 use Rattle.sliced_heap.proofs.Facts.{few_classes, held_bytes, paging_ok, places_are, plan_ok}
@@ -29,7 +29,7 @@ use Rattle.sliced_heap.proofs.Headers.{in_class}
 use Rattle.sliced_heap.proofs.Places.{stood_in}
 use Rattle.sliced_heap.proofs.Preserved.{Becomes, becomes_plan, becomes_state, becomes_valid}
 
--- the rules stay
+-- the rules of the model stay
 pub kept_vacant : (plan : Plan) → IsPlan plan → (m : Held) → IsKept plan (record { held = m; job = Idle }) → (q : ℕ) (x : Placed) → get m q ≡ Some x
     → IsKept plan (record { held = remove m q; job = Clear (fresh_slot x.place (class_at plan.paging x)) })
 kept_vacant plan ok m kept q x there =
@@ -45,8 +45,8 @@ kept_vacant plan ok m kept q x there =
           (get_remove_other m q plan.proxies (λ e. ne (sym e)) ∙ none) class kept.sound;
     }
 
--- in n the number q was given back, an object of class c was counted out, and the slot at a is the job's
-pub record GoesAway (h n : Heap) (q a c : ℕ) : Type 0 where
+-- in n the number q is free, one object of class c fewer is counted, and the job is to clear the slot at a
+pub record IsFreed (h n : Heap) (q a c : ℕ) : Type 0 where
   pub rest : n ≡ record h {
     proxies = without_place h.proxies q;
     live = set h.live c (get_or h.live c 0 - 1);
@@ -101,7 +101,7 @@ module _ (h : Heap) (k : IsValid h) (idle : h.job ≡ Idle) (q : ℕ) (x : Place
   pub needed_some : opens (slots h.classes.page_words h.classes.sizes (class_at (paging_at h) x)) (get_or h.live (class_at (paging_at h) x) 0 - 1) ≤ h.needed
   needed_some = (let e = needed_less in omega arith)
 
-  module _ (n : Heap) (g : GoesAway h n q x.place (class_at (paging_at h) x)) where
+  module _ (n : Heap) (g : IsFreed h n q x.place (class_at (paging_at h) x)) where
     abbrev s : Sliced
     s = record { held = remove m q; job = Clear (fresh_slot x.place c) }
 
@@ -127,7 +127,7 @@ module _ (h : Heap) (k : IsValid h) (idle : h.job ≡ Idle) (q : ℕ) (x : Place
       addresses = ap (λ (z : Heap). z.proxies.places) g.rest ∙ ap (λ n. remove n q) (places_are h k) ∙ sym (map_values-remove (λ (x : Placed). x.place) m q);
       limit = ap (λ (z : Heap). z.proxies.limit) g.rest;
       handles = g.handles;
-      tell = subst (Tell (paging_at h)) (sym (ap tables_in g.rest)) k.tell;
+      serve = subst (Serve (paging_at h)) (sym (ap tables_in g.rest)) k.serve;
       occupied = subst (Occupies (paging_at h) (occupied (plan_of h) s)) (sym (ap tables_in g.rest))
           (stood_in (paging_at h) m (tables_in h) stands_idle q x there h.settings.proxies (no_placeholder (plan_of h) m k.kept.numbers)
           (replicate (8 * (slot_words (paging_at h) c - 1)) 0)
@@ -162,12 +162,13 @@ module _ (h : Heap) (k : IsValid h) (idle : h.job ≡ Idle) (q : ℕ) (x : Place
       words = ap (λ (z : Heap). z.words) g.rest;
       plan = becomes_plan h n k s becomes;
       quantum = ap (λ (z : Heap). z.quantum) g.rest;
+      order = ap order_in g.rest;
     }
 
 -- the same by the address and the class that the code has
 pub forgets_at : (h : Heap) (k : IsValid h) → h.job ≡ Idle → (q : ℕ) (x : Placed) → get (state_of h).held q ≡ Some x → (a c : ℕ) → x.place ≡ a
-    → class_at (paging_at h) x ≡ c → (n : Heap) → GoesAway h n q a c → Forgets h q (fresh_slot a c) n × IsValid n
+    → class_at (paging_at h) x ≡ c → (n : Heap) → IsFreed h n q a c → Forgets h q (fresh_slot a c) n × IsValid n
 forgets_at h k idle q x there a c at is n =
-    subst (λ a. GoesAway h n q a c → Forgets h q (fresh_slot a c) n × IsValid n) at
-    (subst (λ c. GoesAway h n q x.place c → Forgets h q (fresh_slot x.place c) n × IsValid n) is
+    subst (λ a. IsFreed h n q a c → Forgets h q (fresh_slot a c) n × IsValid n) at
+    (subst (λ c. IsFreed h n q x.place c → Forgets h q (fresh_slot x.place c) n × IsValid n) is
     (λ g. (forgets h k idle q x there n g, forgotten_valid h k idle q x there n g)))

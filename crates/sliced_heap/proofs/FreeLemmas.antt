@@ -1,19 +1,21 @@
 -- A free in whole: the object is removed, its slot is filled if it must be, and a slice follows.
-use Rattle.std.proofs.Common.{◌≡◌, ◌≢◌, ℕ, ◌*◌, ◌-◌, ◌<◌, replicate, Bool, true, false, Some, None, arith, sym, ◌∙◌, ap, subst}
+use Rattle.std.proofs.Common.{◌≡◌, ◌≢◌, ℕ, ◌*◌, ◌-◌, ◌<◌, ◌∷◌, replicate, Bool, true, false, Some, None, arith, sym, ◌∙◌, ap, subst, inl, inr}
+use Rattle.std.proofs.lemmas.Bool.{cases_eq}
 use Rattle.std.specs.FinMap.{get, insert, remove}
-use Rattle.cf_lemmas.proofs.Maps.{get_remove_other, some_removed}
+use Rattle.cf_lemmas.proofs.Maps.{get_inserted, get_insert_other, get_remove_other, some_inserted, some_removed}
 use Rattle.page_model.specs.Arrangement.{IsSound, class_at, not_full_pages, objects_on}
 use Rattle.page_model.specs.Held.{Held, Placed}
+use Rattle.page_model.specs.Order.{Order, IsNextToMove, IsTaken}
 use Rattle.page_model.specs.Paging.{page_of, slot_words, slots_of}
 use Rattle.page_model.specs.Steps.{Moves, MustMove}
 use Rattle.page_model.proofs.CallerLemmas.{not_full-same, objects_on-exchanged}
 use Rattle.slice_model.specs.State.{Sliced, IsKept, occupied, placeholder, Clear, Idle}
 use Rattle.slice_model.specs.Steps.{Carries, fresh_slot}
-use Rattle.slice_model.specs.Runs.{Frees, Slices}
+use Rattle.slice_model.specs.Ordered.{FreesInOrder, SlicesInOrder}
 use Rattle.slice_model.proofs.CallerLemmas.{no_placeholder, other_than, same_elsewhere, placeholder_class}
 use Rattle.slice_model.specs.declared.job_slot.JobSlot.{JobSlot}
 use Rattle.sliced_heap.specs.Heap.{Heap}
-use Rattle.sliced_heap.specs.Layout.{IsValid, paging_at, plan_of, state_of, working_of}
+use Rattle.sliced_heap.specs.Layout.{IsValid, order_in, paging_at, plan_of, state_of, working_of}
 use Rattle.sliced_heap.specs.Steps.{Fills, Forgets, IsFilled, StaysVacant}
 use Rattle.sliced_heap.proofs.Facts.{paging_ok, plan_ok}
 use Rattle.sliced_heap.proofs.Headers.{in_class}
@@ -50,11 +52,11 @@ module _ (h : Heap) (k : IsValid h) (idle : h.job ≡ Idle) (q : ℕ) (x : Place
   same_open : not_full_pages (paging_at h) all c ≡ not_full_pages (paging_at h) m c
   same_open = not_full-same (paging_at h) m all c (λ page. same_counts c page)
 
-  -- so a free of the one has to move an object if and only if a free of the other has
-  pub must_of_stand : MustMove (paging_at h) (insert (remove (state_of h).held q) h.settings.proxies
+  -- so a free must move an object in the one arrangement if and only if in the other
+  pub must_of_placeholder : MustMove (paging_at h) (insert (remove (state_of h).held q) h.settings.proxies
       (placeholder (paging_at h) (fresh_slot x.place (class_at (paging_at h) x))))
       (placeholder (paging_at h) (fresh_slot x.place (class_at (paging_at h) x))) → MustMove (paging_at h) (state_of h).held x
-  must_of_stand must = record {
+  must_of_placeholder must = record {
     full = sym (same_counts c (page_of (paging_at h) x.place)) ∙ rw stand_class at must.full;
     several = rw stand_class at must.several;
     many = sym same_open ∙ rw stand_class at must.many;
@@ -67,6 +69,44 @@ module _ (h : Heap) (k : IsValid h) (idle : h.job ≡ Idle) (q : ℕ) (x : Place
     full = rw stand_class (same_counts c (page_of (paging_at h) x.place) ∙ must.full);
     several = rw stand_class must.several;
     many = rw stand_class (same_open ∙ must.many);
+  }
+
+  -- the taken slots are the same, too
+  taken_alone : (a : ℕ) → IsTaken all a → IsTaken m a
+  taken_alone a (r, y, there', is) = elim (some_inserted (remove m q) h.settings.proxies (placeholder (paging_at h) g) r y there') [
+    | inl (_, same) ↦ (q, x, there, ap (λ (z : Placed). z.place) same ∙ is)
+    | inr (_, was) ↦ (r, y, (some_removed m q r y was).1, is)
+  ]
+
+  taken_beside : (a : ℕ) → IsTaken m a → IsTaken all a
+  taken_beside a (r, y, there', is) = elim (cases_eq r q) [
+    | inl same ↦ (
+        let e : Some y ≡ Some x = sym there' ∙ ap (get m) same ∙ there in
+        let one : y ≡ x = cc in (
+          h.settings.proxies,
+          placeholder (paging_at h) g,
+          get_inserted (remove m q) h.settings.proxies (placeholder (paging_at h) g),
+          ap (λ (z : Placed). z.place) (sym one) ∙ is,
+        ))
+    | inr ne ↦ (
+      r,
+      y,
+      get_insert_other (remove m q) h.settings.proxies (placeholder (paging_at h) g) r
+          (other_than m h.settings.proxies r y (no_placeholder (plan_of h) m k.kept.numbers) there')
+          ∙ get_remove_other m q r ne ∙ there',
+      is,
+    )
+  ]
+
+  -- so the next object to move is the same
+  next_alone : (o : Order) (y : Placed) → IsNextToMove (paging_at h) all (record o { spare = q ∷ o.spare }) c y → IsNextToMove (paging_at h) m o c y
+  next_alone o y n = record {
+    page = n.page;
+    slot = n.slot;
+    rest = n.rest;
+    front = n.front;
+    least = record { taken = taken_alone _ n.least.taken; least = λ s lt t. n.least.least s lt (taken_beside _ t) };
+    address = n.address;
   }
 
   -- the slot is vacant, then filled or not, and a slice follows
@@ -85,7 +125,7 @@ module _ (h : Heap) (k : IsValid h) (idle : h.job ≡ Idle) (q : ℕ) (x : Place
         (subst (λ o. MustMove (paging_at h) o (placeholder (paging_at h) g)) (sym occupied_is) (stand_of_must must)))
 
     filled_must : (b : Heap) → IsFilled a g b → MustMove (paging_at h) m x
-    filled_must b v = must_of_stand (subst (λ o. MustMove (paging_at h) o (placeholder (paging_at h) g)) occupied_is
+    filled_must b v = must_of_placeholder (subst (λ o. MustMove (paging_at h) o (placeholder (paging_at h) g)) occupied_is
         (subst (λ p. MustMove p (occupied (plan_of a) (state_of a)) (placeholder p g)) pages_are v.must))
 
     -- the object that moves is of the same class, on a page that isn't full with the freed object there
@@ -106,60 +146,76 @@ module _ (h : Heap) (k : IsValid h) (idle : h.job ≡ Idle) (q : ℕ) (x : Place
         let with_x = same_counts c (page_of (paging_at h) v.beside.object.place) in
         (filled_must b v, (v.beside.object, y_there, record { class = class; not_full = omega arith }))
 
+    filled_next : (b : Heap) → (v : IsFilled a g b) → IsNextToMove (paging_at h) m (order_in h) c v.beside.object
+    filled_next b v = next_alone (order_in h) v.beside.object
+        (subst (λ o. IsNextToMove (paging_at h) all o c v.beside.object) f.order
+        (subst (λ o. IsNextToMove (paging_at h) o (order_in a) c v.beside.object) occupied_is
+        (subst (λ p. IsNextToMove p (occupied (plan_of a) (state_of a)) (order_in a) c v.beside.object) pages_are v.next)))
+
     -- and the slice
-    module _ (b : Heap) (s : Slices (plan_of b) (working_of b) (working_of n)) where
-      vacant_frees : StaysVacant a g b → Frees (plan_of h) (working_of h) q (working_of n)
+    module _ (b : Heap) (s : SlicesInOrder (plan_of b) (working_of b) (working_of n) (order_in b) (order_in n)) where
+      slice_now : plan_of b ≡ plan_of h → b.words ≡ h.words → order_in b ≡ record (order_in h) { spare = q ∷ (order_in h).spare }
+          → SlicesInOrder (plan_of h) (record { state = state_of b; words = h.words }) (working_of n) (record (order_in h) { spare = q ∷ (order_in h).spare })
+          (order_in n)
+      slice_now plan words order =
+          subst (λ o. SlicesInOrder (plan_of h) (record { state = state_of b; words = h.words }) (working_of n) o (order_in n)) order
+          (subst (λ w. SlicesInOrder (plan_of h) (record { state = state_of b; words = w }) (working_of n) (order_in b) (order_in n)) words
+          (subst (λ p. SlicesInOrder p (working_of b) (working_of n) (order_in b) (order_in n)) plan s))
+
+      vacant_frees : StaysVacant a g b → FreesInOrder (plan_of h) (working_of h) q (working_of n) (order_in h) (order_in n)
       vacant_frees v =
-          let plan_b : plan_of b ≡ plan_of h = ap plan_of v.same ∙ f.plan in
           let state_b : state_of b ≡ record { held = remove m q; job = Clear g } = ap state_of v.same ∙ f.state in
-          let words_b : b.words ≡ h.words = ap (λ (z : Heap). z.words) v.same ∙ f.words in
-          let s' : Slices (plan_of h) (record { state = state_of b; words = h.words }) (working_of n) =
-          subst (λ w. Slices (plan_of h) (record { state = state_of b; words = w }) (working_of n)) words_b
-          (subst (λ p. Slices p (working_of b) (working_of n)) plan_b s) in
+          let s' = slice_now (ap plan_of v.same ∙ f.plan) (ap (λ (z : Heap). z.words) v.same ∙ f.words) (ap order_in v.same ∙ f.order) in
           record {
-            removes = record {
-              idle = idle;
-              freed = x;
-              found = there;
-              moved = None;
-              moves = vacant_moves b v;
-              begun = state_of b;
-              begins = state_b;
-              slice = s'.slice;
+            frees = record {
+              removes = record {
+                idle = idle;
+                freed = x;
+                found = there;
+                moved = None;
+                moves = vacant_moves b v;
+                begun = state_of b;
+                begins = state_b;
+                slice = s'.slices.slice;
+              };
+              words = s'.slices.words;
             };
-            words = s'.words;
+            next = tt;
+            follows = s'.follows;
           }
 
-      filled_frees : IsFilled a g b → Frees (plan_of h) (working_of h) q (working_of n)
+      filled_frees : IsFilled a g b → FreesInOrder (plan_of h) (working_of h) q (working_of n) (order_in h) (order_in n)
       filled_frees v =
-          let plan_b : plan_of b ≡ plan_of h = v.plan ∙ f.plan in
-          let words_b : b.words ≡ h.words = v.words ∙ f.words in
           let carries = subst (λ n. Carries n v.object x.place c (state_of b)) held_is v.carries in
-          let s' : Slices (plan_of h) (record { state = state_of b; words = h.words }) (working_of n) =
-          subst (λ w. Slices (plan_of h) (record { state = state_of b; words = w }) (working_of n)) words_b
-          (subst (λ p. Slices p (working_of b) (working_of n)) plan_b s) in
+          let s' = slice_now (v.plan ∙ f.plan) (v.words ∙ f.words) (v.order ∙ f.order) in
+          let y_left : get (remove m q) v.object ≡ Some v.beside.object = ap (λ n. get n v.object) (sym held_is) ∙ v.beside.found in
           record {
-            removes = record {
-              idle = idle;
-              freed = x;
-              found = there;
-              moved = Some v.object;
-              moves = filled_moves b v;
-              begun = state_of b;
-              begins = carries;
-              slice = s'.slice;
+            frees = record {
+              removes = record {
+                idle = idle;
+                freed = x;
+                found = there;
+                moved = Some v.object;
+                moves = filled_moves b v;
+                begun = state_of b;
+                begins = carries;
+                slice = s'.slices.slice;
+              };
+              words = s'.slices.words;
             };
-            words = s'.words;
+            next = (v.beside.object, (some_removed m q v.object v.beside.object y_left).1, filled_next b v);
+            follows = s'.follows;
           }
 
-      pub frees : (filled : Bool) → Fills a g filled b → Frees (plan_of h) (working_of h) q (working_of n)
+      pub frees : (filled : Bool) → Fills a g filled b → FreesInOrder (plan_of h) (working_of h) q (working_of n) (order_in h) (order_in n)
       frees true v = filled_frees v
       frees false v = vacant_frees v
 
 -- the same from the clauses of the parts of a free
 pub frees_from : (h : Heap) (k : IsValid h) → h.job ≡ Idle → (q : ℕ) (g : JobSlot) (a b n : Heap) → Forgets h q g a → IsValid a → (filled : Bool)
     → Fills a g filled b
-    → Slices (plan_of b) (working_of b) (working_of n) → Frees (plan_of h) (working_of h) q (working_of n)
+    → SlicesInOrder (plan_of b) (working_of b) (working_of n) (order_in b) (order_in n)
+    → FreesInOrder (plan_of h) (working_of h) q (working_of n) (order_in h) (order_in n)
 frees_from h k idle q g a b n f ka filled fills s =
     let same : g ≡ fresh_slot f.object.place (class_at (paging_at h) f.object) = f.slot in
     let f' : Forgets h q (fresh_slot f.object.place (class_at (paging_at h) f.object)) a = subst (λ g. Forgets h q g a) same f in

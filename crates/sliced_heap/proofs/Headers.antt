@@ -33,7 +33,7 @@ module _ (h : Heap) (k : IsValid h) (q : ℕ) (x : Placed) (there : get (state_o
   bytes_few =
       let o = holds in
       let fits = slot_fits (paging_at h) (paging_ok h k) (class_at (paging_at h) x) in_class in
-      let small = k.tell.part.tables.table.small in
+      let small = k.serve.part.tables.table.small in
       omega arith
 
   pub head : get_or h.words (word_at h.job q x 0) 0 ≡ q + 2 ^ 32 * length x.bytes

@@ -1,4 +1,4 @@
--- The objects that words and addresses hold beside a job are those whose words they are.
+-- The words and the addresses determine the objects, also while a job is pending.
 use Rattle.std.proofs.Common.{◌≡◌, ℕ, ◌+◌, ◌-◌, ◌*◌, ◌<◌, ◌≤◌, List, Option, Some, None, length, get_or, arith, refl, sym, ◌∙◌, ap, subst}
 use Rattle.std.specs.Prelude.{option_map}
 use Rattle.std.specs.Ordering.{nat_cmp}
@@ -25,7 +25,7 @@ use Rattle.sliced_heap.specs.Layout.{carried_to, completed}
 pub place_there : (m : Held) (at : FinMap nat_cmp ℕ) → at ≡ places m → (q : ℕ) (x : Placed) → get m q ≡ Some x → get at q ≡ Some x.place
 place_there m at e q x there = ap (λ n. get n q) e ∙ get-map_values (λ (y : Placed). y.place) m q ∙ ap (option_map (λ (y : Placed). y.place)) there
 
--- the object that a job carries is of the class of its slot, however much is done
+-- the object that a job moves is of the class of its slot, however much is done
 pub mover_at : (p : Paging) (m : Held) (q : ℕ) (k : JobSlot) (x : Placed) → get m q ≡ Some x → class_at p x ≡ k.class → (d : ℕ)
     → (g : JobSlot) (h : ℕ) (y : Placed) → Move q (record k { done = d }) ≡ Move h g → get m h ≡ Some y → class_at p y ≡ g.class
 mover_at p m q k x there class d g h y move there' =
@@ -66,7 +66,7 @@ module _ (plan : Plan) (ok : IsPlan plan) (m : Held) (k : JobSlot) (words words'
         zeros = λ i lt. after.done (record k { done = k.done + n }) refl i (omega arith);
       }
 
--- the part of the job's slot that is yet to be carried is apart from its new place
+-- the part of the job's slot that has still to move is apart from its new place
 pub parts_apart : (plan : Plan) → IsPlan plan → (m : Held) (q : ℕ) (k : JobSlot) → IsKept plan (record { held = m; job = Move q k }) → (x : Placed)
     → get m q ≡ Some x → class_at plan.paging x ≡ k.class → (n : ℕ) → k.done + n ≤ slot_words plan.paging k.class
     → IsDisjoint (k.address + k.done) n (x.place + k.done) n
@@ -105,8 +105,8 @@ module _ (plan : Plan) (ok : IsPlan plan) (m : Held) (j : Job) (kept : IsKept pl
   abbrev whole : List ℕ
   whole = completed plan.paging j at words
 
-  pub held_told : held_at (completed plan.paging j at words) at ≡ m
-  held_told = equal_maps _ _ (λ q. get-map_values (λ a. record { place = a; bytes = bytes_at whole a }) at q
+  pub held_shown : held_at (completed plan.paging j at words) at ≡ m
+  held_shown = equal_maps _ _ (λ q. get-map_values (λ a. record { place = a; bytes = bytes_at whole a }) at q
       ∙ ap (λ p. option_map (λ a. record { place = a; bytes = bytes_at whole a }) (get p q)) e
       ∙ ap (option_map (λ a. record { place = a; bytes = bytes_at whole a })) (get-map_values (λ (x : Placed). x.place) m q) ∙ go q (get m q) refl)
     where

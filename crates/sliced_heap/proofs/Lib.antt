@@ -15,5 +15,6 @@ pub mod FreeLemmas
 pub mod MallocLemmas
 pub mod AccessLemmas
 pub mod OpenLemmas
+pub mod OrderFacts
 pub mod Rules
 pub mod CallerLemmas

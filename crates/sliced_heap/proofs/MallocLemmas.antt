@@ -1,5 +1,5 @@
 -- A malloc, and why one is refused.
-use Rattle.std.proofs.Common.{◌≡◌, ◌≢◌, ℕ, ◌+◌, ◌<◌, ◌≤◌, List, length, get_or, set, replicate, Some, None, arith, refl, sym, ◌∙◌, ap, subst, inl, inr}
+use Rattle.std.proofs.Common.{◌≡◌, ◌≢◌, ℕ, ◌+◌, ◌<◌, ◌≤◌, List, length, get_or, set, replicate, ◌∷◌, Some, None, arith, refl, sym, ◌∙◌, ap, subst, inl, inr}
 use Rattle.std.specs.Prelude.{◌↔◌, Bool, IsTrue, false, nat_eq, option_map}
 use Rattle.std.proofs.lemmas.Bool.{cases_lt, false≢true}
 use Rattle.std.proofs.lemmas.List.{get_or-set_same, get_or-set_other, length-replicate, length-set}
@@ -13,22 +13,24 @@ use Rattle.page_model.specs.Arrangement.{LacksRoom, live, pages_needed, pages_ne
 use Rattle.page_model.specs.Bytes.{AreBytes}
 use Rattle.page_model.specs.Held.{Held, Placed, objects}
 use Rattle.page_model.specs.Image.{IsOutside, Rewrites, header_word}
+use Rattle.page_model.specs.Order.{MallocFollows, TakesNext}
 use Rattle.page_model.specs.Paging.{class_for, classes, slots_of}
 use Rattle.page_model.specs.Steps.{IsFreePlace, zeros_at}
 use Rattle.page_model.proofs.CallerLemmas.{live_added, malloc_objects, malloc_places, slot_inside, zeros_are_bytes, live_few}
 use Rattle.page_model.proofs.CallerLemmas.{class_of_zeros}
 use Rattle.page_slots.specs.Tables.{AreTables, Tables}
 use Rattle.page_slots.specs.Take.{TakesAt, TakesSlot}
-use Rattle.page_slots.specs.Occupying.{Occupies, Tell, class_table}
-use Rattle.page_slots.proofs.CallerLemmas.{refused_lacks_room, taken_is_free, taken_occupied, taken_tell}
+use Rattle.page_slots.specs.Occupying.{Occupies, Serve, class_table}
+use Rattle.page_slots.specs.Orders.{order_of}
+use Rattle.page_slots.proofs.CallerLemmas.{refused_lacks_room, taken_is_free, taken_next, taken_occupied, taken_serve}
 use Rattle.proxy_table.specs.Proxies.{AreBelowLimit, with_place}
 use Rattle.size_classes.specs.Table.{ClassTable}
 use Rattle.slice_model.specs.State.{IsPlaceFor, Sliced, job_slot, occupied}
 use Rattle.slice_model.specs.Steps.{GivesObject, WantsProxy, WantsSlot, WantsSpace}
-use Rattle.slice_model.specs.Runs.{Mallocs}
+use Rattle.slice_model.specs.Ordered.{MallocsInOrder}
 use Rattle.slice_model.proofs.CallerLemmas.{free_is_place, get_beside, inserted_beside, kept_malloc, lacking_is_no_place, words_given}
 use Rattle.sliced_heap.specs.Heap.{Heap}
-use Rattle.sliced_heap.specs.Layout.{IsValid, opens, paging_at, plan_of, state_of, tables_in, working_of}
+use Rattle.sliced_heap.specs.Layout.{IsValid, opens, order_in, paging_at, plan_of, state_of, tables_in, working_of}
 use Rattle.sliced_heap.proofs.Counts.{needed_added, needed_more}
 use Rattle.sliced_heap.proofs.Facts.{few_classes, held_bytes, held_len, no_place, paging_ok, places_are, plan_ok, table_is}
 use Rattle.sliced_heap.proofs.Headers.{class_is}
@@ -93,7 +95,7 @@ module _ (h : Heap) (k : IsValid h) (bytes c : ℕ) (found : Some c ≡ class_of
       wants_slot new none =
           let t : TakesSlot (class_table (paging_at h)) (tables_in h) c None new =
           subst (λ t. TakesSlot t (tables_in h) c None new) (sym (table_is h k)) none in
-          let lacks = refused_lacks_room (paging_ok h k) k.tell.part k.occupied k.tell.whole c new t in
+          let lacks = refused_lacks_room (paging_ok h k) k.serve.part k.occupied k.serve.whole c new t in
           record {
             fits = is.0;
             few = few;
@@ -111,7 +113,7 @@ module _ (h : Heap) (k : IsValid h) (bytes c : ℕ) (found : Some c ≡ class_of
         of_table = subst (λ t. AreTables t new) (sym (table_is h k)) tables
 
         free : IsFreePlace (paging_at h) (occupied (plan_of h) (state_of h)) bytes a
-        free = taken_is_free (paging_ok h k) k.tell.part k.occupied of_table is.2 at_table bytes is.1
+        free = taken_is_free (paging_ok h k) k.serve.part k.occupied of_table is.2 at_table bytes is.1
 
         -- its address is in the region
         pub place_inside : a < length h.words
@@ -123,6 +125,7 @@ module _ (h : Heap) (k : IsValid h) (bytes c : ℕ) (found : Some c ≡ class_of
 
         -- and the object is bound there and counted
         module _ (n : Heap) (q : ℕ) (unused : get h.proxies.places q ≡ None) (below : q < h.proxies.limit) (handles : AreBelowLimit n.proxies)
+            (first : h.proxies.free ≡ q ∷ n.proxies.free)
             (on : tables_in n ≡ new) (rest : n ≡ record h {
               maps = n.maps;
               lists = n.lists;
@@ -170,7 +173,7 @@ module _ (h : Heap) (k : IsValid h) (bytes c : ℕ) (found : Some c ≡ class_of
 
           stands : Occupies (paging_at h) (occupied (plan_of h) s) new
           stands = subst (λ o. Occupies (paging_at h) o new) (inserted_beside (plan_of h) m (job_slot h.job) q (zeros_at a bytes) in_range)
-              (taken_occupied (paging_ok h k) k.tell.part k.occupied of_table is.2 at_table q (zeros_at a bytes)
+              (taken_occupied (paging_ok h k) k.serve.part k.occupied of_table is.2 at_table q (zeros_at a bytes)
               (get_beside (plan_of h) m (job_slot h.job) q in_range ∙ none) refl (class_of_zeros (paging_at h) a bytes c is.1))
 
           becomes : Becomes h n s
@@ -190,7 +193,7 @@ module _ (h : Heap) (k : IsValid h) (bytes c : ℕ) (found : Some c ≡ class_of
             addresses = ap (λ (z : Heap). z.proxies.places) rest ∙ ap (λ n. insert n q a) (places_are h k) ∙ sym (malloc_places m q a bytes);
             limit = ap (λ (z : Heap). z.proxies.limit) rest;
             handles = handles;
-            tell = subst (Tell (paging_at h)) (sym on) (taken_tell (paging_ok h k) k.tell.part k.occupied of_table is.2 at_table k.tell.whole);
+            serve = subst (Serve (paging_at h)) (sym on) (taken_serve (paging_ok h k) k.serve.part k.occupied of_table is.2 at_table k.serve.whole);
             occupied = subst (Occupies (paging_at h) (occupied (plan_of h) s)) (sym on) stands;
             live_long = ap (λ (z : Heap). length z.live) rest ∙ length-set h.live c (get_or h.live c 0 + 1) ∙ k.live_long;
             counted = λ d lt. (
@@ -217,18 +220,37 @@ module _ (h : Heap) (k : IsValid h) (bytes c : ℕ) (found : Some c ≡ class_of
           state_now : state_of n ≡ s
           state_now = becomes_state h n k s becomes
 
-          pub given : Mallocs (plan_of h) (working_of h) (record { number = q; length = bytes }) (working_of n)
-          given = record {
-            gives = record {
-              fits = is.0;
-              few = few;
-              in_range = in_range;
-              unused = none;
-              place = a;
-              free = is_place;
-              placed = state_now;
+          -- the number and the slot are the next ones
+          follows : MallocFollows (paging_at h) (occupied (plan_of h) (state_of h)) (record { number = q; length = bytes }) a (order_in h) (order_in n)
+          follows = record {
+            rest = n.proxies.free;
+            number = first;
+            taken =
+                let all = occupied (plan_of h) (state_of h) in
+                let next = taken_next (paging_ok h k) k.serve.part k.occupied of_table is.2 n.proxies.free at_table in
+                let of_class = subst (λ d. TakesNext (paging_at h) all (order_of (classes (paging_at h)) (tables_in h) n.proxies.free) d a
+                (order_of (classes (paging_at h)) new n.proxies.free)) (sym is.1) next in
+                let in_tables = subst (λ t. TakesNext (paging_at h) all (order_of (classes (paging_at h)) (tables_in h) n.proxies.free)
+                (class_for (paging_at h) bytes) a (order_of (classes (paging_at h)) t n.proxies.free)) (sym on) of_class in
+                subst (λ s. TakesNext (paging_at h) all (order_of (classes (paging_at h)) (tables_in h) n.proxies.free) (class_for (paging_at h) bytes) a
+                (order_of s (tables_in n) n.proxies.free)) (sym (ap (λ (z : Heap). classes (paging_at z)) rest)) in_tables;
+          }
+
+          pub given_next : MallocsInOrder (plan_of h) (working_of h) (record { number = q; length = bytes }) (working_of n) (order_in h) (order_in n)
+          given_next = record {
+            mallocs = record {
+              gives = record {
+                fits = is.0;
+                few = few;
+                in_range = in_range;
+                unused = none;
+                place = a;
+                free = is_place;
+                placed = state_now;
+              };
+              words = writes;
             };
-            words = writes;
+            follows = follows;
           }
 
 -- if the test that the sum is over fails
@@ -285,16 +307,19 @@ pub given_from : (h : Heap) (k : IsValid h) (bytes c : ℕ) → Some c ≡ class
     → TakesAt h.classes (tables_in h) c a (tables_in t) → AreTables h.classes (tables_in t) → t ≡ record h { maps = t.maps; lists = t.lists; pool = t.pool }
     → get t.proxies.places q ≡ None → q < t.proxies.limit
     → b ≡ record t { proxies = with_place t.proxies q a; words = set t.words a (header_word q bytes) } → AreBelowLimit b.proxies
+    → t.proxies.free ≡ q ∷ b.proxies.free
     → n ≡ record b {
       live = set b.live c (get_or b.live c 0 + 1);
       needed = b.needed + opens (slots b.classes.page_words b.classes.sizes c) (get_or b.live c 0);
-    } → Mallocs (plan_of h) (working_of h) (record { number = q; length = bytes }) (working_of n) × IsValid n
-given_from h k bytes c found ne within t b n a q taken tables et unused below eb handles en =
+    } → MallocsInOrder (plan_of h) (working_of h) (record { number = q; length = bytes }) (working_of n) (order_in h) (order_in n) × IsValid n
+given_from h k bytes c found ne within t b n a q taken tables et unused below eb handles front en =
     let none : get h.proxies.places q ≡ None = sym (ap (λ (z : Heap). get z.proxies.places q) et) ∙ unused in
     let low : q < h.proxies.limit = (let e = ap (λ (z : Heap). z.proxies.limit) et in omega arith) in
     let good : AreBelowLimit n.proxies = subst AreBelowLimit (sym (ap (λ (z : Heap). z.proxies) en)) handles in
+    let first : h.proxies.free ≡ q ∷ n.proxies.free = sym (ap (λ (z : Heap). z.proxies.free) et) ∙ front
+    ∙ ap (λ xs. q ∷ xs) (sym (ap (λ (z : Heap). z.proxies.free) en)) in
     let on = on_taken h t b n a q c (header_word q bytes) et eb en in
     let rest = all_changes h t b n a q c (header_word q bytes) et eb en in (
-      given h k bytes c found ne within (tables_in t) a taken tables n q none low good on rest,
-      given_valid h k bytes c found ne within (tables_in t) a taken tables n q none low good on rest,
+      given_next h k bytes c found ne within (tables_in t) a taken tables n q none low good first on rest,
+      given_valid h k bytes c found ne within (tables_in t) a taken tables n q none low good first on rest,
     )

@@ -1,31 +1,33 @@
 -- An open heap without objects.
-use Rattle.std.proofs.Common.{◌≡◌, ℕ, false, ◌-◌, ◌*◌, ◌<◌, ◌≤◌, length, replicate, get_or, Some, None, arith, sym}
+use Rattle.std.proofs.Common.{◌≡◌, ℕ, false, ◌*◌, ◌<◌, ◌≤◌, length, replicate, get_or, [], Some, None, arith, sym}
 use Rattle.std.proofs.Common.{◌∙◌, ap, subst, inl, inr}
 use Rattle.std.specs.List.{range_with_len}
 use Rattle.std.proofs.lemmas.Bool.{cases_lt}
 use Rattle.std.proofs.lemmas.List.{get_or-replicate, get_or_past, length-replicate}
 use Rattle.std.specs.Ordering.{nat_cmp}
 use Rattle.std.specs.FinMap.{empty, get, get-empty}
-use Rattle.cf_base.specs.Classes.{sizes}
 use Rattle.cf_base.specs.declared.settings.Settings.{Settings}
 use Rattle.cf_base.specs.declared.kind.Layout.TheVariants.{Words}
-use Rattle.cf_base.proofs.CallerLemmas.{are_sizes, page_size}
+use Rattle.cf_base.proofs.CallerLemmas.{are_sizes}
 use Rattle.cf_lemmas.proofs.Values.{map_values-empty}
 use Rattle.page_model.specs.Arrangement.{live, pages_needed}
 use Rattle.page_model.specs.Bytes.{bytes_at, held_at}
 use Rattle.page_model.specs.Held.{Placed, objects}
+use Rattle.page_model.specs.Order.{first_order}
 use Rattle.page_model.specs.Paging.{IsPaging, classes}
 use Rattle.page_model.proofs.CallerLemmas.{first_paged, sound_empty, no_objects, none_needed, none_live}
 use Rattle.size_classes.specs.Table.{ClassTable, table_of}
 use Rattle.class_lists.specs.PageLists.{empty_lists}
 use Rattle.proxy_table.specs.Proxies.{Proxies, AreBelowLimit, no_proxies}
 use Rattle.page_slots.specs.Tables.{tables}
-use Rattle.page_slots.specs.Occupying.{Occupies, Tell}
-use Rattle.page_slots.proofs.CallerLemmas.{first_occupied, first_table, new_tell}
+use Rattle.page_pool.specs.Pool.{Pool}
+use Rattle.page_slots.specs.Occupying.{Occupies, Serve}
+use Rattle.page_slots.specs.Orders.{open_lists}
+use Rattle.page_slots.proofs.CallerLemmas.{first_occupied, first_table, new_serve, open_empty}
 use Rattle.slice_model.specs.State.{Sliced, IsKept, Idle, occupied}
 use Rattle.slice_model.specs.Words.{HasWords}
 use Rattle.sliced_heap.specs.Heap.{Heap}
-use Rattle.sliced_heap.specs.Layout.{IsNew, IsValid, completed, paging_at, plan_of, profile_at, state_of, tables_in}
+use Rattle.sliced_heap.specs.Layout.{IsNew, IsValid, completed, order_in, paging_at, paging_for, plan_of, profile_at, state_of, tables_in}
 
 -- what an opened heap is made of
 pub record IsFirst (s : Settings) (n : ℕ) (h : Heap) : Type 0 where
@@ -66,10 +68,10 @@ module _ (s : Settings) (n : ℕ) (h : Heap) (f : IsFirst s n h) where
   few : classes (paging_at h) ≤ 67
   few = (are_sizes h.settings.page_words Words h.settings.page_size).few
 
-  tell : Tell (paging_at h) (tables_in h)
-  tell =
+  serve : Serve (paging_at h) (tables_in h)
+  serve =
       let small = h.settings.small_region in
-      new_tell (paging_at h) (length h.classes.sizes) h.maps h.lists h.pool (first_table h.settings.page_words Words h.settings.page_size) (omega arith) many
+      new_serve (paging_at h) (length h.classes.sizes) h.maps h.lists h.pool (first_table h.settings.page_words Words h.settings.page_size) (omega arith) many
       f.maps f.lists f.pool
 
   kept_first : IsKept (plan_of h) first
@@ -99,7 +101,7 @@ module _ (s : Settings) (n : ℕ) (h : Heap) (f : IsFirst s n h) where
     words_long = ap length f.words ∙ length-replicate {A = ℕ} (h.settings.pages * h.settings.page_words) 0;
     kept = subst (IsKept (plan_of h)) (sym state_is) kept_first;
     words = subst (λ z. HasWords (paging_at h) z h.words) (sym state_is) words_first;
-    tell = tell;
+    serve = serve;
     occupied =
         let o = first_occupied (length h.classes.sizes) h.settings.pages (paging_at h) h.maps h.pool in
         let l : Occupies (paging_at h) empty (tables_in h) = subst (λ l. Occupies (paging_at h) empty (tables h.maps l h.pool)) (sym f.lists) o in
@@ -116,10 +118,20 @@ module _ (s : Settings) (n : ℕ) (h : Heap) (f : IsFirst s n h) where
     within = (let e = f.needed in omega arith);
   }
 
+  -- pages and numbers come in rising order
+  order_first : order_in h ≡ first_order (paging_at h) h.settings.proxies
+  order_first =
+      let lists : open_lists (classes (paging_at h)) h.lists ≡ replicate (classes (paging_at h)) [] =
+      ap (open_lists (classes (paging_at h))) f.lists ∙ open_empty (classes (paging_at h)) (length h.classes.sizes) h.settings.pages in
+      let pool = ap (λ (q : Pool). q.free) f.pool in
+      let spare = ap (λ (x : Proxies). x.free) f.proxies in
+      λ i. record { pool = pool i; not_full = lists i; spare = spare i }
+
   pub first_new : IsNew s n h
   first_new = record {
     settings = f.settings;
     quantum = f.asked;
     working = ap (λ z. record { state = z; words = h.words }) state_is ∙ ap (λ w. record { state = first; words = w })
         (f.words ∙ ap (λ (x : Settings). replicate (x.pages * x.page_words) 0) f.settings);
+    order = order_first ∙ ap (λ (x : Settings). first_order (paging_for x) x.proxies) f.settings;
   }

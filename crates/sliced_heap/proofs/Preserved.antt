@@ -1,20 +1,20 @@
--- An open heap whose objects, words, tables and counts changed together keeps what it keeps, and has that state.
+-- An open heap whose objects, words, tables and counts changed together keeps its invariant, and has that state.
 use Rattle.std.proofs.Common.{◌≡◌, ℕ, ◌<◌, ◌≤◌, length, get_or, Some, arith, sym, ◌∙◌, ap, subst}
 use Rattle.std.specs.FinMap.{get}
 use Rattle.page_model.specs.Arrangement.{live, pages_needed}
 use Rattle.page_model.specs.Bytes.{AreBytes, AreStorable}
 use Rattle.page_model.specs.Held.{Placed, objects, places}
 use Rattle.page_model.specs.Paging.{classes}
-use Rattle.page_slots.specs.Occupying.{Occupies, Tell}
+use Rattle.page_slots.specs.Occupying.{Occupies, Serve}
 use Rattle.proxy_table.specs.Proxies.{AreBelowLimit}
 use Rattle.slice_model.specs.State.{Sliced, IsKept, occupied}
 use Rattle.slice_model.specs.Words.{HasWords}
 use Rattle.sliced_heap.specs.Heap.{Heap}
 use Rattle.sliced_heap.specs.Layout.{IsValid, paging_at, plan_of, state_of, tables_in}
 use Rattle.sliced_heap.proofs.Facts.{plan_ok}
-use Rattle.sliced_heap.proofs.HeldFromWords.{held_told}
+use Rattle.sliced_heap.proofs.HeldFromWords.{held_shown}
 
--- n has the state s, and is h in what no call changes
+-- n has the state s, and what no call changes is as in h
 pub record Becomes (h n : Heap) (s : Sliced) : Type 0 where
   pub settings : n.settings ≡ h.settings
   pub quantum : n.quantum ≡ h.quantum
@@ -27,14 +27,14 @@ pub record Becomes (h n : Heap) (s : Sliced) : Type 0 where
   pub addresses : n.proxies.places ≡ places s.held
   pub limit : n.proxies.limit ≡ h.proxies.limit
   pub handles : AreBelowLimit n.proxies
-  pub tell : Tell (paging_at h) (tables_in n)
+  pub serve : Serve (paging_at h) (tables_in n)
   pub occupied : Occupies (paging_at h) (occupied (plan_of h) s) (tables_in n)
   pub live_long : length n.live ≡ 128
   pub counted : (c : ℕ) → c < classes (paging_at h) → get_or n.live c 0 ≡ live (paging_at h) (objects s.held) c
   pub needed : n.needed ≡ pages_needed (paging_at h) (objects s.held)
   pub within : n.needed ≤ h.settings.pages
 
--- n, with what no call changes as h has it, and this job
+-- n with this job; what no call changes is as in h
 abbrev with_rest : Heap → Heap → Sliced → Heap
 with_rest h n s = record n { settings = h.settings; quantum = h.quantum; classes = h.classes; job = s.job }
 
@@ -51,7 +51,7 @@ module _ (h n : Heap) (k : IsValid h) (s : Sliced) (b : Becomes h n s) where
 
   state_is : state_of (with_rest h n s) ≡ s
   state_is = ap (λ m. record { held = m; job = s.job })
-      (held_told (plan_of h) (plan_ok h k) s.held s.job b.kept n.proxies.places b.addresses n.words (b.long ∙ k.words_long) b.words good)
+      (held_shown (plan_of h) (plan_ok h k) s.held s.job b.kept n.proxies.places b.addresses n.words (b.long ∙ k.words_long) b.words good)
 
   rest_valid : IsValid (with_rest h n s)
   rest_valid = record {
@@ -60,7 +60,7 @@ module _ (h n : Heap) (k : IsValid h) (s : Sliced) (b : Becomes h n s) where
     words_long = b.long ∙ k.words_long;
     kept = subst (IsKept (plan_of h)) (sym state_is) b.kept;
     words = subst (λ z. HasWords (paging_at h) z n.words) (sym state_is) b.words;
-    tell = b.tell;
+    serve = b.serve;
     occupied = subst (λ z. Occupies (paging_at h) (occupied (plan_of h) z) (tables_in n)) (sym state_is) b.occupied;
     numbers = b.limit ∙ k.numbers;
     handles = b.handles;

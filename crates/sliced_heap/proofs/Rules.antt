@@ -11,6 +11,7 @@ use Rattle.sliced_heap.specs.Layout.{IsValid, state_of}
 use Rattle.sliced_heap.specs.Shown.{IsValidIn, KeepsRules, SlicedState, shown}
 use Rattle.sliced_heap.specs.declared.open_heap.OpenHeap.{OpenHeap}
 use Rattle.sliced_heap.proofs.Facts.{held_bytes, plan_ok}
+use Rattle.sliced_heap.proofs.OrderFacts.{order_ok}
 
 all_bytes : (m : Held) → ((q : ℕ) (x : Placed) → get m q ≡ Some x → AreBytes x.bytes) → (q : ℕ) (v : List ℕ) → get (objects m) q ≡ Some v → AreBytes v
 all_bytes m each q v there = go (get m q) (each q) (sym (get-map_values (λ (x : Placed). x.bytes) m q) ∙ there)
@@ -24,6 +25,7 @@ keeps h k = record {
   plan = plan_ok (seen h) k;
   consistent = record { kept = k.kept; words = k.words; bytes = all_bytes (state_of (seen h)).held (held_bytes (seen h) k) };
   region = k.words_long;
+  order = order_ok (seen h) k;
 }
 
 -- the same in the terms of the value

@@ -3,18 +3,20 @@ use Rattle.std.proofs.Common.{◌≡◌, ℕ, ◌+◌, ◌-◌, ◌<◌, ◌≤�
 use Rattle.std.specs.Prelude.{min}
 use Rattle.page_model.specs.Arrangement.{IsSound}
 use Rattle.page_model.specs.Held.{Held}
+use Rattle.page_model.specs.Order.{Order}
 use Rattle.page_model.specs.Paging.{slot_words}
-use Rattle.page_slots.specs.Occupying.{Occupies, Tell}
+use Rattle.page_slots.specs.Occupying.{Occupies, Serve}
 use Rattle.proxy_table.specs.Proxies.{AreBelowLimit}
 use Rattle.size_classes.specs.Table.{ClassTable}
 use Rattle.slice_model.specs.declared.job_slot.JobSlot.{JobSlot}
-use Rattle.slice_model.specs.State.{Plan, Job, Sliced, IsKept, IsJobOf, IsUnderWay, advanced, job_slot, occupied, with_slot, Clear}
+use Rattle.slice_model.specs.State.{Plan, Job, Sliced, IsKept, IsJobOf, IsUnderWay, advanced, job_slot, occupied, with_slot, Idle, Clear, Move}
 use Rattle.slice_model.specs.Steps.{Ends, IsSlice, SliceOf, done_after}
+use Rattle.slice_model.specs.Ordered.{EndFollows, SliceFollows, SlicesInOrder}
 use Rattle.slice_model.specs.Words.{DoesWords, HasWords}
 use Rattle.slice_model.specs.Runs.{Slices, Working, words_of_slice}
 use Rattle.slice_model.proofs.CallerLemmas.{job_class, kept_slice, slot_stays, words_sliced}
 use Rattle.sliced_heap.specs.Heap.{Heap}
-use Rattle.sliced_heap.specs.Layout.{IsValid, paging_at, plan_of, state_of, tables_in, working_of}
+use Rattle.sliced_heap.specs.Layout.{IsValid, order_in, paging_at, plan_of, state_of, tables_in, working_of}
 use Rattle.sliced_heap.proofs.Facts.{held_bytes, places_are, plan_ok}
 use Rattle.sliced_heap.proofs.HeldFromWords.{AreEnded}
 use Rattle.sliced_heap.proofs.Preserved.{Becomes, becomes_plan, becomes_state, becomes_valid}
@@ -63,7 +65,7 @@ module _ (h n : Heap) (k : IsValid h) (same : KeepsTables h n) (j : Job) (is : n
     addresses = ap (λ z. z.places) same.proxies ∙ places_are h k;
     limit = ap (λ z. z.limit) same.proxies;
     handles = subst AreBelowLimit (sym same.proxies) k.handles;
-    tell = subst (Tell (paging_at h)) (sym same.tables) k.tell;
+    serve = subst (Serve (paging_at h)) (sym same.tables) k.serve;
     occupied = subst (λ o. Occupies (paging_at h) o (tables_in n)) (sym slot) (subst (Occupies (paging_at h) (occupied (plan_of h) (state_of h)))
         (sym same.tables) k.occupied);
     live_long = ap length same.live ∙ k.live_long;
@@ -176,6 +178,13 @@ module _ (h n : Heap) (k : IsValid h) (same : KeepsTables h n) (j : Job) (at : h
     pub vacant_plan : plan_of n ≡ plan_of h
     vacant_plan = job_plan h n k same (Clear (record g { done = 0 })) is kept_vacant words_vacant same_slot_vacant
 
+-- the end of a job, whatever is done of its slot
+same_end : (plan : Plan) (m : Held) (g : JobSlot) (was now : Order) (j : Job) → EndFollows plan m (record g { done = 0 }) j was now
+    → EndFollows plan m g j was now
+same_end plan m g was now Idle is = is
+same_end plan m g was now (Clear f) is = is
+same_end plan m g was now (Move q f) is = record { object = is.object; found = is.found; next = is.next; same = is.same }
+
 -- A slice of n words of the job j, whose slot is g, which leaves the words w.
 module _ (h : Heap) (k : IsValid h) (j : Job) (at : h.job ≡ j) (g : JobSlot) (slot : job_slot j ≡ Some g) (w : List ℕ) (long : length w ≡ length h.words)
     (n : ℕ)
@@ -208,6 +217,9 @@ module _ (h : Heap) (k : IsValid h) (j : Job) (at : h.job ≡ j) (g : JobSlot) (
     long = long;
   }
 
+  held_slot : job_slot h.job ≡ Some g
+  held_slot = ap job_slot at ∙ slot
+
   -- some words are left
   module _ (left : g.done + n < get_or h.classes.sizes g.class 0) where
     left_so : done_after (plan_of h) g < slot_words (paging_at h) g.class
@@ -220,6 +232,14 @@ module _ (h : Heap) (k : IsValid h) (j : Job) (at : h.job ≡ j) (g : JobSlot) (
     pub goes_on : Slices (plan_of h) (working_of h) (working_of (record h { words = w; job = advanced j (g.done + n) }))
     goes_on = on_slices h (record h { words = w; job = advanced j (g.done + n) }) k (same_tables (advanced j (g.done + n))) j at g slot does_so left_so
         (ap (advanced j) done_is)
+
+    pub goes_in_order : SlicesInOrder (plan_of h) (working_of h) (working_of (record h { words = w; job = advanced j (g.done + n) })) (order_in h)
+        (order_in (record h { words = w; job = advanced j (g.done + n) }))
+    goes_in_order = record {
+      slices = goes_on;
+      follows = subst (λ o. SliceFollows (plan_of h) (state_of h).held o (advanced j (g.done + n)) (order_in h) (order_in h)) (sym held_slot)
+          (record { goes_on = λ _. refl; ends = λ all. absurd (let l = left_so in omega arith) });
+    }
 
   -- all words are done
   module _ (past : get_or h.classes.sizes g.class 0 ≤ g.done + n) where
@@ -243,3 +263,21 @@ module _ (h : Heap) (k : IsValid h) (j : Job) (at : h.job ≡ j) (g : JobSlot) (
         (ap (λ (y : Sliced). y.held) (vacant_state h (record h { words = w; job = Clear (record g { done = 0 }) }) k
         (same_tables (Clear (record g { done = 0 }))) j at g slot
         (ended all) refl)) ends) same
+
+    pub ends_in_order : (z : Heap)
+        → Ends (paging_at h) (state_of (record h { words = w; job = Clear (record g { done = 0 }) })).held (record g { done = 0 }) (state_of z)
+        → EndFollows (plan_of h) (state_of (record h { words = w; job = Clear (record g { done = 0 }) })).held (record g { done = 0 }) z.job (order_in h) (order_in z)
+        → z.words ≡ w → SlicesInOrder (plan_of h) (working_of h) (working_of z) (order_in h) (order_in z)
+    ends_in_order z ends follows same =
+        let held : (state_of (record h { words = w; job = Clear (record g { done = 0 }) })).held ≡ (state_of h).held =
+        ap (λ (y : Sliced). y.held) (vacant_state h (record h { words = w; job = Clear (record g { done = 0 }) }) k
+        (same_tables (Clear (record g { done = 0 }))) j at g slot (ended all) refl) in
+        let last : EndFollows (plan_of h) (state_of h).held (record g { done = 0 }) z.job (order_in h) (order_in z) =
+        subst (λ m. EndFollows (plan_of h) m (record g { done = 0 }) z.job (order_in h) (order_in z)) held follows in
+        record {
+          slices = goes_to_end z ends same;
+          follows = subst (λ o. SliceFollows (plan_of h) (state_of h).held o z.job (order_in h) (order_in z)) (sym held_slot) (record {
+            goes_on = λ left. absurd (let a = all in let d = done_is in omega arith);
+            ends = λ _. same_end (plan_of h) (state_of h).held g (order_in h) (order_in z) z.job last;
+          });
+        }

@@ -1,4 +1,4 @@
--- A slice of a job that clears its slot, and of one that carries an object, by the words that it leaves.
+-- A slice of a job that clears its slot, and of one that moves an object, by the words that it leaves.
 use Rattle.std.proofs.Common.{◌≡◌, ℕ, ◌+◌, ◌-◌, ◌≤◌, List, length, get_or, Some, None, arith, refl, sym, ◌∙◌, ap, subst}
 use Rattle.std.specs.Prelude.{min}
 use Rattle.std.specs.FinMap.{get}

@@ -20,11 +20,11 @@ malloc_steps (Err refusal.Proxy) = 1
 malloc_steps (Err refusal.Space) = 1
 malloc_steps (Err refusal.Busy) = 3
 
--- the words that a slice of q words does if n are left, and `last` more if it does them all
+-- the steps of a slice of at most q words if n are left, and `last` steps more if it does them all
 abbrev pub words_steps : ℕ → ℕ → ℕ → ℕ
 words_steps q n last = if nat_le n q then n + last else q
 
--- a slice: its words, and after the last ones the tables of the slot's page; if an object is carried also its address
+-- a slice: its words, and after the last ones the tables of the slot's page; if an object moves, also its address
 abbrev pub job_steps : Plan → Job → ℕ
 job_steps plan Idle = 0
 job_steps plan (Clear k) = words_steps plan.quantum (slot_words plan.paging k.class - k.done) 14

@@ -8,19 +8,21 @@ use Rattle.cf_base.specs.declared.kind.Layout.TheVariants.{Words}
 use Rattle.page_model.specs.Arrangement.{live, pages_needed}
 use Rattle.page_model.specs.Bytes.{held_at}
 use Rattle.page_model.specs.Held.{objects}
+use Rattle.page_model.specs.Order.{Order, first_order}
 use Rattle.page_model.specs.Paging.{Paging, classes, first_bounds, paging_of, slot_words}
 use Rattle.region.specs.Words.{cleared, moved}
 use Rattle.size_classes.specs.Table.{table_of}
 use Rattle.proxy_table.specs.Proxies.{AreBelowLimit}
 use Rattle.page_slots.specs.Tables.{Tables, tables}
-use Rattle.page_slots.specs.Occupying.{Occupies, Tell}
+use Rattle.page_slots.specs.Occupying.{Occupies, Serve}
+use Rattle.page_slots.specs.Orders.{order_of}
 use Rattle.slice_model.specs.declared.job_slot.JobSlot.{JobSlot}
 use Rattle.slice_model.specs.State.{Plan, Job, Sliced, IsKept, occupied, Idle, Clear, Move}
 use Rattle.slice_model.specs.Words.{HasWords}
 use Rattle.slice_model.specs.Runs.{Working}
 use Rattle.sliced_heap.specs.Heap.{Heap}
 
--- the numbers of the settings, with the bound 1, whatever bound they name
+-- the numbers of the settings, with the bound 1, whatever bound they have
 abbrev pub profile_at : Settings → Profile
 profile_at s = record { pages = s.pages; page_words = s.page_words; k = 1; proxies = s.proxies }
 
@@ -33,12 +35,12 @@ paging_at h = paging_for h.settings
 abbrev pub plan_of : Heap → Plan
 plan_of h = record { paging = paging_for h.settings; proxies = h.settings.proxies; quantum = h.quantum }
 
--- the words once those left of this slot lie from `a + done` on
+-- the words when the rest of this slot has moved: it lies from `a + done` on
 abbrev pub carried_to : Paging → JobSlot → Option ℕ → List ℕ → List ℕ
 carried_to p k None words = words
 carried_to p k (Some a) words = moved words (k.address + k.done) (a + k.done) (slot_words p k.class - k.done)
 
--- the words when all that is left of the job is done
+-- the words when the rest of the job is done
 abbrev pub completed : Paging → Job → FinMap nat_cmp ℕ → List ℕ → List ℕ
 completed p Idle places words = words
 completed p (Clear k) places words = cleared words (k.address + k.done) (slot_words p k.class - k.done)
@@ -56,6 +58,10 @@ working_of h = record { state = state_of h; words = h.words }
 abbrev pub tables_in : Heap → Tables
 tables_in h = tables h.maps h.lists h.pool
 
+-- the order in which pages, slots and numbers are used next
+abbrev pub order_in : Heap → Order
+order_in h = order_of (classes (paging_at h)) (tables_in h) h.proxies.free
+
 -- how many more pages one object more than n needs, with m slots to a page
 abbrev pub opens : ℕ → ℕ → ℕ
 opens m n = if nat_eq (n % m) 0 then 1 else 0
@@ -68,7 +74,7 @@ pub record IsValid (h : Heap) : Type 0 where
   pub words_long : length h.words ≡ h.settings.pages * h.settings.page_words
   pub kept : IsKept (plan_of h) (state_of h)
   pub words : HasWords (paging_at h) (state_of h) h.words
-  pub tell : Tell (paging_at h) (tables_in h)
+  pub serve : Serve (paging_at h) (tables_in h)
   pub occupied : Occupies (paging_at h) (occupied (plan_of h) (state_of h)) (tables_in h)
   pub numbers : h.proxies.limit ≡ h.settings.proxies
   pub handles : AreBelowLimit h.proxies
@@ -82,3 +88,4 @@ pub record IsNew (s : Settings) (n : ℕ) (h : Heap) : Type 0 where
   pub settings : h.settings ≡ s
   pub quantum : h.quantum ≡ n
   pub working : working_of h ≡ record { state = record { held = empty; job = Idle }; words = replicate (s.pages * s.page_words) 0 }
+  pub order : order_in h ≡ first_order (paging_for s) s.proxies

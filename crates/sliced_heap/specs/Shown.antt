@@ -5,15 +5,17 @@ use Rattle.std.specs.Coded.{Coded, code_by, coded×, coded_ℕ, coded_list, code
 use Rattle.cf_base.specs.Settings.{Profile}
 use Rattle.cf_base.specs.declared.settings.Settings.{Settings}
 use Rattle.cf_base.specs.declared.kind.Layout.TheVariants.{Words}
-use Rattle.cf_model.specs.State.{no_profile, profile_code}
+use Rattle.cf_model.specs.State.{no_profile, order_code, profile_code}
 use Rattle.page_model.specs.Held.{Held, placed_code}
+use Rattle.page_model.specs.Order.{Order, first_order}
 use Rattle.page_model.specs.Paging.{first_bounds, paging_of}
 use Rattle.slice_model.specs.State.{Plan, Job, IsPlan, Idle, Clear, Move}
+use Rattle.slice_model.specs.Ordered.{IsOrderBeside}
 use Rattle.slice_model.specs.Runs.{IsConsistent, Working}
 use Rattle.slice_model.specs.declared.job_slot.JobSlot.{JobSlot}
 use Rattle.sliced_heap.specs.declared.open_heap.OpenHeap.{OpenHeap}
 use Rattle.sliced_heap.specs.Heap.{seen}
-use Rattle.sliced_heap.specs.Layout.{IsValid, profile_at, state_of}
+use Rattle.sliced_heap.specs.Layout.{IsValid, order_in, paging_for, profile_at, state_of}
 
 pub record SlicedState : Type 0 where
   pub is_open : Bool
@@ -26,9 +28,11 @@ pub record SlicedState : Type 0 where
   pub job : Job
   -- the words of the region
   pub words : List ℕ
+  -- which pages, slots and numbers are used next
+  pub order : Order
 
 abbrev pub closed_state : SlicedState
-closed_state = record { is_open = false; profile = no_profile; quantum = 0; held = map.empty; job = Idle; words = [] }
+closed_state = record { is_open = false; profile = no_profile; quantum = 0; held = map.empty; job = Idle; words = []; order = record { pool = []; not_full = []; spare = [] } }
 
 -- the pages and the quantum, and the state with the words, as the model has them
 abbrev pub plan_in : SlicedState → Plan
@@ -46,6 +50,7 @@ opened_state s quantum = record {
   held = map.empty;
   job = Idle;
   words = replicate (s.pages * s.page_words) 0;
+  order = first_order (paging_for s) s.proxies;
 }
 
 -- what an open heap keeps
@@ -53,6 +58,7 @@ pub record KeepsRules (s : SlicedState) : Type 0 where
   pub plan : IsPlan (plan_in s)
   pub consistent : IsConsistent (plan_in s) (working_in s)
   pub region : length s.words ≡ s.profile.pages * s.profile.page_words
+  pub order : IsOrderBeside (plan_in s) (working_in s).state s.order
 
 -- the heap stays open, with its pages and its quantum
 pub record StaysOpen (old new : SlicedState) : Type 0 where
@@ -71,6 +77,7 @@ shown (Some h) = record {
   held = (state_of (seen h)).held;
   job = (seen h).job;
   words = h.region;
+  order = order_in (seen h);
 }
 
 -- what it keeps while it is open
@@ -78,7 +85,7 @@ abbrev pub IsValidIn : Option OpenHeap → Type 0
 IsValidIn None = Unit {0}
 IsValidIn (Some h) = IsValid (seen h)
 
--- a job as the number of the object that is carried, if one is, and its slot
+-- a job as its slot, and the number of the object that moves, if one does
 abbrev pub JobParts : Type 0
 JobParts = Option (Option ℕ × (ℕ × (ℕ × ℕ)))
 
@@ -104,11 +111,19 @@ abbrev pub job_code : Coded Job
 job_code = code_by JobParts (coded_option (coded× (coded_option coded_ℕ) (coded× coded_ℕ (coded× coded_ℕ coded_ℕ)))) parts_of_job job_of_parts job_again
 
 abbrev pub StateParts : Type 0
-StateParts = Bool × (Profile × (ℕ × (Held × (Job × List ℕ))))
+StateParts = Bool × (Profile × (ℕ × (Held × (Job × (List ℕ × Order)))))
 
 abbrev pub sliced_code : Coded SlicedState
 sliced_code = code_by StateParts (coded× coded_bool (coded× profile_code (coded× coded_ℕ
-    (coded× (map.code coded_ℕ placed_code) (coded× job_code (coded_list coded_ℕ))))))
-    (λ s. (s.is_open, (s.profile, (s.quantum, (s.held, (s.job, s.words))))))
-    (λ q. record { is_open = q.0; profile = q.1.0; quantum = q.1.1.0; held = q.1.1.1.0; job = q.1.1.1.1.0; words = q.1.1.1.1.1 })
+    (coded× (map.code coded_ℕ placed_code) (coded× job_code (coded× (coded_list coded_ℕ) order_code))))))
+    (λ s. (s.is_open, (s.profile, (s.quantum, (s.held, (s.job, (s.words, s.order)))))))
+    (λ q. record {
+      is_open = q.0;
+      profile = q.1.0;
+      quantum = q.1.1.0;
+      held = q.1.1.1.0;
+      job = q.1.1.1.1.0;
+      words = q.1.1.1.1.1.0;
+      order = q.1.1.1.1.1.1;
+    })
     (λ _. refl)

@@ -1,8 +1,9 @@
 -- The parts of a free and of a slice. No public clause cites this module but `fault_in`.
-use Rattle.std.specs.Prelude.{◌≡◌, ℕ, ◌+◌, ◌-◌, ◌%◌, ◌^◌, ◌≤◌, Bool, true, false, Option, Some, None, Result, Ok, Err, slice_index}
+use Rattle.std.specs.Prelude.{◌≡◌, ℕ, ◌∷◌, ◌+◌, ◌-◌, ◌%◌, ◌^◌, ◌≤◌, Bool, true, false, Option, Some, None, Result, Ok, Err, slice_index}
 use Rattle.std.specs.FinMap.{get, remove}
 use Rattle.page_model.specs.Arrangement.{class_at}
 use Rattle.page_model.specs.Held.{Placed}
+use Rattle.page_model.specs.Order.{IsNextToMove}
 use Rattle.page_model.specs.Paging.{slot_words}
 use Rattle.page_model.specs.Steps.{MustMove}
 use Rattle.page_slots.specs.Release.{IsFiller, steps_to_drop}
@@ -13,7 +14,7 @@ use Rattle.slice_model.specs.State.{Job, occupied, placeholder, Idle, Clear, Mov
 use Rattle.slice_model.specs.Steps.{Carries, IsBeside, fresh_slot}
 use Rattle.slice_model.specs.declared.answers.SliceFault.{SliceFault}
 use Rattle.sliced_heap.specs.Heap.{Heap}
-use Rattle.sliced_heap.specs.Layout.{paging_at, plan_of, state_of, tables_in}
+use Rattle.sliced_heap.specs.Layout.{order_in, paging_at, plan_of, state_of, tables_in}
 use Rattle.sliced_heap.specs.Costs.{words_steps}
 
 -- why a free was refused, if it was
@@ -31,18 +32,21 @@ pub record Forgets (old : Heap) (q : ℕ) (k : JobSlot) (new : Heap) : Type 0 wh
   pub words : new.words ≡ old.words
   pub plan : plan_of new ≡ plan_of old
   pub quantum : new.quantum ≡ old.quantum
+  pub order : order_in new ≡ record (order_in old) { spare = q ∷ (order_in old).spare }
 
--- an object of another partly full page gets the slot's address, and is to be carried there
+-- the next object to move, of another partly full page, gets the slot's address, and is to be carried there
 pub record IsFilled (old : Heap) (k : JobSlot) (new : Heap) : Type 0 where
   pub must : MustMove (paging_at old) (occupied (plan_of old) (state_of old)) (placeholder (paging_at old) k)
   pub object : ℕ
   pub beside : IsBeside (paging_at old) (state_of old).held k.address k.class object
+  pub next : IsNextToMove (paging_at old) (occupied (plan_of old) (state_of old)) (order_in old) k.class beside.object
   pub carries : Carries (state_of old).held object k.address k.class (state_of new)
   pub words : new.words ≡ old.words
   pub plan : plan_of new ≡ plan_of old
   pub quantum : new.quantum ≡ old.quantum
+  pub order : order_in new ≡ order_in old
 
--- the slot needs no object
+-- the slot need not be filled
 pub record StaysVacant (old : Heap) (k : JobSlot) (new : Heap) : Type 0 where
   pub stays : ¬ MustMove (paging_at old) (occupied (plan_of old) (state_of old)) (placeholder (paging_at old) k)
   pub same : new ≡ old
@@ -51,11 +55,12 @@ abbrev pub Fills : Heap → JobSlot → Bool → Heap → Type 0
 Fills old k true new = IsFilled old k new
 Fills old k false new = StaysVacant old k new
 
--- the object whose header is at the address that fills a slot of class c gets the slot's address, and is to be carried there
+-- the object that fills a slot of class c, found by its header, gets the slot's address, and is to be moved there
 pub record StartsCarry (old : Heap) (k : JobSlot) (new : Heap) : Type 0 where
   pub from : ℕ
   pub filler : IsFiller old.classes old.maps old.lists k.class from
   pub handles : AreBelowLimit new.proxies
+  pub free : new.proxies.free ≡ old.proxies.free
   pub whole : new ≡ record old {
     proxies = with_place old.proxies (slice_index old.words from % 2 ^ 32) k.address;
     job = Move (slice_index old.words from % 2 ^ 32) (fresh_slot from k.class);

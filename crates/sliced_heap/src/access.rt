@@ -6,7 +6,7 @@ ghost use Rattle.slice_words.specs.Halves.{halves_of};
 ghost use Rattle.sliced_heap.specs.Access.{IsFound, access_fault, bytes_or_fault, find_steps};
 ghost use Rattle.sliced_heap.specs.Costs.{access_steps};
 ghost use Rattle.sliced_heap.specs.Heap.{job_of, seen};
-ghost use Rattle.sliced_heap.specs.Layout.{IsValid, plan_of, working_of};
+ghost use Rattle.sliced_heap.specs.Layout.{IsValid, order_in, plan_of, working_of};
 
 use crate::open_heap::{OpenHeap, Pending};
 use cf_base::{AccessFault, Handle};
@@ -58,6 +58,7 @@ impl OpenHeap {
         requires { IsValid (seen self.old) }
         ensures step { Happens (plan_of (seen self.old)) (working_of (seen self.old)) (Write (record { number = h.0; from = at }) bytes.now
             (access_fault result)) (working_of (seen self.new)) }
+        ensures order { order_in (seen self.new) ≡ order_in (seen self.old) }
         ensures kept { IsValid (seen self.new) }
         ensures plan { plan_of (seen self.new) ≡ plan_of (seen self.old) }
         ensures steps { RoseAtMost steps.old steps.new (access_steps result at (length bytes.now)) }

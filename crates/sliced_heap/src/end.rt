@@ -1,13 +1,14 @@
-//! A job ends.
+//! The end of a job.
 ghost use Rattle.std.specs.Prelude.{◌≡◌, ℕ, ◌+◌, ◌<◌, ◌≤◌, slice_index};
 ghost use Rattle.step_ledger.specs.Counting.{RoseAtMost, RoseBy};
 ghost use Rattle.page_model.specs.Paging.{slot_words};
 ghost use Rattle.page_slots.specs.Release.{Vacates, steps_to_drop};
 ghost use Rattle.page_slots.specs.Tables.{AreTables, IsUsed, page_at, slot_at, tables};
 ghost use Rattle.slice_model.specs.State.{Clear};
+ghost use Rattle.slice_model.specs.Ordered.{EndFollows};
 ghost use Rattle.slice_model.specs.Steps.{Ends};
 ghost use Rattle.sliced_heap.specs.Heap.{job_of, seen};
-ghost use Rattle.sliced_heap.specs.Layout.{IsValid, paging_at, plan_of, state_of};
+ghost use Rattle.sliced_heap.specs.Layout.{IsValid, order_in, paging_at, plan_of, state_of};
 ghost use Rattle.sliced_heap.specs.Steps.{end_most};
 
 use crate::open_heap::{OpenHeap, Pending};
@@ -16,13 +17,16 @@ use slice_model::JobSlot;
 use step_ledger::Steps;
 
 impl OpenHeap {
-    /// The slot of the job is zeros. It is filled if it must be; else it is free, and no job is pending.
+    /// Ends the job whose slot is now zeros. If the slot must be filled, the next job moves an object
+    /// into it; else the slot becomes free, and no job is pending.
     pub(crate) fn end(&mut self, k: JobSlot, steps: &mut Steps)
         requires kept { IsValid (seen self.old) }
         requires job { job_of self.old.job ≡ Clear k }
         requires fresh { k.done ≡ 0 }
         requires zeros { (i : ℕ) → i < slot_words (paging_at (seen self.old)) k.class → slice_index self.old.region (k.address + i) ≡ 0 }
         ensures ended { Ends (paging_at (seen self.old)) (state_of (seen self.old)).held k (state_of (seen self.new)) }
+        ensures ordered { EndFollows (plan_of (seen self.old)) (state_of (seen self.old)).held k (job_of self.new.job)
+            (order_in (seen self.old)) (order_in (seen self.new)) }
         ensures kept { IsValid (seen self.new) }
         ensures words { self.new.region ≡ self.old.region }
         ensures plan { plan_of (seen self.new) ≡ plan_of (seen self.old) }
@@ -35,7 +39,7 @@ impl OpenHeap {
         self.job = Pending::Idle;
     }
 
-    /// The used slot of class c at an address becomes free.
+    /// Frees the used slot of class c at an address.
     fn release_slot(&mut self, c: u32, place: u32, steps: &mut Steps)
         requires tables { AreTables self.old.classes (tables self.old.maps.items self.old.lists self.old.pool) }
         requires used { IsUsed (tables self.old.maps.items self.old.lists self.old.pool) c (page_at self.old.classes place) (slot_at self.old.classes c place) }

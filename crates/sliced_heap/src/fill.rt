@@ -1,4 +1,4 @@
-//! A vacant slot is filled if it must be.
+//! Fills a vacant slot if it must be filled.
 ghost use Rattle.std.specs.Prelude.{◌≡◌, ℕ, ◌+◌, ◌%◌, ◌^◌, ◌<◌, ◌≤◌, IsSome, IsTrue, Some, if◌then◌else◌, length, slice_index};
 ghost use Rattle.std.specs.FinMap as map;
 ghost use Rattle.step_ledger.specs.Counting.{RoseBy};
@@ -21,8 +21,8 @@ use step_ledger::Steps;
 use word_bytes::Header;
 
 impl OpenHeap {
-    /// If the slot's page was full and another page of its class is partly full, an object of that
-    /// page gets the slot's address, and is to be carried there. Returns whether one did.
+    /// If the slot's page was full and another page of its class is partly full, gives an object of
+    /// that page the slot's address, and makes its move the job. Returns whether it did so.
     pub(crate) fn fill(&mut self, k: JobSlot, steps: &mut Steps) -> bool
         requires kept { IsValid (seen self.old) }
         requires job { job_of self.old.job ≡ Clear k }
@@ -47,7 +47,7 @@ impl OpenHeap {
         false
     }
 
-    /// The object that fills the slot gets its address, and is to be carried there.
+    /// Gives the object that fills the slot its address, and makes its move the job.
     fn carry_to(&mut self, k: JobSlot, steps: &mut Steps)
         requires tables { (pool : Pool) × AreTables self.old.classes (tables self.old.maps.items self.old.lists pool) }
         requires class { k.class < length self.old.classes.sizes }

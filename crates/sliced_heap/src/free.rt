@@ -3,11 +3,12 @@ ghost use Rattle.std.specs.Prelude.{◌≡◌, ◌+◌, ◌*◌, ◌-◌, ◌<�
 ghost use Rattle.std.specs.FinMap as map;
 ghost use Rattle.cf_base.specs.Classes.{slots};
 ghost use Rattle.step_ledger.specs.Counting.{RoseAtMost, RoseBy};
+ghost use Rattle.slice_model.specs.Ordered.{FreesInOrder, HappensInOrder};
 ghost use Rattle.slice_model.specs.Runs.{Frees, Free, Happens};
 ghost use Rattle.slice_model.specs.State.{Idle};
 ghost use Rattle.sliced_heap.specs.Costs.{free_steps, words_of, words_steps};
 ghost use Rattle.sliced_heap.specs.Heap.{job_of, seen};
-ghost use Rattle.sliced_heap.specs.Layout.{IsValid, opens, plan_of, state_of, working_of};
+ghost use Rattle.sliced_heap.specs.Layout.{IsValid, opens, order_in, plan_of, state_of, working_of};
 ghost use Rattle.sliced_heap.specs.Steps.{Forgets, fault_in};
 
 use crate::open_heap::{OpenHeap, Pending};
@@ -21,6 +22,8 @@ impl OpenHeap {
     pub fn free(&mut self, h: Handle, steps: &mut Steps) -> Result<(), SliceFault>
         requires { IsValid (seen self.old) }
         ensures step { Happens (plan_of (seen self.old)) (working_of (seen self.old)) (Free h.0 (fault_in result)) (working_of (seen self.new)) }
+        ensures ordered { HappensInOrder (plan_of (seen self.old)) (working_of (seen self.old)) (Free h.0 (fault_in result)) (working_of (seen self.new))
+            (order_in (seen self.old)) (order_in (seen self.new)) }
         ensures kept { IsValid (seen self.new) }
         ensures plan { plan_of (seen self.new) ≡ plan_of (seen self.old) }
         ensures steps { RoseAtMost steps.old steps.new (free_steps (plan_of (seen self.old)) (state_of (seen self.old)) h.0 (fault_in result)) }
@@ -42,6 +45,8 @@ impl OpenHeap {
         requires idle { job_of self.old.job ≡ Idle }
         requires known { map.get self.old.proxies.places h.0 ≡ Some place }
         ensures step { Frees (plan_of (seen self.old)) (working_of (seen self.old)) h.0 (working_of (seen self.new)) }
+        ensures ordered { FreesInOrder (plan_of (seen self.old)) (working_of (seen self.old)) h.0 (working_of (seen self.new))
+            (order_in (seen self.old)) (order_in (seen self.new)) }
         ensures kept { IsValid (seen self.new) }
         ensures plan { plan_of (seen self.new) ≡ plan_of (seen self.old) }
         ensures steps { RoseAtMost steps.old steps.new (11 + words_steps self.old.quantum (words_of (plan_of (seen self.old)) (state_of (seen self.old)) h.0) 11) }
@@ -51,7 +56,7 @@ impl OpenHeap {
         self.slice(steps);
     }
 
-    /// Removes a live object. Its slot is then to be cleared.
+    /// Removes a live object. The job is then to clear its slot.
     fn forget(&mut self, h: Handle, place: u32, steps: &mut Steps) -> JobSlot
         requires kept { IsValid (seen self.old) }
         requires idle { job_of self.old.job ≡ Idle }
@@ -75,7 +80,7 @@ impl OpenHeap {
         k
     }
 
-    /// Counts one object less in class c.
+    /// Counts one object fewer in class c.
     fn count_out(&mut self, c: u32)
         requires class { c < length self.old.classes.sizes }
         requires listed { c < length self.old.live }

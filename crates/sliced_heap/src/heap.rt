@@ -1,6 +1,7 @@
 //! The heap that a caller holds: closed, or open.
 ghost use Rattle.std.specs.Prelude.{◌≡◌, ◌+◌, ◌*◌, ◌≤◌, if◌then◌else◌, is_some, length, slice_get, IsErr, IsTrue, OnErr, OnOk};
 ghost use Rattle.cf_model.specs.Costs.{words_touched};
+ghost use Rattle.slice_model.specs.Ordered.{HappensInOrder};
 ghost use Rattle.slice_model.specs.Runs.{Happens, Free, Malloc, Read, Step, Write};
 ghost use Rattle.slice_model.specs.State.{left_of};
 ghost use Rattle.step_ledger.specs.Counting.{RoseAtMost, RoseBy};
@@ -16,8 +17,8 @@ use std::alloc::Global;
 use std::marker::Model;
 use step_ledger::Steps;
 
-/// A moving heap for several tasks. A free leaves its long work as a job: to clear a slot, or to carry
-/// an object to another one. The free and each step do a slice of it, of at most a quantum of words.
+/// A moving heap for several tasks. A free leaves its long work as a job: to clear a slot, or to move
+/// an object into it. The free and each step do a slice of the job, at most a quantum of words.
 /// Every class has at most one partly full page, and one more while a job is pending.
 #[derive(Drop)]
 pub struct SlicedHeap {
@@ -56,7 +57,7 @@ impl SlicedHeap {
     }
 
     /// Opens an empty heap with these settings, whatever it held before, and slices of `quantum` words.
-    /// The bound of partly full pages is 1, whatever the settings say. All memory is taken here. At
+    /// The bound of partly full pages is 1, whatever the settings have. All memory is taken here. At
     /// `OutOfMemory` the heap is closed, and may be opened again.
     pub fn open_heap(&mut self, s: &Settings, quantum: u32) -> Result<(), OutOfMemory>
         requires least { 1 ≤ quantum }
@@ -73,10 +74,13 @@ impl SlicedHeap {
     /// Adds an object of `bytes` bytes, all zero, under a handle that wasn't live. Fails with `Size` if
     /// it needs more than a page, else with `Proxy` if every proxy is in use, else with `Space` if the
     /// objects with it would need more pages than there are, else with `Busy` if only the slot of the
-    /// pending job is left. A refusal changes nothing.
+    /// pending job is left. A refusal changes nothing. The object gets the next number, and the least
+    /// free slot of the first partly full page, or slot 0 of the first free page; the slot of a pending
+    /// job counts as taken.
     pub fn malloc(&mut self, bytes: u32, steps: &mut Steps) -> Result<Handle, SliceRefusal>
         requires open { IsTrue self.old.is_open }
         ensures step { Happens (plan_in self.old) (working_in self.old) (Malloc bytes result) (working_in self.new) }
+        ensures ordered { HappensInOrder (plan_in self.old) (working_in self.old) (Malloc bytes result) (working_in self.new) self.old.order self.new.order }
         ensures same { StaysOpen self.old self.new }
         ensures rules { KeepsRules self.new }
         ensures steps { RoseAtMost steps.old steps.new (malloc_steps result) }
@@ -89,10 +93,13 @@ impl SlicedHeap {
     }
 
     /// Frees an object and does the first slice of the job that this leaves. Fails with `Unknown` if the
-    /// handle isn't live, else with `Busy` if a job is pending. A refusal changes nothing.
+    /// handle isn't live, else with `Busy` if a job is pending. A refusal changes nothing. If an object
+    /// has to move, it is the one at the least taken slot of the first partly full page; its slot, or
+    /// the freed one, stays taken until the job ends.
     pub fn free(&mut self, h: Handle, steps: &mut Steps) -> Result<(), SliceFault>
         requires open { IsTrue self.old.is_open }
         ensures step { Happens (plan_in self.old) (working_in self.old) (Free h.0 (fault_in result)) (working_in self.new) }
+        ensures ordered { HappensInOrder (plan_in self.old) (working_in self.old) (Free h.0 (fault_in result)) (working_in self.new) self.old.order self.new.order }
         ensures same { StaysOpen self.old self.new }
         ensures rules { KeepsRules self.new }
         ensures steps { RoseAtMost steps.old steps.new (free_steps (plan_in self.old) (working_in self.old).state h.0 (fault_in result)) }
@@ -104,10 +111,13 @@ impl SlicedHeap {
         }
     }
 
-    /// Does one slice of the job, if one is pending.
+    /// Does one slice of the job, if one is pending. If that ends the job and two pages of its class are
+    /// partly full without the job's slot, the next job carries the object at the least taken slot of the
+    /// first partly full page to it.
     pub fn step(&mut self, steps: &mut Steps)
         requires open { IsTrue self.old.is_open }
         ensures step { Happens (plan_in self.old) (working_in self.old) Step (working_in self.new) }
+        ensures ordered { HappensInOrder (plan_in self.old) (working_in self.old) Step (working_in self.new) self.old.order self.new.order }
         ensures same { StaysOpen self.old self.new }
         ensures rules { KeepsRules self.new }
         ensures steps { RoseAtMost steps.old steps.new (slice_steps (plan_in self.old) (working_in self.old).state) }
@@ -119,7 +129,7 @@ impl SlicedHeap {
         }
     }
 
-    /// The words left of the job, 0 if none is pending.
+    /// How many words the job has still to do, 0 if none is pending.
     pub fn left(&self) -> u32
         requires open { IsTrue self.now.is_open }
         ensures { result ≡ left_of (plan_in self.now) (working_in self.now).state }
@@ -164,6 +174,8 @@ impl SlicedHeap {
         requires open { IsTrue self.old.is_open }
         ensures step { Happens (plan_in self.old) (working_in self.old) (Write (record { number = h.0; from = at }) bytes.now
             (access_fault result)) (working_in self.new) }
+        ensures ordered { HappensInOrder (plan_in self.old) (working_in self.old) (Write (record { number = h.0; from = at }) bytes.now
+            (access_fault result)) (working_in self.new) self.old.order self.new.order }
         ensures same { StaysOpen self.old self.new }
         ensures rules { KeepsRules self.new }
         ensures steps { RoseAtMost steps.old steps.new (access_steps result at (length bytes.now)) }

@@ -1,5 +1,5 @@
 //! A malloc.
-ghost use Rattle.std.specs.Prelude.{◌≡◌, ◌≢◌, ◌+◌, ◌<◌, ◌≤◌, ◌↔◌, IsTrue, None, length, slice_index, slice_set};
+ghost use Rattle.std.specs.Prelude.{◌≡◌, ◌≢◌, ◌+◌, ◌<◌, ◌≤◌, ◌↔◌, ◌∷◌, IsTrue, None, length, slice_index, slice_set};
 ghost use Rattle.std.specs.FinMap as map;
 ghost use Rattle.cf_base.specs.Classes.{slots};
 ghost use Rattle.step_ledger.specs.Counting.{RoseAtMost, RoseBy};
@@ -7,10 +7,11 @@ ghost use Rattle.page_model.specs.Image.{header_word};
 ghost use Rattle.page_slots.specs.Tables.{AreTables, tables};
 ghost use Rattle.page_slots.specs.Take.{TakesSlot, steps_to_take};
 ghost use Rattle.proxy_table.specs.Proxies.{AreBelowLimit, with_place};
+ghost use Rattle.slice_model.specs.Ordered.{HappensInOrder};
 ghost use Rattle.slice_model.specs.Runs.{Happens, Malloc};
 ghost use Rattle.sliced_heap.specs.Costs.{malloc_steps};
 ghost use Rattle.sliced_heap.specs.Heap.{seen};
-ghost use Rattle.sliced_heap.specs.Layout.{IsValid, opens, plan_of, working_of};
+ghost use Rattle.sliced_heap.specs.Layout.{IsValid, opens, order_in, plan_of, working_of};
 
 use crate::open_heap::OpenHeap;
 use cf_base::Handle;
@@ -24,6 +25,8 @@ impl OpenHeap {
     pub fn malloc(&mut self, bytes: u32, steps: &mut Steps) -> Result<Handle, SliceRefusal>
         requires { IsValid (seen self.old) }
         ensures step { Happens (plan_of (seen self.old)) (working_of (seen self.old)) (Malloc bytes result) (working_of (seen self.new)) }
+        ensures ordered { HappensInOrder (plan_of (seen self.old)) (working_of (seen self.old)) (Malloc bytes result) (working_of (seen self.new))
+            (order_in (seen self.old)) (order_in (seen self.new)) }
         ensures kept { IsValid (seen self.new) }
         ensures plan { plan_of (seen self.new) ≡ plan_of (seen self.old) }
         ensures steps { RoseAtMost steps.old steps.new (malloc_steps result) }
@@ -45,7 +48,7 @@ impl OpenHeap {
         Ok(handle)
     }
 
-    /// How many more pages one more object of class c needs: one, or none.
+    /// How many pages more the objects need with one more of class c: 1 or 0.
     pub(crate) fn opens_page(&self, c: u32) -> u32
         requires class { c < length self.now.classes.sizes }
         requires listed { c < length self.now.live }
@@ -59,7 +62,7 @@ impl OpenHeap {
         }
     }
 
-    /// Whether the objects would need more pages than there are with one more of class c.
+    /// Whether the objects, with one more of class c, would need more pages than there are.
     fn is_over(&self, c: u32) -> bool
         requires class { c < length self.now.classes.sizes }
         requires listed { c < length self.now.live }
@@ -101,6 +104,7 @@ impl OpenHeap {
           proxies = with_place self.old.proxies result.0 place;
           region = slice_set self.old.region place (header_word result.0 bytes);
         } }
+        ensures first { self.old.proxies.free ≡ result.0 ∷ self.new.proxies.free }
         ensures handles { AreBelowLimit self.new.proxies }
         ensures steps { RoseBy steps.old steps.new 3 }
     {

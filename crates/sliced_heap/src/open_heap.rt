@@ -21,7 +21,7 @@ use std::alloc::Global;
 /// No heap has more size classes.
 pub const CLASSES: usize = 128;
 
-/// The pending job: none, or to clear its slot, or to carry an object from its slot to the object's
+/// The pending job: none, or to clear its slot, or to move an object from its slot to the object's
 /// address.
 #[derive(Clone, Copy, Debug, PartialEq, Eq)]
 pub enum Pending {
@@ -30,8 +30,8 @@ pub enum Pending {
     Carry(Handle, JobSlot),
 }
 
-/// An open heap. By class it has how many objects are live; `needed` are the pages that they need by
-/// arithmetic. A slice does at most `quantum` words.
+/// An open heap. `live` has the number of live objects of each class, `needed` the pages that they need
+/// by arithmetic. A slice does at most `quantum` words.
 #[derive(Drop)]
 pub struct OpenHeap {
     pub(crate) settings: Settings,

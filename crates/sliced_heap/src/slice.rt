@@ -1,11 +1,12 @@
 //! A slice of the pending job.
 ghost use Rattle.std.specs.Prelude.{◌≡◌, ◌+◌, ◌-◌, ◌<◌, ◌≤◌, length, min, slice_index};
 ghost use Rattle.step_ledger.specs.Counting.{RoseAtMost};
+ghost use Rattle.slice_model.specs.Ordered.{HappensInOrder, SlicesInOrder};
 ghost use Rattle.slice_model.specs.Runs.{Happens, Slices, Step};
 ghost use Rattle.slice_model.specs.State.{Clear, Move, left_of};
 ghost use Rattle.sliced_heap.specs.Costs.{slice_steps};
 ghost use Rattle.sliced_heap.specs.Heap.{job_of, seen};
-ghost use Rattle.sliced_heap.specs.Layout.{IsValid, plan_of, state_of, working_of};
+ghost use Rattle.sliced_heap.specs.Layout.{IsValid, order_in, plan_of, state_of, working_of};
 ghost use Rattle.sliced_heap.specs.Steps.{job_most, part_most};
 
 use crate::open_heap::{OpenHeap, Pending};
@@ -19,6 +20,8 @@ impl OpenHeap {
     pub fn step(&mut self, steps: &mut Steps)
         requires { IsValid (seen self.old) }
         ensures step { Happens (plan_of (seen self.old)) (working_of (seen self.old)) Step (working_of (seen self.new)) }
+        ensures ordered { HappensInOrder (plan_of (seen self.old)) (working_of (seen self.old)) Step (working_of (seen self.new))
+            (order_in (seen self.old)) (order_in (seen self.new)) }
         ensures kept { IsValid (seen self.new) }
         ensures plan { plan_of (seen self.new) ≡ plan_of (seen self.old) }
         ensures steps { RoseAtMost steps.old steps.new (slice_steps (plan_of (seen self.old)) (state_of (seen self.old))) }
@@ -26,7 +29,7 @@ impl OpenHeap {
         self.slice(steps);
     }
 
-    /// The words left of the job, 0 if none is pending.
+    /// How many words the job has still to do, 0 if none is pending.
     pub fn left(&self) -> u32
         requires { IsValid (seen self.now) }
         ensures { result ≡ left_of (plan_of (seen self.now)) (state_of (seen self.now)) }
@@ -42,6 +45,8 @@ impl OpenHeap {
     pub(crate) fn slice(&mut self, steps: &mut Steps)
         requires { IsValid (seen self.old) }
         ensures step { Slices (plan_of (seen self.old)) (working_of (seen self.old)) (working_of (seen self.new)) }
+        ensures ordered { SlicesInOrder (plan_of (seen self.old)) (working_of (seen self.old)) (working_of (seen self.new))
+            (order_in (seen self.old)) (order_in (seen self.new)) }
         ensures kept { IsValid (seen self.new) }
         ensures plan { plan_of (seen self.new) ≡ plan_of (seen self.old) }
         ensures steps { RoseAtMost steps.old steps.new (job_most (seen self.old) (job_of self.old.job)) }
@@ -67,6 +72,8 @@ impl OpenHeap {
         requires kept { IsValid (seen self.old) }
         requires job { job_of self.old.job ≡ Clear k }
         ensures step { Slices (plan_of (seen self.old)) (working_of (seen self.old)) (working_of (seen self.new)) }
+        ensures ordered { SlicesInOrder (plan_of (seen self.old)) (working_of (seen self.old)) (working_of (seen self.new))
+            (order_in (seen self.old)) (order_in (seen self.new)) }
         ensures kept { IsValid (seen self.new) }
         ensures plan { plan_of (seen self.new) ≡ plan_of (seen self.old) }
         ensures steps { RoseAtMost steps.old steps.new (part_most (seen self.old) k) }
@@ -83,11 +90,13 @@ impl OpenHeap {
         self.end(vacant, steps);
     }
 
-    /// A slice of a job that carries an object.
+    /// A slice of a job that moves an object.
     fn carry_slice(&mut self, h: Handle, k: JobSlot, steps: &mut Steps)
         requires kept { IsValid (seen self.old) }
         requires job { job_of self.old.job ≡ Move h.0 k }
         ensures step { Slices (plan_of (seen self.old)) (working_of (seen self.old)) (working_of (seen self.new)) }
+        ensures ordered { SlicesInOrder (plan_of (seen self.old)) (working_of (seen self.old)) (working_of (seen self.new))
+            (order_in (seen self.old)) (order_in (seen self.new)) }
         ensures kept { IsValid (seen self.new) }
         ensures plan { plan_of (seen self.new) ≡ plan_of (seen self.old) }
         ensures steps { RoseAtMost steps.old steps.new (1 + part_most (seen self.old) k) }

@@ -10,6 +10,6 @@ returns-clause-speaks c =
     let begun : length c.args.line.now ≤ 8 = rw c.requires.empty (omega arith) in
     let short : length c.push_field.new.line < 9000 = omega (arith, more, begun) in
     speaks_left c.args.ids.now c.args.heap.now c.step.new.self c.push_field.new.line
-    (record { happens = c.step.ensures.step; stays = c.step.ensures.same })
+    (record { happens = c.step.ensures.step; ordered = c.step.ensures.ordered; stays = c.step.ensures.same })
     (c.push_field.ensures.text ∙ ap (λ (l : List ℕ). l ++ with_number (codes "left ") c.left.result) c.requires.empty
     ∙ ap (with_number (codes "left ")) c.left.ensures) short

@@ -2,7 +2,7 @@ use Rattle.std.proofs.Common.{arith, refl}
 use Rattle.slice_model.specs.State.{Move}
 use Rattle.sliced_heap.specs.Heap.{seen}
 use Rattle.sliced_heap.proofs.SliceWords.{carry_apart, carry_does, carry_ended, carry_known, carry_source, carry_target}
-use Rattle.sliced_heap.proofs.SliceLemmas.{all_zeros, goes_on, goes_on_valid, goes_to_end, vacated_valid}
+use Rattle.sliced_heap.proofs.SliceLemmas.{all_zeros, ends_in_order, goes_in_order, goes_on, goes_on_valid, goes_to_end, vacated_valid}
 use Rattle.sliced_heap.proofs.open_heap.OpenHeap.carry_slice.Goals as goal
 
 pub unreachable-requires : goal.unreachable-requires
@@ -28,6 +28,18 @@ returns-then-done-slot_words-clause-step c =
     let h = seen c.args.self.now in
     let s = c.slot_words.ensures.value in
     goes_on h c.requires.kept (Move c.args.h.0 c.args.k) c.requires.job c.args.k refl c.carry_next.new.region c.carry_next.ensures.len c.words_of-n.result
+    c.words_of-n.ensures
+    (carry_does h c.requires.kept c.args.k c.args.h.0 c.requires.job c.in-Some.to c.in-Some.ensures.found c.carry_next.new.region c.words_of-n.result
+    c.carry_next.ensures.words)
+    (carry_ended h c.requires.kept c.args.k c.args.h.0 c.requires.job c.in-Some.to c.in-Some.ensures.found c.carry_next.new.region c.words_of-n.result
+    c.carry_next.ensures.words)
+    (let t = c.if-done-slot_words.true in omega arith)
+
+pub returns-then-done-slot_words-clause-ordered : goal.returns-then-done-slot_words-clause-ordered
+returns-then-done-slot_words-clause-ordered c =
+    let h = seen c.args.self.now in
+    let s = c.slot_words.ensures.value in
+    goes_in_order h c.requires.kept (Move c.args.h.0 c.args.k) c.requires.job c.args.k refl c.carry_next.new.region c.carry_next.ensures.len c.words_of-n.result
     c.words_of-n.ensures
     (carry_does h c.requires.kept c.args.k c.args.h.0 c.requires.job c.in-Some.to c.in-Some.ensures.found c.carry_next.new.region c.words_of-n.result
     c.carry_next.ensures.words)
@@ -82,3 +94,15 @@ returns-clause-step c =
     (carry_ended h c.requires.kept c.args.k c.args.h.0 c.requires.job c.in-Some.to c.in-Some.ensures.found c.carry_next.new.region c.words_of-n.result
     c.carry_next.ensures.words)
     (let t = c.if-done-slot_words.false in omega arith) (seen c.end.new.self) c.end.ensures.ended c.end.ensures.words
+
+pub returns-clause-ordered : goal.returns-clause-ordered
+returns-clause-ordered c =
+    let h = seen c.args.self.now in
+    let s = c.slot_words.ensures.value in
+    ends_in_order h c.requires.kept (Move c.args.h.0 c.args.k) c.requires.job c.args.k refl c.carry_next.new.region c.carry_next.ensures.len c.words_of-n.result
+    c.words_of-n.ensures
+    (carry_does h c.requires.kept c.args.k c.args.h.0 c.requires.job c.in-Some.to c.in-Some.ensures.found c.carry_next.new.region c.words_of-n.result
+    c.carry_next.ensures.words)
+    (carry_ended h c.requires.kept c.args.k c.args.h.0 c.requires.job c.in-Some.to c.in-Some.ensures.found c.carry_next.new.region c.words_of-n.result
+    c.carry_next.ensures.words)
+    (let t = c.if-done-slot_words.false in omega arith) (seen c.end.new.self) c.end.ensures.ended c.end.ensures.ordered c.end.ensures.words

@@ -2,7 +2,7 @@ use Rattle.std.proofs.Common.{arith, refl}
 use Rattle.slice_model.specs.State.{Clear}
 use Rattle.sliced_heap.specs.Heap.{seen}
 use Rattle.sliced_heap.proofs.SliceWords.{clear_ended, clear_within}
-use Rattle.sliced_heap.proofs.SliceLemmas.{all_zeros, goes_on, goes_on_valid, goes_to_end, vacated_valid}
+use Rattle.sliced_heap.proofs.SliceLemmas.{all_zeros, ends_in_order, goes_in_order, goes_on, goes_on_valid, goes_to_end, vacated_valid}
 use Rattle.sliced_heap.proofs.open_heap.OpenHeap.clear_slice.Goals as goal
 
 pub clear_next-requires-clause-within : goal.clear_next-requires-clause-within
@@ -13,6 +13,15 @@ returns-then-done-slot_words-clause-step c =
     let h = seen c.args.self.now in
     let s = c.slot_words.ensures.value in
     goes_on h c.requires.kept (Clear c.args.k) c.requires.job c.args.k refl c.clear_next.new.region c.clear_next.ensures.len c.words_of-n.result
+    c.words_of-n.ensures
+    c.clear_next.ensures.words (clear_ended h c.requires.kept c.args.k c.requires.job c.clear_next.new.region c.words_of-n.result c.clear_next.ensures.words)
+    (let t = c.if-done-slot_words.true in omega arith)
+
+pub returns-then-done-slot_words-clause-ordered : goal.returns-then-done-slot_words-clause-ordered
+returns-then-done-slot_words-clause-ordered c =
+    let h = seen c.args.self.now in
+    let s = c.slot_words.ensures.value in
+    goes_in_order h c.requires.kept (Clear c.args.k) c.requires.job c.args.k refl c.clear_next.new.region c.clear_next.ensures.len c.words_of-n.result
     c.words_of-n.ensures
     c.clear_next.ensures.words (clear_ended h c.requires.kept c.args.k c.requires.job c.clear_next.new.region c.words_of-n.result c.clear_next.ensures.words)
     (let t = c.if-done-slot_words.true in omega arith)
@@ -52,3 +61,12 @@ returns-clause-step c =
     c.words_of-n.ensures
     c.clear_next.ensures.words (clear_ended h c.requires.kept c.args.k c.requires.job c.clear_next.new.region c.words_of-n.result c.clear_next.ensures.words)
     (let t = c.if-done-slot_words.false in omega arith) (seen c.end.new.self) c.end.ensures.ended c.end.ensures.words
+
+pub returns-clause-ordered : goal.returns-clause-ordered
+returns-clause-ordered c =
+    let h = seen c.args.self.now in
+    let s = c.slot_words.ensures.value in
+    ends_in_order h c.requires.kept (Clear c.args.k) c.requires.job c.args.k refl c.clear_next.new.region c.clear_next.ensures.len c.words_of-n.result
+    c.words_of-n.ensures
+    c.clear_next.ensures.words (clear_ended h c.requires.kept c.args.k c.requires.job c.clear_next.new.region c.words_of-n.result c.clear_next.ensures.words)
+    (let t = c.if-done-slot_words.false in omega arith) (seen c.end.new.self) c.end.ensures.ended c.end.ensures.ordered c.end.ensures.words

@@ -5,12 +5,17 @@ use Rattle.sliced_heap.specs.Heap.{Heap, seen}
 use Rattle.sliced_heap.specs.Layout.{tables_in}
 use Rattle.sliced_heap.specs.Steps.{Fills, StaysVacant}
 use Rattle.sliced_heap.specs.declared.open_heap.OpenHeap.{OpenHeap}
-use Rattle.sliced_heap.proofs.EndLemmas.{filled_ends, idle_at, slot_used}
+use Rattle.sliced_heap.proofs.EndLemmas.{filled_ends, filled_follows, idle_at, slot_used}
 use Rattle.sliced_heap.proofs.open_heap.OpenHeap.end.Goals as goal
 
 pub returns-then-fill-clause-ended : goal.returns-then-fill-clause-ended
 returns-then-fill-clause-ended c =
     filled_ends (seen c.args.self.now) c.requires.kept c.args.k c.requires.job (seen c.fill.new.self)
+    (subst (λ b. Fills (seen c.args.self.now) c.args.k b (seen c.fill.new.self)) c.if-fill.true c.fill.ensures.filled)
+
+pub returns-then-fill-clause-ordered : goal.returns-then-fill-clause-ordered
+returns-then-fill-clause-ordered c =
+    filled_follows (seen c.args.self.now) c.requires.kept c.args.k c.requires.job (seen c.fill.new.self)
     (subst (λ b. Fills (seen c.args.self.now) c.args.k b (seen c.fill.new.self)) c.if-fill.true c.fill.ensures.filled)
 
 pub release_slot-requires-clause-used : goal.release_slot-requires-clause-used
@@ -27,6 +32,13 @@ returns-clause-ended c =
     subst (λ b. Fills (seen c.args.self.now) c.args.k b (seen c.fill.new.self)) c.if-fill.false c.fill.ensures.filled in
     (idle_at (seen c.args.self.now) c.requires.kept c.args.k c.requires.job v.stays c.requires.zeros (seen c.fill.new.self) _ v.same
     (ap (λ (x : OpenHeap). record (seen x) { job = Idle }) c.release_slot.ensures.rest) c.release_slot.ensures.freed c.release_slot.ensures.tables).1
+
+pub returns-clause-ordered : goal.returns-clause-ordered
+returns-clause-ordered c =
+    let v : StaysVacant (seen c.args.self.now) c.args.k (seen c.fill.new.self) =
+    subst (λ b. Fills (seen c.args.self.now) c.args.k b (seen c.fill.new.self)) c.if-fill.false c.fill.ensures.filled in
+    (idle_at (seen c.args.self.now) c.requires.kept c.args.k c.requires.job v.stays c.requires.zeros (seen c.fill.new.self) _ v.same
+    (ap (λ (x : OpenHeap). record (seen x) { job = Idle }) c.release_slot.ensures.rest) c.release_slot.ensures.freed c.release_slot.ensures.tables).2
 
 pub returns-clause-kept : goal.returns-clause-kept
 returns-clause-kept c =

@@ -39,7 +39,7 @@ returns-then-must_move-clause-filled c =
     rw c.deref.ensures.value at t in
     let b = c.carry_to.ensures.begun in
     is_filled h c.requires.kept c.args.k c.requires.job ((must_is h c.requires.kept c.args.k c.requires.job).0 t') b.from b.filler c.requires.fresh
-    (seen c.carry_to.new.self) b.handles b.whole
+    (seen c.carry_to.new.self) b.handles b.free b.whole
 
 pub returns-then-must_move-clause-kept : goal.returns-then-must_move-clause-kept
 returns-then-must_move-clause-kept c =
@@ -49,7 +49,7 @@ returns-then-must_move-clause-kept c =
     rw c.deref.ensures.value at t in
     let b = c.carry_to.ensures.begun in
     carried_valid h c.requires.kept c.args.k c.requires.job ((must_is h c.requires.kept c.args.k c.requires.job).0 t') b.from b.filler c.requires.fresh
-    (seen c.carry_to.new.self) b.handles b.whole
+    (seen c.carry_to.new.self) b.handles b.free b.whole
 
 pub returns-clause-filled : goal.returns-clause-filled
 returns-clause-filled c =
@@ -72,4 +72,4 @@ returns-then-must_move-clause-partly c = λ _ f slot.
     rw c.deref.ensures.value at t in
     let b = c.carry_to.ensures.begun in
     carried_partly h c.requires.kept c.args.k c.requires.job ((must_is h c.requires.kept c.args.k c.requires.job).0 t') b.from b.filler c.requires.fresh
-    (seen c.carry_to.new.self) b.handles b.whole f slot)
+    (seen c.carry_to.new.self) b.handles b.free b.whole f slot)

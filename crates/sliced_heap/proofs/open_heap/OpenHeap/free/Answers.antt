@@ -19,3 +19,9 @@ pub returns-in_default-job-clause-step : goal.returns-in_default-job-clause-step
 returns-in_default-job-clause-step c =
     let w = has_place (seen c.args.self.now) c.requires c.args.h.0 c.in-Some.place (sym c.in-Some.ensures.found) in
     (record { object = w.0; found = w.1; pending = not_idle c.args.self.now.job c.in_default-job.not-Idle }, refl)
+
+pub returns-in_default-clause-ordered : goal.returns-in_default-clause-ordered
+returns-in_default-clause-ordered c = (returns-in_default-clause-step c, refl)
+
+pub returns-in_default-job-clause-ordered : goal.returns-in_default-job-clause-ordered
+returns-in_default-job-clause-ordered c = (returns-in_default-job-clause-step c, refl)

@@ -5,8 +5,13 @@ use Rattle.sliced_heap.proofs.open_heap.OpenHeap.free_live.Goals as goal
 
 pub returns-clause-step : goal.returns-clause-step
 returns-clause-step c =
+    (frees_from (seen c.args.self.now) c.requires.kept c.requires.idle c.args.h.0 c.forget-k.result (seen c.forget-k.new.self) (seen c.fill-filled.new.self)
+    (seen c.slice.new.self) c.forget-k.ensures.gone c.forget-k.ensures.kept c.fill-filled.result c.fill-filled.ensures.filled c.slice.ensures.ordered).frees
+
+pub returns-clause-ordered : goal.returns-clause-ordered
+returns-clause-ordered c =
     frees_from (seen c.args.self.now) c.requires.kept c.requires.idle c.args.h.0 c.forget-k.result (seen c.forget-k.new.self) (seen c.fill-filled.new.self)
-    (seen c.slice.new.self) c.forget-k.ensures.gone c.forget-k.ensures.kept c.fill-filled.result c.fill-filled.ensures.filled c.slice.ensures.step
+    (seen c.slice.new.self) c.forget-k.ensures.gone c.forget-k.ensures.kept c.fill-filled.result c.fill-filled.ensures.filled c.slice.ensures.ordered
 
 pub returns-clause-steps : goal.returns-clause-steps
 returns-clause-steps c =

@@ -3,7 +3,7 @@ use Rattle.page_model.specs.Counts.{ceil_div}
 use Rattle.page_model.specs.Paging.{slot_words}
 use Rattle.slice_model.proofs.JobSlices.{slices_end_all}
 use Rattle.slice_model.proofs.Waiting.{done_then, slices_keep}
-use Rattle.slice_model.proofs.jobs.a_waiting_malloc_is_done_after_the_slices.Goals as goal
+use Rattle.slice_model.proofs.jobs.a_waiting_malloc_is_served_after_the_slices.Goals as goal
 
 pub returns : goal.returns
 returns c = λ plan old new bytes k ok kept wants job slices. (

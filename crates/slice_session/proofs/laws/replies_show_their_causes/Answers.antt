@@ -1,11 +1,11 @@
-use Rattle.slice_session.proofs.Causes.{cause_told, free_cause, free_waits, malloc_cause, malloc_waits}
-use Rattle.slice_session.proofs.laws.replies_tell_their_causes.Goals as goal
+use Rattle.slice_session.proofs.Causes.{cause_shown, free_cause, free_waits, malloc_cause, malloc_waits}
+use Rattle.slice_session.proofs.laws.replies_show_their_causes.Goals as goal
 
 pub returns-clause-malloc : goal.returns-clause-malloc
 returns-clause-malloc c = λ old new id n e none step. malloc_cause old new id n e none step
 
 pub returns-clause-refused : goal.returns-clause-refused
-returns-clause-refused c = λ old new id n e reply going none cause step. cause_told old new id n e reply going none cause step
+returns-clause-refused c = λ old new id n e reply going none cause step. cause_shown old new id n e reply going none cause step
 
 pub returns-clause-free : goal.returns-clause-free
 returns-clause-free c = λ old new id h e live step. free_cause old new id h e live step

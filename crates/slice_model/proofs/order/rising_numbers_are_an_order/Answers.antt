@@ -1,0 +1,5 @@
+use Rattle.slice_model.proofs.FirstOrder.{first_is_order}
+use Rattle.slice_model.proofs.order.rising_numbers_are_an_order.Goals as goal
+
+pub returns : goal.returns
+returns c = λ plan. first_is_order plan.paging plan.proxies

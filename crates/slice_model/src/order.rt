@@ -1,0 +1,77 @@
+//! The order of pages, slots and numbers beside a job: it leaves no choice, and each call can follow it.
+ghost use Rattle.std.specs.Prelude.{ℕ, ◌≡◌, ◌∷◌, List, Option, Some, Result, length};
+ghost use Rattle.std.specs.FinMap.{empty, get};
+ghost use Rattle.cf_base.specs.declared.answers.AccessFault.{AccessFault};
+ghost use Rattle.cf_base.specs.declared.answers.Handle.{Handle};
+ghost use Rattle.page_model.specs.Arrangement.{class_at};
+ghost use Rattle.page_model.specs.Held.{Placed};
+ghost use Rattle.page_model.specs.Order.{MallocFollows, Order, first_order};
+ghost use Rattle.slice_model.specs.Ordered.{HappensInOrder, IsOrderBeside, MovesNext, SliceFollows};
+ghost use Rattle.slice_model.specs.Runs.{Event, Free, IsConsistent, Malloc, Part, Read, Step, Working, Write};
+ghost use Rattle.slice_model.specs.State.{Idle, IsKept, IsPlan, Plan, Sliced, job_slot, occupied};
+ghost use Rattle.slice_model.specs.Steps.{GivesObject, IsRefusedBy, IsSlice, RemovesObject};
+ghost use Rattle.slice_model.specs.declared.answers.SliceFault.{SliceFault};
+ghost use Rattle.slice_model.specs.declared.answers.SliceRefusal.{SliceRefusal};
+
+/// Two equal calls that follow the same order have the same result. They leave the same objects, the
+/// same job, the same words, also those of a job that is half done, and the same order.
+pub fn an_order_leaves_no_choice_beside_a_job()
+    ensures malloc { (plan : Plan) (old : Working) (bytes : ℕ) (a b : Result Handle SliceRefusal) (new other : Working) (was now next : Order)
+        → IsPlan plan → IsConsistent plan old → length new.words ≡ length other.words
+        → HappensInOrder plan old (Malloc bytes a) new was now → HappensInOrder plan old (Malloc bytes b) other was next
+        → (a ≡ b) × (new ≡ other) × (now ≡ next) }
+    ensures free { (plan : Plan) (old : Working) (h : ℕ) (a b : Option SliceFault) (new other : Working) (was now next : Order)
+        → IsPlan plan → IsConsistent plan old → length new.words ≡ length other.words
+        → HappensInOrder plan old (Free h a) new was now → HappensInOrder plan old (Free h b) other was next
+        → (a ≡ b) × (new ≡ other) × (now ≡ next) }
+    ensures slice { (plan : Plan) (old : Working) (new other : Working) (was now next : Order)
+        → IsPlan plan → IsConsistent plan old → length new.words ≡ length other.words
+        → HappensInOrder plan old Step new was now → HappensInOrder plan old Step other was next
+        → (new ≡ other) × (now ≡ next) }
+    ensures write { (plan : Plan) (old : Working) (part : Part) (bytes : List ℕ) (a b : Option AccessFault) (new other : Working) (was now next : Order)
+        → IsPlan plan → IsConsistent plan old → length new.words ≡ length other.words
+        → HappensInOrder plan old (Write part bytes a) new was now → HappensInOrder plan old (Write part bytes b) other was next
+        → (a ≡ b) × (new ≡ other) × (now ≡ next) }
+    ensures read { (plan : Plan) (old : Working) (part : Part) (n : ℕ) (a b : Result (List ℕ) AccessFault) (new other : Working) (was now next : Order)
+        → IsPlan plan → IsConsistent plan old → length new.words ≡ length other.words
+        → HappensInOrder plan old (Read part n a) new was now → HappensInOrder plan old (Read part n b) other was next
+        → (a ≡ b) × (new ≡ other) × (now ≡ next) }
+{}
+
+/// A malloc that is not refused can follow the order, with the job's slot as a taken one. It leaves an
+/// order of the new state.
+pub fn a_malloc_can_follow_an_order_beside_a_job()
+    ensures { (plan : Plan) (s : Sliced) (bytes : ℕ) (o : Order) → IsPlan plan → IsKept plan s → IsOrderBeside plan s o
+        → ((e : SliceRefusal) → ¬ IsRefusedBy plan s bytes e)
+        → (h : ℕ) × (after : Sliced) × (new : Order) × (gives : GivesObject plan s (record { number = h; length = bytes }) after)
+        × MallocFollows plan.paging (occupied plan s) (record { number = h; length = bytes }) gives.place o new
+        × IsOrderBeside plan after new }
+{}
+
+/// So can each slice, also the last one of a job.
+pub fn a_slice_can_follow_an_order()
+    ensures { (plan : Plan) (s : Sliced) (o : Order) → IsPlan plan → IsKept plan s → IsOrderBeside plan s o
+        → (after : Sliced) × (new : Order) × IsSlice plan s after
+        × SliceFollows plan s.held (job_slot s.job) after.job o new × IsOrderBeside plan after new }
+{}
+
+/// So can a free of each live object while no job is pending, with the first slice of its job.
+pub fn a_free_can_follow_an_order_beside_a_job()
+    ensures { (plan : Plan) (s : Sliced) (h : ℕ) (x : Placed) (o : Order) → IsPlan plan → IsKept plan s → IsOrderBeside plan s o
+        → s.job ≡ Idle → get s.held h ≡ Some x
+        → (after : Sliced) × (new : Order) × (removes : RemovesObject plan s h after)
+        × MovesNext plan.paging s.held o (class_at plan.paging removes.freed) removes.moved
+        × SliceFollows plan removes.begun.held (job_slot removes.begun.job) after.job (record o { spare = h ∷ o.spare }) new
+        × IsOrderBeside plan after new }
+{}
+
+/// Each call in order leaves an order of the new state.
+pub fn a_call_keeps_an_order()
+    ensures { (plan : Plan) (old : Working) (event : Event) (new : Working) (was now : Order) → IsPlan plan → IsKept plan old.state
+        → IsOrderBeside plan old.state was → HappensInOrder plan old event new was now → IsOrderBeside plan new.state now }
+{}
+
+/// Without objects and without a job, pages and numbers in rising order are an order.
+pub fn rising_numbers_are_an_order()
+    ensures { (plan : Plan) → IsOrderBeside plan (record { held = empty; job = Idle }) (first_order plan.paging plan.proxies) }
+{}
