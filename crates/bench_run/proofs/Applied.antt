@@ -37,7 +37,7 @@ one_at_most Refused = omega arith
 one_at_most Other = omega arith
 
 module _ (old mid new : RunState) (done : List Command) (command : Command) (reply : Reply) (outcome : Outcome) (ok refused ok2 refused2 : ℕ)
-    (a : IsAppliedTo old done mid ok refused) (turn : Turn mid command reply new) (told : outcome ≡ outcome_of reply)
+    (a : IsAppliedTo old done mid ok refused) (turn : Turn mid command reply new) (shown : outcome ≡ outcome_of reply)
     (ok_more : ok2 ≡ ok + cond (is_good outcome) 1 0) (refused_more : refused2 ≡ refused + cond (is_refusal outcome) 1 0) where
   joined : Run old.heap.kind (Some old) (map (λ c. asks c) done ++ asks command ∷ []) (a.replies ++ reply ∷ []) (Some new)
   joined = run_joined (BeginsOne old.heap.kind) Turn (Some old) (map (λ c. asks c) done) (asks command ∷ []) a.replies (reply ∷ []) (Some mid) (Some new) a.run
@@ -49,9 +49,9 @@ module _ (old mid new : RunState) (done : List Command) (command : Command) (rep
     replies = a.replies ++ reply ∷ [];
     run = subst (λ (l : List Item). Run old.heap.kind (Some old) l (a.replies ++ reply ∷ []) (Some new))
         (sym (map-append (λ (c : Command). asks c) done (command ∷ []))) joined;
-    ok_are = ok_more ∙ ap₂ (λ m n. m + n) a.ok_are (ap (λ o. cond (is_good o) 1 0) told)
+    ok_are = ok_more ∙ ap₂ (λ m n. m + n) a.ok_are (ap (λ o. cond (is_good o) 1 0) shown)
         ∙ sym (sum_by_push (λ r. cond (is_good (outcome_of r)) 1 0) a.replies reply);
-    refused_are = refused_more ∙ ap₂ (λ m n. m + n) a.refused_are (ap (λ o. cond (is_refusal o) 1 0) told)
+    refused_are = refused_more ∙ ap₂ (λ m n. m + n) a.refused_are (ap (λ o. cond (is_refusal o) 1 0) shown)
         ∙ sym (sum_by_push (λ r. cond (is_refusal (outcome_of r)) 1 0) a.replies reply);
   }
 

@@ -63,7 +63,7 @@ figures_from count ok refused totals moves = record {
 }
 
 -- the numbers are those of the run
-pub told_figures : (count ok refused moves : ℕ) (totals : Totals) (replies : List Reply) (to : RunState) → ok ≡ good_ones replies
+pub shown_figures : (count ok refused moves : ℕ) (totals : Totals) (replies : List Reply) (to : RunState) → ok ≡ good_ones replies
     → refused ≡ refusals replies → totals ≡ totals_in to.heap.kind to.heap → moves ≡ to.session.moves
     → figures_from count ok refused totals moves ≡ figures_of count replies to
-told_figures count ok refused moves totals replies to good bad whole moved = rw (good, bad, whole, moved) refl
+shown_figures count ok refused moves totals replies to good bad whole moved = rw (good, bad, whole, moved) refl

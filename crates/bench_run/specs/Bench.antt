@@ -73,7 +73,7 @@ IsWritten WriteFault before text after = (front : List ℕ) × (lost : List ℕ)
 IsWritten status before text after = ⊥
 
 -- the run was made, and its line was written, or a prefix of it
-pub record TellsBench (status : Status) (seed count : ℕ) (from to : RunState) (before after : Option (List ℕ)) : Type 0 where
+pub record PrintsBench (status : Status) (seed count : ℕ) (from to : RunState) (before after : Option (List ℕ)) : Type 0 where
   pub run : BenchRun from.heap.kind seed count to
   pub written : IsWritten status before (bench_text count run.replies to) after
 
@@ -85,7 +85,7 @@ pub record LacksBench (from to : RunState) (before after : Option (List ℕ)) : 
 -- how a bench may end
 abbrev pub EndsBench : Status → ℕ → ℕ → RunState → RunState → Option (List ℕ) → Option (List ℕ) → Type 0
 EndsBench OutOfMemory seed count from to before after = LacksBench from to before after
-EndsBench status seed count from to before after = TellsBench status seed count from to before after
+EndsBench status seed count from to before after = PrintsBench status seed count from to before after
 
 -- the commands were applied, and this many of the replies are good and refusals
 pub record IsAppliedTo (old : RunState) (commands : List Command) (new : RunState) (ok refused : ℕ) : Type 0 where

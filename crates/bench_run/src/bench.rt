@@ -2,6 +2,7 @@
 ghost use Rattle.std.specs.Prelude.{◌≡◌, ◌≤◌, ◌≢◌};
 ghost use Rattle.bench_run.specs.Bench.{EndsBench, IsAppliedTo};
 ghost use Rattle.cf_io.specs.Feeds.{FailsLast};
+ghost use Rattle.cf_model.specs.Ordered.{KeepsPromise};
 ghost use Rattle.cf_session.specs.Apply.{run_at};
 ghost use Rattle.generator.specs.Generated.{generated};
 ghost use Rattle.run_model.specs.Sessions.{IsGoing, fresh_session};
@@ -30,6 +31,7 @@ pub fn run_bench<H: Manager, K: Sink>(
     ensures outcome { EndsBench result seed count (run_at session.old (H.state heap.old)) (run_at session.new (H.state heap.new))
         (K.written sink.old) (K.written sink.new) }
     ensures kind { (H.state heap.new).kind ≡ (H.state heap.old).kind }
+    ensures promise { KeepsPromise (H.state heap.old) (H.state heap.new) }
     ensures grows { K.faults sink.old ≤ K.faults sink.new }
     ensures sink_same { result ≢ Status.WriteFault → K.faults sink.new ≡ K.faults sink.old }
     ensures write_fault { result ≡ Status.WriteFault → FailsLast (K.faults sink.old) (K.faults sink.new) (K.last_failed sink.new) }
@@ -65,6 +67,7 @@ fn apply_commands<H: Manager>(session: &mut Session, heap: &mut H, seed: u64, co
         result.ok result.refused }
     ensures going { IsGoing (run_at session.new (H.state heap.new)) }
     ensures kind { (H.state heap.new).kind ≡ (H.state heap.old).kind }
+    ensures promise { KeepsPromise (H.state heap.old) (H.state heap.new) }
 {
     let mut generator = Generator::new(seed);
     let mut bytes = [0; 8];

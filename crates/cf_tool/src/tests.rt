@@ -220,7 +220,7 @@ fn number_between(text: &[u8], before: &[u8], after: &[u8]) -> Option<u32> {
 }
 
 /// The number that a script prints between these two texts; `None` if it prints something else.
-fn number_told(
+fn number_shown(
     rt: &HostRuntime,
     words: &[&str],
     script: &[u8],
@@ -237,7 +237,7 @@ fn number_told(
 #[test]
 fn the_steps_of_a_call_are_within_its_bound(rt: HostRuntime) -> Result<(), Fail> {
     for (words, script, before, least, most, after) in STEPS {
-        let count = number_told(&rt, words, script, before, after)?.ok_or("another text")?;
+        let count = number_shown(&rt, words, script, before, after)?.ok_or("another text")?;
         assert!(rt; least <= count && count <= most, "{count} steps");
     }
     Ok(())

@@ -11,8 +11,8 @@ use Rattle.cf_model.specs.State.{HeapState}
 use Rattle.cf_model.specs.Steps.{Part, ReadsBytes}
 use Rattle.page_model.specs.Held.{Held, Placed}
 
-abbrev Told : Type 0
-Told = Option (List ℕ)
+abbrev Written : Type 0
+Written = Option (List ℕ)
 
 split : (i : ℕ) (xs : List ℕ) → take i xs ++ drop i xs ≡ xs
 split i xs = take-append-drop i xs
@@ -20,10 +20,10 @@ split i xs = take-append-drop i xs
 all_of : (n : ℕ) (xs : List ℕ) → length xs ≤ n → take n xs ≡ xs
 all_of n xs le = take_all n xs le
 
-module _ (w x y : Told) (bytes chunk : List ℕ) (i n : ℕ) (first : x ≡ appended w (take i bytes)) (is : chunk ≡ take n (drop i bytes)) where
+module _ (w x y : Written) (bytes chunk : List ℕ) (i n : ℕ) (first : x ≡ appended w (take i bytes)) (is : chunk ≡ take n (drop i bytes)) where
   -- one chunk more
   pub chunk_put : y ≡ appended x chunk → y ≡ appended w (take (i + n) bytes)
-  chunk_put next = next ∙ ap (appended x) is ∙ ap (λ (o : Told). appended o (take n (drop i bytes))) first
+  chunk_put next = next ∙ ap (appended x) is ∙ ap (λ (o : Written). appended o (take n (drop i bytes))) first
       ∙ appended_then w (take i bytes) (take n (drop i bytes)) ∙ ap (appended w) (sym (take-add i n bytes))
 
   -- a chunk is cut
@@ -36,7 +36,7 @@ module _ (w x y : Told) (bytes chunk : List ℕ) (i n : ℕ) (first : x ≡ appe
       rest)
 
 -- all chunks
-pub chunks_put : (w x : Told) (bytes : List ℕ) (i : ℕ) → x ≡ appended w (take i bytes) → length bytes ≤ i → x ≡ appended w bytes
+pub chunks_put : (w x : Written) (bytes : List ℕ) (i : ℕ) → x ≡ appended w (take i bytes) → length bytes ≤ i → x ≡ appended w bytes
 chunks_put w x bytes i first all = first ∙ ap (appended w) (all_of i bytes all)
 
 -- the length of the object that is under a number

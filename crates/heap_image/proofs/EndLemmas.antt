@@ -8,7 +8,7 @@ use Rattle.cf_lemmas.proofs.Maps.{get_insert_other, len_fresh}
 use Rattle.page_model.specs.Held.{Objects}
 use Rattle.run_model.specs.Sessions.{RunState}
 use Rattle.heap_image.specs.Decoded.{BreaksNoRule, Decoded, Reached, at_first, breaks_in, end_decoded, entries_decoded, entry_decoded, passed, whole}
-use Rattle.heap_image.specs.Ends.{EndTold, EndsBy}
+use Rattle.heap_image.specs.Ends.{EndRead, EndsBy}
 use Rattle.heap_image.specs.Entries.{EntryBy, reached_in}
 use Rattle.heap_image.specs.Feed.{Feed, Takes}
 use Rattle.heap_image.specs.Heaps.{objects_of}
@@ -18,14 +18,14 @@ use Rattle.heap_image.specs.declared.fault.LoadFault.{LoadFault}
 use Rattle.heap_image.specs.declared.fault.LoadFault.TheVariants as fault
 use Rattle.heap_image.specs.declared.objects_in.Entry.{Entry}
 use Rattle.heap_image.proofs.ImageDecoded.{entries_next}
-use Rattle.heap_image.proofs.StageLemmas.{broken_then, field_breaks, passes_part, passes_then, takes_nothing, tells_then}
+use Rattle.heap_image.proofs.StageLemmas.{broken_then, field_breaks, passes_part, passes_then, takes_nothing, shows_then}
 
 abbrev Reading : Type 0
 Reading = List ℕ → Decoded
 
 -- readings that are the same
 pub passes_same : (T U : Reading) (had : Feed) → ((bytes : List ℕ) → T bytes ≡ U bytes) → Passes T had had U
-passes_same T U had same = record { taken = []; took = takes_nothing had; tells = same }
+passes_same T U had same = record { taken = []; took = takes_nothing had; shows = same }
 
 reached_is : (next next2 at at2 : ℕ) (o o2 : Objects) → next ≡ next2 → o ≡ o2 → at ≡ at2
     → ◌≡◌ {A = Reached} (record { next = next; objects = o; at = at }) (record { next = next2; objects = o2; at = at2 })
@@ -71,7 +71,7 @@ module _ (p q : Profile) (count i next at : ℕ) (had mid left : Feed) (old new 
       let here = passes_then _ _ mid mid left (passes_same (entries_decoded p (count - i) (reached_in old next at))
       (λ bytes. entry_decoded q (reached_in old next at) bytes go) mid step) (go (passed (reached_in old next at) e.id (entry go).0)) (entry go).3 in
       let all = passes_then _ _ had mid left before (go (passed (reached_in old next at) e.id (entry go).0)) here in
-      record { taken = all.taken; took = all.took; tells = λ more. all.tells more ∙ ap (λ (r : Reached). go r more) reached }
+      record { taken = all.taken; took = all.took; shows = λ more. all.shows more ∙ ap (λ (r : Reached). go r more) reached }
 
   pub entry_fresh : (id : ℕ) → e.id + 1 ≤ id → get (objects_of new) id ≡ None
   entry_fresh id le =
@@ -107,7 +107,7 @@ entry_ends p q count i next at had mid left old new f lt same profile before ent
     by : (f : LoadFault) → StopsBy (Some old.heap.profile) (objects_of old) (λ bytes. entry_decoded q (reached_in old next at) bytes go) mid f left
         → LeadsTo old new (objects_of old) → EndsBy (entries_decoded p count at_first) p had (Err f) left new
     by (fault.Bad b) s w = (s.0, s.1, s.2 ∙ ap (λ p. Some p) profile, broken_then _ _ had mid left all s.0 s.4, holds s.0 s.3 w)
-    by fault.Read s w = (s.0, s.1 ∙ ap (λ p. Some p) profile, tells_then _ _ had mid left all s.0 s.3, s.4, holds s.0 s.2 w)
+    by fault.Read s w = (s.0, s.1 ∙ ap (λ p. Some p) profile, shows_then _ _ had mid left all s.0 s.3, s.4, holds s.0 s.2 w)
     by fault.OutOfMemory s w = absurd s
 
 -- no entry is left
@@ -130,7 +130,7 @@ end_sound p r (x ∷ rest) short = absurd (omega arith)
 
 pub all_end : (p : Profile) (count i next at : ℕ) (had mid left : Feed) (s : RunState) (answer : Result Unit LoadFault) → count ≤ i → IsLoading s
     → s.heap.profile ≡ p
-    → Passes (entries_decoded p count at_first) had mid (entries_decoded p (count - i) (reached_in s next at)) → EndTold at mid answer left
+    → Passes (entries_decoded p count at_first) had mid (entries_decoded p (count - i) (reached_in s next at)) → EndRead at mid answer left
     → EndsBy (entries_decoded p count at_first) p had answer left s
 all_end p count i next at had mid left s answer past loading profile before end = by answer end
   where
@@ -141,16 +141,16 @@ all_end p count i next at had mid left s answer past loading profile before end 
     all = record {
       taken = before.taken;
       took = before.took;
-      tells = λ more. before.tells more ∙ (let none : count - i ≡ 0 = omega arith in ap (λ n. entries_decoded p n r more) none) ∙ end_is p r more;
+      shows = λ more. before.shows more ∙ (let none : count - i ≡ 0 = omega arith in ap (λ n. entries_decoded p n r more) none) ∙ end_is p r more;
     }
 
     here : Takes [] mid left → Passes (entries_decoded p count at_first) had left (end_decoded p r)
-    here none = passes_then _ _ had mid left all (end_decoded p r) (record { taken = []; took = none; tells = λ more. refl })
+    here none = passes_then _ _ had mid left all (end_decoded p r) (record { taken = []; took = none; shows = λ more. refl })
 
     holds : HoldsObjects p (objects_of s) s
     holds = record { loading = loading; profile = profile; objects = refl }
 
-    by : (answer : Result Unit LoadFault) → EndTold at mid answer left → EndsBy (entries_decoded p count at_first) p had answer left s
+    by : (answer : Result Unit LoadFault) → EndRead at mid answer left → EndsBy (entries_decoded p count at_first) p had answer left s
     by (Ok u) end = (objects_of s, passes_part _ _ had left (whole p (objects_of s)) (here end.0) (end_whole p r), end.1, holds)
     by (Err (fault.Bad b)) end = (
       breaks_in p r 0,

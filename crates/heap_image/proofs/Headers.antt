@@ -7,7 +7,7 @@ use Rattle.cf_base.specs.declared.kind.Kind.{Kind}
 use Rattle.cf_base.specs.declared.kind.Kind.TheVariants.{Moving}
 use Rattle.page_model.specs.Held.{Placed}
 use Rattle.page_model.specs.Arrangement.{class_at}
-use Rattle.page_model.proofs.CallerLemmas.{header_told, object_inside}
+use Rattle.page_model.proofs.CallerLemmas.{header_shown, object_inside}
 use Rattle.cf_model.specs.Answers.{place_of}
 use Rattle.cf_model.specs.Rules.{KeepsPages, KeepsRules, KeepsRulesOf}
 use Rattle.cf_model.specs.State.{HeapState, paging_in}
@@ -44,4 +44,4 @@ module _ (s : HeapState) (moving : s.kind ≡ Moving) (rules : KeepsRules s) (h 
       let same : header ≡ get_or s.words x.place 0 = cc in
       let small = rules.numbers.handles h x some in
       let few = rules.settings.few_proxies in
-      ap (λ w. w / 2 ^ 32) same ∙ (header_told s.held s.words h x (pages_of s moving rules).image some (omega arith)).1
+      ap (λ w. w / 2 ^ 32) same ∙ (header_shown s.held s.words h x (pages_of s moving rules).image some (omega arith)).1

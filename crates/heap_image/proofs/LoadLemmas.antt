@@ -25,26 +25,26 @@ use Rattle.heap_image.specs.Decoded.{BreaksNoRule, Decoded, breaks_behind, count
 use Rattle.heap_image.specs.Ends.{EndsBy}
 use Rattle.heap_image.specs.Feed.{Feed}
 use Rattle.heap_image.specs.Heaps.{objects_of}
-use Rattle.heap_image.specs.Load.{HoldsObjects, HoldsTold, IsLoading, LoadsBy, TakesNoMore}
-use Rattle.heap_image.specs.Stages.{Passes, ReadsSettings, StopsAt, StopsBy, Tells, TellsBroken}
+use Rattle.heap_image.specs.Load.{HoldsObjects, HoldsRead, IsLoading, LoadsBy, TakesNoMore}
+use Rattle.heap_image.specs.Stages.{Passes, ReadsSettings, StopsAt, StopsBy, ReadsAs, ReadsBroken}
 use Rattle.heap_image.specs.declared.fault.LoadFault.{LoadFault}
 use Rattle.heap_image.specs.declared.fault.LoadFault.TheVariants as fault
 use Rattle.transcript_laws.proofs.CallerLemmas.{gone_by_id}
-use Rattle.heap_image.proofs.StageLemmas.{broken_then, tells_then}
+use Rattle.heap_image.proofs.StageLemmas.{broken_then, shows_then}
 
 abbrev Reading : Type 0
 Reading = List ℕ → Decoded
 
 -- the bytes break a rule: how the load ends, whether the end cuts them or not
-broken_row : (from to : RunState) (had left : Feed) (at : ℕ) (t : Decoded) → t.broken ≡ Some at → HoldsTold from t.settings t.objects to
-    → TellsBroken decoded had left t → LoadsBy from had (Err (fault.Bad at)) left to
+broken_row : (from to : RunState) (had left : Feed) (at : ℕ) (t : Decoded) → t.broken ≡ Some at → HoldsRead from t.settings t.objects to
+    → ReadsBroken decoded had left t → LoadsBy from had (Err (fault.Bad at)) left to
 broken_row from to had left at t broken holds q = record {
-  taken = q.tells.taken;
+  taken = q.shows.taken;
   ended = t.is_cut;
-  took = q.tells.took;
+  took = q.shows.took;
   row = λ more follows. (let row = by t.is_cut more q.stops follows in record {
-    told = t;
-    reads = q.tells.reads;
+    shown = t;
+    reads = q.shows.reads;
     reads_all = row.0;
     broken = broken;
     no_more = row.1;
@@ -52,29 +52,29 @@ broken_row from to had left at t broken holds q = record {
   });
 }
   where
-    by : (cut : Bool) (more : List ℕ) → StopsAt decoded q.tells.taken t left cut → MayFollow left.rest cut more
-        → (decoded (q.tells.taken ++ more) ≡ t) × TakesNoMore q.tells.taken more cut
+    by : (cut : Bool) (more : List ℕ) → StopsAt decoded q.shows.taken t left cut → MayFollow left.rest cut more
+        → (decoded (q.shows.taken ++ more) ≡ t) × TakesNoMore q.shows.taken more cut
     by true more stops follows =
         let none = nothing_follows left.rest more stops follows in
-        (ap (λ (m : List ℕ). decoded (q.tells.taken ++ m)) none ∙ ap decoded (append-nil q.tells.taken) ∙ q.tells.reads, none)
+        (ap (λ (m : List ℕ). decoded (q.shows.taken ++ m)) none ∙ ap decoded (append-nil q.shows.taken) ∙ q.shows.reads, none)
     by false more stops follows = (stops.reads_on more, stops.last)
 
 -- the source failed: how the load ends
-part_row : (from to : RunState) (had left : Feed) (t : Decoded) → BreaksNoRule t → HoldsTold from t.settings t.objects to
-    → Tells decoded had left t → LoadsBy from had (Err fault.Read) left to
+part_row : (from to : RunState) (had left : Feed) (t : Decoded) → BreaksNoRule t → HoldsRead from t.settings t.objects to
+    → ReadsAs decoded had left t → LoadsBy from had (Err fault.Read) left to
 part_row from to had left t sound holds q = record {
   taken = q.taken;
   ended = false;
   took = q.took;
-  row = λ more follows. record { told = t; reads = q.reads; sound = sound; holds = holds };
+  row = λ more follows. record { shown = t; reads = q.reads; sound = sound; holds = holds };
 }
 
 -- the load stopped before it had the settings
 pub settings_stop : (from : RunState) (had left : Feed) (f : LoadFault) → StopsBy None empty decoded had f left → LoadsBy from had (Err f) left from
 settings_stop from had left (fault.Bad at) s = broken_row from from had left at s.0 s.1
-    (subst (λ (p : Option Profile). HoldsTold from p s.0.objects from) (sym s.2) refl) s.4
+    (subst (λ (p : Option Profile). HoldsRead from p s.0.objects from) (sym s.2) refl) s.4
 settings_stop from had left fault.Read s = part_row from from had left s.0 s.4
-    (subst (λ (p : Option Profile). HoldsTold from p s.0.objects from) (sym s.1) refl) s.3
+    (subst (λ (p : Option Profile). HoldsRead from p s.0.objects from) (sym s.1) refl) s.3
 settings_stop from had left fault.OutOfMemory s = absurd s
 
 nothing_counted : (p : Profile) → count_decoded p [] ≡ cut (breaks_behind p empty 16)
@@ -90,8 +90,8 @@ settings_lack from to had left s q closed session = record {
   took = q.took;
   row = λ more follows. record {
     profile = profile_of s;
-    told = cut (breaks_behind (profile_of s) empty 16);
-    reads = ap decoded (sym (append-nil q.taken)) ∙ q.tells [] ∙ nothing_counted (profile_of s);
+    shown = cut (breaks_behind (profile_of s) empty 16);
+    reads = ap decoded (sym (append-nil q.taken)) ∙ q.shows [] ∙ nothing_counted (profile_of s);
     settings = refl;
     few = q.few;
     lacks = record { closed = closed; session = session };
@@ -102,17 +102,17 @@ settings_lack from to had left s q closed session = record {
 module _ (from to : RunState) (settings : Settings) (q : Profile) (had mid left : Feed) where
   pub loads_whole : q ≡ profile_of settings → Passes decoded had mid (count_decoded (profile_of settings)) → EndsBy (count_decoded q) q mid (Ok tt) left to
       → LoadsBy from had (Ok settings) left to
-  loads_whole same passes told =
-      let ends = subst (λ (p : Profile). EndsBy (count_decoded p) p mid (Ok tt) left to) same told in
-      let tells = tells_then _ _ had mid left passes (whole (profile_of settings) ends.0) ends.1 in
+  loads_whole same passes shown =
+      let ends = subst (λ (p : Profile). EndsBy (count_decoded p) p mid (Ok tt) left to) same shown in
+      let shows = shows_then _ _ had mid left passes (whole (profile_of settings) ends.0) ends.1 in
       record {
-        taken = tells.taken;
+        taken = shows.taken;
         ended = true;
-        took = tells.took;
+        took = shows.took;
         row = λ more follows. record {
           ended = nothing_follows left.rest more ends.2 follows;
           objects = ends.0;
-          reads = tells.reads;
+          reads = shows.reads;
           holds = ends.3;
         };
       }
@@ -120,21 +120,21 @@ module _ (from to : RunState) (settings : Settings) (q : Profile) (had mid left 
   pub loads_bad : (f : LoadFault) → q ≡ profile_of settings → Passes decoded had mid (count_decoded (profile_of settings))
       → EndsBy (count_decoded q) q mid (Err f) left to
       → LoadsBy from had (Err f) left to
-  loads_bad f same passes told = by f (subst (λ (p : Profile). EndsBy (count_decoded p) p mid (Err f) left to) same told)
+  loads_bad f same passes shown = by f (subst (λ (p : Profile). EndsBy (count_decoded p) p mid (Err f) left to) same shown)
     where
       by : (f : LoadFault) → EndsBy (count_decoded (profile_of settings)) (profile_of settings) mid (Err f) left to → LoadsBy from had (Err f) left to
       by (fault.Bad at) ends = broken_row from to had left at ends.0 ends.1
-          (subst (λ (p : Option Profile). HoldsTold from p ends.0.objects to) (sym ends.2) ends.4) (broken_then _ _ had mid left passes ends.0 ends.3)
+          (subst (λ (p : Option Profile). HoldsRead from p ends.0.objects to) (sym ends.2) ends.4) (broken_then _ _ had mid left passes ends.0 ends.3)
       by fault.Read ends = part_row from to had left ends.0 ends.3
-          (subst (λ (p : Option Profile). HoldsTold from p ends.0.objects to) (sym ends.1) ends.4) (tells_then _ _ had mid left passes ends.0 ends.2)
+          (subst (λ (p : Option Profile). HoldsRead from p ends.0.objects to) (sym ends.1) ends.4) (shows_then _ _ had mid left passes ends.0 ends.2)
       by fault.OutOfMemory ends = absurd ends
 
 -- the number of objects was read, and then they
 pub ends_then : (T U : Reading) (p : Profile) (had mid left : Feed) (r : Result Unit LoadFault) (to : RunState) → Passes T had mid U
     → EndsBy U p mid r left to → EndsBy T p had r left to
-ends_then T U p had mid left (Ok u) to passes ends = (ends.0, tells_then T U had mid left passes _ ends.1, ends.2, ends.3)
+ends_then T U p had mid left (Ok u) to passes ends = (ends.0, shows_then T U had mid left passes _ ends.1, ends.2, ends.3)
 ends_then T U p had mid left (Err (fault.Bad at)) to passes ends = (ends.0, ends.1, ends.2, broken_then T U had mid left passes ends.0 ends.3, ends.4)
-ends_then T U p had mid left (Err fault.Read) to passes ends = (ends.0, ends.1, tells_then T U had mid left passes ends.0 ends.2, ends.3, ends.4)
+ends_then T U p had mid left (Err fault.Read) to passes ends = (ends.0, ends.1, shows_then T U had mid left passes ends.0 ends.2, ends.3, ends.4)
 ends_then T U p had mid left (Err fault.OutOfMemory) to passes ends = absurd ends
 
 -- the number of objects was not read
@@ -147,8 +147,8 @@ module _ (T : Reading) (p : Profile) (had left : Feed) (s : RunState) (loading :
   stops_end fault.Read q = (q.0, q.1, q.3, q.4, holds q.0 q.2)
   stops_end fault.OutOfMemory q = absurd q
 
-  pub bad_end : (at : ℕ) → TellsBroken T had left (breaks_behind p empty at) → EndsBy T p had (Err (fault.Bad at)) left s
-  bad_end at tells = (breaks_behind p empty at, refl, refl, tells, holds (breaks_behind p empty at) refl)
+  pub bad_end : (at : ℕ) → ReadsBroken T had left (breaks_behind p empty at) → EndsBy T p had (Err (fault.Bad at)) left s
+  bad_end at shows = (breaks_behind p empty at, refl, refl, shows, holds (breaks_behind p empty at) refl)
 
 -- a manager that was just opened, and a session without ids
 module _ (kind : Kind) (moving : kind ≡ Moving) (session : SessionState) (heap : HeapState) (settings : Settings) (one : settings.k ≡ 1)

@@ -15,41 +15,41 @@ use Rattle.cf_base.specs.declared.settings.Settings.{Settings}
 use Rattle.heap_image.specs.Decoded.{BreaksNoRule, Decoded, count_decoded, cut, decoded, number, pages_decoded, unopened}
 use Rattle.heap_image.specs.Feed.{Feed, Takes}
 use Rattle.heap_image.specs.Image.{mark}
-use Rattle.heap_image.specs.Stages.{Passes, ReadsNumber, ReadsSettings, SettingsBy, StopsShort, TellsBroken}
+use Rattle.heap_image.specs.Stages.{Passes, ReadsNumber, ReadsSettings, SettingsBy, StopsShort, ReadsBroken}
 use Rattle.heap_image.specs.declared.fault.LoadFault.{LoadFault}
 use Rattle.heap_image.specs.declared.fault.LoadFault.TheVariants as fault
 use Rattle.heap_image.proofs.ImageDecoded.{mark_read}
-use Rattle.heap_image.proofs.StageLemmas.{falls_stops, field_breaks, field_tells, stops_then, takes_then}
+use Rattle.heap_image.proofs.StageLemmas.{falls_stops, field_breaks, field_shows, stops_then, takes_then}
 
 -- the settings after k bytes
 pub settings_then : (T U : List ℕ → Decoded) (a : List ℕ) (k n : ℕ) (had mid left : Feed) (r : Result Settings LoadFault) → length a ≡ k → Takes a had mid
     → ((more : List ℕ) → T (a ++ more) ≡ U more) → SettingsBy n U mid r left → SettingsBy (k + n) T had r left
-settings_then T U a k n had mid left (Ok s) long took tells q = record {
+settings_then T U a k n had mid left (Ok s) long took shows q = record {
   taken = a ++ q.taken;
   few = (let joined = length-append a q.taken in let few = q.few in omega arith);
   took = takes_then a q.taken had mid left took q.took;
-  tells = λ more. ap T (append_assoc a q.taken more) ∙ tells (q.taken ++ more) ∙ q.tells more;
+  shows = λ more. ap T (append_assoc a q.taken more) ∙ shows (q.taken ++ more) ∙ q.shows more;
   one = q.one;
 }
-settings_then T U a k n had mid left (Err f) long took tells q =
-    stops_then T U had mid left (record { taken = a; took = took; tells = tells }) None empty f q
+settings_then T U a k n had mid left (Err f) long took shows q =
+    stops_then T U had mid left (record { taken = a; took = took; shows = shows }) None empty f q
 
 -- behind a field
 pub field_then : (bad : Decoded) (test : ℕ → Bool) (go : ℕ → List ℕ → Decoded) (n at count : ℕ) (had mid left : Feed) (r : Result Settings LoadFault)
     → ReadsNumber w32 at had (Ok n) mid → test n ≡ true → SettingsBy count (go n) mid r left
     → SettingsBy (4 + count) (λ bytes. number w32 bytes bad (λ n rest. if test n then go n rest else bad)) had r left
 field_then bad test go n at count had mid left r reads good q =
-    settings_then _ (go n) reads.0 4 count had mid left r reads.1 reads.3 (field_tells w32 bad test go had mid at n reads good) q
+    settings_then _ (go n) reads.0 4 count had mid left r reads.1 reads.3 (field_shows w32 bad test go had mid at n reads good) q
 
 -- the settings go on to the objects
 pub settings_pass_on : (n : ℕ) (T : List ℕ → Decoded) (had left : Feed) (s : Settings) → ReadsSettings n T had left s
     → Passes T had left (count_decoded (profile_of s))
-settings_pass_on n T had left s q = record { taken = q.taken; took = q.took; tells = q.tells }
+settings_pass_on n T had left s q = record { taken = q.taken; took = q.took; shows = q.shows }
 
 -- a field of the settings breaks a rule
-pub settings_bad : (n : ℕ) (T : List ℕ → Decoded) (had left : Feed) (at : ℕ) → TellsBroken T had left (unopened at)
+pub settings_bad : (n : ℕ) (T : List ℕ → Decoded) (had left : Feed) (at : ℕ) → ReadsBroken T had left (unopened at)
     → SettingsBy n T had (Err (fault.Bad at)) left
-settings_bad n T had left at tells = (unopened at, refl, refl, refl, tells)
+settings_bad n T had left at shows = (unopened at, refl, refl, refl, shows)
 
 -- bytes that don't begin with the mark
 abbrev unmarked : List ℕ → Decoded

@@ -15,16 +15,16 @@ use Rattle.heap_image.specs.Listed.{listed}
 use Rattle.transcript_laws.proofs.CallerLemmas.{gone_by_id, live_by_id, numbered_by_id}
 use Rattle.heap_image.proofs.Listing.{listed_all, listed_end, listed_none, listed_some}
 
-abbrev Told : Type 0
-Told = Option (List ℕ)
+abbrev Written : Type 0
+Written = Option (List ℕ)
 
 -- the writing came to an id: what was written by then, and the objects from the id on
-pub record CameTo (text : ℕ → List ℕ → List ℕ) (s : RunState) (w x : Told) (id : ℕ) : Type 0 where
+pub record CameTo (text : ℕ → List ℕ → List ℕ) (s : RunState) (w x : Written) (id : ℕ) : Type 0 where
   pub done : List ℕ
   pub rest : texts_of text (entries (objects_of s)) ≡ done ++ texts_of text (listed (objects_of s) id (65536 - id))
   pub written : x ≡ appended w done
 
-nothing_written : (w : Told) → w ≡ appended w []
+nothing_written : (w : Written) → w ≡ appended w []
 nothing_written None = refl
 nothing_written (Some all) = ap Some (sym (append-nil all))
 
@@ -33,7 +33,7 @@ module _ (text : ℕ → List ℕ → List ℕ) (s : RunState) where
   all_texts = texts_of text (entries (objects_of s))
 
   -- no object was written
-  pub came_first : (w : Told) → AreWithin s.session.ids → CameTo text s w w 0
+  pub came_first : (w : Written) → AreWithin s.session.ids → CameTo text s w w 0
   came_first w ids = record {
     done = [];
     rest = ap (λ (es : List (ℕ × List ℕ)). texts_of text es) (listed_all (objects_of s) 65536 (λ id v is.
@@ -43,7 +43,7 @@ module _ (text : ℕ → List ℕ → List ℕ) (s : RunState) where
     written = nothing_written w;
   }
 
-  module _ (w x : Told) (id n : ℕ) (left : 65536 - id ≡ suc n) (next : 65536 - (id + 1) ≡ n) (so_far : CameTo text s w x id) where
+  module _ (w x : Written) (id n : ℕ) (left : 65536 - id ≡ suc n) (next : 65536 - (id + 1) ≡ n) (so_far : CameTo text s w x id) where
     -- an id that has no object
     pub came_past : get s.session.ids id ≡ None → CameTo text s w x (id + 1)
     came_past none = record {
@@ -66,20 +66,20 @@ module _ (text : ℕ → List ℕ → List ℕ) (s : RunState) where
           (live_by_id s.session.ids (objects s.heap.held) id h object.bytes named (bytes_held s.heap.held h object some)))
 
       -- an object was written
-      pub came_on : (y : Told) → y ≡ appended x own → CameTo text s w y (id + 1)
+      pub came_on : (y : Written) → y ≡ appended x own → CameTo text s w y (id + 1)
       came_on y put = record {
         done = so_far.done ++ own;
         rest = split ∙ sym (append_assoc so_far.done own behind)
             ∙ ap (λ k. (so_far.done ++ own) ++ texts_of text (listed (objects_of s) (id + 1) k)) (sym next);
-        written = put ∙ ap (λ (t : Told). appended t own) so_far.written ∙ appended_then w so_far.done own;
+        written = put ∙ ap (λ (t : Written). appended t own) so_far.written ∙ appended_then w so_far.done own;
       }
 
       -- an object was cut
-      pub came_short : (y : Told) (e : Failed) → Puts {T = Unit {0}} x own (Err e) y → Puts {T = Unit {0}} w all_texts (Err e) y
+      pub came_short : (y : Written) (e : Failed) → Puts {T = Unit {0}} x own (Err e) y → Puts {T = Unit {0}} w all_texts (Err e) y
       came_short y e put = subst (λ (b : List ℕ). Puts {T = Unit {0}} w b (Err e) y) (sym split)
           (puts_then {T = Unit {0}} w x y so_far.done (own ++ behind) (Err e) so_far.written (puts_cut x y own behind e put))
 
   -- no id is left
-  pub came_last : (w x : Told) → CameTo text s w x 65536 → x ≡ appended w all_texts
+  pub came_last : (w x : Written) → CameTo text s w x 65536 → x ≡ appended w all_texts
   came_last w x so_far = so_far.written ∙ ap (appended w) (sym (so_far.rest
       ∙ ap (λ (es : List (ℕ × List ℕ)). so_far.done ++ texts_of text es) (listed_end (objects_of s) 65536) ∙ append-nil so_far.done))

@@ -114,7 +114,7 @@ module _ (p : Profile) (r : Reached) (id n : ℕ) (go : Reached → List ℕ →
   bytes_pass v is took = record {
     taken = v;
     took = took;
-    tells = λ more. ap (λ k. bytes_decoded p r id k (v ++ more) go) (sym is) ∙ bytes_read p r go id v more;
+    shows = λ more. ap (λ k. bytes_decoded p r id k (v ++ more) go) (sym is) ∙ bytes_read p r go id v more;
   }
 
   bytes_short : (bytes : List ℕ) → length bytes < n → bytes_decoded p r id n bytes go ≡ cut (breaks_in p r 6)

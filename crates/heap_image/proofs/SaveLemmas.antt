@@ -20,11 +20,11 @@ use Rattle.heap_image.specs.Heaps.{heap_image, objects_of}
 use Rattle.heap_image.specs.Image.{entries_of, entry_of, header_of, number_bytes}
 use Rattle.transcript_laws.proofs.CallerLemmas.{by_id_counts}
 
-abbrev Told : Type 0
-Told = Option (List ℕ)
+abbrev Written : Type 0
+Written = Option (List ℕ)
 
 -- what an object is written as
-pub entry_put : {T : Type 0} (w x y : Told) (id n : ℕ) (line line2 line3 bytes : List ℕ) (r : Result T Failed) → line ≡ [] → line2 ≡ line ++ number_bytes w16 id
+pub entry_put : {T : Type 0} (w x y : Written) (id n : ℕ) (line line2 line3 bytes : List ℕ) (r : Result T Failed) → line ≡ [] → line2 ≡ line ++ number_bytes w16 id
     → line3 ≡ line2 ++ number_bytes w32 n → n ≡ length bytes → x ≡ appended w line3 → Puts x bytes r y → Puts w (entry_of id bytes) r y
 entry_put {T} w x y id n line line2 line3 bytes r none first second same put rest =
     let is : line3 ++ bytes ≡ entry_of id bytes =
@@ -32,7 +32,7 @@ entry_put {T} w x y id n line line2 line3 bytes r none first second same put res
     ∙ append_assoc (number_bytes w16 id) (number_bytes w32 n) bytes ∙ ap (λ k. number_bytes w16 id ++ (number_bytes w32 k ++ bytes)) same in
     subst (λ (b : List ℕ). Puts {T = T} w b r y) is (puts_then {T = T} w x y line3 bytes r put rest)
 
-pub entry_cut : (w y : Told) (id n : ℕ) (line line2 line3 bytes : List ℕ) (e : Failed) → line ≡ [] → line2 ≡ line ++ number_bytes w16 id
+pub entry_cut : (w y : Written) (id n : ℕ) (line line2 line3 bytes : List ℕ) (e : Failed) → line ≡ [] → line2 ≡ line ++ number_bytes w16 id
     → line3 ≡ line2 ++ number_bytes w32 n → n ≡ length bytes → Puts {T = Unit {0}} w line3 (Err e) y → Puts {T = Unit {0}} w (entry_of id bytes) (Err e) y
 entry_cut w y id n line line2 line3 bytes e none first second same put =
     let is : line3 ++ bytes ≡ entry_of id bytes =
@@ -54,7 +54,7 @@ module _ (s : RunState) (tied : AreTied s.session s.heap) where
   header_is pages page_words proxies live p q r l = sym (λ i. header_of (p i) (8 * q i) (r i) ((as_many ∙ sym l) i))
 
   -- the header was written, and then the objects
-  pub header_then : (w x y : Told) (pages page_words proxies live : ℕ) (r : Result Unit Failed) → s.heap.profile.pages ≡ pages
+  pub header_then : (w x y : Written) (pages page_words proxies live : ℕ) (r : Result Unit Failed) → s.heap.profile.pages ≡ pages
       → s.heap.profile.page_words ≡ page_words → s.heap.profile.proxies ≡ proxies → live ≡ len s.heap.held
       → x ≡ appended w (header_of pages (8 * page_words) proxies live) → Puts x (entries_of (entries (objects_of s))) r y → Puts w (heap_image s) r y
   header_then w x y pages page_words proxies live r p q t l put rest =
@@ -62,7 +62,7 @@ module _ (s : RunState) (tied : AreTied s.session s.heap) where
       (put ∙ ap (λ (b : List ℕ). appended w b) (header_is pages page_words proxies live p q t l)) rest
 
   -- the header was cut
-  pub header_cut : (w x : Told) (pages page_words proxies live : ℕ) (e : Failed) → s.heap.profile.pages ≡ pages → s.heap.profile.page_words ≡ page_words
+  pub header_cut : (w x : Written) (pages page_words proxies live : ℕ) (e : Failed) → s.heap.profile.pages ≡ pages → s.heap.profile.page_words ≡ page_words
       → s.heap.profile.proxies ≡ proxies → live ≡ len s.heap.held → Puts {T = Unit {0}} w (header_of pages (8 * page_words) proxies live) (Err e) x
       → Puts {T = Unit {0}} w (heap_image s) (Err e) x
   header_cut w x pages page_words proxies live e p q r l put =
@@ -70,8 +70,8 @@ module _ (s : RunState) (tied : AreTied s.session s.heap) where
       (subst (λ (b : List ℕ). Puts {T = Unit {0}} w b (Err e) x) (header_is pages page_words proxies live p q r l) put)
 
 -- the totals contain the number of objects
-pub live_told : (s : HeapState) (t : Totals) → s.kind ≡ Moving → t ≡ totals_in s.kind s → t.live ≡ len s.held
-live_told s t moving is =
+pub live_shown : (s : HeapState) (t : Totals) → s.kind ≡ Moving → t ≡ totals_in s.kind s → t.live ≡ len s.held
+live_shown s t moving is =
     ap (λ (f : Totals). f.live) (is ∙ ap (λ (k : Kind). totals_in k s) moving) ∙ len-objects s.held
 
 -- equal settings are equal in each part that a header holds

@@ -11,7 +11,7 @@ use Rattle.script_loop.proofs.CallerLemmas.{preceded_after, preceded_none}
 use Rattle.heap_image.specs.Decoded.{BreaksNoRule, Decoded, cut, number}
 use Rattle.heap_image.specs.Feed.{Feed, Takes}
 use Rattle.heap_image.specs.Load.{LastBreaks}
-use Rattle.heap_image.specs.Stages.{Passes, ReadsNumber, StopsAt, StopsBy, StopsShort, Tells, TellsBroken}
+use Rattle.heap_image.specs.Stages.{Passes, ReadsNumber, StopsAt, StopsBy, StopsShort, ReadsAs, ReadsBroken}
 use Rattle.heap_image.specs.declared.fault.LoadFault.{LoadFault}
 use Rattle.heap_image.specs.declared.fault.LoadFault.TheVariants as fault
 use Rattle.heap_image.proofs.Numbers.{number_cut, number_whole}
@@ -41,14 +41,14 @@ module _ (T U : Reading) (had mid left : Feed) (p : Passes T had mid U) where
   passes_then V q = record {
     taken = p.taken ++ q.taken;
     took = takes_then p.taken q.taken had mid left p.took q.took;
-    tells = λ more. ap T (append_assoc p.taken q.taken more) ∙ p.tells (q.taken ++ more) ∙ q.tells more;
+    shows = λ more. ap T (append_assoc p.taken q.taken more) ∙ p.shows (q.taken ++ more) ∙ q.shows more;
   }
 
-  pub tells_then : (t : Decoded) → Tells U mid left t → Tells T had left t
-  tells_then t q = record {
+  pub shows_then : (t : Decoded) → ReadsAs U mid left t → ReadsAs T had left t
+  shows_then t q = record {
     taken = p.taken ++ q.taken;
     took = takes_then p.taken q.taken had mid left p.took q.took;
-    reads = p.tells q.taken ∙ q.reads;
+    reads = p.shows q.taken ∙ q.reads;
   }
 
   stops_on : (t : Decoded) (b : Bool) (taken : List ℕ) → StopsAt U taken t left b → StopsAt T (p.taken ++ taken) t left b
@@ -58,18 +58,18 @@ module _ (T U : Reading) (had mid left : Feed) (p : Passes T had mid U) where
       before = p.taken ++ q.last.before;
       last = q.last.last;
       are = ap (λ (l : List ℕ). p.taken ++ l) q.last.are ∙ sym (append_assoc p.taken q.last.before (q.last.last ∷ []));
-      sound = subst (λ (d : Decoded). BreaksNoRule d) (sym (p.tells q.last.before)) q.last.sound;
+      sound = subst (λ (d : Decoded). BreaksNoRule d) (sym (p.shows q.last.before)) q.last.sound;
     };
-    reads_on = λ more. ap T (append_assoc p.taken taken more) ∙ p.tells (taken ++ more) ∙ q.reads_on more;
+    reads_on = λ more. ap T (append_assoc p.taken taken more) ∙ p.shows (taken ++ more) ∙ q.reads_on more;
   }
 
-  pub broken_then : (t : Decoded) → TellsBroken U mid left t → TellsBroken T had left t
-  unfolding tells_then
-  broken_then t q = record { tells = tells_then t q.tells; stops = stops_on t t.is_cut q.tells.taken q.stops }
+  pub broken_then : (t : Decoded) → ReadsBroken U mid left t → ReadsBroken T had left t
+  unfolding shows_then
+  broken_then t q = record { shows = shows_then t q.shows; stops = stops_on t t.is_cut q.shows.taken q.stops }
 
   pub stops_then : (s : Option Profile) (o : Objects) (f : LoadFault) → StopsBy s o U mid f left → StopsBy s o T had f left
   stops_then s o (fault.Bad at) q = (q.0, q.1, q.2, q.3, broken_then q.0 q.4)
-  stops_then s o fault.Read q = (q.0, q.1, q.2, tells_then q.0 q.3, q.4)
+  stops_then s o fault.Read q = (q.0, q.1, q.2, shows_then q.0 q.3, q.4)
   stops_then s o fault.OutOfMemory q = absurd q
 
 -- bytes and the last of them
@@ -81,18 +81,18 @@ last_of (x ∷ y ∷ rest) some = (let l = last_of (y ∷ rest) (omega arith) in
 
 -- a field breaks a rule, whatever follows it, and fewer of its bytes break none
 pub field_breaks : (T : Reading) (field : List ℕ) (had left : Feed) (bad : Decoded) → bad.is_cut ≡ false → 0 < length field → Takes field had left
-    → ((more : List ℕ) → T (field ++ more) ≡ bad) → ((few : List ℕ) → length few < length field → BreaksNoRule (T few)) → TellsBroken T had left bad
-field_breaks T field had left bad rule some took tells sound = record {
-  tells = record { taken = field; took = took; reads = ap T (sym (append-nil field)) ∙ tells [] };
-  stops = subst (λ b. StopsAt T field bad left b) (sym rule) (record { last = last_breaks; reads_on = tells });
+    → ((more : List ℕ) → T (field ++ more) ≡ bad) → ((few : List ℕ) → length few < length field → BreaksNoRule (T few)) → ReadsBroken T had left bad
+field_breaks T field had left bad rule some took shows sound = record {
+  shows = record { taken = field; took = took; reads = ap T (sym (append-nil field)) ∙ shows [] };
+  stops = subst (λ b. StopsAt T field bad left b) (sym rule) (record { last = last_breaks; reads_on = shows });
 }
   where
     last_breaks : LastBreaks T field
     last_breaks = (let l = last_of field some in record { before = l.0; last = l.1; are = l.2; sound = sound l.0 l.3 })
 
 -- a part was taken, and nothing more
-pub passes_part : (T U : Reading) (had left : Feed) (t : Decoded) → Passes T had left U → U [] ≡ t → Tells T had left t
-passes_part T U had left t p e = record { taken = p.taken; took = p.took; reads = ap T (sym (append-nil p.taken)) ∙ p.tells [] ∙ e }
+pub passes_part : (T U : Reading) (had left : Feed) (t : Decoded) → Passes T had left U → U [] ≡ t → ReadsAs T had left t
+passes_part T U had left t p e = record { taken = p.taken; took = p.took; reads = ap T (sym (append-nil p.taken)) ∙ p.shows [] ∙ e }
 
 -- a reading of fewer than `room` bytes finds them cut
 module _ (T : Reading) (room : ℕ) (bad : Decoded) (short : (bytes : List ℕ) → length bytes < room → T bytes ≡ cut bad) (had left : Feed) where
@@ -104,7 +104,7 @@ module _ (T : Reading) (room : ℕ) (bad : Decoded) (short : (bytes : List ℕ) 
     settings,
     objects,
     record {
-      tells = record { taken = q.1.taken; took = q.1.took; reads = short q.1.taken q.1.short };
+      shows = record { taken = q.1.taken; took = q.1.took; reads = short q.1.taken q.1.short };
       stops = q.2;
     },
   )
@@ -133,14 +133,14 @@ module _ (w : Width) (bad : Decoded) (test : ℕ → Bool) (yes : ℕ → List �
   field_cut few short = number_cut w few bad (λ n rest. if test n then yes n rest else bad) short
 
   -- it is accepted
-  pub field_tells : (n : ℕ) (r : ReadsNumber w at had (Ok n) left) → test n ≡ true → (more : List ℕ) → field (r.0 ++ more) ≡ yes n more
-  field_tells n r e more = tested n r more ∙ cond-true _ _ _ e
+  pub field_shows : (n : ℕ) (r : ReadsNumber w at had (Ok n) left) → test n ≡ true → (more : List ℕ) → field (r.0 ++ more) ≡ yes n more
+  field_shows n r e more = tested n r more ∙ cond-true _ _ _ e
 
   pub field_good : (n : ℕ) → ReadsNumber w at had (Ok n) left → test n ≡ true → Passes field had left (yes n)
-  field_good n r e = record { taken = r.0; took = r.3; tells = field_tells n r e }
+  field_good n r e = record { taken = r.0; took = r.3; shows = field_shows n r e }
 
   -- it breaks a rule
-  pub field_bad : (n : ℕ) → ReadsNumber w at had (Ok n) left → test n ≡ false → bad.is_cut ≡ false → 0 < byte_len w → TellsBroken field had left bad
+  pub field_bad : (n : ℕ) → ReadsNumber w at had (Ok n) left → test n ≡ false → bad.is_cut ≡ false → 0 < byte_len w → ReadsBroken field had left bad
   field_bad n r e rule wide =
       let long = r.1 in
       field_breaks field r.0 had left bad rule (omega arith) r.3 (λ more. tested n r more ∙ cond-false _ _ _ e)

@@ -123,15 +123,15 @@ module _ (old new : RunState) (loading : IsLoading old) (going : IsGoing new) wh
     made_by : (outcome : Outcome) (answer : Result Handle Refusal) → IsMallocStep old.heap n answer new.heap → new.session.ids ≡ ids_given ids id answer
         → new.heap.kind ≡ old.heap.kind → new.heap.profile ≡ old.heap.profile → reply ≡ said (malloc_text answer) → outcome ≡ outcome_of reply → Made outcome
     unfolding has_room
-    made_by outcome (Ok h) step e k p is told =
+    made_by outcome (Ok h) step e k p is shown =
         let whole = step.whole in
         let unused : get m h.0 ≡ None = bytes_missing old.heap.held h.0 step.unused in
         let left : objects new.heap.held ≡ insert m h.0 (replicate n 0) = ap (λ (s : HeapState). objects s.held) whole
         ∙ malloc_objects old.heap.held h.0 step.place n in
-        let good : outcome ≡ Good = told ∙ ap outcome_of is in
+        let good : outcome ≡ Good = shown ∙ ap outcome_of is in
         let room = (λ (lacks : old.heap.profile.pages < pages_needed_with (image_paging old.heap.profile) o n). (
         let want : RefusesForWant reply = (wants step.fits).1 (inr (omega (arith, needed))) in
-        let bad : outcome ≡ Refused = elim want [ inl w ↦ told ∙ ap outcome_of w | inr w ↦ told ∙ ap outcome_of w ] in
+        let bad : outcome ≡ Refused = elim want [ inl w ↦ shown ∙ ap outcome_of w | inr w ↦ shown ∙ ap outcome_of w ] in
         let z : Good ≡ Refused = sym good ∙ bad in absurd (let y = z in cc))) in
         inl (
           good,
@@ -139,26 +139,26 @@ module _ (old new : RunState) (loading : IsLoading old) (going : IsGoing new) wh
           leads (insert o id (replicate n 0)) k p (ap (λ (s : HeapState). s.bounds) whole)
               ((λ i. objects_by_id (e i) (left i)) ∙ by_id_given ids m names id h.0 (replicate n 0) unused),
         )
-    made_by outcome (Err refusal.Size) step e k p is told = inr (
-      told ∙ ap outcome_of is,
+    made_by outcome (Err refusal.Size) step e k p is shown = inr (
+      shown ∙ ap outcome_of is,
       fits_not _ _ _ step.0,
       leads o k p (ap (λ (s : HeapState). s.bounds) step.1) (λ i. objects_by_id (e i) (objects (step.1 i).held)),
     )
-    made_by outcome (Err refusal.Proxy) step e k p is told = absurd (not_all step.0.all)
-    made_by outcome (Err refusal.Space) step e k p is told =
+    made_by outcome (Err refusal.Proxy) step e k p is shown = absurd (not_all step.0.all)
+    made_by outcome (Err refusal.Space) step e k p is shown =
         let want = (wants step.0.fits).0 (inr is) in
         let lacks : old.heap.profile.pages < pages_needed_with (image_paging old.heap.profile) o n =
         elim want [ inl w ↦ absurd (not_all w) | inr w ↦ omega (arith, needed, w) ] in
         inr (
-          told ∙ ap outcome_of is,
+          shown ∙ ap outcome_of is,
           room_not _ _ _ lacks,
           leads o k p (ap (λ (s : HeapState). s.bounds) step.1) (λ i. objects_by_id (e i) (objects (step.1 i).held)),
         )
 
     pub made : (outcome : Outcome) → outcome ≡ outcome_of reply → Made outcome
-    made outcome told =
+    made outcome shown =
         let same = step_same old new (Malloc id n) reply loading.going.rules turn.step in
-        made_by outcome mallocs.answer mallocs.step (ap (λ (s : SessionState). s.ids) mallocs.session) same.kind same.profile mallocs.reply_is told
+        made_by outcome mallocs.answer mallocs.step (ap (λ (s : SessionState). s.ids) mallocs.session) same.kind same.profile mallocs.reply_is shown
 
     pub made_counts : new.session ≡ after_mallocs old.session true new.session.ids
     made_counts = mallocs.session ∙ ap (λ (i : Ids). record old.session { ids = i; bound = 64 }) (sym (ap (λ (s : SessionState). s.ids) mallocs.session))
@@ -166,7 +166,7 @@ module _ (old new : RunState) (loading : IsLoading old) (going : IsGoing new) wh
     -- whether it was made
     pub made_or_not : (b : Bool) (outcome : Outcome) → OnTrue b (outcome ≡ Good) → OnFalse b (outcome ≢ Good) → outcome ≡ outcome_of reply
         → (b ≡ has_room old.heap.profile o n) × OnTrue b (LeadsTo old new (insert o id (replicate n 0))) × OnFalse b (LeadsTo old new o)
-    made_or_not b outcome good other told = by b good other (made outcome told)
+    made_or_not b outcome good other shown = by b good other (made outcome shown)
       where
         by : (b : Bool) → OnTrue b (outcome ≡ Good) → OnFalse b (outcome ≢ Good) → Made outcome
             → (b ≡ has_room old.heap.profile o n) × OnTrue b (LeadsTo old new (insert o id (replicate n 0))) × OnFalse b (LeadsTo old new o)

@@ -7,22 +7,22 @@ use Rattle.run_model.specs.Sessions.{RunState}
 use Rattle.heap_image.specs.Decoded.{BreaksNoRule, Decoded, whole}
 use Rattle.heap_image.specs.Feed.{Feed, Takes}
 use Rattle.heap_image.specs.Load.{HoldsObjects}
-use Rattle.heap_image.specs.Stages.{Tells, TellsBroken}
+use Rattle.heap_image.specs.Stages.{ReadsAs, ReadsBroken}
 use Rattle.heap_image.specs.declared.fault.LoadFault.{LoadFault}
 use Rattle.heap_image.specs.declared.fault.LoadFault.TheVariants as fault
 
 -- all objects were read and are held; or those before the field that breaks, or before the source failed, are held
 abbrev pub EndsBy : (List ℕ → Decoded) → Profile → Feed → Result Unit LoadFault → Feed → RunState → Type 0
-EndsBy reading p had (Ok u) left to = (o : Objects) × Tells reading had left (whole p o) × IsSpent left.rest × HoldsObjects p o to
+EndsBy reading p had (Ok u) left to = (o : Objects) × ReadsAs reading had left (whole p o) × IsSpent left.rest × HoldsObjects p o to
 EndsBy reading p had (Err (fault.Bad at)) left to =
-    (t : Decoded) × (t.broken ≡ Some at) × (t.settings ≡ Some p) × TellsBroken reading had left t × HoldsObjects p t.objects to
+    (t : Decoded) × (t.broken ≡ Some at) × (t.settings ≡ Some p) × ReadsBroken reading had left t × HoldsObjects p t.objects to
 EndsBy reading p had (Err fault.Read) left to =
-    (t : Decoded) × (t.settings ≡ Some p) × Tells reading had left t × BreaksNoRule t × HoldsObjects p t.objects to
+    (t : Decoded) × (t.settings ≡ Some p) × ReadsAs reading had left t × BreaksNoRule t × HoldsObjects p t.objects to
 EndsBy reading p had (Err fault.OutOfMemory) left to = ⊥
 
 -- the source ended; or it had a byte; or it failed
-abbrev pub EndTold : ℕ → Feed → Result Unit LoadFault → Feed → Type 0
-EndTold at had (Ok u) left = Takes [] had left × IsSpent left.rest
-EndTold at had (Err (fault.Bad b)) left = (b ≡ at) × ((byte : ℕ) × Takes (byte ∷ []) had left)
-EndTold at had (Err fault.Read) left = Takes [] had left
-EndTold at had (Err fault.OutOfMemory) left = ⊥
+abbrev pub EndRead : ℕ → Feed → Result Unit LoadFault → Feed → Type 0
+EndRead at had (Ok u) left = Takes [] had left × IsSpent left.rest
+EndRead at had (Err (fault.Bad b)) left = (b ≡ at) × ((byte : ℕ) × Takes (byte ∷ []) had left)
+EndRead at had (Err fault.Read) left = Takes [] had left
+EndRead at had (Err fault.OutOfMemory) left = ⊥

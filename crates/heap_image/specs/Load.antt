@@ -40,9 +40,9 @@ pub record HoldsObjects (p : Profile) (o : Objects) (s : RunState) : Type 0 wher
   pub objects : objects_of s ≡ o
 
 -- without settings nothing changed; with settings they hold the objects that were read
-abbrev pub HoldsTold : RunState → Option Profile → Objects → RunState → Type 0
-HoldsTold from None o to = to ≡ from
-HoldsTold from (Some p) o to = HoldsObjects p o to
+abbrev pub HoldsRead : RunState → Option Profile → Objects → RunState → Type 0
+HoldsRead from None o to = to ≡ from
+HoldsRead from (Some p) o to = HoldsObjects p o to
 
 -- the bytes taken are an image of these settings, nothing follows, and what it holds is held
 pub record LoadsAll (taken more : List ℕ) (settings : Settings) (to : RunState) : Type 0 where
@@ -53,26 +53,26 @@ pub record LoadsAll (taken more : List ℕ) (settings : Settings) (to : RunState
 
 -- the bytes are no image, none was taken past the field that breaks, and the objects before it are held
 pub record LoadsBroken (from : RunState) (taken more : List ℕ) (at : ℕ) (to : RunState) : Type 0 where
-  pub told : Decoded
-  pub reads : decoded taken ≡ told
-  pub reads_all : decoded (taken ++ more) ≡ told
-  pub broken : told.broken ≡ Some at
-  pub no_more : TakesNoMore taken more told.is_cut
-  pub holds : HoldsTold from told.settings told.objects to
+  pub shown : Decoded
+  pub reads : decoded taken ≡ shown
+  pub reads_all : decoded (taken ++ more) ≡ shown
+  pub broken : shown.broken ≡ Some at
+  pub no_more : TakesNoMore taken more shown.is_cut
+  pub holds : HoldsRead from shown.settings shown.objects to
 
 -- the bytes taken break no rule, and the objects in them are held
 pub record LoadsInPart (from : RunState) (taken : List ℕ) (to : RunState) : Type 0 where
-  pub told : Decoded
-  pub reads : decoded taken ≡ told
-  pub sound : BreaksNoRule told
-  pub holds : HoldsTold from told.settings told.objects to
+  pub shown : Decoded
+  pub reads : decoded taken ≡ shown
+  pub sound : BreaksNoRule shown
+  pub holds : HoldsRead from shown.settings shown.objects to
 
 -- just the mark and the settings were taken, which are 16 bytes, and the manager found no memory for these settings
 pub record LoadsNothing (from : RunState) (taken : List ℕ) (to : RunState) : Type 0 where
   pub profile : Profile
-  pub told : Decoded
-  pub reads : decoded taken ≡ told
-  pub settings : told.settings ≡ Some profile
+  pub shown : Decoded
+  pub reads : decoded taken ≡ shown
+  pub settings : shown.settings ≡ Some profile
   pub few : length taken ≡ 16
   pub lacks : LacksOne from to
 

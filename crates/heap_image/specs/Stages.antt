@@ -18,7 +18,7 @@ use Rattle.heap_image.specs.declared.fields_in.Filled.{Filled}
 use Rattle.heap_image.specs.declared.fields_in.Filled.TheVariants as filled
 
 -- What was taken of a source, by a reading of it.
-pub record Tells (reading : List ℕ → Decoded) (had left : Feed) (t : Decoded) : Type 0 where
+pub record ReadsAs (reading : List ℕ → Decoded) (had left : Feed) (t : Decoded) : Type 0 where
   pub taken : List ℕ
   pub took : Takes taken had left
   pub reads : reading taken ≡ t
@@ -34,15 +34,15 @@ StopsAt reading taken t left true = IsSpent left.rest
 StopsAt reading taken t left false = BreaksAtLast reading taken t
 
 -- What was taken of a source, up to the end of the field that breaks.
-pub record TellsBroken (reading : List ℕ → Decoded) (had left : Feed) (t : Decoded) : Type 0 where
-  pub tells : Tells reading had left t
-  pub stops : StopsAt reading tells.taken t left t.is_cut
+pub record ReadsBroken (reading : List ℕ → Decoded) (had left : Feed) (t : Decoded) : Type 0 where
+  pub shows : ReadsAs reading had left t
+  pub stops : StopsAt reading shows.taken t left t.is_cut
 
 -- a part of a reading was taken, and another reading decodes the rest
 pub record Passes (reading : List ℕ → Decoded) (had left : Feed) (go : List ℕ → Decoded) : Type 0 where
   pub taken : List ℕ
   pub took : Takes taken had left
-  pub tells : (more : List ℕ) → reading (taken ++ more) ≡ go more
+  pub shows : (more : List ℕ) → reading (taken ++ more) ≡ go more
 
 -- fewer than `room` bytes were taken
 pub record Falls (room : ℕ) (had left : Feed) : Type 0 where
@@ -71,9 +71,9 @@ ReadsNumber w at had (Err e) left = StopsShort (byte_len w) at had e left
 -- a reading stopped by a fault, with these settings and objects before it, and broke at this offset
 abbrev pub StopsBy : Option Profile → Objects → (List ℕ → Decoded) → Feed → LoadFault → Feed → Type 0
 StopsBy settings o reading had (fault.Bad at) left =
-    (t : Decoded) × (t.broken ≡ Some at) × (t.settings ≡ settings) × (t.objects ≡ o) × TellsBroken reading had left t
+    (t : Decoded) × (t.broken ≡ Some at) × (t.settings ≡ settings) × (t.objects ≡ o) × ReadsBroken reading had left t
 StopsBy settings o reading had fault.Read left =
-    (t : Decoded) × (t.settings ≡ settings) × (t.objects ≡ o) × Tells reading had left t × BreaksNoRule t
+    (t : Decoded) × (t.settings ≡ settings) × (t.objects ≡ o) × ReadsAs reading had left t × BreaksNoRule t
 StopsBy settings o reading had fault.OutOfMemory left = ⊥
 
 -- the settings were read, in n bytes and with bound 1, and `count_decoded` decodes what follows them
@@ -81,7 +81,7 @@ pub record ReadsSettings (n : ℕ) (reading : List ℕ → Decoded) (had left : 
   pub taken : List ℕ
   pub few : length taken ≡ n
   pub took : Takes taken had left
-  pub tells : (more : List ℕ) → reading (taken ++ more) ≡ count_decoded (profile_of s) more
+  pub shows : (more : List ℕ) → reading (taken ++ more) ≡ count_decoded (profile_of s) more
   pub one : s.k ≡ 1
 
 -- the settings were read in n bytes, or the reading stopped before them

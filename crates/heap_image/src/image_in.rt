@@ -5,7 +5,7 @@ ghost use Rattle.cf_base.specs.declared.kind.Kind.TheVariants.{Moving};
 ghost use Rattle.cf_io.specs.Feeds.{FailsLast};
 ghost use Rattle.cf_session.specs.Apply.{run_at};
 ghost use Rattle.heap_image.specs.Decoded.{at_first, count_decoded, end_decoded, entries_decoded};
-ghost use Rattle.heap_image.specs.Ends.{EndsBy, EndTold};
+ghost use Rattle.heap_image.specs.Ends.{EndsBy, EndRead};
 ghost use Rattle.heap_image.specs.Counts.{CountsLoad};
 ghost use Rattle.heap_image.specs.Feed.{feed_at};
 ghost use Rattle.heap_image.specs.Heaps.{objects_of};
@@ -119,7 +119,7 @@ fn load_entries<S: Source, H: Manager>(
 
 /// Sees that the source ended at this offset.
 fn read_end<S: Source>(source: &mut S, at: u64) -> Result<(), LoadFault>
-    ensures end { EndTold at (feed_at (S.rest source.old) (S.given source.old)) result (feed_at (S.rest source.new) (S.given source.new)) }
+    ensures end { EndRead at (feed_at (S.rest source.old) (S.given source.old)) result (feed_at (S.rest source.new) (S.given source.new)) }
     ensures grows { S.faults source.old ≤ S.faults source.new }
     ensures same { result ≢ Err LoadFault.Read → S.faults source.new ≡ S.faults source.old }
     ensures failed { result ≡ Err LoadFault.Read → FailsLast (S.faults source.old) (S.faults source.new) (S.last_failed source.new) }

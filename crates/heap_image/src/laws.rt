@@ -26,9 +26,10 @@ pub fn an_image_determines_its_objects()
         → image_under p o ≡ image_under q n → (p ≡ q) × (o ≡ n) }
 {}
 
-/// Objects on pages of the moving manager need no more pages than there are, whatever the bounds of
-/// the classes: so what a heap of kind Moving holds has an image.
-pub fn what_lives_has_an_image()
+/// The objects of a sound arrangement of the moving manager need, by arithmetic, no more pages than
+/// there are, whatever the bounds of the classes. So the live objects of a heap of kind Moving have an
+/// image.
+pub fn live_objects_have_an_image()
     ensures pages { (p : Profile) (bounds : List ℕ) (m : Held) → IsPaging (paging_of p Words bounds)
         → IsSound (paging_of p Words bounds) m → pages_needed (image_paging p) (objects m) ≤ p.pages }
     ensures lives { (s : RunState) → IsGoing s → AreWithin s.session.ids → s.heap.kind ≡ Moving

@@ -15,6 +15,6 @@ pub use image_in::load;
 pub use image_out::{length_of, save};
 pub use laws::{
     an_image_determines_its_objects, an_image_is_read_back, equal_objects_have_one_image,
-    what_lives_has_an_image,
+    live_objects_have_an_image,
 };
 pub use objects_out::{ObjectWriter, put_objects};

@@ -1,4 +1,4 @@
 mod LineLemmas
 mod WriteLemmas
-mod TellLemmas
+mod PrintLemmas
 mod SaveLemmas

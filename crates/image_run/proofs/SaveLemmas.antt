@@ -12,7 +12,7 @@ use Rattle.image_run.specs.Saves.{CanBeSaved, EndsSave, saved}
 use Rattle.run_model.specs.Sessions.{IsGoing, RunState}
 use Rattle.script_loop.proofs.CallerLemmas.{appended_none, whole_run, wrote_settled}
 use Rattle.script_loop.specs.OneManager.{one_manager}
-use Rattle.script_loop.specs.ScriptOutcome.{Effects, HasCauses, IsRow, MeetsOutcome, SinkState, SourceState, StandsAfter}
+use Rattle.script_loop.specs.ScriptOutcome.{Effects, HasCauses, IsRow, MeetsOutcome, SinkState, SourceState, EndsAt}
 use Rattle.script_loop.specs.WithSettings.{GoesWith, Settled, with_settings}
 
 -- a sink that nobody sees never fails
@@ -74,7 +74,7 @@ module _ (from to : Settled RunState) (call : Effects) where
       let run = whole_run (with_settings one_manager) from to call met done in
       go run.1.end run.1.stands (wrote_settled from to run.0 call run.1).1
     where
-      go : (end : Option (Settled RunState)) → StandsAfter from end to → GoesWith end → to.state.heap.is_open ≡ false
+      go : (end : Option (Settled RunState)) → EndsAt from end to → GoesWith end → to.state.heap.is_open ≡ false
       go None stands on = ap (λ (s : Settled RunState). s.state.heap.is_open) stands ∙ closed
       go (Some s) stands on =
           let kept : s.settings ≡ None = ap (λ (s : Settled RunState). s.settings) (sym stands) ∙ none in
@@ -88,7 +88,7 @@ module _ (from to : Settled RunState) (call : Effects) where
       let run = whole_run (with_settings one_manager) from to call met done in
       go run.1.end run.1.stands (wrote_settled from to run.0 call run.1).1
     where
-      go : (end : Option (Settled RunState)) → StandsAfter from end to → GoesWith end → IsGoing to.state × (to.state.heap.profile ≡ profile_of settings)
+      go : (end : Option (Settled RunState)) → EndsAt from end to → GoesWith end → IsGoing to.state × (to.state.heap.profile ≡ profile_of settings)
       go None stands on =
           let e : Some settings ≡ None = sym some ∙ ap (λ (s : Settled RunState). s.settings) stands ∙ unset in
           absurd cc

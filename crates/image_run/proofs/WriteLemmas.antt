@@ -17,8 +17,8 @@ use Rattle.script_loop.proofs.CallerLemmas.{appended_none}
 use Rattle.script_reader.specs.declared.command.Command.{Command}
 use Rattle.script_reader.specs.declared.command.Command.TheVariants.{Write}
 
-abbrev Told : Type 0
-Told = Option (List ℕ)
+abbrev Written : Type 0
+Written = Option (List ℕ)
 
 one_more : (more id at : ℕ) (bytes : List ℕ) → writes_from (suc more) id at bytes ≡ Write id at (take 4096 bytes) ∷ writes_from more id (at + 4096)
     (drop 4096 bytes)
@@ -38,19 +38,19 @@ whole_chunk count at bytes is = elim (cases_lt 4096 (length bytes - at)) [
 ]
 
 -- the lines came to an offset: what was written by then, and the lines from there on
-pub record WroteTo (id : ℕ) (bytes : List ℕ) (w x : Told) (at : ℕ) : Type 0 where
+pub record WroteTo (id : ℕ) (bytes : List ℕ) (w x : Written) (at : ℕ) : Type 0 where
   pub done : List ℕ
   pub rest : lines_of (writes_of id bytes) ≡ done ++ lines_of (writes_from (div_ceil (length bytes - at) 4096) id at (drop at bytes))
   pub written : x ≡ appended w done
 
-pub writes_first : (id : ℕ) (bytes : List ℕ) (w : Told) → WroteTo id bytes w w 0
+pub writes_first : (id : ℕ) (bytes : List ℕ) (w : Written) → WroteTo id bytes w w 0
 writes_first id bytes w = record {
   done = [];
   rest = ap (λ n. lines_of (writes_from (div_ceil n 4096) id 0 bytes)) (omega arith);
   written = appended_none w;
 }
 
-module _ (id : ℕ) (bytes : List ℕ) (w x : Told) (at : ℕ) (so_far : WroteTo id bytes w x at) where
+module _ (id : ℕ) (bytes : List ℕ) (w x : Written) (at : ℕ) (so_far : WroteTo id bytes w x at) where
   module _ (more : at < length bytes) where
     abbrev line : List ℕ
     line = line_of (Write id at (take 4096 (drop at bytes)))
@@ -67,15 +67,15 @@ module _ (id : ℕ) (bytes : List ℕ) (w x : Told) (at : ℕ) (so_far : WroteTo
         (drop-drop 4096 at bytes))
 
     -- a line was written
-    pub writes_on : (y : Told) → y ≡ appended x line → WroteTo id bytes w y (at + 4096)
+    pub writes_on : (y : Written) → y ≡ appended x line → WroteTo id bytes w y (at + 4096)
     writes_on y put = record {
       done = so_far.done ++ line;
       rest = split ∙ sym (append_assoc so_far.done line behind);
-      written = put ∙ ap (λ (t : Told). appended t line) so_far.written ∙ appended_then w so_far.done line;
+      written = put ∙ ap (λ (t : Written). appended t line) so_far.written ∙ appended_then w so_far.done line;
     }
 
     -- a line was cut
-    pub writes_cut : (y : Told) (e : Failed) → Puts {T = Unit {0}} x line (Err e) y → Puts {T = Unit {0}} w (lines_of (writes_of id bytes)) (Err e) y
+    pub writes_cut : (y : Written) (e : Failed) → Puts {T = Unit {0}} x line (Err e) y → Puts {T = Unit {0}} w (lines_of (writes_of id bytes)) (Err e) y
     writes_cut y e put = puts_same w y (so_far.done ++ (line ++ behind)) (lines_of (writes_of id bytes)) (Err e) (sym split)
         (puts_then {T = Unit {0}} w x y so_far.done (line ++ behind) (Err e) so_far.written (puts_cut x y line behind e put))
 

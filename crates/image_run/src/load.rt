@@ -55,7 +55,7 @@ pub fn load_script<H: Manager, S: Source, K: Sink>(
     }
 }
 
-/// Tells the offset at which the bytes are no image.
+/// Prints the offset at which the bytes are no image.
 fn put_bad_image<K: Sink>(at: u64, sink: &mut K) -> Result<(), Failed>
     ensures puts { Puts (K.written sink.old) (bad_image at) result (K.written sink.new) }
     ensures grows { K.faults sink.old ≤ K.faults sink.new }

@@ -1,6 +1,7 @@
 //! A script to an image.
 ghost use Rattle.std.specs.Prelude.{◌≡◌, None, false};
 ghost use Rattle.cf_base.specs.declared.kind.Kind.TheVariants.{Moving};
+ghost use Rattle.cf_model.specs.Ordered.{KeepsPromise};
 ghost use Rattle.cf_session.specs.Apply.{run_at};
 ghost use Rattle.image_run.specs.Saves.{EndsSave};
 ghost use Rattle.run_model.specs.Sessions.{fresh_session};
@@ -10,7 +11,7 @@ use cf_base::Status;
 use cf_io::{NullSink, Sink, Source};
 use cf_model::Manager;
 use cf_session::Session;
-use heap_image::{save, what_lives_has_an_image};
+use heap_image::{live_objects_have_an_image, save};
 use script_loop::{WithSettings, play_script};
 use step_ledger::Meter;
 
@@ -34,6 +35,7 @@ pub fn save_script<H: Manager, S: Source, K: Sink>(
         result
         (source_at (S.rest source.new) (S.given source.new) (S.faults source.new) (S.last_failed source.new))
         (sink_at (K.written sink.new) (K.faults sink.new) (K.last_failed sink.new))) (run_at player.new.player (H.state heap.new)) }
+    ensures promise { KeepsPromise (H.state heap.old) (H.state heap.new) }
     // The causes, also if the source isn't observable.
     ensures causes { HasCauses
         (source_at (S.rest source.old) (S.given source.old) (S.faults source.old) (S.last_failed source.old))
@@ -51,7 +53,7 @@ pub fn save_script<H: Manager, S: Source, K: Sink>(
     };
     // For its contract: each live id has 16 bits. So the objects have an image.
     let _handle = player.player.handle(0);
-    what_lives_has_an_image();
+    live_objects_have_an_image();
     let mut meter = Meter::new(rt);
     match save(&settings, heap, &player.player, sink, &mut meter) {
         Ok(()) => Status::Done,

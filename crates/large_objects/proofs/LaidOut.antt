@@ -1,4 +1,4 @@
--- The inner objects are those of the large ones, after each call.
+-- After each call the inner objects are the short objects, the spines and the pieces (`AreLaidOut`).
 use Rattle.std.proofs.Common.{◌≡◌, ◌≢◌, ℕ, ◌<◌, ◌≤◌, List, Some, None, length, arith, sym, ◌∙◌, ap, refl, inl, inr}
 use Rattle.std.specs.Prelude.{◌⊎◌, Option}
 use Rattle.std.proofs.lemmas.Bool.{cases_eq, cases_lt}
@@ -14,7 +14,7 @@ use Rattle.large_objects.proofs.Bytes.{piece_of_length}
 pub clash : {T : Type 0} (o : Objects) (q : ℕ) (v : List ℕ) → get o q ≡ Some v → get o q ≡ None → T
 clash o q v some none = absurd (let z : Some v ≡ None = sym some ∙ none in cc)
 
--- none, as some can't be
+-- a map has no entry if none is possible
 none_by : (o : Objects) (q : ℕ) → ((b : List ℕ) → get o q ≡ Some b → ⊥) → get o q ≡ None
 none_by o q never = go (get o q) never
   where
@@ -180,7 +180,7 @@ module _ (u : ℕ) (large inner : Objects) (laid : AreLaidOut u large inner) (h 
         ne (laid.of_one q g j h i k own).0)
   ])
 
-  -- all parts of h are gone
+  -- all parts of h are removed
   module _ (gone : (q : ℕ) → IsPartOf u inner h v q → get next q ≡ None) where
     abbrev less : Objects
     less = remove large h
@@ -235,7 +235,7 @@ module _ (u : ℕ) (large inner : Objects) (laid : AreLaidOut u large inner) (h 
           (k.0, k.1, still_piece q k.0 k.1 own k.2);
     }
 
-  -- the object has other bytes, as many, and its parts have them
+  -- the object has other bytes of the same length, and its parts have them
   module _ (w : List ℕ) (same : length w ≡ length v) (small : length v ≤ u → get next h ≡ Some w) (spine : u < length v → get next h ≡ get inner h)
       (parts_are : u < length v → (i : ℕ) → i < pieces u (length v) → get next (named inner h i) ≡ Some (piece_of u w i))
       (no_more : (q : ℕ) (b : List ℕ) → get next q ≡ Some b → (c : List ℕ) × (get inner q ≡ Some c)) where

@@ -37,8 +37,8 @@ module _ (old new : LargeRun) (reply : Reply) where
   stays : (text : List ℕ) → StaysLarge old text reply new → new.heap.inner.kind ≡ old.heap.inner.kind
   stays text (_, same) = ap (λ (s : LargeRun). s.heap.inner.kind) same
 
-  told : (text : Reply) → (reply ≡ text) × (new ≡ old) → new.heap.inner.kind ≡ old.heap.inner.kind
-  told text (_, same) = ap (λ (s : LargeRun). s.heap.inner.kind) same
+  shown : (text : Reply) → (reply ≡ text) × (new ≡ old) → new.heap.inner.kind ≡ old.heap.inner.kind
+  shown text (_, same) = ap (λ (s : LargeRun). s.heap.inner.kind) same
 
   -- no command changes the kind of the inner manager
   pub kind_kept : (c : Command) → LargeStep old c reply new → new.heap.inner.kind ≡ old.heap.inner.kind
@@ -61,17 +61,17 @@ module _ (old new : LargeRun) (reply : Reply) where
           → new.heap.inner.kind ≡ old.heap.inner.kind
       go None s = stays _ s
       go (Some h) w = w.kept.stays.inner.kind
-  kind_kept (command.Read id at len) step = told _ step
-  kind_kept (command.Place id) step = told _ step
-  kind_kept (command.Block id i) step = told _ step
-  kind_kept (command.Peek word) step = told _ step
-  kind_kept command.Walk step = told _ step
-  kind_kept command.Frag step = told _ step
-  kind_kept command.Steps step = told _ step
-  kind_kept (command.Bound slot_words k) step = told _ step
-  kind_kept (command.Resize id bytes) step = told _ step
-  kind_kept command.Slice step = told _ step
-  kind_kept (command.Task task) step = told _ step
-  kind_kept (command.Quota task pages) step = told _ step
-  kind_kept (command.Need task bytes count) step = told _ step
-  kind_kept (command.Admit task) step = told _ step
+  kind_kept (command.Read id at len) step = shown _ step
+  kind_kept (command.Place id) step = shown _ step
+  kind_kept (command.Block id i) step = shown _ step
+  kind_kept (command.Peek word) step = shown _ step
+  kind_kept command.Walk step = shown _ step
+  kind_kept command.Frag step = shown _ step
+  kind_kept command.Steps step = shown _ step
+  kind_kept (command.Bound slot_words k) step = shown _ step
+  kind_kept (command.Resize id bytes) step = shown _ step
+  kind_kept command.Slice step = shown _ step
+  kind_kept (command.Task task) step = shown _ step
+  kind_kept (command.Quota task pages) step = shown _ step
+  kind_kept (command.Need task bytes count) step = shown _ step
+  kind_kept (command.Admit task) step = shown _ step

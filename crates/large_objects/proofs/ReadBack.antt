@@ -2,8 +2,8 @@
 use Rattle.std.proofs.Common.{List, Option, None}
 use Rattle.cf_base.specs.declared.kind.Kind.{Kind}
 use Rattle.cf_io.specs.Texts.{Reply}
-use Rattle.run_laws.specs.Told.{AreReadsOf}
-use Rattle.run_laws.proofs.CallerLemmas.{NamesObjects, any_reads_are_told}
+use Rattle.run_laws.specs.IdBytes.{AreReadsOf}
+use Rattle.run_laws.proofs.CallerLemmas.{NamesObjects, any_reads_are_shown}
 use Rattle.script_reader.specs.Items.{Item}
 use Rattle.large_objects.specs.LargeRun.{IsGoingLarge, LargeRun, LargeStep}
 use Rattle.large_objects.specs.Playing.{BeginsAtOne, RunsLarge}
@@ -22,6 +22,6 @@ large_names kind = record {
   turns_named = λ old c reply new going step. turn_named old new going reply c step;
 }
 
-pub reads_are_told : (kind : Kind) (items : List Item) (replies : List Reply) (new : Option LargeRun) → RunsLarge kind None items replies new
+pub reads_are_shown : (kind : Kind) (items : List Item) (replies : List Reply) (new : Option LargeRun) → RunsLarge kind None items replies new
     → AreReadsOf None items replies
-reads_are_told kind = any_reads_are_told (BeginsAtOne kind) LargeStep (large_names kind)
+reads_are_shown kind = any_reads_are_shown (BeginsAtOne kind) LargeStep (large_names kind)

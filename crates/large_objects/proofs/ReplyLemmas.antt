@@ -27,29 +27,29 @@ use Rattle.large_objects.specs.LargeSteps.{IsLargeFault, ReadsLarge}
 use Rattle.large_objects.specs.Playing.{large_heap}
 use Rattle.large_objects.proofs.RunInvariant.{still_going}
 
-abbrev Told : Type 0
-Told = Option (List ℕ)
+abbrev Written : Type 0
+Written = Option (List ℕ)
 
-abbrev at : LargeRun → Told → Snapshot LargeRun
+abbrev at : LargeRun → Written → Snapshot LargeRun
 at = snapshot
 
-pub told_walk : (old : LargeRun) (inner : HeapState) (c : Command) (w y : Told) (r : Result Unit Failed) (answer : Result Outcome Failed) → c ≡ Walk
+pub shown_walk : (old : LargeRun) (inner : HeapState) (c : Command) (w y : Written) (r : Result Unit Failed) (answer : Result Outcome Failed) → c ≡ Walk
     → inner ≡ old.heap.inner → Puts w (led [] (walk_of inner.kind inner)) r y → IsEnded r Other answer → Applies large_heap (at old w) c answer (at old y)
-told_walk old inner c w y r answer is same put told =
+shown_walk old inner c w y r answer is same put shown =
     subst (λ (k : Command). Applies large_heap (at old w) k answer (at old y)) (sym is)
     (reported large_heap (λ _ _ _ _ turn. turn) old old Walk (walk_of old.heap.inner.kind old.heap.inner) w y r Other answer (refl, refl)
     (walk_other old.heap.inner.kind old.heap.inner)
-    (subst (λ (s : HeapState). Puts w (led [] (walk_of s.kind s)) r y) same put) told)
+    (subst (λ (s : HeapState). Puts w (led [] (walk_of s.kind s)) r y) same put) shown)
 
-pub told_frag : (old : LargeRun) (inner : HeapState) (c : Command) (w y : Told) (r : Result Unit Failed) (answer : Result Outcome Failed) → c ≡ Frag
+pub shown_frag : (old : LargeRun) (inner : HeapState) (c : Command) (w y : Written) (r : Result Unit Failed) (answer : Result Outcome Failed) → c ≡ Frag
     → inner ≡ old.heap.inner → Puts w (led [] (frag_of inner)) r y → IsEnded r Other answer → Applies large_heap (at old w) c answer (at old y)
-told_frag old inner c w y r answer is same put told =
+shown_frag old inner c w y r answer is same put shown =
     subst (λ (k : Command). Applies large_heap (at old w) k answer (at old y)) (sym is)
     (reported large_heap (λ _ _ _ _ turn. turn) old old Frag (frag_of old.heap.inner) w y r Other answer (refl, refl) (frag_other old.heap.inner)
-    (subst (λ (s : HeapState). Puts w (led [] (frag_of s)) r y) same put) told)
+    (subst (λ (s : HeapState). Puts w (led [] (frag_of s)) r y) same put) shown)
 
 -- a run goes on after an answer
-pub applied_going : (old new : LargeRun) (c : Command) (w y : Told) (answer : Result Outcome Failed) → IsGoingLarge old
+pub applied_going : (old new : LargeRun) (c : Command) (w y : Written) (answer : Result Outcome Failed) → IsGoingLarge old
     → Applies large_heap (at old w) c answer (at new y) → IsGoingLarge new
 applied_going old new c w y (Ok outcome) going a = still_going old new going a.0.reply c a.0.turns
 applied_going old new c w y (Err e) going a = still_going old new going a.turns.reply c a.turns.turn

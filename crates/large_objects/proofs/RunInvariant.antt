@@ -12,7 +12,7 @@ use Rattle.cf_io.specs.Texts.{Reply, said}
 use Rattle.id_table.specs.Ids.{Ids}
 use Rattle.script_reader.specs.declared.command.Command.{Command}
 use Rattle.script_reader.specs.declared.command.Command.TheVariants as command
-use Rattle.run_laws.specs.Told.{is_ok, read_told}
+use Rattle.run_laws.specs.IdBytes.{is_ok, read_shown}
 use Rattle.run_laws.proofs.CallerLemmas.{IsSame, Named, NamedTurn, bytes_of, refuses, same_named, still_tied, through}
 use Rattle.run_model.specs.Replies.{malloc_text, write_text}
 use Rattle.run_model.specs.Steps.{ids_given}
@@ -42,7 +42,7 @@ module _ (old new : LargeRun) (going : IsGoingLarge old) (reply : Reply) where
   malloc_turn : (id n : ℕ) (answer : Result Handle Refusal) → get old.ids id ≡ None → IsLargeMalloc old.heap n answer new.heap
       → new.ids ≡ ids_given old.ids id answer → reply ≡ said (malloc_text answer) → NamedTurn (named old) (command.Malloc id n) reply (named new)
   malloc_turn id n (Ok h) free g e is =
-      inl (record { handle = h.0; told = ap is_ok is; free = free; unused = g.unused; ids = e; objects = g.given })
+      inl (record { handle = h.0; shown = ap is_ok is; free = free; unused = g.unused; ids = e; objects = g.given })
   malloc_turn id n (Err refusal.Size) free (cause, still) e is = inr (refuses (codes "refused size") refl is (unmoved e still))
   malloc_turn id n (Err refusal.Proxy) free (cause, still) e is = inr (refuses (codes "refused proxy") refl is (unmoved e still))
   malloc_turn id n (Err refusal.Space) free (cause, still) e is = inr (refuses (codes "refused space") refl is (unmoved e still))
@@ -51,24 +51,24 @@ module _ (old new : LargeRun) (going : IsGoingLarge old) (reply : Reply) where
       → IsLargeWrite old.heap (record { number = h; from = at }) bytes answer new.heap → new.ids ≡ old.ids
       → reply ≡ said (write_text answer) → NamedTurn (named old) (command.Write id at bytes) reply (named new)
   write_turn id h at bytes (Ok u) live w e is =
-      inl (record { handle = h; bytes = w.object; told = ap is_ok is; live = live; found = w.found; ids = e; objects = w.left })
+      inl (record { handle = h; bytes = w.object; shown = ap is_ok is; live = live; found = w.found; ids = e; objects = w.left })
   write_turn id h at bytes (Err access.Unknown) live (cause, still) e is = inr (refuses (codes "unknown") refl is (unmoved e still))
   write_turn id h at bytes (Err access.Range) live (cause, still) e is = inr (refuses (codes "range") refl is (unmoved e still))
 
   malloc_at : (o : Option ℕ) (id n : ℕ) → get old.ids id ≡ o → MatchOption o (MallocsLarge old id n reply new) (λ h. StaysLarge old (codes "live") reply new)
       → NamedTurn (named old) (command.Malloc id n) reply (named new)
-  malloc_at (Some h) id n is (told, rest) = inr (refuses (codes "live") refl told (same_named named rest))
+  malloc_at (Some h) id n is (shown, rest) = inr (refuses (codes "live") refl shown (same_named named rest))
   malloc_at None id n is m = malloc_turn id n m.answer is m.step m.ids m.reply_is
 
   free_at : (o : Option ℕ) (id : ℕ) → get old.ids id ≡ o → MatchOption o (StaysLarge old (codes "unknown") reply new) (λ h. FreesIdLarge old id h reply new)
       → NamedTurn (named old) (command.Free id) reply (named new)
-  free_at None id is (told, rest) = inr (refuses (codes "unknown") refl told (same_named named rest))
-  free_at (Some h) id is f = inl (record { handle = h; told = ap is_ok f.reply_is; live = is; ids = f.ids; objects = (f.step).left })
+  free_at None id is (shown, rest) = inr (refuses (codes "unknown") refl shown (same_named named rest))
+  free_at (Some h) id is f = inl (record { handle = h; shown = ap is_ok f.reply_is; live = is; ids = f.ids; objects = (f.step).left })
 
   write_at : (o : Option ℕ) (id at : ℕ) (bytes : List ℕ) → get old.ids id ≡ o
       → MatchOption o (StaysLarge old (codes "unknown") reply new) (λ h. WritesIdLarge old (record { number = h; from = at }) bytes reply new)
       → NamedTurn (named old) (command.Write id at bytes) reply (named new)
-  write_at None id at bytes is (told, rest) = inr (refuses (codes "unknown") refl told (same_named named rest))
+  write_at None id at bytes is (shown, rest) = inr (refuses (codes "unknown") refl shown (same_named named rest))
   write_at (Some h) id at bytes is w = write_turn id h at bytes w.answer is w.step w.ids w.reply_is
 
   -- the bytes of an id, and the reply to a read of them
@@ -79,7 +79,7 @@ module _ (old new : LargeRun) (going : IsGoingLarge old) (reply : Reply) where
       go None = refl
       go (Some h) = refl
 
-  text_same : (o : Option (List ℕ)) (at count : ℕ) → large_read_text o at count ≡ read_told o at count
+  text_same : (o : Option (List ℕ)) (at count : ℕ) → large_read_text o at count ≡ read_shown o at count
   text_same None at count = refl
   text_same (Some v) at count = refl
 
@@ -89,7 +89,7 @@ module _ (old new : LargeRun) (going : IsGoingLarge old) (reply : Reply) where
   turn_named (command.Free id) step = free_at (get old.ids id) id refl step
   turn_named (command.Write id at bytes) step = write_at (get old.ids id) id at bytes refl step
   turn_named (command.Read id at count) step = (
-    step.0 ∙ ap said (text_same (large_object_of old id) at count ∙ ap (λ (o : Option (List ℕ)). read_told o at count) (bytes_same id)),
+    step.0 ∙ ap said (text_same (large_object_of old id) at count ∙ ap (λ (o : Option (List ℕ)). read_shown o at count) (bytes_same id)),
     same_named named step.1,
   )
   turn_named (command.Resize id n) step = inr (refuses (codes "none") refl step.0 (same_named named step.1))

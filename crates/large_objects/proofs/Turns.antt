@@ -19,7 +19,7 @@ use Rattle.run_model.specs.Replies.{malloc_text, write_text}
 use Rattle.run_model.specs.Steps.{ids_given}
 use Rattle.script_reader.specs.declared.command.Command.{Command}
 use Rattle.script_reader.specs.declared.command.Command.TheVariants.{Malloc, Free, Write}
-use Rattle.large_objects.specs.LargeRun.{FreesIdLarge, IsGoingLarge, LargeRun, LargeStep, MallocsLarge, StaysLarge, WritesIdLarge, large_told}
+use Rattle.large_objects.specs.LargeRun.{FreesIdLarge, IsGoingLarge, LargeRun, LargeStep, MallocsLarge, StaysLarge, WritesIdLarge, large_shown}
 use Rattle.large_objects.specs.Playing.{BeginsAtOne, BeginsLarge}
 use Rattle.large_objects.proofs.RunInvariant.{still_going}
 use Rattle.id_table.proofs.CallerLemmas.{none_tied}
@@ -95,7 +95,7 @@ module _ (old : LargeRun) (going : IsGoingLarge old) where
   step_there (Malloc id n) can = malloc_at (get old.ids id) id n
   step_there (Free id) can = free_at (get old.ids id) id refl
   step_there (Write id at bytes) can = write_at (get old.ids id) id at bytes can refl
-  step_there c can = record { reply = large_told old c; new = old; done = (refl, refl) }
+  step_there c can = record { reply = large_shown old c; new = old; done = (refl, refl) }
 
 -- every command of the grammar has a reply
 pub turn_there : (old : LargeRun) (c : Command) → IsGoingLarge old → IsSayable c → (reply : Reply) × (new : LargeRun) × LargeStep old c reply new

@@ -70,11 +70,11 @@ pub record WritesIdLarge (old : LargeRun) (part : Part) (bytes : List ℕ) (repl
   pub reply_is : reply ≡ said (write_text answer)
 
 -- the reply to a command that changes nothing: the reports are those of the inner manager, and `none` is the reply to a command of another mode
-abbrev pub large_told : LargeRun → Command → Reply
-large_told s (Read id at count) = said (large_read_text (large_object_of s id) at count)
-large_told s Walk = walk_of s.heap.inner.kind s.heap.inner
-large_told s Frag = frag_of s.heap.inner
-large_told s command = said (codes "none")
+abbrev pub large_shown : LargeRun → Command → Reply
+large_shown s (Read id at count) = said (large_read_text (large_object_of s id) at count)
+large_shown s Walk = walk_of s.heap.inner.kind s.heap.inner
+large_shown s Frag = frag_of s.heap.inner
+large_shown s command = said (codes "none")
 
 -- One command: its reply, and the state after it.
 abbrev pub LargeStep : LargeRun → Command → Reply → LargeRun → Type 0
@@ -82,7 +82,7 @@ LargeStep old (Malloc id bytes) reply new = MatchOption (get old.ids id) (Malloc
 LargeStep old (Free id) reply new = MatchOption (get old.ids id) (StaysLarge old (codes "unknown") reply new) (λ h. FreesIdLarge old id h reply new)
 LargeStep old (Write id at bytes) reply new =
     MatchOption (get old.ids id) (StaysLarge old (codes "unknown") reply new) (λ h. WritesIdLarge old (record { number = h; from = at }) bytes reply new)
-LargeStep old command reply new = (reply ≡ large_told old command) × (new ≡ old)
+LargeStep old command reply new = (reply ≡ large_shown old command) × (new ≡ old)
 
 -- the state at one moment, and the bytes written by then
 abbrev pub large_moment : Ids → LargeState → Option (List ℕ) → Snapshot LargeRun

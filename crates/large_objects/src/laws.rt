@@ -12,7 +12,7 @@ ghost use Rattle.cf_model.specs.State.{paging_in};
 ghost use Rattle.cf_model.specs.Steps.{Part};
 ghost use Rattle.page_model.specs.Arrangement.{pages_for, used_pages};
 ghost use Rattle.run_laws.specs.Sayable.{IsSayable};
-ghost use Rattle.run_laws.specs.Told.{AreReadsOf};
+ghost use Rattle.run_laws.specs.IdBytes.{AreReadsOf};
 ghost use Rattle.script_loop.specs.Consequences.{IsPrefixBy};
 ghost use Rattle.script_loop.specs.ScriptOutcome.{Effects, WroteInPart, items_within};
 ghost use Rattle.script_reader.specs.Items.{Item, items};

@@ -60,14 +60,9 @@ impl<H: Manager> Player<LargeHeap<H>> for LargePlayer {
             k: 1,
             proxies: settings.proxies,
         };
-        match heap.open_heap(&settings) {
-            Ok(()) => {}
-            Err(_) => return Err(OpenFault::OutOfMemory),
-        }
-        match put_all(sink, b"ok\n") {
-            Ok(()) => Ok(()),
-            Err(_) => Err(OpenFault::Failed),
-        }
+        heap.open_heap(&settings)?;
+        put_all(sink, b"ok\n")?;
+        Ok(())
     }
 
     fn answer<K: Sink>(
@@ -76,13 +71,9 @@ impl<H: Manager> Player<LargeHeap<H>> for LargePlayer {
         command: CommandRef,
         sink: &mut K,
     ) -> Result<(), Failed> {
-        match self
-            .session
-            .apply_ref(heap, command, &mut self.line, sink, &mut self.meter)
-        {
-            Ok(_) => Ok(()),
-            Err(failed) => Err(failed),
-        }
+        self.session
+            .apply_ref(heap, command, &mut self.line, sink, &mut self.meter)?;
+        Ok(())
     }
 }
 

@@ -1,11 +1,13 @@
 -- From what a script, an image or a bench did to the outcome of its mode.
-use Rattle.std.proofs.Common.{◌≡◌, ◌≢◌, ◌<◌, ◌⊎◌, ◌∙◌, arith, ℕ, List, Option, Some, None, refl, ap, sym, subst, length, get_or, set, map, inl, inr}
+use Rattle.std.proofs.Common.{◌≡◌, ◌≢◌, ◌<◌, ◌⊎◌, ◌∙◌, arith, ℕ, Bool, List, Option, Some, None, refl, ap, sym, subst, length, get_or, set, map, inl, inr}
 use Rattle.std.proofs.lemmas.List.{get_or-map, length-map, map-set}
+use Rattle.std.specs.Prelude.{is_some}
 use Rattle.cf_base.specs.declared.kind.Kind.{Kind}
 use Rattle.cf_base.specs.declared.kind.Kind.TheVariants.{Moving}
 use Rattle.cf_base.specs.declared.status.Status.{Status}
 use Rattle.cf_base.specs.declared.status.Status.TheVariants.{Done, Words, BadScript, ReadFault, WriteFault, OutOfMemory, TooLong, BadImage}
 use Rattle.cf_io.specs.Feeds.{FailsLast}
+use Rattle.cf_model.specs.Ordered.{KeepsPromise}
 use Rattle.cf_model.specs.State.{HeapState, closed_state}
 use Rattle.cf_session.specs.Apply.{run_at}
 use Rattle.run_model.specs.Sessions.{RunState, SessionState, fresh_session}
@@ -14,9 +16,9 @@ use Rattle.image_run.specs.Loads.{EndsLoad}
 use Rattle.image_run.specs.Saves.{EndsSave}
 use Rattle.script_loop.specs.ScriptOutcome.{Effects, HasCauses, MeetsOutcome, SinkState, SourceState}
 use Rattle.script_loop.specs.Semantics.{Semantics}
-use Rattle.side_by_side.proofs.CallerLemmas.{begun_many, chosen_first, chosen_kinds, chosen_none, first_within, with_first, with_none}
+use Rattle.side_by_side.proofs.CallerLemmas.{begun_many, chosen_first, chosen_kinds, chosen_none, chosen_orders, first_within, with_first, with_none}
 use Rattle.side_by_side.specs.First.{chosen_of, first_of_kind, with_chosen}
-use Rattle.side_by_side.specs.Many.{AreFresh, Many, kinds_of, many_at, many_managers}
+use Rattle.side_by_side.specs.Many.{AreFresh, Many, many_at, many_managers}
 use Rattle.bench_run.specs.Bench.{EndsBench}
 use Rattle.command_line.specs.declared.choice.Choice.{Choice}
 use Rattle.manager_modes.specs.Outcomes.{Benches, Compares, Ends, Handed, Loads, OrLacks, PlaysOwn, Runs, Saves, effects_of, handed}
@@ -36,11 +38,13 @@ or_lacks Does old BadImage new silent done = done
 -- what a mode asks was done, with these causes
 pub ends_of : (Does : Handed → Status → Handed → Type 0) (s : SourceState) (k : SinkState) (hs : List HeapState) (st : Status) (s' : SourceState)
     (k' : SinkState) (hs' : List HeapState)
-    → HasCauses s k st s' k' → map (λ (h : HeapState). h.kind) hs' ≡ map (λ h. h.kind) hs → Does (handed s k hs) st (handed s' k' hs')
+    → HasCauses s k st s' k' → map (λ (h : HeapState). h.kind) hs' ≡ map (λ h. h.kind) hs
+    → map (λ (h : HeapState). is_some h.order) hs' ≡ map (λ h. is_some h.order) hs → Does (handed s k hs) st (handed s' k' hs')
     → Ends Does (handed s k hs) st (handed s' k' hs')
-ends_of Does s k hs st s' k' hs' causes kinds done = record {
+ends_of Does s k hs st s' k' hs' causes kinds orders done = record {
   outcome = or_lacks Does (handed s k hs) st (handed s' k' hs') causes.silent done;
   kinds = kinds;
+  orders = orders;
   source_same = causes.source_same;
   read_fault = causes.read_fault;
   sink_same = causes.sink_same;
@@ -52,13 +56,15 @@ module _ (kind : Kind) (s s' : SourceState) (k k' : SinkState) (st : Status) (ca
     (fresh : session ≡ fresh_session) where
   -- a script ran on one that was made for it, since none of the given ones is of the kind
   pub own_ends : (old : HeapState) → old ≡ closed_state kind → (hs : List HeapState) → first_of_kind kind hs ≡ None
+      → one_manager.plan end ≡ one_manager.plan (run_at session old)
       → MeetsOutcome one_manager (run_at session old) (effects_of (handed s k hs) st (handed s' k' hs)) end
       → Ends (Runs kind) (handed s k hs) st (handed s' k' hs)
-  own_ends old closed hs none met = ends_of (Runs kind) s k hs st s' k' hs causes refl (record {
+  own_ends old closed hs none plan met = ends_of (Runs kind) s k hs st s' k' hs causes refl refl (record {
     end = end;
     outcome = subst (λ (from : RunState). MeetsOutcome one_manager from (effects_of (handed s k hs) st (handed s' k' hs)) end)
         (ap (λ t. run_at t old) fresh ∙ ap (λ h. run_at fresh_session h) (closed ∙ sym (chosen_none kind hs none))) met;
     stand = sym (with_none kind hs end.heap none);
+    promise = ap (λ (p : Kind × Bool). p.1) plan ∙ ap (λ (h : HeapState). is_some h.order) (closed ∙ sym (chosen_none kind hs none));
   })
 
   -- a script ran on the first of the kind
@@ -73,28 +79,33 @@ module _ (kind : Kind) (s s' : SourceState) (k k' : SinkState) (st : Status) (ca
     stands : map f (set ms i n) ≡ with_chosen kind (map f ms) end.heap
     stands = map-set f ms i n ∙ ap (λ h. set (map f ms) i h) (sym end_is) ∙ sym (with_first kind (map f ms) i end.heap first)
 
-    pub first_ends : (f n).kind ≡ (f x).kind
+    pub first_ends : one_manager.plan end ≡ one_manager.plan (run_at session (f x))
         → MeetsOutcome one_manager (run_at session (f x)) (effects_of (handed s k (map f ms)) st (handed s' k' (map f (set ms i n)))) end
         → Ends (Runs kind) (handed s k (map f ms)) st (handed s' k' (map f (set ms i n)))
-    first_ends same met =
+    first_ends plan met =
+        let promise : KeepsPromise (chosen_of kind (map f ms)) end.heap =
+        ap (λ (p : Kind × Bool). p.1) plan ∙ ap (λ (h : HeapState). is_some h.order) (sym seen) in
         ends_of (Runs kind) s k (map f ms) st s' k' (map f (set ms i n)) causes
         (ap (λ l. map (λ (h : HeapState). h.kind) l) stands
-        ∙ chosen_kinds kind (map f ms) end.heap (ap (λ (h : HeapState). h.kind) end_is ∙ same ∙ ap (λ (h : HeapState). h.kind) (sym seen)))
+        ∙ chosen_kinds kind (map f ms) end.heap (ap (λ (p : Kind × Bool). p.0) plan ∙ ap (λ (h : HeapState). h.kind) (sym seen)))
+        (ap (λ l. map (λ (h : HeapState). is_some h.order) l) stands ∙ chosen_orders kind (map f ms) end.heap promise)
         (record {
           end = end;
           outcome = subst (λ (from : RunState). MeetsOutcome one_manager from (effects_of (handed s k (map f ms)) st (handed s' k' (map f (set ms i n)))) end)
               (ap (λ t. run_at t (f x)) fresh ∙ ap (λ h. run_at fresh_session h) (sym seen)) met;
           stand = stands;
+          promise = promise;
         })
 
 -- a script ran on each of many
 pub each_ends : (s s' : SourceState) (k k' : SinkState) (st : Status) (causes : HasCauses s k st s' k') → {X : Type 0} (f : X → HeapState)
     (ss : List SessionState) (ms : List X) → AreFresh (length ms) ss → (ss' : List SessionState) (ms' : List X)
-    → kinds_of (many_at ss' (map f ms')) ≡ kinds_of (many_at ss (map f ms))
+    → many_managers.plan (many_at ss' (map f ms')) ≡ many_managers.plan (many_at ss (map f ms))
     → MeetsOutcome many_managers (many_at ss (map f ms)) (effects_of (handed s k (map f ms)) st (handed s' k' (map f ms'))) (many_at ss' (map f ms'))
     → Ends Compares (handed s k (map f ms)) st (handed s' k' (map f ms'))
-each_ends s s' k k' st causes f ss ms started ss' ms' kinds met =
-    ends_of Compares s k (map f ms) st s' k' (map f ms') causes kinds (record {
+each_ends s s' k k' st causes f ss ms started ss' ms' plan met =
+    ends_of Compares s k (map f ms) st s' k' (map f ms') causes (ap (λ (p : List Kind × List Bool). p.0) plan)
+    (ap (λ (p : List Kind × List Bool). p.1) plan) (record {
       end = many_at ss' (map f ms');
       outcome = subst
           (λ (from : Many). MeetsOutcome many_managers from (effects_of (handed s k (map f ms)) st (handed s' k' (map f ms'))) (many_at ss' (map f ms')))
@@ -116,7 +127,7 @@ bench_status BadImage seed count from to before after done = absurd done.written
 
 -- a manager that was made for them ran the commands of a seed
 module _ (choice : Choice) (k k' : SinkState) (st : Status) (session : SessionState) (old : HeapState) (end : RunState) (fresh : session ≡ fresh_session)
-    (closed : old ≡ closed_state choice.kind) (outcome : EndsBench st choice.seed choice.count (run_at session old) end k.written k'.written)
+    (closed : old ≡ closed_state choice.kind) (promise : KeepsPromise old end.heap) (outcome : EndsBench st choice.seed choice.count (run_at session old) end k.written k'.written)
     (firm : st ≢ WriteFault → k'.faults ≡ k.faults) (fault : st ≡ WriteFault → FailsLast k.faults k'.faults k'.failed) where
   ended : (st ≡ Done) ⊎ ((st ≡ WriteFault) ⊎ ((st ≡ OutOfMemory) × (k'.written ≡ k.written)))
   ended = bench_status st choice.seed choice.count (run_at session old) end k.written k'.written outcome
@@ -139,11 +150,12 @@ module _ (choice : Choice) (k k' : SinkState) (st : Status) (session : SessionSt
   pub bench_done : (s : SourceState) (hs : List HeapState) → Ends (Benches choice) (handed s k hs) st (handed s k' hs)
   bench_done s hs = ends_of (Benches choice) s k hs st s k' hs
       (record { silent = silent ended; source_same = λ other. refl; read_fault = λ is. absurd (unread ended is); sink_same = firm; write_fault = fault; too_long = λ is. absurd (short ended is) })
-      refl
+      refl refl
       (record {
         end = end;
         outcome = subst (λ (from : RunState). EndsBench st choice.seed choice.count from end k.written k'.written)
             (ap (λ t. run_at t old) fresh ∙ ap (λ h. run_at fresh_session h) closed) outcome;
+        ordered = promise ∙ ap (λ (h : HeapState). is_some h.order) closed;
         unread = refl;
         untouched = refl;
       })
@@ -152,7 +164,7 @@ module _ (choice : Choice) (k k' : SinkState) (st : Status) (session : SessionSt
 pub made_ends : {S P : Type 0} (m : Semantics S P) (IsMade : S → Type 0) (s s' : SourceState) (k k' : SinkState) (hs : List HeapState) (st : Status)
     → HasCauses s k st s' k' → (begin end : S) → IsMade begin → MeetsOutcome m begin (effects_of (handed s k hs) st (handed s' k' hs)) end
     → Ends (PlaysOwn m IsMade) (handed s k hs) st (handed s' k' hs)
-made_ends m IsMade s s' k k' hs st causes begin end made met = ends_of (PlaysOwn m IsMade) s k hs st s' k' hs causes refl
+made_ends m IsMade s s' k k' hs st causes begin end made met = ends_of (PlaysOwn m IsMade) s k hs st s' k' hs causes refl refl
     (record { begin = begin; made = made; end = end; outcome = met; untouched = refl })
 
 -- a moving manager was made, and its session begun
@@ -165,9 +177,13 @@ module _ (s s' : SourceState) (k k' : SinkState) (hs : List HeapState) (st : Sta
   call = effects_of (handed s k hs) st (handed s' k' hs)
 
   -- a script was saved
-  pub saved_ends : HasCauses s k st s' k' → EndsSave (run_at session old) call end → Ends Saves (handed s k hs) st (handed s' k' hs)
-  saved_ends causes ends = ends_of Saves s k hs st s' k' hs causes refl
-      (record { end = end; outcome = subst (λ (from : RunState). EndsSave from call end) begun ends; untouched = refl })
+  pub saved_ends : HasCauses s k st s' k' → KeepsPromise old end.heap → EndsSave (run_at session old) call end → Ends Saves (handed s k hs) st (handed s' k' hs)
+  saved_ends causes promise ends = ends_of Saves s k hs st s' k' hs causes refl refl (record {
+    end = end;
+    outcome = subst (λ (from : RunState). EndsSave from call end) begun ends;
+    ordered = promise ∙ ap (λ (h : HeapState). is_some h.order) closed;
+    untouched = refl;
+  })
 
   abbrev call_as : Status → Effects
   call_as st = effects_of (handed s k hs) st (handed s' k' hs)
@@ -184,5 +200,5 @@ module _ (s s' : SourceState) (k k' : SinkState) (hs : List HeapState) (st : Sta
         sink_same = sink_same;
         write_fault = write_fault;
         too_long = λ is. absurd (subst (λ (st : Status). EndsLoad (run_at session old) (call_as st) end) is ends);
-      }) refl
+      }) refl refl
       (record { end = end; outcome = subst (λ (from : RunState). EndsLoad from call end) begun ends; untouched = refl })

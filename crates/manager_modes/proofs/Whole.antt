@@ -29,7 +29,7 @@ use Rattle.side_by_side.proofs.CallerLemmas.{chosen_kind, headlines_met, own_of}
 use Rattle.side_by_side.specs.First.{chosen_of}
 use Rattle.side_by_side.specs.Many.{fresh_many, many_managers}
 use Rattle.side_by_side.specs.Own.{MeetHeadlines}
-use Rattle.manager_modes.specs.Claims.{HoldsImage, TellsAs}
+use Rattle.manager_modes.specs.Claims.{HoldsImage, MeetsClaim}
 use Rattle.manager_modes.specs.Outcomes.{Benches, Compares, Ends, EndsWhole, Handed, Loads, OrLacks, PlaysOwn, Runs, Saves, effects_of, kinds_in}
 
 -- no call ends by `Words`; one whose input is right, and that met no fault, did all that the mode asks
@@ -113,10 +113,10 @@ script_sound m Does met = record {
 -- What was written of all the items is as claimed.
 claim_of : {S P : Type 0} (m : Semantics S P) (from to : S) (Claim : List Item → List Reply → Type 0)
     → ((all : List ℕ) (call : Effects) (w : Wrote m from (items_within all) call to) → Claim (items_within all) w.replies)
-    → (call : Effects) (had : Option (List ℕ)) → had ≡ call.had → MeetsOutcome m from call to → AnswersAll call.status → TellsAs Claim had call
-claim_of m from to Claim claims call None told met is = tt
-claim_of m from to Claim claims call (Some all) told met is =
-    let w = wrote_by m from to call all (sym told) met is in
+    → (call : Effects) (had : Option (List ℕ)) → had ≡ call.had → MeetsOutcome m from call to → AnswersAll call.status → MeetsClaim Claim had call
+claim_of m from to Claim claims call None shown met is = tt
+claim_of m from to Claim claims call (Some all) shown met is =
+    let w = wrote_by m from to call all (sym shown) met is in
     record { replies = w.replies; printed = w.written; claimed = claims all call w }
 
 -- what a call did that answered all items
@@ -128,11 +128,11 @@ module _ (kind : Kind) where
   pub run_sound : IsSound (Runs kind) IsClean
   run_sound = script_sound one_manager (Runs kind) λ old st new done. ((run_at fresh_session (chosen_of kind old.managers), done.end), done.outcome)
 
-  pub run_told : (old : Handed) (st : Status) (new : Handed) → OrLacks (Runs kind) old st new → AnswersAll st
-      → TellsAs (MeetsHeadline kind) old.source.rest (effects_of old st new)
-  run_told old st new done is =
+  pub run_shown : (old : Handed) (st : Status) (new : Handed) → OrLacks (Runs kind) old st new → AnswersAll st
+      → MeetsClaim (MeetsHeadline kind) old.source.rest (effects_of old st new)
+  run_shown old st new done is =
       let did = did_all (Runs kind) old new st done is in
-      subst (λ (k : Kind). TellsAs (MeetsHeadline k) old.source.rest (effects_of old st new)) (chosen_kind kind old.managers)
+      subst (λ (k : Kind). MeetsClaim (MeetsHeadline k) old.source.rest (effects_of old st new)) (chosen_kind kind old.managers)
       (claim_of one_manager (run_at fresh_session (chosen_of kind old.managers)) did.end (MeetsHeadline (chosen_of kind old.managers).kind)
       (λ all call w. headline_met (chosen_of kind old.managers).kind (items_within all) w.replies w.end w.run) (effects_of old st new) old.source.rest refl did.outcome is)
 
@@ -140,9 +140,9 @@ module _ (kind : Kind) where
 pub compare_sound : IsSound Compares IsClean
 compare_sound = script_sound many_managers Compares λ old st new done. ((fresh_many old.managers, done.end), done.outcome)
 
-pub compare_told : (old : Handed) (st : Status) (new : Handed) → OrLacks Compares old st new → AnswersAll st
-    → TellsAs (MeetHeadlines (kinds_in old)) old.source.rest (effects_of old st new)
-compare_told old st new done is =
+pub compare_shown : (old : Handed) (st : Status) (new : Handed) → OrLacks Compares old st new → AnswersAll st
+    → MeetsClaim (MeetHeadlines (kinds_in old)) old.source.rest (effects_of old st new)
+compare_shown old st new done is =
     let did = did_all Compares old new st done is in
     claim_of many_managers (fresh_many old.managers) did.end (MeetHeadlines (kinds_in old))
     (λ all call w. headlines_met (kinds_in old) (items_within all) w.replies _ (own_of (fresh_many old.managers) did.end (items_within all) call w))
@@ -172,12 +172,12 @@ module _ {S P : Type 0} (m : Semantics S P) (IsMade : S → Type 0) where
   own_sound = script_sound m (PlaysOwn m IsMade) λ old st new done. ((done.begin, done.end), done.outcome)
 
   -- if each run from such a state is as claimed, so is what is printed
-  pub own_told : (Claim : List Item → List Reply → Type 0)
+  pub own_shown : (Claim : List Item → List Reply → Type 0)
       → ((begin : S) → IsMade begin → (all : List ℕ) (replies : List Reply) (end : Option S) → RunBy m begin None (items_within all) replies end
       → Claim (items_within all) replies)
       → (old : Handed) (st : Status) (new : Handed) → OrLacks (PlaysOwn m IsMade) old st new → AnswersAll st
-      → TellsAs Claim old.source.rest (effects_of old st new)
-  own_told Claim claims old st new done is =
+      → MeetsClaim Claim old.source.rest (effects_of old st new)
+  own_shown Claim claims old st new done is =
       let did = did_all (PlaysOwn m IsMade) old new st done is in
       claim_of m did.begin did.end Claim (λ all call w. claims did.begin did.made all w.replies w.end w.run) (effects_of old st new) old.source.rest refl
       did.outcome is

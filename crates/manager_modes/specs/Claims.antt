@@ -13,9 +13,9 @@ pub record PrintsAs (Claim : List Item → List Reply → Type 0) (wanted : List
   pub claimed : Claim wanted replies
 
 -- if the source is observable, what is printed of the bytes that it had is as claimed
-abbrev pub TellsAs : (List Item → List Reply → Type 0) → Option (List ℕ) → Effects → Type 0
-TellsAs Claim None call = ⊤
-TellsAs Claim (Some all) call = PrintsAs Claim (items_within all) call
+abbrev pub MeetsClaim : (List Item → List Reply → Type 0) → Option (List ℕ) → Effects → Type 0
+MeetsClaim Claim None call = ⊤
+MeetsClaim Claim (Some all) call = PrintsAs Claim (items_within all) call
 
 -- the source is observable, and its bytes are an image
 abbrev pub HoldsImage : Option (List ℕ) → Type 0

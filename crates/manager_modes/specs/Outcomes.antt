@@ -1,5 +1,5 @@
 -- How a call may end in the modes that run managers.
-use Rattle.std.specs.Prelude.{◌≡◌, ◌≢◌, ◌<◌, ◌+◌, ◌⊎◌, List, None, map}
+use Rattle.std.specs.Prelude.{◌≡◌, ◌≢◌, ◌<◌, ◌+◌, ◌⊎◌, Bool, IsSome, List, None, is_some, map}
 use Rattle.cf_base.specs.declared.kind.Kind.{Kind}
 use Rattle.cf_base.specs.declared.kind.Kind.TheVariants.{Moving}
 use Rattle.cf_base.specs.declared.status.Status.{Status}
@@ -7,6 +7,7 @@ use Rattle.cf_base.specs.declared.status.Status.TheVariants.{Done, ReadFault, Wr
 use Rattle.cf_io.specs.Feeds.{FailsLast, last_count}
 use Rattle.cf_io.specs.declared.sink.Sink as sink
 use Rattle.cf_io.specs.declared.source.Source as source
+use Rattle.cf_model.specs.Ordered.{KeepsPromise}
 use Rattle.cf_model.specs.State.{HeapState, closed_state}
 use Rattle.cf_model.specs.declared.manager.Manager as manager
 use Rattle.command_line.specs.declared.choice.Choice.{Choice}
@@ -49,11 +50,12 @@ abbrev pub effects_of : Handed → Status → Handed → Effects
 effects_of old status new = effects old.source old.sink status new.source new.sink
 
 -- Mode `run`: the first manager of the kind runs the script, in a session of its own, and is where its run led it; no other one changes. If none is of the
--- kind, one that was never open is made for the script.
+-- kind, one that was never open is made for the script. One that promised an order before has an order at the end, and so has one that is made.
 pub record Runs (kind : Kind) (old : Handed) (status : Status) (new : Handed) : Type 0 where
   pub end : RunState
   pub outcome : MeetsOutcome one_manager (run_at fresh_session (chosen_of kind old.managers)) (effects_of old status new) end
   pub stand : new.managers ≡ with_chosen kind old.managers end.heap
+  pub promise : KeepsPromise (chosen_of kind old.managers) end.heap
 
 -- Mode `compare`: each manager runs the script, in a session of its own, and is where its run led it; the replies are woven.
 pub record Compares (old : Handed) (status : Status) (new : Handed) : Type 0 where
@@ -61,11 +63,12 @@ pub record Compares (old : Handed) (status : Status) (new : Handed) : Type 0 whe
   pub outcome : MeetsOutcome many_managers (fresh_many old.managers) (effects_of old status new) end
   pub stand : new.managers ≡ end.heaps
 
--- Mode `bench`: a manager of the kind, which was never open, is made for the commands of the seed, and its counts are printed. Nothing is read, and no given
--- manager changes.
+-- Mode `bench`: a manager of the kind, which was never open, is made for the commands of the seed, and its counts are printed. It has an order at the end.
+-- Nothing is read, and no given manager changes.
 pub record Benches (choice : Choice) (old : Handed) (status : Status) (new : Handed) : Type 0 where
   pub end : RunState
   pub outcome : EndsBench status choice.seed choice.count (run_at fresh_session (closed_state choice.kind)) end old.sink.written new.sink.written
+  pub ordered : IsSome end.heap.order
   pub unread : new.source ≡ old.source
   pub untouched : new.managers ≡ old.managers
 
@@ -87,10 +90,11 @@ abbrev pub PlaysLarge : Handed → Status → Handed → Type 0
 PlaysLarge = PlaysOwn large_heap IsMadeLarge
 
 -- Mode `save`: a moving manager, which was never open, is made for the script, whose replies are not printed; what is live at its end is written as an image.
--- No given manager changes.
+-- The manager has an order at the end. No given manager changes.
 pub record Saves (old : Handed) (status : Status) (new : Handed) : Type 0 where
   pub end : RunState
   pub outcome : EndsSave (run_at fresh_session (closed_state Moving)) (effects_of old status new) end
+  pub ordered : IsSome end.heap.order
   pub untouched : new.managers ≡ old.managers
 
 -- Mode `load`: a moving manager, which was never open, is made for the image, and the script that makes its objects is printed. No given manager changes.
@@ -107,10 +111,15 @@ OrLacks Does old status new = Does old status new
 abbrev pub kinds_in : Handed → List Kind
 kinds_in h = map (λ m. m.kind) h.managers
 
+-- whether each manager promises an order
+abbrev pub orders_in : Handed → List Bool
+orders_in h = map (λ m. is_some m.order) h.managers
+
 -- a call did what a mode asks; and the causes of how it ended, over every source and sink
 pub record Ends (Does : Handed → Status → Handed → Type 0) (old : Handed) (status : Status) (new : Handed) : Type 0 where
   pub outcome : OrLacks Does old status new
   pub kinds : kinds_in new ≡ kinds_in old
+  pub orders : orders_in new ≡ orders_in old
   pub source_same : status ≢ ReadFault → new.source.faults ≡ old.source.faults
   pub read_fault : status ≡ ReadFault → FailsLast old.source.faults new.source.faults new.source.failed
   pub sink_same : status ≢ WriteFault → new.sink.faults ≡ old.sink.faults

@@ -20,9 +20,9 @@ use Rattle.cf_lemmas.proofs.Searches.{few_keys, fresh_key}
 use Rattle.cf_lemmas.proofs.Tests.{eq_no, eq_yes, lt_yes}
 use Rattle.cf_model.specs.State.{region_words}
 use Rattle.page_model.specs.Arrangement.{IsSound, class_at, home_pages, live, not_full_pages, pages_needed, pages_needed_with}
-use Rattle.page_model.specs.Arrangement.{standing_on, used_pages}
+use Rattle.page_model.specs.Arrangement.{count_on, used_pages}
 use Rattle.page_model.specs.Bytes.{written}
-use Rattle.page_model.specs.Counts.{Stand, ceil_div}
+use Rattle.page_model.specs.Counts.{LieOn, ceil_div}
 use Rattle.page_model.specs.Held.{Held, Placed, objects}
 use Rattle.page_model.specs.Image.{IsSlotImage, MovesWords, header_word, object_word, slot_for}
 use Rattle.page_model.specs.Paging.{IsPaging, Paging, address_of, bound_of, class_for, classes, page_of, slot_words, slots_of}
@@ -55,9 +55,9 @@ module _ (p : Paging) (ok : IsPaging p) (m : Held) (s : IsSound p m) (ones : (c 
   abbrev c : ℕ
   c = class_for p n
 
-  stand : Stand (home_pages p m c) (live p (objects m) c) (slots_of p c) 1 0
-  stand = subst (λ q. Stand (home_pages p m c) (live p (objects m) c) (slots_of p c) 1 q) none
-      (subst (λ k. Stand (home_pages p m c) (live p (objects m) c) (slots_of p c) k (not_full_pages p m c)) (ones c lt) (sound_stand p ok c lt m s))
+  stand : LieOn (home_pages p m c) (live p (objects m) c) (slots_of p c) 1 0
+  stand = subst (λ q. LieOn (home_pages p m c) (live p (objects m) c) (slots_of p c) 1 q) none
+      (subst (λ k. LieOn (home_pages p m c) (live p (objects m) c) (slots_of p c) k (not_full_pages p m c)) (ones c lt) (sound_stand p ok c lt m s))
 
   filled : live p (objects m) c ≡ home_pages p m c * slots_of p c
   filled =
@@ -121,7 +121,7 @@ pub record IsThere (T : Type 0) (R : T → QuotaState → Type 0) : Type 0 where
 -- while a task uses fewer pages than its quota, a page holds nothing
 abbrev pub PageLaw : Type 0
 PageLaw = (s : Profile) (quotas : List ℕ) (m : Held) (task : ℕ) → IsShared s m → AreQuotas s quotas m → IsTrue (is_page_size s.page_words) → task < 16
-    → used_pages (task_paging s) (part_of m task) < get_or quotas task 0 → (page : ℕ) × (page < s.pages) × (standing_on (task_paging s) m page ≡ 0)
+    → used_pages (task_paging s) (part_of m task) < get_or quotas task 0 → (page : ℕ) × (page < s.pages) × (count_on (task_paging s) m page ≡ 0)
 
 module _ (law : PageLaw) (s : QuotaState) (rules : KeepsTasks s) (task : ℕ) (lt : task < 16) where
   abbrev p : Paging
@@ -160,8 +160,8 @@ module _ (law : PageLaw) (s : QuotaState) (rules : KeepsTasks s) (task : ℕ) (l
       let r = (rules.shared).numbers (key_of task h) y (found_whole s.held task h y there) in
       omega arith)
 
-  bare_part : (page : ℕ) → ((q : ℕ) (y : Placed) → get m q ≡ Some y → page_of p y.place ≢ page) → standing_on p m page ≡ 0
-  bare_part page none = elim (cases_lt 0 (standing_on p m page)) [
+  bare_part : (page : ℕ) → ((q : ℕ) (y : Placed) → get m q ≡ Some y → page_of p y.place ≢ page) → count_on p m page ≡ 0
+  bare_part page none = elim (cases_lt 0 (count_on p m page)) [
     | inl some ↦ (let at = standing p m page some in absurd (none at.0 at.1 at.2 at.3))
     | inr le ↦ omega arith
   ]
@@ -188,7 +188,7 @@ module _ (law : PageLaw) (s : QuotaState) (rules : KeepsTasks s) (task : ℕ) (l
       }
 
   alone : (n : ℕ) → class_for p n < classes p → not_full_pages p m (class_for p n) ≡ 0 → (page : ℕ) → page < s.profile.pages
-      → standing_on p s.held page ≡ 0 → HasPlace n
+      → count_on p s.held page ≡ 0 → HasPlace n
   alone n less none page within bare =
       let at = address_is_slot p ok (class_for p n) less page 0 within (slots_some p ok (class_for p n) less) in
       let on = at.1 in

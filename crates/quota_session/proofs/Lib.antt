@@ -5,7 +5,7 @@ pub mod ReplyLemmas
 pub mod ClassLines
 pub mod AtOne
 pub mod OwnTask
-pub mod ScriptTold
+pub mod ScriptShown
 pub mod TaskReads
 pub mod CallsThere
 pub mod CommandSteps

@@ -70,25 +70,25 @@ module _ (old new : TaskRun) (rules : KeepsTasks old.heap) (tied : AreTiedTo old
   live id n v named some = ap (λ (o : Objects). get o id) own ∙ live_by_id old.ids m id n v named some
 
   -- the reply and the objects afterwards are those of the task's own heap
-  pub record IsTold (c : Command) : Type 0 where
+  pub record IsOwnReply (c : Command) : Type 0 where
     pub reply_is : reply ≡ task_reply t old.task c
     pub left : objects_by_id new.ids (objects_by new.heap old.task) ≡ task_leaves t old.task c
 
   -- nothing changes
-  stays : (c : Command) → new ≡ old → reply ≡ task_reply t old.task c → all old.task ≡ task_leaves t old.task c → IsTold c
+  stays : (c : Command) → new ≡ old → reply ≡ task_reply t old.task c → all old.task ≡ task_leaves t old.task c → IsOwnReply c
   stays c same r l = record { reply_is = r; left = ap (λ (s : TaskRun). objects_by_id s.ids (objects_by s.heap old.task)) same ∙ sym own ∙ l }
 
   fault : (n : ℕ) → malloc_fault h n ≡ malloc_refusal old.heap.profile (quota_of old.heap old.task) m n
   fault n = same_refusal t old.task n ∙ refusal_alike old.heap.profile (quota_of old.heap old.task) n m (all old.task) counts
 
-  mallocs : (id n : ℕ) → get old.ids id ≡ None → MallocsForTask old id n reply new → IsTold (command.Malloc id n)
+  mallocs : (id n : ℕ) → get old.ids id ≡ None → MallocsForTask old id n reply new → IsOwnReply (command.Malloc id n)
   mallocs id n free s = by_answer s.answer s.step s.ids s.reply_is
     where
       none : get (all old.task) id ≡ None
       none = gone id free
 
       by_fault : (f : Option Refusal) → malloc_fault h n ≡ f → reply ≡ said (ok_or (λ e. malloc_text (Err e)) f)
-          → objects_by_id new.ids (objects_by new.heap old.task) ≡ put_unless f (all old.task) id (replicate n 0) → IsTold (command.Malloc id n)
+          → objects_by_id new.ids (objects_by new.heap old.task) ≡ put_unless f (all old.task) id (replicate n 0) → IsOwnReply (command.Malloc id n)
       by_fault f is r l = record {
         reply_is = r ∙ ap (λ x. said (ok_or (λ e. malloc_text (Err e)) x)) (sym is) ∙ ap (λ x. said (malloc_said x h n)) (sym none);
         left = l ∙ ap (λ x. put_unless x (all old.task) id (replicate n 0)) (sym is)
@@ -96,7 +96,7 @@ module _ (old new : TaskRun) (rules : KeepsTasks old.heap) (tied : AreTiedTo old
       }
 
       by_answer : (r : Result Handle Refusal) → IsMallocStep old.heap old.task n r new.heap → new.ids ≡ ids_given old.ids id r
-          → reply ≡ said (malloc_text r) → IsTold (command.Malloc id n)
+          → reply ≡ said (malloc_text r) → IsOwnReply (command.Malloc id n)
       by_answer (Ok k) g is r = by_fault None (fault n ∙ g.granted) r (
           (λ i. objects_by_id (is i) (given_objects old.heap new.heap rules s.rules old.task k.0 n g i))
           ∙ by_id_given old.ids m names id k.0 (replicate n 0) (given_unused old.heap new.heap rules s.rules old.task k.0 n g)
@@ -104,7 +104,7 @@ module _ (old new : TaskRun) (rules : KeepsTasks old.heap) (tied : AreTiedTo old
       by_answer (Err e) (cause, same) is r = by_fault (Some e) (fault n ∙ cause) r (
           (λ i. objects_by_id (is i) (objects_by (same i) old.task)) ∙ sym own)
 
-  frees : (id n : ℕ) → get old.ids id ≡ Some n → FreesIdOfTask old id n reply new → IsTold (command.Free id)
+  frees : (id n : ℕ) → get old.ids id ≡ Some n → FreesIdOfTask old id n reply new → IsOwnReply (command.Free id)
   frees id n named f =
       let x = tied.named id n named in
       let some = live id n x.0 named x.1 in
@@ -115,12 +115,12 @@ module _ (old new : TaskRun) (rules : KeepsTasks old.heap) (tied : AreTiedTo old
       }
 
   writes : (id n at : ℕ) (bytes : List ℕ) → get old.ids id ≡ Some n → WritesIdOfTask old (record { number = n; from = at }) bytes reply new
-      → IsTold (command.Write id at bytes)
+      → IsOwnReply (command.Write id at bytes)
   writes id n at bytes named w = by_answer w.answer w.step w.reply_is
     where
       by_fault : (v : List ℕ) (f : Option AccessFault) → get (all old.task) id ≡ Some v → write_fault v at (length bytes) ≡ f
           → reply ≡ said (ok_or (λ e. write_text (Err e)) f)
-          → objects_by_id new.ids (objects_by new.heap old.task) ≡ put_unless f (all old.task) id (written v at bytes) → IsTold (command.Write id at bytes)
+          → objects_by_id new.ids (objects_by new.heap old.task) ≡ put_unless f (all old.task) id (written v at bytes) → IsOwnReply (command.Write id at bytes)
       by_fault v f some is r l = record {
         reply_is = r ∙ ap (λ x. said (ok_or (λ e. write_text (Err e)) x)) (sym is) ∙ ap (λ o. said (write_said o at (length bytes))) (sym some);
         left = l ∙ ap (λ x. put_unless x (all old.task) id (written v at bytes)) (sym is)
@@ -128,7 +128,7 @@ module _ (old new : TaskRun) (rules : KeepsTasks old.heap) (tied : AreTiedTo old
       }
 
       by_answer : (r : Result Unit AccessFault) → IsWriteStep old.heap old.task (record { number = n; from = at }) bytes r new.heap
-          → reply ≡ said (write_text r) → IsTold (command.Write id at bytes)
+          → reply ≡ said (write_text r) → IsOwnReply (command.Write id at bytes)
       by_answer (Ok u) step r =
           let found = written_found old.heap new.heap rules w.rules old.task (record { number = n; from = at }) bytes step in
           by_fault (step.object).bytes None (live id n (step.object).bytes named found) (write_within (step.object).bytes at (length bytes) step.within) r (
@@ -157,32 +157,32 @@ module _ (old new : TaskRun) (rules : KeepsTasks old.heap) (tied : AreTiedTo old
           ∙ ap (λ o. said (read_said o at count)) (sym (bytes_by old.heap old.task n (get (held_by old.heap old.task) n) refl) ∙ x.1
           ∙ sym (live id n x.0 named x.1))
 
-  pub told : (c : Command) → TaskStep old c reply new → IsTold c
-  told (command.Malloc id n) step = go (get old.ids id) refl step
+  pub shown : (c : Command) → TaskStep old c reply new → IsOwnReply c
+  shown (command.Malloc id n) step = go (get old.ids id) refl step
     where
       go : (o : Option ℕ) → get old.ids id ≡ o → MatchOption o (MallocsForTask old id n reply new) (λ k. StaysTask old (codes "live") reply new)
-          → IsTold (command.Malloc id n)
+          → IsOwnReply (command.Malloc id n)
       go None free s = mallocs id n free s
       go (Some k) named s =
           let x = tied.named id k named in
           let some = live id k x.0 named x.1 in
           stays (command.Malloc id n) s.1 (s.0 ∙ ap (λ o. said (malloc_said o h n)) (sym some))
           (ap (λ o. malloc_leaves o h (record { number = id; length = n })) (sym some))
-  told (command.Free id) step = go (get old.ids id) refl step
+  shown (command.Free id) step = go (get old.ids id) refl step
     where
       go : (o : Option ℕ) → get old.ids id ≡ o → MatchOption o (StaysTask old (codes "unknown") reply new) (λ k. FreesIdOfTask old id k reply new)
-          → IsTold (command.Free id)
+          → IsOwnReply (command.Free id)
       go None free s = stays (command.Free id) s.1 (s.0 ∙ ap (λ o. said (free_said o)) (sym (gone id free)))
           (sym (remove_missing (all old.task) id (gone id free)))
       go (Some k) named f = frees id k named f
-  told (command.Write id at bytes) step = go (get old.ids id) refl step
+  shown (command.Write id at bytes) step = go (get old.ids id) refl step
     where
       go : (o : Option ℕ) → get old.ids id ≡ o → MatchOption o (StaysTask old (codes "unknown") reply new)
           (λ k. WritesIdOfTask old (record { number = k; from = at }) bytes reply new)
-          → IsTold (command.Write id at bytes)
+          → IsOwnReply (command.Write id at bytes)
       go None free s = stays (command.Write id at bytes) s.1 (s.0 ∙ ap (λ o. said (write_said o at (length bytes))) (sym (gone id free)))
           (ap (λ o. write_leaves o (all old.task) (record { id = id; at = at; bytes = bytes })) (sym (gone id free)))
       go (Some k) named w = writes id k at bytes named w
-  told (command.Read id at count) step = stays (command.Read id at count) step.1 (step.0 ∙ read_is id at count) refl
-  told command.Walk step = stays command.Walk step.1 (step.0 ∙ walk_is old.heap rules old.task all counts) refl
-  told c step = stays c step.1 step.0 refl
+  shown (command.Read id at count) step = stays (command.Read id at count) step.1 (step.0 ∙ read_is id at count) refl
+  shown command.Walk step = stays command.Walk step.1 (step.0 ∙ walk_is old.heap rules old.task all counts) refl
+  shown c step = stays c step.1 step.0 refl

@@ -48,17 +48,17 @@ report_other s task = pages_other (λ c. figures_of (task_paging s.profile) (hel
 pub same_ids : (s : TaskSession) → with_ids s (ids_of s s.present) ≡ s
 same_ids s = ap (λ (all : List Ids). record s { ids = all }) (set-get_or s.ids s.present empty)
 
-pub told_walk : (old : QuotaRun) (c : Command) (w y : Option (List ℕ)) (r : Result Unit Failed) (answer : Result Outcome Failed) → c ≡ Walk
+pub shown_walk : (old : QuotaRun) (c : Command) (w y : Option (List ℕ)) (r : Result Unit Failed) (answer : Result Outcome Failed) → c ≡ Walk
     → Puts w (led [] (task_report old.heap old.session.present)) r y → IsEnded r Other answer
     → Applies quota_tasks (snapshot old w) c answer (snapshot old y)
-told_walk old c w y r answer is put told =
+shown_walk old c w y r answer is put shown =
     subst (λ (k : Command). Applies quota_tasks (snapshot old w) k answer (snapshot old y)) (sym is)
     (reported quota_tasks (λ _ _ _ _ turn. turn) old old Walk (task_report old.heap old.session.present) w y r Other answer
     (record {
       ids = ids_of old.session old.session.present;
       step = (refl, refl);
       whole = ap (λ (s : TaskSession). record old { session = s }) (sym (same_ids old.session));
-    }) (report_other old.heap old.session.present) put told)
+    }) (report_other old.heap old.session.present) put shown)
 
 -- the object of a handle, if any
 abbrev object_at : TaskRun → Option ℕ → Option Placed

@@ -2,7 +2,7 @@
 use Rattle.std.specs.Prelude.{⊤, ℕ, ◌&&◌, List, [], ◌∷◌, Option, Some, None, if◌then◌else◌, nat_eq}
 use Rattle.std.specs.FinMap.{empty}
 use Rattle.cf_io.specs.Texts.{Reply}
-use Rattle.run_laws.specs.Told.{IsReadOf, Told, done_by, is_ok}
+use Rattle.run_laws.specs.IdBytes.{IsReadOf, IdBytes, done_by, is_ok}
 use Rattle.script_reader.specs.Items.{Item, asks, bad, starts}
 use Rattle.script_reader.specs.declared.command.Command.{Command}
 use Rattle.quota_session.specs.Alone.{present_after}
@@ -10,7 +10,7 @@ use Rattle.quota_session.specs.Alone.{present_after}
 -- the present task, and by task the bytes of each id
 pub record TaskBytes : Type 0 where
   pub present : ℕ
-  pub bytes : ℕ → Told
+  pub bytes : ℕ → IdBytes
 
 -- after a command and its reply: `t` makes another task present; a command with the reply `ok` changes the bytes of the present task alone
 abbrev pub bytes_with : TaskBytes → Command → Reply → TaskBytes
@@ -21,10 +21,10 @@ bytes_with m command reply = record {
 
 -- after an item and its reply; nothing before the `heap` line
 abbrev pub task_bytes_after : Option TaskBytes → Item → Reply → Option TaskBytes
-task_bytes_after told (starts p) reply = Some (record { present = 0; bytes = λ task. empty })
+task_bytes_after shown (starts p) reply = Some (record { present = 0; bytes = λ task. empty })
 task_bytes_after None (asks command) reply = None
 task_bytes_after (Some m) (asks command) reply = Some (bytes_with m command reply)
-task_bytes_after told (bad n) reply = told
+task_bytes_after shown (bad n) reply = shown
 
 -- the item is a read, and its reply gives the bytes of the present task's id; or it is no read
 abbrev pub IsReadOfTasks : Option TaskBytes → Item → Reply → Type 0
@@ -33,6 +33,6 @@ IsReadOfTasks (Some m) item reply = IsReadOf (Some (m.bytes m.present)) item rep
 
 -- every read prints the bytes of the present task that follow from the lines before it and their replies
 abbrev pub AreReadsOfTasks : Option TaskBytes → List Item → List Reply → Type 0
-AreReadsOfTasks told [] replies = ⊤
-AreReadsOfTasks told (item ∷ rest) [] = ⊥
-AreReadsOfTasks told (item ∷ rest) (reply ∷ more) = IsReadOfTasks told item reply × AreReadsOfTasks (task_bytes_after told item reply) rest more
+AreReadsOfTasks shown [] replies = ⊤
+AreReadsOfTasks shown (item ∷ rest) [] = ⊥
+AreReadsOfTasks shown (item ∷ rest) (reply ∷ more) = IsReadOfTasks shown item reply × AreReadsOfTasks (task_bytes_after shown item reply) rest more

@@ -29,11 +29,11 @@ pub fn a_task_is_answered_from_its_own()
     ensures after { (old new : QuotaRun) (command : Command) (reply : Reply) → IsGoingQuotas old
         → IsSayable command → QuotaStep old command reply new
         → tasks_of new ≡ after_if (tasks_of old) (item_of old.session.present command) }
-    ensures alike { (task : ℕ) (one other after later : QuotaRun) (command : Command) (reply told : Reply)
+    ensures alike { (task : ℕ) (one other after later : QuotaRun) (command : Command) (reply shown : Reply)
         → IsGoingQuotas one → IsGoingQuotas other → AreAlikeFor task one other
         → is_for_task command ≡ true
-        → QuotaStep one command reply after → QuotaStep other command told later
-        → told ≡ reply }
+        → QuotaStep one command reply after → QuotaStep other command shown later
+        → shown ≡ reply }
 {
     a_reply_follows_from_the_task_alone();
 }

@@ -58,15 +58,10 @@ impl Player<QuotaHeap> for QuotaPlayer {
             k: 1,
             proxies: settings.proxies,
         };
-        match heap.open_heap(&settings) {
-            Ok(()) => {}
-            Err(_) => return Err(OpenFault::OutOfMemory),
-        }
+        heap.open_heap(&settings)?;
         self.settings = Some(settings);
-        match put_all(sink, b"ok\n") {
-            Ok(()) => Ok(()),
-            Err(_) => Err(OpenFault::Failed),
-        }
+        put_all(sink, b"ok\n")?;
+        Ok(())
     }
 
     fn answer<K: Sink>(
@@ -78,13 +73,9 @@ impl Player<QuotaHeap> for QuotaPlayer {
         let Some(settings) = self.settings else {
             unreachable!();
         };
-        match self
-            .session
-            .apply_ref(heap, &settings, command, sink, &mut self.meter)
-        {
-            Ok(_) => Ok(()),
-            Err(failed) => Err(failed),
-        }
+        self.session
+            .apply_ref(heap, &settings, command, sink, &mut self.meter)?;
+        Ok(())
     }
 }
 

@@ -21,7 +21,7 @@ use Rattle.script_loop.specs.Progress.{IsReadyAt, Playing, Progress, progress, r
 use Rattle.script_loop.specs.ScriptOutcome.{has_bad}
 use Rattle.script_loop.specs.Semantics.{IsOpened, IsOpenedInPart, PartBy, RunBy, Semantics, StepBy}
 use Rattle.script_loop.specs.declared.answering.Ready.{Ready}
-use Rattle.script_loop.specs.declared.answering.Ready.TheVariants.{GoesOn, Stopped, Cut, Wanting}
+use Rattle.script_loop.specs.declared.answering.Ready.TheVariants.{GoesOn, Stopped, Cut, LacksMemory}
 use Rattle.script_loop.proofs.Feeding.{appended_after}
 use Rattle.script_loop.proofs.Stages.{going_after, never_opening, run_before, run_after}
 
@@ -34,7 +34,7 @@ bad_then (starts p ∷ xs) ys h = bad_then xs ys h
 pub nothing_left : (r : Reading) (line : ℕ) (more : List ℕ) (ended : Bool) → r.stopped ≡ Some line → items_left r more ended ≡ []
 nothing_left r line more ended over = rw over refl
 
--- ---- what an answer of the reader says
+-- ---- what follows from an answer of the reader
 
 bounding_opening : (b : Stage) → b ≡ Bounding → b ≡ Opening → ⊥
 bounding_opening b leads at = absurd (let e : Bounding ≡ Opening = sym leads ∙ at in cc)
@@ -45,8 +45,8 @@ waits_for_more r r' needs = record { going = needs.passes.still; quiet = sym (ne
 pub waits_for_nothing : (r r' : Reading) → Answers r next.End r' → IsWaiting r'
 waits_for_nothing r r' over = record {
   going = over.passes.still;
-  quiet = sym (over.passes.reads.left [] false) ∙ (let same : items_left r [] false ≡ items_left r [] true = rw over.told refl in same ∙ over.none_left);
-  room = λ is. absurd (true≢false (sym over.told ∙ sym over.passes.reads.same_end ∙ is));
+  quiet = sym (over.passes.reads.left [] false) ∙ (let same : items_left r [] false ≡ items_left r [] true = rw over.shown refl in same ∙ over.none_left);
+  room = λ is. absurd (true≢false (sym over.shown ∙ sym over.passes.reads.same_end ∙ is));
 }
 
 -- a bad line, by its parts
@@ -121,6 +121,12 @@ module _ {S P : Type 0} (m : Semantics S P) where
     );
     untouched = λ at. let m = b.untouched at in let o = a.untouched m.0 in (o.0, m.1 ∙ o.1);
   }
+
+  -- the items of both were answered as a whole
+  pub both_done : {old mid new : Playing S} {p q t out : List ℕ} (a : Answered m old p mid t false) (b : CutOff m mid q new out)
+      → (cut_then a b).done ≡ a.done ++ b.done
+  unfolding cut_then
+  both_done a b = refl
 
   -- with no byte in between
   pub answered_next : {old mid new : Playing S} {p t u : List ℕ} {stop : Bool} → Answered m old p mid t false → Answered m mid [] new u stop
@@ -300,7 +306,7 @@ module _ {S P : Type 0} (m : Semantics S P) where
     wrote = appended_after _ _ _ _ _ wrote names.wrote;
   }
   named old r r' s w w' line text GoesOn a wrote h names = absurd names
-  named old r r' s w w' line text Wanting a wrote h names = absurd names
+  named old r r' s w w' line text LacksMemory a wrote h names = absurd names
 
   -- ---- bytes that are fed
 

@@ -1,6 +1,6 @@
 -- What other crates' proofs may cite: what a call reads, takes and writes, and its outcome.
-pub use Rattle.script_loop.proofs.Consequences.{transcript_told, wrote_all, wrote_by}
+pub use Rattle.script_loop.proofs.Consequences.{transcript_shown, wrote_all, wrote_by}
 pub use Rattle.script_loop.proofs.Feeding.{appended_none, given_min, nothing_follows, preceded_after, preceded_none}
 pub use Rattle.script_loop.proofs.Settling.{wrote_settled}
 pub use Rattle.script_loop.proofs.Rows.{nothing_may_follow, observed_row, some_row, whole_run, within_all}
-pub use Rattle.script_loop.proofs.Reporting.{reported, told_line}
+pub use Rattle.script_loop.proofs.Reporting.{reported, shown_line}

@@ -6,19 +6,19 @@ use Rattle.cf_base.specs.declared.status.Status.TheVariants.{Done, Words, BadScr
 use Rattle.cf_io.specs.Feeds.{appended}
 use Rattle.script_reader.specs.Items.{Item}
 use Rattle.script_reader.specs.declared.command.Command.{Command}
-use Rattle.run_laws.proofs.CallerLemmas.{items_sayable, kind_goes_on, reads_are_told}
+use Rattle.run_laws.proofs.CallerLemmas.{items_sayable, kind_goes_on, reads_are_shown}
 use Rattle.run_laws.specs.Sayable.{IsSayable}
 use Rattle.run_model.specs.Runs.{Turn}
 use Rattle.run_model.specs.Sessions.{RunState}
 use Rattle.run_model.specs.Texts.{Reply, led, text_of}
 use Rattle.std.specs.Prelude.{nat_le, take}
 use Rattle.script_loop.proofs.Prefix.{part_is_prefix}
-use Rattle.script_loop.specs.Consequences.{AnswersAll, ArePlain, IsPrefixOfRun, PrintsReads, TellsTranscript}
+use Rattle.script_loop.specs.Consequences.{AnswersAll, ArePlain, IsPrefixOfRun, PrintsReads, PrintsTranscript}
 use Rattle.script_loop.specs.OneManager.{TurnInPart, one_manager}
 use Rattle.script_loop.specs.Semantics.{Semantics}
 use Rattle.script_loop.specs.ScriptOutcome.{Effects, IsRow, MOST_BYTES, MeetsOutcome, Wrote, WroteInPart, has_bad, items_within}
 use Rattle.script_loop.proofs.Rows.{observed_row}
-use Rattle.headline_laws.proofs.CallerLemmas.{one_told}
+use Rattle.headline_laws.proofs.CallerLemmas.{one_shown}
 use Rattle.transcript_laws.specs.Transcripts.{transcript}
 
 -- if all items were answered, a run over all of them led to the end
@@ -36,16 +36,16 @@ module _ {S P : Type 0} (m : Semantics S P) (from to : S) where
 
   pub wrote_by : (call : Effects) (all : List ℕ) → call.had ≡ Some all → MeetsOutcome m from call to → AnswersAll call.status
       → Wrote m from (items_within all) call to
-  wrote_by call all told met is = let row = observed_row m from to call all told met in row_wrote all row.0 call call.status row.1 is
+  wrote_by call all shown met is = let row = observed_row m from to call all shown met in row_wrote all row.0 call call.status row.1 is
 
 pub wrote_all : (from to : RunState) (call : Effects) (all : List ℕ) → call.had ≡ Some all → MeetsOutcome one_manager from call to → AnswersAll call.status
     → Wrote one_manager from (items_within all) call to
-wrote_all from to call all told met is = wrote_by one_manager from to call all told met is
+wrote_all from to call all shown met is = wrote_by one_manager from to call all shown met is
 
 pub prints_reads : (from to : RunState) (wanted : List Item) (call : Effects) → Wrote one_manager from wanted call to → PrintsReads wanted call
-prints_reads from to wanted call w = record { replies = w.replies; reads = reads_are_told from.heap.kind wanted w.replies w.end w.run; written = w.written }
+prints_reads from to wanted call w = record { replies = w.replies; reads = reads_are_shown from.heap.kind wanted w.replies w.end w.run; written = w.written }
 
--- ---- what one manager owes, and its prefix
+-- ---- the output of one manager, and a prefix of it
 
 cut_whole : (kind : Kind) (old : RunState) (c : Command) (out : List ℕ) (new : RunState) → (kind_goes_on kind).is_going old → IsSayable c
     → TurnInPart old c out new
@@ -64,24 +64,24 @@ cut_is_prefix from to call all w =
 
 -- ---- transcripts
 
-pub tells : (from to : RunState) (wanted : List Item) (call : Effects) → Wrote one_manager from wanted call to → ArePlain from.heap.kind wanted
+pub shows : (from to : RunState) (wanted : List Item) (call : Effects) → Wrote one_manager from wanted call to → ArePlain from.heap.kind wanted
     → call.after ≡ appended call.before (text_of [] (transcript from.heap.kind wanted))
-tells from to wanted call w plain =
+shows from to wanted call w plain =
     w.written ∙ ap (λ (r : List Reply). appended call.before (text_of [] r))
-    (one_told from.heap.kind wanted w.replies w.end plain.paged plain.ones plain.placeless w.run)
+    (one_shown from.heap.kind wanted w.replies w.end plain.paged plain.ones plain.placeless w.run)
 
-tells_of : (from to : RunState) (call : Effects) (had : Option (List ℕ)) → had ≡ call.had → MeetsOutcome one_manager from call to → AnswersAll call.status
-    → TellsTranscript from.heap.kind had call
-tells_of from to call None told met is = tt
-tells_of from to call (Some all) told met is = tells from to (items_within all) call (wrote_all from to call all (sym told) met is)
+shows_of : (from to : RunState) (call : Effects) (had : Option (List ℕ)) → had ≡ call.had → MeetsOutcome one_manager from call to → AnswersAll call.status
+    → PrintsTranscript from.heap.kind had call
+shows_of from to call None shown met is = tt
+shows_of from to call (Some all) shown met is = shows from to (items_within all) call (wrote_all from to call all (sym shown) met is)
 
-pub transcript_told : (from to : RunState) (call : Effects) → MeetsOutcome one_manager from call to → AnswersAll call.status
-    → TellsTranscript from.heap.kind call.had call
-transcript_told from to call met is = tells_of from to call call.had refl met is
+pub transcript_shown : (from to : RunState) (call : Effects) → MeetsOutcome one_manager from call to → AnswersAll call.status
+    → PrintsTranscript from.heap.kind call.had call
+transcript_shown from to call met is = shows_of from to call call.had refl met is
 
 -- ---- cuts
 
--- what the rows say of the bytes alone
+-- what follows from the rows for the bytes alone
 abbrev BytesSay : Status → List ℕ → Type 0
 BytesSay Done all = (length all ≤ MOST_BYTES) × (has_bad (items_within all) ≡ false)
 BytesSay BadScript all = has_bad (items_within all) ≡ true
@@ -101,7 +101,7 @@ row_says from to all left call BadImage row is = absurd is
 
 says_of : (from to : RunState) (call : Effects) (all : List ℕ) → call.had ≡ Some all → MeetsOutcome one_manager from call to
     → AnswersAll call.status → BytesSay call.status all
-says_of from to call all told met is = let row = observed_row one_manager from to call all told met in row_says from to all row.0 call call.status row.1 is
+says_of from to call all shown met is = let row = observed_row one_manager from to call all shown met in row_says from to all row.0 call call.status row.1 is
 
 both_ways : (b : Bool) → b ≡ true → b ≡ false → ⊥
 both_ways b t f = absurd (let e : true ≡ false = sym t ∙ f in cc)
@@ -140,17 +140,17 @@ one_status TooLong BadImage all x y = absurd y
 pub same_status : (from other to there : RunState) (one two : Effects) (all : List ℕ) → one.had ≡ Some all → two.had ≡ Some all
     → MeetsOutcome one_manager from one to
     → MeetsOutcome one_manager other two there → AnswersAll one.status → AnswersAll two.status → two.status ≡ one.status
-same_status from other to there one two all told told2 met met2 is is2 =
-    one_status one.status two.status all (says_of from to one all told met is) (says_of other there two all told2 met2 is2)
+same_status from other to there one two all shown shown2 met met2 is is2 =
+    one_status one.status two.status all (says_of from to one all shown met is) (says_of other there two all shown2 met2 is2)
 
 pub same_output : (from other to there : RunState) (one two : Effects) (all : List ℕ) → one.had ≡ Some all → two.had ≡ Some all
     → MeetsOutcome one_manager from one to
     → MeetsOutcome one_manager other two there → AnswersAll one.status → AnswersAll two.status → other.heap.kind ≡ from.heap.kind
     → ArePlain from.heap.kind (items_within all)
     → two.before ≡ one.before → two.after ≡ one.after
-same_output from other to there one two all told told2 met met2 is is2 kinds plain before =
-    let first = tells from to (items_within all) one (wrote_all from to one all told met is) plain in
-    let second = tells other there (items_within all) two (wrote_all other there two all told2 met2 is2)
+same_output from other to there one two all shown shown2 met met2 is is2 kinds plain before =
+    let first = shows from to (items_within all) one (wrote_all from to one all shown met is) plain in
+    let second = shows other there (items_within all) two (wrote_all other there two all shown2 met2 is2)
     (subst (λ (k : Kind). ArePlain k (items_within all)) (sym kinds) plain) in
     second ∙ ap (λ (k : Kind). appended two.before (text_of [] (transcript k (items_within all)))) kinds
     ∙ ap (λ (w : Option (List ℕ)). appended w (text_of [] (transcript from.heap.kind (items_within all)))) before ∙ sym first

@@ -13,9 +13,9 @@ use Rattle.script_reader.proofs.CallerLemmas.{finished_left}
 use Rattle.run_model.proofs.CallerLemmas.{run_joined, text_joined}
 use Rattle.run_model.specs.Plays.{PlayPart, PlayRun}
 use Rattle.run_model.specs.Texts.{text_of}
-use Rattle.script_loop.specs.AnswersSoFar.{Answered, CutOff, IsWaiting, WasWanting}
+use Rattle.script_loop.specs.AnswersSoFar.{Answered, CutOff, IsWaiting, LackedMemory}
 use Rattle.script_loop.specs.Progress.{Playing, progress, run_of}
-use Rattle.script_loop.specs.ScriptOutcome.{Effects, Lacks, MOST_BYTES, Wrote, WroteInPart, has_bad, items_within}
+use Rattle.script_loop.specs.ScriptOutcome.{Effects, Lacks, MOST_BYTES, MOST_CHUNK, TakesNoMore, Wrote, WroteInPart, has_bad, items_within}
 use Rattle.script_loop.specs.Semantics.{RunBy, Semantics}
 use Rattle.script_loop.proofs.Feeding.{appended_none}
 use Rattle.script_loop.proofs.AnswersSoFar.{bad_then, nothing_left}
@@ -26,12 +26,12 @@ abbrev pub starting : {S : Type 0} → S → Playing S
 starting s = record { reading = fresh; state = s }
 
 -- a reader after the end of its bytes
-abbrev pub told_end : Reading → Reading
-told_end r = record r { ended = true }
+abbrev pub shown_end : Reading → Reading
+shown_end r = record r { ended = true }
 
 -- the same script after the end of its bytes
 abbrev pub ending : {S : Type 0} → Playing S → Playing S
-ending p = record p { reading = told_end p.reading }
+ending p = record p { reading = shown_end p.reading }
 
 -- the bytes t came first, and are within the limit
 within_is : (all t more : List ℕ) → all ≡ t ++ more → length t ≤ MOST_BYTES
@@ -64,29 +64,45 @@ module _ {S P : Type 0} (m : Semantics S P) where
   bads {s} {new} {t} {text} {stop} a wanted same = ap has_bad same ∙ a.stops
 
   pub wrote_in_part : {s : S} {new : Playing S} {t out : List ℕ} (c : CutOff m (starting s) t new out) (all : List ℕ) (call : Effects) (after : List Item)
-      → items_within all ≡ c.done ++ c.item ∷ after → call.after ≡ appended call.before out → WroteInPart m s (items_within all) call new.state
-  wrote_in_part {s} {new} {t} {out} c all call after parts put = record {
-    before = c.done;
-    item = c.item;
-    after = after;
-    parts = parts;
-    replies = c.replies;
-    mid = c.mid;
-    run = c.run;
-    front = c.front;
-    end = run_of new;
-    part = c.part;
-    written = put ∙ ap (appended call.before) c.out_is;
-    stands = stands new.reading.stage s new.state (λ at. (c.untouched at).1);
-  }
+      → items_within all ≡ c.done ++ c.item ∷ after → call.after ≡ appended call.before out
+      → (w : WroteInPart m s (items_within all) call new.state) × (w.before ≡ c.done)
+  wrote_in_part {s} {new} {t} {out} c all call after parts put = (
+    record {
+      before = c.done;
+      item = c.item;
+      after = after;
+      parts = parts;
+      replies = c.replies;
+      mid = c.mid;
+      run = c.run;
+      front = c.front;
+      end = run_of new;
+      part = c.part;
+      written = put ∙ ap (appended call.before) c.out_is;
+      stands = stands new.reading.stage s new.state (λ at. (c.untouched at).1);
+    },
+    refl,
+  )
 
-  -- ---- the items of the bytes so far
-
-  -- if no line is begun
+  -- the items of the bytes so far, if no line is begun
   pub quiet_items : {s : S} {new : Playing S} {t text : List ℕ} (a : Answered m (starting s) t new text false) → IsWaiting new.reading
       → items t false ≡ a.done
   quiet_items {s} {new} {t} {text} a waits =
       ap (λ (l : List ℕ). items l false) (sym (append-nil t)) ∙ a.left [] false ∙ ap (λ (l : List Item). a.done ++ l) waits.quiet ∙ append-nil a.done
+
+  -- nothing was taken but one chunk since the items so far were answered
+  pub takes_no_more : {s : S} {new : Playing S} {t text : List ℕ} (a : Answered m (starting s) t new text false) → IsWaiting new.reading
+      → (more before : List Item) → before ≡ a.done ++ more → (last all left : List ℕ) → all ≡ t ++ (last ++ left) → length last ≤ MOST_CHUNK
+      → TakesNoMore before all left
+  takes_no_more {s} {new} {t} {text} a waits more before is last all left took short = record {
+    earlier = t;
+    last = last;
+    took = took;
+    short = short;
+    answered = (more, is ∙ ap (λ (l : List Item). l ++ more) (sym (quiet_items a waits)));
+  }
+
+  -- ---- the items of the bytes so far
 
   -- up to a bad line
   pub bad_items : {s : S} {new : Playing S} {t text : List ℕ} {line : ℕ} (all more : List ℕ) (a : Answered m (starting s) t new text true) → all ≡ t ++ more
@@ -113,10 +129,10 @@ module _ {S P : Type 0} (m : Semantics S P) where
 
   -- ---- at the end of the input
 
-  -- the items of all the bytes: those answered, and those that the end brings
+  -- the items of all the bytes: those answered, and those that the end of the input completes
   pub ended_items : {s : S} {mid : Playing S} {t text : List ℕ} (all : List ℕ) (a : Answered m (starting s) t mid text false) → all ≡ t
       → length t ≤ MOST_BYTES
-      → items_within all ≡ a.done ++ items_left (told_end mid.reading) [] false
+      → items_within all ≡ a.done ++ items_left (shown_end mid.reading) [] false
   ended_items {s} {mid} {t} {text} all a same fits =
       let short : length all ≤ MOST_BYTES = rw same fits in
       ap (λ (l : List ℕ). items l (nat_le (length all) MOST_BYTES)) (take_all MOST_BYTES all short) ∙ ap (items all) (le-leb (length all) MOST_BYTES short)
@@ -149,7 +165,7 @@ module _ {S P : Type 0} (m : Semantics S P) where
       ended_items all a same fits ∙ ap (λ (l : List Item). a.done ++ l)
       (b.left [] false ∙ ap (λ (l : List Item). b.done ++ l) waits.quiet ∙ append-nil b.done)
 
-  -- a bad line came with the end
+  -- the end of the input completed a bad line
   pub bad_end_items : {s : S} {mid new : Playing S} {t text u : List ℕ} {line : ℕ} (all : List ℕ) (a : Answered m (starting s) t mid text false)
       (b : Answered m (ending mid) [] new u true)
       → all ≡ t → length t ≤ MOST_BYTES → new.reading.stopped ≡ Some line → items_within all ≡ a.done ++ b.done
@@ -160,51 +176,54 @@ module _ {S P : Type 0} (m : Semantics S P) where
   -- a reply was cut at the end
   pub cut_at_end : {s : S} {mid new : Playing S} {t text out : List ℕ} (all : List ℕ) (a : Answered m (starting s) t mid text false)
       (c : CutOff m (ending mid) [] new out) (call : Effects)
-      → all ≡ t → length t ≤ MOST_BYTES → call.after ≡ appended call.before (text ++ out) → WroteInPart m s (items_within all) call new.state
+      → all ≡ t → length t ≤ MOST_BYTES → call.after ≡ appended call.before (text ++ out)
+      → (w : WroteInPart m s (items_within all) call new.state) × (w.before ≡ a.done ++ c.done)
   cut_at_end {s} {mid} {new} {t} {text} {out} all a c call same fits put =
-      let after = c.left [] false in
-      record {
-        before = a.done ++ c.done;
-        item = c.item;
-        after = after.0;
-        parts = ended_items all a same fits ∙ ap (λ (l : List Item). a.done ++ l) after.1 ∙ sym (append_assoc a.done c.done (c.item ∷ after.0));
-        replies = a.replies ++ c.replies;
-        mid = c.mid;
-        run = run_joined (m.begins (m.plan s)) m.turns None a.done c.done a.replies c.replies (run_of mid) c.mid a.run
-            (subst (λ (k : P). PlayRun (m.begins k) m.turns (run_of mid) c.done c.replies c.mid) a.plan c.run);
-        front = c.front;
-        end = run_of new;
-        part = subst (λ (k : P). PlayPart (m.begins k) m.turns_in_part c.mid c.item c.front (run_of new)) a.plan c.part;
-        written = put ∙ ap (appended call.before)
-            (ap₂ (λ (x y : List ℕ). x ++ y) a.text_is c.out_is ∙ sym (append_assoc (text_of [] a.replies) (text_of [] c.replies) c.front)
-            ∙ ap (λ (l : List ℕ). l ++ c.front) (sym (text_joined [] a.replies c.replies)));
-        stands = stands new.reading.stage s new.state (λ at. let last = c.untouched at in last.1 ∙ (a.untouched last.0).1);
-      }
+      let after = c.left [] false in (
+        record {
+          before = a.done ++ c.done;
+          item = c.item;
+          after = after.0;
+          parts = ended_items all a same fits ∙ ap (λ (l : List Item). a.done ++ l) after.1 ∙ sym (append_assoc a.done c.done (c.item ∷ after.0));
+          replies = a.replies ++ c.replies;
+          mid = c.mid;
+          run = run_joined (m.begins (m.plan s)) m.turns None a.done c.done a.replies c.replies (run_of mid) c.mid a.run
+              (subst (λ (k : P). PlayRun (m.begins k) m.turns (run_of mid) c.done c.replies c.mid) a.plan c.run);
+          front = c.front;
+          end = run_of new;
+          part = subst (λ (k : P). PlayPart (m.begins k) m.turns_in_part c.mid c.item c.front (run_of new)) a.plan c.part;
+          written = put ∙ ap (appended call.before)
+              (ap₂ (λ (x y : List ℕ). x ++ y) a.text_is c.out_is ∙ sym (append_assoc (text_of [] a.replies) (text_of [] c.replies) c.front)
+              ∙ ap (λ (l : List ℕ). l ++ c.front) (sym (text_joined [] a.replies c.replies)));
+          stands = stands new.reading.stage s new.state (λ at. let last = c.untouched at in last.1 ∙ (a.untouched last.0).1);
+        },
+        refl,
+      )
 
   -- ---- an allocation failed
 
   -- nothing was written before the heap line
   pub silent_before : {s : S} {mid new : Playing S} {t text : List ℕ} {w0 w w' : Option (List ℕ)} → Answered m (starting s) t mid text false
-      → WasWanting m (progress mid w) (progress new w')
+      → LackedMemory m (progress mid w) (progress new w')
       → w ≡ appended w0 text → w' ≡ w0
   silent_before {s} {mid} {new} {t} {text} {w0} {w} {w'} a went put =
       went.wrote ∙ put ∙ ap (appended w0) (a.silent refl went.stage) ∙ sym (appended_none w0)
 
   pub wants_memory : {s : S} {mid new : Playing S} {t text : List ℕ} {w : Option (List ℕ)} (call : Effects) → Answered m (starting s) t mid text false
-      → WasWanting m (progress mid w) (progress new call.after) → w ≡ appended call.before text → Lacks m s call new.state
+      → LackedMemory m (progress mid w) (progress new call.after) → w ≡ appended call.before text → Lacks m s call new.state
   wants_memory {s} {mid} {new} {t} {text} {w} call a went put = record {
     lacks = subst (λ (z : S). m.lacks z new.state) (a.untouched went.stage).1 went.lacks;
     unwritten = silent_before a went put;
   }
 
   pub silent_at_end : {s : S} {mid new : Playing S} {t text : List ℕ} {w0 w w' : Option (List ℕ)} → Answered m (starting s) t mid text false
-      → WasWanting m (progress (ending mid) w) (progress new w')
+      → LackedMemory m (progress (ending mid) w) (progress new w')
       → w ≡ appended w0 text → w' ≡ w0
   silent_at_end {s} {mid} {new} {t} {text} {w0} {w} {w'} a went put =
       went.wrote ∙ put ∙ ap (appended w0) (a.silent refl went.stage) ∙ sym (appended_none w0)
 
   pub wants_at_end : {s : S} {mid new : Playing S} {t text : List ℕ} {w : Option (List ℕ)} (call : Effects) → Answered m (starting s) t mid text false
-      → WasWanting m (progress (ending mid) w) (progress new call.after) → w ≡ appended call.before text → Lacks m s call new.state
+      → LackedMemory m (progress (ending mid) w) (progress new call.after) → w ≡ appended call.before text → Lacks m s call new.state
   wants_at_end {s} {mid} {new} {t} {text} {w} call a went put = record {
     lacks = subst (λ (z : S). m.lacks z new.state) (a.untouched went.stage).1 went.lacks;
     unwritten = silent_at_end a went put;

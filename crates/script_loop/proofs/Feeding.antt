@@ -1,4 +1,4 @@
--- Pieces that are put or taken one after the other.
+-- Chunks that are put or taken one after the other.
 use Rattle.std.proofs.Common.{◌≡◌, ◌++◌, ◌∙◌, List, ℕ, Option, None, Some, true, refl, ap, sym, ◌+◌, append_assoc, append-nil, take, min, arith, inl, inr}
 use Rattle.std.proofs.lemmas.Bool.{cases_lt}
 use Rattle.std.specs.Prelude.{[]}

@@ -1,4 +1,4 @@
--- What the turns of the loop answer, and how they make the outcome of a script.
+-- The items that the turns of the loop answer, and how the turns make the outcome of a script.
 use Rattle.std.proofs.Common.{◌≡◌, ◌≢◌, ◌≤◌, ◌<◌, ◌+◌, ◌⊎◌, ◌++◌, ◌∙◌, false, true, List, [], ℕ, Option, refl, ap, sym, subst, length, inl, inr, arith}
 use Rattle.std.proofs.Common.{take, drop, append_assoc, append-nil, length-append, length-drop, take-append-drop, min}
 use Rattle.std.proofs.lemmas.List.{length-take-le, take-take}
@@ -7,22 +7,22 @@ use Rattle.cf_base.specs.declared.status.Status.TheVariants.{Done, Words, BadScr
 use Rattle.cf_io.specs.Feeds.{FailsLast, HasGiven, IsSpent, appended, last_count, preceded}
 use Rattle.script_reader.specs.Items.{items}
 use Rattle.script_reader.specs.Reading.{Reading, fresh}
-use Rattle.script_loop.specs.AnswersSoFar.{Answered, HasStopped, WasCut, WasWanting, WentOn}
+use Rattle.script_loop.specs.AnswersSoFar.{Answered, HasStopped, WasCut, LackedMemory, WentOn}
 use Rattle.script_loop.specs.Progress.{Progress, playing, progress}
-use Rattle.script_loop.specs.ScriptOutcome.{Effects, IsRow, MOST_BYTES, MeetsOutcome, Plays, SinkState, SourceState, effects, items_within}
+use Rattle.script_loop.specs.ScriptOutcome.{Effects, IsRow, MOST_BYTES, MOST_CHUNK, MeetsOutcome, Plays, SinkState, SourceState, effects, items_within}
 use Rattle.script_loop.specs.Semantics.{Semantics}
 use Rattle.script_loop.specs.LoopTurn.{AnswersChunk, AwaitsChunk, Between, Chunk, StopsBy, TakesNothing, between, left_in, reading_in}
 use Rattle.script_loop.specs.declared.running.Script.{Script}
 use Rattle.script_loop.proofs.Ending.{bad_end_items, bad_items, bads, bads_then, cut_at_end, cut_items, ending, full_items, longer, quiet_items, silent_at_end}
-use Rattle.script_loop.proofs.Ending.{silent_before, starting, wants_at_end, wants_memory, whole_items, wrote, wrote_in_part, wrote_then}
+use Rattle.script_loop.proofs.Ending.{silent_before, starting, takes_no_more, wants_at_end, wants_memory, whole_items, wrote, wrote_in_part, wrote_then}
 use Rattle.script_loop.proofs.Feeding.{appended_after, appended_none, given_more, given_none, nothing_follows, preceded_after, preceded_none}
-use Rattle.script_loop.proofs.AnswersSoFar.{answered_none, answered_then, cut_then}
+use Rattle.script_loop.proofs.AnswersSoFar.{answered_none, answered_then, both_done, cut_then}
 
 -- ---- the chunk of a call: its first k bytes are within the limit
 
-abbrev pub chunk_of : {S : Type 0} (old new : Between S) (buf : List ℕ) (k n : ℕ) → k ≤ n → k ≤ old.left → n ≤ length buf
+abbrev pub chunk_of : {S : Type 0} (old new : Between S) (buf : List ℕ) (k n : ℕ) → k ≤ n → k ≤ old.left → n ≤ length buf → length buf ≤ MOST_CHUNK
     → old.rest ≡ preceded (take n buf) new.rest → new.given ≡ min (old.given + n) last_count → Chunk old new
-chunk_of old new buf k n below left fits took counted =
+chunk_of old new buf k n below left fits few took counted =
     let parts : take k buf ++ drop k (take n buf) ≡ take n buf =
     ap (λ (l : List ℕ). l ++ drop k (take n buf)) (sym (take-take k n buf below)) ∙ take-append-drop k (take n buf) in
     let long : length (take k buf ++ drop k (take n buf)) ≡ n = ap length parts ∙ length-take-le n buf fits in
@@ -33,12 +33,13 @@ chunk_of old new buf k n below left fits took counted =
       took = took ∙ ap (λ (l : List ℕ). preceded l new.rest) (sym parts);
       counted = counted ∙ ap (λ m. min (old.given + m) last_count) (sym long);
       fits = omega (arith, short, left);
+      short = omega (arith, long, fits, few);
     }
 
 -- it lies within it as a whole
-abbrev pub whole_chunk : {S : Type 0} (old new : Between S) (buf : List ℕ) (n : ℕ) → n ≤ old.left → n ≤ length buf
+abbrev pub whole_chunk : {S : Type 0} (old new : Between S) (buf : List ℕ) (n : ℕ) → n ≤ old.left → n ≤ length buf → length buf ≤ MOST_CHUNK
     → old.rest ≡ preceded (take n buf) new.rest → new.given ≡ min (old.given + n) last_count → Chunk old new
-whole_chunk old new buf n left fits took counted =
+whole_chunk old new buf n left fits few took counted =
     let parts : take n buf ++ [] ≡ take n buf = append-nil (take n buf) in
     let long : length (take n buf ++ []) ≡ n = ap length parts ∙ length-take-le n buf fits in
     let short = length-take-le n buf fits in
@@ -48,6 +49,7 @@ whole_chunk old new buf n left fits took counted =
       took = took ∙ ap (λ (l : List ℕ). preceded l new.rest) (sym parts);
       counted = counted ∙ ap (λ m. min (old.given + m) last_count) (sym long);
       fits = omega (arith, short, left);
+      short = omega (arith, long, fits, few);
     }
 
 pub some_past : (buf : List ℕ) (k n : ℕ) → k < n → n ≤ length buf → 0 < length (drop k (take n buf))
@@ -80,12 +82,12 @@ plays_of m from s k st s' k' to ended source_same read_fault sink_same write_fau
   };
 }
 
--- how the answers to what the end completes came out
+-- how the answering of the items ended that the end of the input completes
 abbrev pub EndsAs : {S P : Type 0} → Semantics S P → Status → Progress S → Progress S → Type 0
 EndsAs m Done old new = WentOn m old [] new
 EndsAs m BadScript old new = HasStopped m old [] new
 EndsAs m WriteFault old new = WasCut m old [] new
-EndsAs m OutOfMemory old new = WasWanting m old new
+EndsAs m OutOfMemory old new = LackedMemory m old new
 EndsAs m status old new = ⊥
 
 -- ---- from the start of a script
@@ -175,13 +177,17 @@ module _ {S P : Type 0} (m : Semantics S P) {from : S} {had before : Option (Lis
         record {
           outcome = by_chunk WriteFault (λ more.
               let wanted = cut_items m (all_taken ++ more) (c.past ++ more) both (parted more) few_within in
-              wrote_in_part m both (all_taken ++ more) _ wanted.0 wanted.1 (appended_after _ _ _ _ _ f.wrote went.wrote));
+              let part = wrote_in_part m both (all_taken ++ more) (call_to WriteFault) wanted.0 wanted.1 (appended_after _ _ _ _ _ f.wrote went.wrote) in (
+                part.0,
+                takes_no_more m f.answered f.awaits.waiting went.cut.done part.0.before (part.1 ∙ both_done m f.answered went.cut) (c.within ++ c.past) (all_taken ++ more) more
+                    (append_assoc f.taken (c.within ++ c.past) more) c.short,
+              ));
           plan = both.plan;
           silent = λ is. absurd (let e : WriteFault ≡ OutOfMemory = is in cc);
           too_long = λ is. absurd (let e : WriteFault ≡ TooLong = is in cc);
         }
 
-    was_wanting : WasWanting m b.progress b'.progress → HasEnded m from (call_to OutOfMemory) b'.progress.playing.state
+    was_wanting : LackedMemory m b.progress b'.progress → HasEnded m from (call_to OutOfMemory) b'.progress.playing.state
     was_wanting went = record {
       outcome = by_chunk OutOfMemory (λ more. wants_memory m (call_to OutOfMemory) f.answered went f.wrote);
       plan = went.plan ∙ f.answered.plan;
@@ -340,7 +346,11 @@ module _ {S P : Type 0} (m : Semantics S P) {from : S} {had before : Option (Lis
       too_long = λ is. absurd (let e : BadScript ≡ TooLong = is in cc);
     }
     has_ended WriteFault went = record {
-      outcome = by_end WriteFault (λ all same few. cut_at_end m all f.answered went.cut _ same few (appended_after _ _ _ _ _ f.wrote went.wrote));
+      outcome = by_end WriteFault (λ all same few.
+          let part = cut_at_end m all f.answered went.cut (call_by WriteFault) same few (appended_after _ _ _ _ _ f.wrote went.wrote) in (
+            part.0,
+            takes_no_more m f.answered f.awaits.waiting went.cut.done part.0.before part.1 [] all [] (same ∙ sym (append-nil f.taken)) (omega arith),
+          ));
       plan = went.cut.plan ∙ f.answered.plan;
       silent = λ is. absurd (let e : WriteFault ≡ OutOfMemory = is in cc);
       too_long = λ is. absurd (let e : WriteFault ≡ TooLong = is in cc);

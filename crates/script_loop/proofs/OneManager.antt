@@ -1,4 +1,4 @@
--- How one manager with its session opens.
+-- How one manager with its session opens, and what no call changes.
 use Rattle.std.proofs.Common.{◌≡◌}
 use Rattle.cf_base.specs.Settings.{profile_of}
 use Rattle.cf_base.specs.declared.settings.Settings.{Settings}
@@ -6,11 +6,23 @@ use Rattle.cf_model.specs.Rules.{KeepsRules}
 use Rattle.cf_model.specs.State.{HeapState}
 use Rattle.cf_model.specs.Steps.{IsEmptyHeap}
 use Rattle.cf_session.specs.Apply.{run_at}
-use Rattle.run_model.proofs.CallerLemmas.{begins_going}
-use Rattle.run_model.specs.Sessions.{IsGoing, SessionState, fresh_session}
+use Rattle.headline_laws.proofs.CallerLemmas.{step_keeps}
+use Rattle.run_model.proofs.CallerLemmas.{begins_going, step_same}
+use Rattle.run_model.specs.Sessions.{IsGoing, RunState, SessionState, fresh_session}
+use Rattle.run_model.specs.Steps.{Step}
+use Rattle.run_model.specs.Texts.{Reply}
+use Rattle.script_loop.specs.OneManager.{one_manager}
+use Rattle.script_reader.specs.declared.command.Command.{Command}
 
 pub opens_going : (settings : Settings) (session : SessionState) (old new : HeapState) → session ≡ fresh_session → IsEmptyHeap old.kind settings new
     → KeepsRules new → IsGoing (run_at session new)
 opens_going settings session old new fresh empty rules =
     begins_going old.kind (profile_of settings) (run_at session new)
     (record { session = fresh; words = empty.words; order = empty.order; heap = empty.whole; rules = rules })
+
+-- the kind stays, and so does the promise of an order
+pub step_plan : (old new : RunState) (c : Command) (reply : Reply) → KeepsRules old.heap → Step old c reply new → one_manager.plan new ≡ one_manager.plan old
+step_plan old new c reply rules step =
+    let kind = (step_same old new c reply rules step).kind in
+    let promise = step_keeps old new c reply step in
+    λ i. (kind i, promise i)

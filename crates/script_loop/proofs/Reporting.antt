@@ -17,10 +17,10 @@ module _ {S P : Type 0} (m : Semantics S P)
   pub reported : (old new : S) (c : Command) (reply : Reply) (w y : Option (List ℕ)) (r : Result Unit Failed) (outcome : Outcome)
       (answer : Result Outcome Failed) → m.turns old c reply new → outcome ≡ outcome_of reply → Puts w (led [] reply) r y → IsEnded r outcome answer
       → Applies m (snapshot old w) c answer (snapshot new y)
-  reported old new c reply w y (Ok u) outcome answer turn told put is =
+  reported old new c reply w y (Ok u) outcome answer turn shown put is =
       subst (λ (a : Result Outcome Failed). Applies m (snapshot old w) c a (snapshot new y)) (sym is)
-      (record { reply = reply; turns = turn; written = put }, told)
-  reported old new c reply w y (Err e) outcome answer turn told (front, lost, parts, put) is =
+      (record { reply = reply; turns = turn; written = put }, shown)
+  reported old new c reply w y (Err e) outcome answer turn shown (front, lost, parts, put) is =
       subst (λ (a : Result Outcome Failed). Applies m (snapshot old w) c a (snapshot new y)) (sym is) (record {
         out = front;
         turns = in_part old c front new (record { reply = reply; lost = lost; turn = turn; cut = parts });
@@ -28,8 +28,8 @@ module _ {S P : Type 0} (m : Semantics S P)
       })
 
   -- a reply of one line
-  pub told_line : (old new : S) (c : Command) (line : List ℕ) (w y : Option (List ℕ)) (r : Result Unit Failed) (outcome : Outcome)
+  pub shown_line : (old new : S) (c : Command) (line : List ℕ) (w y : Option (List ℕ)) (r : Result Unit Failed) (outcome : Outcome)
       (answer : Result Outcome Failed) → Speaks m.turns old c new line → outcome ≡ outcome_in line → Puts w (line ++ 10 ∷ []) r y
       → IsEnded r outcome answer → Applies m (snapshot old w) c answer (snapshot new y)
-  told_line old new c line w y r outcome answer speaks told put is =
-      reported old new c (said line) w y r outcome answer speaks.turn told (puts_line w y [] line line r refl put) is
+  shown_line old new c line w y r outcome answer speaks shown put is =
+      reported old new c (said line) w y r outcome answer speaks.turn shown (puts_line w y [] line line r refl put) is

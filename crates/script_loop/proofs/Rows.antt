@@ -22,14 +22,14 @@ within_all all fits = ap (λ (l : List ℕ). items l (nat_le (length all) MOST_B
 module _ {S P : Type 0} (m : Semantics S P) (from to : S) (call : Effects) where
   -- over the bytes that the source had
   pub observed_row : (all : List ℕ) → call.had ≡ Some all → MeetsOutcome m from call to → (left : List ℕ) × IsRow m call.status from all left call to
-  observed_row all told met = go call.left refl
+  observed_row all shown met = go call.left refl
     where
       go : (left : Option (List ℕ)) → left ≡ call.left → (rest : List ℕ) × IsRow m call.status from all rest call to
       go None is =
-          let e : Some all ≡ None = sym told ∙ met.took ∙ ap (preceded met.taken) (sym is) in
+          let e : Some all ≡ None = sym shown ∙ met.took ∙ ap (preceded met.taken) (sym is) in
           absurd cc
       go (Some left) is =
-          let e : Some all ≡ Some (met.taken ++ left) = sym told ∙ met.took ∙ ap (preceded met.taken) (sym is) in
+          let e : Some all ≡ Some (met.taken ++ left) = sym shown ∙ met.took ∙ ap (preceded met.taken) (sym is) in
           let same : met.taken ++ left ≡ all = cc in (
             left,
             subst (λ (l : List ℕ). IsRow m call.status from l left call to) same

@@ -8,7 +8,7 @@ use Rattle.run_model.proofs.CallerLemmas.{begins_going, step_going, step_same}
 use Rattle.run_model.specs.Sessions.{RunState}
 use Rattle.run_model.specs.Texts.{Reply}
 use Rattle.script_loop.specs.OneManager.{one_manager}
-use Rattle.script_loop.specs.ScriptOutcome.{Effects, StandsAfter, Wrote}
+use Rattle.script_loop.specs.ScriptOutcome.{Effects, EndsAt, Wrote}
 use Rattle.script_loop.specs.Semantics.{AnswersBy, OpensBy, RunBy, Semantics, StepBy, snapshot}
 use Rattle.script_loop.specs.WithSettings.{GoesWith, Settled, settled, with_settings}
 use Rattle.script_loop.specs.declared.player.OpenFault.{OpenFault}
@@ -61,7 +61,7 @@ module _ (from : Settled RunState) where
       let rest = run_settled mid items more new first.1 run in
       ((seen mid, reply, more, first.0, are, rest.0), rest.1)
 
-  stands_seen : (end : Option (Settled RunState)) (to : Settled RunState) → StandsAfter from end to → StandsAfter from.state (seen end) to.state
+  stands_seen : (end : Option (Settled RunState)) (to : Settled RunState) → EndsAt from end to → EndsAt from.state (seen end) to.state
   stands_seen None to is = ap (λ (s : Settled RunState). s.state) is
   stands_seen (Some s) to is = ap (λ (s : Settled RunState). s.state) is
 

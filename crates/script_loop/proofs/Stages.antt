@@ -4,7 +4,7 @@ use Rattle.script_reader.specs.Items.{stage_after_command}
 use Rattle.script_reader.specs.declared.stage.Stage.{Stage}
 use Rattle.script_reader.specs.declared.stage.Stage.TheVariants.{Opening, Bounding, Running}
 use Rattle.script_loop.specs.Progress.{IsReadyAt, run_in}
-use Rattle.script_loop.specs.ScriptOutcome.{StandsAfter}
+use Rattle.script_loop.specs.ScriptOutcome.{EndsAt}
 use Rattle.script_loop.specs.Semantics.{Semantics}
 
 -- after a command the heap is open
@@ -37,7 +37,7 @@ going_after m a Bounding k s leads going = going
 going_after m a Running k s leads going = going
 
 -- the state after a run
-pub stands : {S : Type 0} (a : Stage) (s t : S) → (a ≡ Opening → t ≡ s) → StandsAfter s (run_in a t) t
+pub stands : {S : Type 0} (a : Stage) (s t : S) → (a ≡ Opening → t ≡ s) → EndsAt s (run_in a t) t
 stands Opening s t untouched = untouched refl
 stands Bounding s t untouched = refl
 stands Running s t untouched = refl

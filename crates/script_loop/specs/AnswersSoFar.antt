@@ -1,4 +1,4 @@
--- How far the answers have come.
+-- What was answered so far.
 use Rattle.std.specs.Prelude.{◌≡◌, ◌≤◌, ◌+◌, ◌++◌, ℕ, Bool, true, false, List, [], ◌∷◌, length, Option, Some, None}
 use Rattle.cf_io.specs.Feeds.{appended}
 use Rattle.script_reader.specs.Items.{Item}
@@ -10,7 +10,7 @@ use Rattle.script_loop.specs.Progress.{IsReady, Playing, Progress, run_of}
 use Rattle.script_loop.specs.ScriptOutcome.{has_bad}
 use Rattle.script_loop.specs.Semantics.{PartBy, RunBy, Semantics}
 use Rattle.script_loop.specs.declared.answering.Ready.{Ready}
-use Rattle.script_loop.specs.declared.answering.Ready.TheVariants.{GoesOn, Stopped, Cut, Wanting}
+use Rattle.script_loop.specs.declared.answering.Ready.TheVariants.{GoesOn, Stopped, Cut, LacksMemory}
 
 -- The chunk `piece` was read, and the text is the replies to the items up to there; if `stopped`, the last one is bad.
 pub record Answered {S P : Type 0} (m : Semantics S P) (old : Playing S) (piece : List ℕ) (new : Playing S) (text : List ℕ) (stopped : Bool) : Type 0 where
@@ -68,7 +68,7 @@ pub record WasCut {S P : Type 0} (m : Semantics S P) (old : Progress S) (piece :
   pub wrote : new.written ≡ appended old.written out
 
 -- an allocation failed at the `heap` line, and nothing was written
-pub record WasWanting {S P : Type 0} (m : Semantics S P) (old new : Progress S) : Type 0 where
+pub record LackedMemory {S P : Type 0} (m : Semantics S P) (old new : Progress S) : Type 0 where
   pub stage : old.playing.reading.stage ≡ Opening
   pub lacks : m.lacks old.playing.state new.playing.state
   pub plan : m.plan new.playing.state ≡ m.plan old.playing.state
@@ -78,7 +78,7 @@ abbrev pub Goes : {S P : Type 0} → Semantics S P → Progress S → List ℕ �
 Goes m old piece GoesOn new = WentOn m old piece new
 Goes m old piece Stopped new = HasStopped m old piece new
 Goes m old piece Cut new = WasCut m old piece new
-Goes m old piece Wanting new = WasWanting m old new
+Goes m old piece LacksMemory new = LackedMemory m old new
 
 -- a text was written, or a prefix of it
 pub record WroteFront (old : Option (List ℕ)) (text : List ℕ) (new : Option (List ℕ)) : Type 0 where
@@ -92,4 +92,4 @@ abbrev pub NamesBad : Option (List ℕ) → ℕ → Ready → Option (List ℕ) 
 NamesBad old line Stopped new = new ≡ appended old (led [] (said (bad_line line)))
 NamesBad old line Cut new = WroteFront old (led [] (said (bad_line line))) new
 NamesBad old line GoesOn new = ⊥
-NamesBad old line Wanting new = ⊥
+NamesBad old line LacksMemory new = ⊥

@@ -6,7 +6,7 @@ use Rattle.cf_base.specs.declared.status.Status.TheVariants.{Done, BadScript, To
 use Rattle.cf_io.specs.Feeds.{appended}
 use Rattle.cf_model.specs.Rules.{IsPaged}
 use Rattle.script_reader.specs.Items.{Item}
-use Rattle.run_laws.specs.Told.{AreReadsOf}
+use Rattle.run_laws.specs.IdBytes.{AreReadsOf}
 use Rattle.run_model.specs.Runs.{Run}
 use Rattle.run_model.specs.Sessions.{RunState}
 use Rattle.run_model.specs.Texts.{Reply, text_of}
@@ -42,9 +42,9 @@ pub record ArePlain (kind : Kind) (wanted : List Item) : Type 0 where
   pub placeless : ArePlaceless wanted
 
 -- the output over plain items is their transcript
-abbrev pub TellsTranscript : Kind → Option (List ℕ) → Effects → Type 0
-TellsTranscript kind None call = ⊤
-TellsTranscript kind (Some all) call = ArePlain kind (items_within all) → call.after ≡ appended call.before (text_of [] (transcript kind (items_within all)))
+abbrev pub PrintsTranscript : Kind → Option (List ℕ) → Effects → Type 0
+PrintsTranscript kind None call = ⊤
+PrintsTranscript kind (Some all) call = ArePlain kind (items_within all) → call.after ≡ appended call.before (text_of [] (transcript kind (items_within all)))
 
 -- the text is a prefix of the output of some run by these rules over all the items
 pub record IsPrefixBy {S P : Type 0} (m : Semantics S P) (from : S) (wanted : List Item) (text : List ℕ) : Type 0 where

@@ -5,9 +5,9 @@ use Rattle.cf_base.specs.declared.status.Status.TheVariants.{BadScript, ReadFaul
 use Rattle.cf_io.specs.Feeds.{HasGiven, IsSpent, preceded}
 use Rattle.cf_io.specs.Sources.{more_given}
 use Rattle.script_reader.specs.Reading.{Reading}
-use Rattle.script_loop.specs.AnswersSoFar.{HasStopped, IsWaiting, WasCut, WasWanting, WentOn}
+use Rattle.script_loop.specs.AnswersSoFar.{HasStopped, IsWaiting, WasCut, LackedMemory, WentOn}
 use Rattle.script_loop.specs.Progress.{IsReady, Progress, playing, progress}
-use Rattle.script_loop.specs.ScriptOutcome.{MOST_BYTES}
+use Rattle.script_loop.specs.ScriptOutcome.{MOST_BYTES, MOST_CHUNK}
 use Rattle.script_loop.specs.Semantics.{Semantics}
 use Rattle.script_loop.specs.declared.running.Script.{Script}
 use Rattle.script_loop.specs.declared.running.TurnEnd.{TurnEnd}
@@ -46,6 +46,7 @@ pub record Chunk {S : Type 0} (old new : Between S) : Type 0 where
   pub took : old.rest ≡ preceded (within ++ past) new.rest
   pub counted : new.given ≡ more_given old.given (length (within ++ past))
   pub fits : length within ≤ old.left
+  pub short : length (within ++ past) ≤ MOST_CHUNK
 
 -- it is within the limit, and the items that it completes were answered
 pub record AnswersChunk {S P : Type 0} (m : Semantics S P) (old new : Between S) : Type 0 where
@@ -74,7 +75,7 @@ abbrev pub StopsBy : {S P : Type 0} → Semantics S P → Status → Between S �
 StopsBy m ReadFault old new = TakesNothing old new
 StopsBy m BadScript old new = (c : Chunk old new) × HasStopped m old.progress c.within new.progress
 StopsBy m WriteFault old new = (c : Chunk old new) × WasCut m old.progress c.within new.progress
-StopsBy m OutOfMemory old new = (c : Chunk old new) × WasWanting m old.progress new.progress
+StopsBy m OutOfMemory old new = (c : Chunk old new) × LackedMemory m old.progress new.progress
 StopsBy m TooLong old new = PassesLimit m old new
 StopsBy m status old new = ⊥
 

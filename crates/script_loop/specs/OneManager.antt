@@ -1,5 +1,5 @@
 -- The mode handler of a session over one manager.
-use Rattle.std.specs.Prelude.{◌≡◌, ◌++◌, ℕ, List, []}
+use Rattle.std.specs.Prelude.{◌≡◌, ◌++◌, ℕ, Bool, List, [], is_some}
 use Rattle.cf_base.specs.declared.kind.Kind.{Kind}
 use Rattle.cf_model.specs.Steps.{IsClosed}
 use Rattle.script_reader.specs.declared.command.Command.{Command}
@@ -20,12 +20,13 @@ pub record LacksOne (old new : RunState) : Type 0 where
   pub closed : IsClosed old.heap new.heap
   pub session : new.session ≡ old.session
 
-abbrev pub one_manager : Semantics RunState Kind
+-- The plan is the kind, and whether the manager promises an order.
+abbrev pub one_manager : Semantics RunState (Kind × Bool)
 one_manager = record {
-  plan = λ s. s.heap.kind;
+  plan = λ s. (s.heap.kind, is_some s.heap.order);
   is_fresh = λ s. s.session ≡ fresh_session;
   is_going = IsGoing;
-  begins = BeginsOne;
+  begins = λ plan. BeginsOne plan.0;
   turns = Turn;
   turns_in_part = TurnInPart;
   lacks = LacksOne;

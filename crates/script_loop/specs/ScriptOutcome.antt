@@ -4,13 +4,17 @@ use Rattle.std.specs.List.{list_any}
 use Rattle.cf_base.specs.declared.status.Status.{Status}
 use Rattle.cf_base.specs.declared.status.Status.TheVariants.{Done, Words, BadScript, ReadFault, WriteFault, OutOfMemory, TooLong, BadImage}
 use Rattle.cf_io.specs.Feeds.{FailsLast, HasGiven, appended, last_count, preceded}
-use Rattle.script_reader.specs.Items.{Item, asks, bad, items, starts}
+use Rattle.script_reader.specs.Items.{AreFirstOf, Item, asks, bad, items, starts}
 use Rattle.run_model.specs.Texts.{Reply, text_of}
 use Rattle.script_loop.specs.Semantics.{PartBy, RunBy, Semantics}
 
 -- the most bytes of a script
 abbrev pub MOST_BYTES : ℕ
 MOST_BYTES = 268435455
+
+-- the most bytes of a chunk
+abbrev pub MOST_CHUNK : ℕ
+MOST_CHUNK = 4096
 
 abbrev pub is_bad : Item → Bool
 is_bad (starts settings) = false
@@ -68,9 +72,9 @@ effects source sink status source' sink' = record {
 }
 
 -- the state after the run; unchanged if no run began
-abbrev pub StandsAfter : {S : Type 0} → S → Option S → S → Type 0
-StandsAfter from None to = to ≡ from
-StandsAfter from (Some s) to = to ≡ s
+abbrev pub EndsAt : {S : Type 0} → S → Option S → S → Type 0
+EndsAt from None to = to ≡ from
+EndsAt from (Some s) to = to ≡ s
 
 -- a run over these items leads to this state, and its replies were written
 pub record Wrote {S P : Type 0} (m : Semantics S P) (from : S) (wanted : List Item) (call : Effects) (to : S) : Type 0 where
@@ -78,7 +82,7 @@ pub record Wrote {S P : Type 0} (m : Semantics S P) (from : S) (wanted : List It
   pub end : Option S
   pub run : RunBy m from None wanted replies end
   pub written : call.after ≡ appended call.before (text_of [] replies)
-  pub stands : StandsAfter from end to
+  pub stands : EndsAt from end to
 
 -- a run over the items before one of them, and a prefix of the reply to that one was written
 pub record WroteInPart {S P : Type 0} (m : Semantics S P) (from : S) (wanted : List Item) (call : Effects) (to : S) : Type 0 where
@@ -93,21 +97,31 @@ pub record WroteInPart {S P : Type 0} (m : Semantics S P) (from : S) (wanted : L
   pub end : Option S
   pub part : PartBy m from mid item front end
   pub written : call.after ≡ appended call.before (text_of [] replies ++ front)
-  pub stands : StandsAfter from end to
+  pub stands : EndsAt from end to
+
+-- Nothing was taken after the sink failed: each item whose line is complete before the last chunk is one of those that were answered as a whole, `before`.
+-- If the sink failed at the end of the source, no chunk is the last one.
+pub record TakesNoMore (before : List Item) (all left : List ℕ) : Type 0 where
+  pub earlier : List ℕ
+  pub last : List ℕ
+  pub took : all ≡ earlier ++ (last ++ left)
+  pub short : length last ≤ MOST_CHUNK
+  pub answered : AreFirstOf (items earlier false) before
 
 -- an allocation failed, and nothing was written
 pub record Lacks {S P : Type 0} (m : Semantics S P) (from : S) (call : Effects) (to : S) : Type 0 where
   pub lacks : m.lacks from to
   pub unwritten : call.after ≡ call.before
 
--- by the status: a source had the bytes `all`, and has the bytes `left` now
+-- By the status: a source had the bytes `all`, and has the bytes `left` now. If the source failed, each item whose line is complete in the bytes taken was
+-- answered, and no other. If the sink failed, no chunk was taken after that.
 abbrev pub IsRow : {S P : Type 0} → Semantics S P → Status → S → List ℕ → List ℕ → Effects → S → Type 0
 IsRow m Done from all left call to = (length all ≤ MOST_BYTES) × (left ≡ []) × (has_bad (items_within all) ≡ false) × Wrote m from (items_within all) call to
 IsRow m BadScript from all left call to = (has_bad (items_within all) ≡ true) × Wrote m from (items_within all) call to
 IsRow m TooLong from all left call to = (MOST_BYTES < length all) × (has_bad (items_within all) ≡ false) × Wrote m from (items_within all) call to
 IsRow m ReadFault from all left call to = (taken : List ℕ) × (all ≡ taken ++ left) × (length taken ≤ MOST_BYTES)
     × (has_bad (items taken false) ≡ false) × Wrote m from (items taken false) call to
-IsRow m WriteFault from all left call to = WroteInPart m from (items_within all) call to
+IsRow m WriteFault from all left call to = (w : WroteInPart m from (items_within all) call to) × TakesNoMore w.before all left
 IsRow m OutOfMemory from all left call to = Lacks m from call to
 IsRow m Words from all left call to = ⊥
 IsRow m BadImage from all left call to = ⊥

@@ -9,7 +9,7 @@ use crate::player::{OpenFault, Player};
 use cf_io::{Line, Sink, push_field, put_line};
 use script_reader::{NextRef, Reader, Room};
 
-/// Why the answers stopped.
+/// Why the handler stopped answering items.
 #[derive(Clone, Copy, Debug, PartialEq, Eq)]
 pub enum Ready {
     /// The reader needs more bytes, or the script has ended.
@@ -19,7 +19,7 @@ pub enum Ready {
     /// The sink failed.
     Cut,
     /// An allocation failed at the `heap` line.
-    Wanting,
+    LacksMemory,
 }
 
 /// Writes the number of the bad line.
@@ -61,7 +61,7 @@ pub fn answer_kept<H, A: Player<H>, K: Sink>(
             NextRef::Start(settings) => match player.open(heap, &settings, sink) {
                 Ok(()) => {}
                 Err(OpenFault::Failed) => return Ready::Cut,
-                Err(OpenFault::OutOfMemory) => return Ready::Wanting,
+                Err(OpenFault::OutOfMemory) => return Ready::LacksMemory,
             },
             NextRef::Command(command) => match player.answer(heap, command, sink) {
                 Ok(()) => {}
@@ -99,7 +99,7 @@ pub fn answer_piece<H, A: Player<H>, K: Sink>(
             Ready::GoesOn => {}
             Ready::Stopped => return Ready::Stopped,
             Ready::Cut => return Ready::Cut,
-            Ready::Wanting => return Ready::Wanting,
+            Ready::LacksMemory => return Ready::LacksMemory,
         }
     }
     Ready::GoesOn

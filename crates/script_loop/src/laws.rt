@@ -1,10 +1,10 @@
 //! Laws of the outcome of a script on one manager.
 ghost use Rattle.std.specs.Prelude.{◌≡◌, ◌++◌, ℕ, List, [], None, Some};
-ghost use Rattle.run_laws.specs.Told.{AreReadsOf};
+ghost use Rattle.run_laws.specs.IdBytes.{AreReadsOf};
 ghost use Rattle.run_model.specs.Sessions.{RunState};
 ghost use Rattle.run_model.specs.Texts.{text_of};
 ghost use Rattle.script_reader.specs.Items.{Item};
-ghost use Rattle.script_loop.specs.Consequences.{AnswersAll, ArePlain, IsPrefixOfRun, PrintsReads, TellsTranscript};
+ghost use Rattle.script_loop.specs.Consequences.{AnswersAll, ArePlain, IsPrefixOfRun, PrintsReads, PrintsTranscript};
 ghost use Rattle.script_loop.specs.OneManager.{one_manager};
 ghost use Rattle.script_loop.specs.ScriptOutcome.{Effects, MeetsOutcome, Wrote, WroteInPart, items_within};
 ghost use Rattle.script_loop.specs.WithSettings.{GoesWith, Settled, with_settings};
@@ -32,7 +32,7 @@ pub fn what_was_cut_is_a_prefix()
 /// If all items were answered, the output over plain items is their transcript.
 pub fn plain_scripts_print_their_transcript()
     ensures { (from to : RunState) (call : Effects) → MeetsOutcome one_manager from call to
-        → AnswersAll call.status → TellsTranscript from.heap.kind call.had call }
+        → AnswersAll call.status → PrintsTranscript from.heap.kind call.had call }
 {}
 
 /// The chunks of a source do not matter: two calls that answered all of the same bytes return the same
@@ -50,8 +50,8 @@ pub fn cuts_never_matter()
         → two.before ≡ one.before → two.after ≡ one.after }
 {}
 
-/// A mode handler that keeps the settings answers as the session does. If its run began, it goes on,
-/// and the manager has those settings.
+/// A mode handler that keeps the settings of the `heap` line writes only what the session's own handler
+/// may write. If its run began, the run can go on, and the manager has those settings.
 pub fn settings_are_kept()
     ensures { (from to : Settled RunState) (wanted : List Item) (call : Effects)
         (w : Wrote (with_settings one_manager) from wanted call to)

@@ -1,5 +1,5 @@
 //! A script on one manager.
-ghost use Rattle.std.specs.Prelude.{◌≡◌};
+ghost use Rattle.std.specs.Prelude.{◌≡◌, Bool};
 ghost use Rattle.cf_base.specs.declared.kind.Kind.{Kind};
 ghost use Rattle.cf_session.specs.Apply.{run_at};
 ghost use Rattle.run_model.specs.Sessions.{RunState, fresh_session};
@@ -17,7 +17,7 @@ use script_reader::CommandRef;
 impl<H: Manager> Player<H> for Session {
     ghost State = { RunState };
 
-    ghost Plan = { Kind };
+    ghost Plan = { Kind × Bool };
 
     ghost state = { λ session heap. run_at session (H.state heap) };
 
@@ -29,14 +29,9 @@ impl<H: Manager> Player<H> for Session {
         settings: &Settings,
         sink: &mut K,
     ) -> Result<(), OpenFault> {
-        match heap.open_heap(settings) {
-            Ok(()) => {}
-            Err(_) => return Err(OpenFault::OutOfMemory),
-        }
-        match put_all(sink, b"ok\n") {
-            Ok(()) => Ok(()),
-            Err(_) => Err(OpenFault::Failed),
-        }
+        heap.open_heap(settings)?;
+        put_all(sink, b"ok\n")?;
+        Ok(())
     }
 
     fn answer<K: Sink>(
@@ -45,10 +40,8 @@ impl<H: Manager> Player<H> for Session {
         command: CommandRef,
         sink: &mut K,
     ) -> Result<(), Failed> {
-        match self.apply_ref(heap, command, b"", sink) {
-            Ok(_) => Ok(()),
-            Err(failed) => Err(failed),
-        }
+        self.apply_ref(heap, command, b"", sink)?;
+        Ok(())
     }
 }
 

@@ -1,11 +1,12 @@
-//! Mode handlers: who answers the items of a script.
+//! Mode handlers, which answer the items of a script.
 ghost use Rattle.std.specs.Prelude.{◌≡◌, ◌≤◌, Err, OnErr, OnOk, ◌≢◌};
 ghost use Rattle.cf_io.specs.Feeds.{FailsLast};
 ghost use Rattle.script_reader.specs.Commands.{IsWellFormed};
 ghost use Rattle.script_reader.specs.Owned.{owned_command};
+ghost use Rattle.script_loop.specs.declared.player.OpenFault.TheVariants as fault;
 ghost use Rattle.script_loop.specs.Semantics.{AnswersBy, OpensBy, Semantics, snapshot};
 
-use cf_base::{Failed, Settings};
+use cf_base::{Failed, OutOfMemory, Settings};
 use cf_io::Sink;
 use script_reader::CommandRef;
 
@@ -16,6 +17,22 @@ pub enum OpenFault {
     Failed,
     /// An allocation failed, and nothing was written.
     OutOfMemory,
+}
+
+impl From<Failed> for OpenFault {
+    ghost from_gives = { λ _ made. made ≡ fault.Failed };
+
+    fn from(_failed: Failed) -> OpenFault {
+        OpenFault::Failed
+    }
+}
+
+impl From<OutOfMemory> for OpenFault {
+    ghost from_gives = { λ _ made. made ≡ fault.OutOfMemory };
+
+    fn from(_error: OutOfMemory) -> OpenFault {
+        OpenFault::OutOfMemory
+    }
 }
 
 /// A mode handler: it answers the items of a script on a heap, which is one manager, a list of managers,

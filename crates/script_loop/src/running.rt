@@ -90,7 +90,7 @@ impl Script {
             Ready::GoesOn => {}
             Ready::Stopped => return TurnEnd::Stopped(Status::BadScript),
             Ready::Cut => return TurnEnd::Stopped(Status::WriteFault),
-            Ready::Wanting => return TurnEnd::Stopped(Status::OutOfMemory),
+            Ready::LacksMemory => return TurnEnd::Stopped(Status::OutOfMemory),
         }
         if n > self.left {
             return TurnEnd::Stopped(Status::TooLong);
@@ -131,6 +131,6 @@ pub fn play_script<H, A: Player<H>, S: Source, K: Sink>(
         Ready::GoesOn => Status::Done,
         Ready::Stopped => Status::BadScript,
         Ready::Cut => Status::WriteFault,
-        Ready::Wanting => Status::OutOfMemory,
+        Ready::LacksMemory => Status::OutOfMemory,
     }
 }

@@ -5,10 +5,11 @@ use Rattle.std.proofs.lemmas.List.{get_or-map, get_or_past, length-map, same_lis
 use Rattle.std.proofs.lemmas.List.Elements.{All-cons, All-head, All-nil, All-tail}
 use Rattle.std.specs.List.{All}
 use Rattle.run_model.specs.Texts.{Reply, said}
-use Rattle.std.specs.Prelude.{codes}
+use Rattle.std.specs.Prelude.{codes, is_some}
 use Rattle.cf_base.specs.Settings.{Profile, profile_of}
 use Rattle.cf_base.specs.declared.settings.Settings.{Settings}
 use Rattle.cf_model.specs.Loops.{Opens, Pairwise, Stops}
+use Rattle.cf_model.specs.Ordered.{KeepsPromise}
 use Rattle.cf_model.specs.State.{HeapState}
 use Rattle.cf_model.specs.Steps.{IsClosed}
 use Rattle.run_model.proofs.CallerLemmas.{begins_going}
@@ -109,6 +110,14 @@ module _ {X : Type 0} (f : X → HeapState) where
       ap (λ k. k ∷ map (λ h. h.kind) (map f ys)) (ap (λ (h : HeapState). h.kind) (pairs.each 0 x y (omega arith)).empty.whole)
       ∙ ap (λ l. (f x).kind ∷ l) (pairs_kinds p xs ys (pairwise_rest (λ x y. Opens p (f x) (f y)) x y xs ys pairs))
 
+  pub pairs_promises : (xs ys : List X) → Pairwise (λ x y. KeepsPromise (f x) (f y)) xs ys → map (λ x. is_some (f x).order) ys ≡ map (λ x. is_some (f x).order) xs
+  pairs_promises [] [] pairs = refl
+  pairs_promises [] (y ∷ ys) pairs = absurd (omega (arith, pairs.count))
+  pairs_promises (x ∷ xs) [] pairs = absurd (omega (arith, pairs.count))
+  pairs_promises (x ∷ xs) (y ∷ ys) pairs =
+      ap (λ b. b ∷ map (λ x. is_some (f x).order) ys) (pairs.each 0 x y (omega arith))
+      ∙ ap (λ l. is_some (f x).order ∷ l) (pairs_promises xs ys (pairwise_rest (λ x y. KeepsPromise (f x) (f y)) x y xs ys pairs))
+
 pub stops_kinds : (p : Settings) (xs ys : List HeapState) → Stops (λ h k. Opens p h k) IsClosed xs ys → map (λ h. h.kind) ys ≡ map (λ h. h.kind) xs
 stops_kinds p xs ys s = kinds_same xs ys s.count (λ k d lt. elim (cases_lt k s.at) [
   | inl before ↦ ap (λ (h : HeapState). h.kind) (s.before k d d before).empty.whole
@@ -130,9 +139,9 @@ module _ {X : Type 0} (f : X → HeapState) (p : Settings) (ss : List SessionSta
   pub same_kinds : kinds_of (many_at ss (map f ys)) ≡ kinds_of (many_at ss (map f xs))
   same_kinds = pairs_kinds f p xs ys pairs
 
-  -- as they are told
-  pub told : oks (map (λ m. (f m).kind) ys) ≡ oks (kinds_of (many_at ss (map f xs)))
-  told = ap oks (sym (mapped_twice (λ h. h.kind) f ys) ∙ same_kinds)
+  -- as the states show
+  pub shown : oks (map (λ m. (f m).kind) ys) ≡ oks (kinds_of (many_at ss (map f xs)))
+  shown = ap oks (sym (mapped_twice (λ h. h.kind) f ys) ∙ same_kinds)
 
 -- memory was wanting
 pub some_lack : {X : Type 0} (f : X → HeapState) (p : Settings) (ss : List SessionState) (xs ys : List X)

@@ -5,9 +5,11 @@ use Rattle.std.proofs.lemmas.Bool.{cases_lt}
 use Rattle.std.proofs.lemmas.List.{get_or-map, length-map}
 use Rattle.std.proofs.lemmas.List.Quantifiers.{position-Some}
 use Rattle.std.proofs.Math.Seq.{map-set_same}
+use Rattle.std.specs.Prelude.{is_some}
 use Rattle.cf_lemmas.proofs.Positions.{position_is, position_none}
 use Rattle.cf_base.specs.declared.kind.Kind.{Kind}
 use Rattle.cf_base.specs.declared.kind.Kind.TheVariants.{Moving, NonMoving, Tlsf, HalfFit}
+use Rattle.cf_model.specs.Ordered.{KeepsPromise}
 use Rattle.cf_model.specs.State.{HeapState, closed_state}
 use Rattle.side_by_side.specs.First.{chosen_of, first_of_kind, same_kind, with_chosen}
 
@@ -85,6 +87,16 @@ module _ (kind : Kind) (heaps : List HeapState) where
   -- the managers keep their kinds if the chosen one does
   pub chosen_kinds : (new : HeapState) → new.kind ≡ (chosen_of kind heaps).kind → map (λ h. h.kind) (with_chosen kind heaps new) ≡ map (λ h. h.kind) heaps
   chosen_kinds new same = kinds_at new (same ∙ chosen_kind) (first_of_kind kind heaps) refl
+
+  orders_at : (new : HeapState) → (first : Option ℕ) → KeepsPromise (chosen_at first) new
+      → map (λ (h : HeapState). is_some h.order) (elim first [ None ↦ heaps | Some i ↦ set heaps i new ]) ≡ map (λ h. is_some h.order) heaps
+  orders_at new None same = refl
+  orders_at new (Some i) same = map-set_same (λ (h : HeapState). is_some h.order) heaps i new (closed_state kind) same
+
+  -- the managers keep their promises if the chosen one does
+  pub chosen_orders : (new : HeapState) → KeepsPromise (chosen_of kind heaps) new
+      → map (λ h. is_some h.order) (with_chosen kind heaps new) ≡ map (λ h. is_some h.order) heaps
+  chosen_orders new same = orders_at new (first_of_kind kind heaps) same
 
   -- the first of the kind is chosen
   pub chosen_first : (i : ℕ) → first_of_kind kind heaps ≡ Some i → chosen_of kind heaps ≡ get_or heaps i (closed_state kind)

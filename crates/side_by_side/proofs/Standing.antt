@@ -6,11 +6,11 @@ use Rattle.cf_base.specs.declared.kind.Kind.{Kind}
 use Rattle.cf_model.specs.State.{HeapState}
 use Rattle.run_model.specs.Sessions.{RunState, SessionState}
 use Rattle.run_model.specs.Texts.{Reply}
-use Rattle.script_loop.specs.ScriptOutcome.{StandsAfter}
+use Rattle.script_loop.specs.ScriptOutcome.{EndsAt}
 use Rattle.script_reader.specs.Items.{Item, asks, bad, starts}
 use Rattle.script_reader.specs.declared.command.Command.{Command}
 use Rattle.side_by_side.specs.Many.{Many, kinds_of, runs_of, zipped}
-use Rattle.side_by_side.specs.Own.{AreTogether, OwnRuns, OwnRunsInPart, OwnRunsUpTo, StandEach}
+use Rattle.side_by_side.specs.Own.{AreTogether, OwnRuns, OwnRunsInPart, OwnRunsUpTo, EndEach}
 
 together_counts : (own : Option RunState) (rest : Option (List RunState)) (all : List RunState) (n : ℕ) → AreTogether own rest (Some all)
     → ((others : List RunState) → rest ≡ Some others → length others ≡ n) → length all ≡ suc n
@@ -50,8 +50,8 @@ heaps_of (s ∷ ss) [] e = refl
 heaps_of (s ∷ ss) (h ∷ hs) e = ap (λ l. h ∷ l) (heaps_of ss hs (omega (arith, e)))
 
 pub stand_each : (from to : Many) (end : Option Many) → kinds_of to ≡ kinds_of from
-    → ((all : List RunState) → option_map runs_of end ≡ Some all → length all ≡ length (kinds_of from)) → StandsAfter from end to
-    → StandEach from.heaps (option_map runs_of end) to.heaps
+    → ((all : List RunState) → option_map runs_of end ≡ Some all → length all ≡ length (kinds_of from)) → EndsAt from end to
+    → EndEach from.heaps (option_map runs_of end) to.heaps
 stand_each from to None kinds counts stands = ap (λ m. m.heaps) stands
 stand_each from to (Some s) kinds counts stands =
     let same : length to.heaps ≡ length (kinds_of from) = sym (length-map to.heaps (λ h. h.kind)) ∙ ap (λ (l : List Kind). length l) kinds in

@@ -1,5 +1,5 @@
 -- Many managers side by side, each with its session.
-use Rattle.std.specs.Prelude.{◌≡◌, ◌++◌, ◌⊎◌, ℕ, List, [], ◌∷◌, codes, length, map}
+use Rattle.std.specs.Prelude.{◌≡◌, ◌++◌, ◌⊎◌, ℕ, Bool, List, [], ◌∷◌, codes, is_some, length, map}
 use Rattle.std.specs.List.{All}
 use Rattle.run_model.specs.Texts.{Reply, led}
 use Rattle.cf_base.specs.Kind.{kind_name}
@@ -34,6 +34,10 @@ runs_of m = zipped m.sessions m.heaps
 
 abbrev pub kinds_of : Many → List Kind
 kinds_of m = map (λ h. h.kind) m.heaps
+
+-- whether each manager promises an order
+abbrev pub promises_of : Many → List Bool
+promises_of m = map (λ h. is_some h.order) m.heaps
 
 -- n new sessions
 pub record AreFresh (count : ℕ) (sessions : List SessionState) : Type 0 where
@@ -101,13 +105,13 @@ pub record LacksSome (old new : Many) : Type 0 where
   pub stops : Stops (Opens settings) IsClosed old.heaps new.heaps
   pub sessions : new.sessions ≡ old.sessions
 
--- the mode handler of a list of managers, each with its session
-abbrev pub many_managers : Semantics Many (List Kind)
+-- The mode handler of a list of managers, each with its session. The plan is the kind of each, and whether it promises an order.
+abbrev pub many_managers : Semantics Many (List Kind × List Bool)
 many_managers = record {
-  plan = kinds_of;
+  plan = λ m. (kinds_of m, promises_of m);
   is_fresh = IsEachFresh;
   is_going = IsEachGoing;
-  begins = λ kinds p reply new. EachBegins kinds p reply (runs_of new);
+  begins = λ plan p reply new. EachBegins plan.0 p reply (runs_of new);
   turns = λ old c reply new. EachTurn (runs_of old) c reply (runs_of new);
   turns_in_part = λ old c out new. EachInPart (runs_of old) c out (runs_of new);
   lacks = LacksSome;

@@ -70,6 +70,6 @@ OwnRunsInPart kinds before (asks c) replies front end = (news : List RunState) �
 OwnRunsInPart kinds before (bad n) replies front end = (lost : List ℕ) × OwnRuns kinds before replies end × (led [] (said (bad_line n)) ≡ front ++ lost)
 
 -- each manager is at the end of its run; all are unchanged if no run began
-abbrev pub StandEach : List HeapState → Option (List RunState) → List HeapState → Type 0
-StandEach olds None news = news ≡ olds
-StandEach olds (Some runs) news = news ≡ map (λ r. r.heap) runs
+abbrev pub EndEach : List HeapState → Option (List RunState) → List HeapState → Type 0
+EndEach olds None news = news ≡ olds
+EndEach olds (Some runs) news = news ≡ map (λ r. r.heap) runs

@@ -1,7 +1,8 @@
 //! One command on each manager.
-ghost use Rattle.std.specs.Prelude.{◌≡◌, ◌≤◌, OnErr, length, map, OnOk};
+ghost use Rattle.std.specs.Prelude.{◌≡◌, ◌≤◌, OnErr, is_some, length, map, OnOk};
 ghost use Rattle.std.specs.List.{All};
 ghost use Rattle.cf_io.specs.Feeds.{FailsLast};
+ghost use Rattle.cf_model.specs.Ordered.{KeepsPromise};
 ghost use Rattle.cf_session.specs.Apply.{run_at};
 ghost use Rattle.script_reader.specs.Commands.{IsWellFormed};
 ghost use Rattle.script_reader.specs.Owned.{owned_command};
@@ -31,6 +32,7 @@ pub fn answer_each<H: Manager, K: Sink>(
     ensures count { length sessions.new.items ≡ length managers.new.items }
     ensures going { All IsGoing (zipped sessions.new.items (map (λ m. H.state m) managers.new.items)) }
     ensures kinds { map (λ m. (H.state m).kind) managers.new.items ≡ map (λ m. (H.state m).kind) managers.old.items }
+    ensures promise { map (λ m. is_some (H.state m).order) managers.new.items ≡ map (λ m. is_some (H.state m).order) managers.old.items }
     ensures grows { K.faults sink.old ≤ K.faults sink.new }
     ensures same { OnOk result (K.faults sink.new ≡ K.faults sink.old) }
     ensures failed { OnErr result (FailsLast (K.faults sink.old) (K.faults sink.new) (K.last_failed sink.new)) }
@@ -57,14 +59,13 @@ fn answer_one<H: Manager, K: Sink>(
         result (run_at session.new (H.state manager.new)) (K.written sink.new) }
     ensures going { IsGoing (run_at session.new (H.state manager.new)) }
     ensures kind { (H.state manager.new).kind ≡ (H.state manager.old).kind }
+    ensures promise { KeepsPromise (H.state manager.old) (H.state manager.new) }
     ensures grows { K.faults sink.old ≤ K.faults sink.new }
     ensures same { OnOk result (K.faults sink.new ≡ K.faults sink.old) }
     ensures failed { OnErr result (FailsLast (K.faults sink.old) (K.faults sink.new) (K.last_failed sink.new)) }
 {
-    match session.apply_ref(manager, command, lead_bytes(manager.kind()), sink) {
-        Ok(_) => Ok(()),
-        Err(failed) => Err(failed),
-    }
+    session.apply_ref(manager, command, lead_bytes(manager.kind()), sink)?;
+    Ok(())
 }
 
 /// The name of a kind, and a space.

@@ -1,10 +1,10 @@
 //! A session for each of many managers.
-ghost use Rattle.std.specs.Prelude.{◌≡◌, IfOk, List, map};
+ghost use Rattle.std.specs.Prelude.{◌≡◌, Bool, IfOk, List, map};
 ghost use Rattle.cf_base.specs.declared.kind.Kind.{Kind as TheKind};
 ghost use Rattle.side_by_side.specs.Many.{AreFresh, Many, many_at, many_managers};
 
 use crate::answer::answer_each;
-use crate::open_reply::tell_open;
+use crate::open_reply::put_opened;
 use cf_base::{Failed, OutOfMemory, Settings};
 use cf_io::Sink;
 use cf_model::{Manager, open_all};
@@ -39,7 +39,7 @@ impl Sessions {
 impl<H: Manager> Player<Vec<H>> for Sessions {
     ghost State = { Many };
 
-    ghost Plan = { List TheKind };
+    ghost Plan = { List TheKind × List Bool };
 
     ghost state = { λ sessions heaps. many_at sessions.each.items (map (λ m. H.state m) heaps.items) };
 
@@ -51,14 +51,9 @@ impl<H: Manager> Player<Vec<H>> for Sessions {
         settings: &Settings,
         sink: &mut K,
     ) -> Result<(), OpenFault> {
-        match open_all(heap, settings) {
-            Ok(()) => {}
-            Err(_) => return Err(OpenFault::OutOfMemory),
-        }
-        match tell_open(heap, sink) {
-            Ok(()) => Ok(()),
-            Err(_) => Err(OpenFault::Failed),
-        }
+        open_all(heap, settings)?;
+        put_opened(heap, sink)?;
+        Ok(())
     }
 
     fn answer<K: Sink>(

@@ -9,7 +9,7 @@ ghost use Rattle.run_model.specs.Plays.{PlayPart, PlayRun};
 ghost use Rattle.script_loop.specs.Consequences.{IsPrefixBy};
 ghost use Rattle.script_loop.specs.ScriptOutcome.{Effects, Wrote, WroteInPart, items_within};
 ghost use Rattle.side_by_side.specs.Many.{EachBegins, EachInPart, EachTurn, Many, kinds_of, many_managers, runs_of};
-ghost use Rattle.side_by_side.specs.Own.{MeetHeadlines, OwnRuns, OwnRunsInPart, StandEach};
+ghost use Rattle.side_by_side.specs.Own.{MeetHeadlines, OwnRuns, OwnRunsInPart, EndEach};
 
 /// The replies of many managers side by side interleave those of a run of each manager over the same
 /// items.
@@ -42,13 +42,13 @@ pub fn outcomes_are_of_each()
         → OwnRuns (kinds_of from) wanted w.replies (option_map runs_of w.end) }
     ensures stand { (from to : Many) (wanted : List Item) (call : Effects) → kinds_of to ≡ kinds_of from
         → (w : Wrote many_managers from wanted call to)
-        → StandEach from.heaps (option_map runs_of w.end) to.heaps }
+        → EndEach from.heaps (option_map runs_of w.end) to.heaps }
     ensures in_part { (from to : Many) (wanted : List Item) (call : Effects)
         (w : WroteInPart many_managers from wanted call to)
         → OwnRunsInPart (kinds_of from) w.before w.item w.replies w.front (option_map runs_of w.end) }
     ensures stand_in_part { (from to : Many) (wanted : List Item) (call : Effects) → kinds_of to ≡ kinds_of from
         → (w : WroteInPart many_managers from wanted call to)
-        → StandEach from.heaps (option_map runs_of w.end) to.heaps }
+        → EndEach from.heaps (option_map runs_of w.end) to.heaps }
 {}
 
 /// If a script has a `heap` line, each manager is open afterwards, keeps its rules, and is consistent

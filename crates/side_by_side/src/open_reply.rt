@@ -10,14 +10,14 @@ use cf_io::{Line, Sink, put_all};
 use cf_model::Manager;
 
 /// Writes `ok` for each manager, after its name.
-pub fn tell_open<H: Manager, K: Sink>(managers: &Vec<H>, sink: &mut K) -> Result<(), Failed>
+pub fn put_opened<H: Manager, K: Sink>(managers: &Vec<H>, sink: &mut K) -> Result<(), Failed>
     ensures puts { Puts (K.written sink.old) (led [] (oks (map (λ m. (H.state m).kind) managers.now.items))) result (K.written sink.new) }
     ensures grows { K.faults sink.old ≤ K.faults sink.new }
     ensures same { OnOk result (K.faults sink.new ≡ K.faults sink.old) }
     ensures failed { OnErr result (FailsLast (K.faults sink.old) (K.faults sink.new) (K.last_failed sink.new)) }
 {
     for i in 0..managers.len() {
-        match tell_one(managers[i].kind(), sink) {
+        match show_one(managers[i].kind(), sink) {
             Ok(()) => {}
             Err(failed) => return Err(failed),
         }
@@ -26,7 +26,7 @@ pub fn tell_open<H: Manager, K: Sink>(managers: &Vec<H>, sink: &mut K) -> Result
 }
 
 /// Writes `ok` after the name.
-fn tell_one<K: Sink>(kind: Kind, sink: &mut K) -> Result<(), Failed>
+fn show_one<K: Sink>(kind: Kind, sink: &mut K) -> Result<(), Failed>
     ensures puts { Puts (K.written sink.old) (lead_of kind ++ codes "ok\n") result (K.written sink.new) }
     ensures grows { K.faults sink.old ≤ K.faults sink.new }
     ensures same { OnOk result (K.faults sink.new ≡ K.faults sink.old) }

@@ -30,9 +30,9 @@ use Rattle.slice_laws.specs.SliceHeadline.{MeetsSliced}
 use Rattle.quota_laws.specs.Transcript.{MeetsTasks}
 use Rattle.quota_session.proofs.CallerLemmas.{tasks_met}
 use Rattle.quota_session.specs.Playing.{quota_tasks}
-use Rattle.manager_modes.proofs.CallerLemmas.{IsSound, bench_sound, compare_sound, compare_told, did_all, load_sound, never_bad_image, own_sound, own_told, run_sound, run_told, save_sound}
+use Rattle.manager_modes.proofs.CallerLemmas.{IsSound, bench_sound, compare_sound, compare_shown, did_all, load_sound, never_bad_image, own_sound, own_shown, run_sound, run_shown, save_sound}
 use Rattle.manager_modes.specs.Outcomes.{Ends, EndsWhole, Handed, IsMadeLarge, Loads, OrLacks, Saves, effects_of, kinds_in}
-use Rattle.top_call.specs.TopOutcome.{AnswersInput, DoesChosen, EndsWell, HasRightInput, InMode, IsMadeForTasks, IsMadeSliced, IsRightInput, PrintsBytes, TellsAsClaimed, TellsInMode}
+use Rattle.top_call.specs.TopOutcome.{AnswersInput, DoesChosen, EndsWell, HasRightInput, InMode, IsMadeForTasks, IsMadeSliced, IsRightInput, PrintsBytes, PrintsAsClaimed, PrintsInMode}
 
 sound : (mode : Mode) (choice : Choice) → IsSound (InMode mode choice) (IsRightInput mode)
 sound Run choice = run_sound choice.kind
@@ -60,56 +60,56 @@ printed_of Claim call met None is = tt
 printed_of Claim call met (Some read) is = met read (sym is)
 
 -- what a mode claims of its output holds
-told : (mode : Mode) (choice : Choice) (old : Handed) (st : Status) (new : Handed) → OrLacks (InMode mode choice) old st new → AnswersAll st
-    → TellsInMode mode choice (kinds_in old) (effects_of old st new)
-told Run choice = run_told choice.kind
-told Compare choice = compare_told
-told Large choice = own_told large_heap IsMadeLarge (MeetsLarge Moving) λ begin made all replies end run.
+shown : (mode : Mode) (choice : Choice) (old : Handed) (st : Status) (new : Handed) → OrLacks (InMode mode choice) old st new → AnswersAll st
+    → PrintsInMode mode choice (kinds_in old) (effects_of old st new)
+shown Run choice = run_shown choice.kind
+shown Compare choice = compare_shown
+shown Large choice = own_shown large_heap IsMadeLarge (MeetsLarge Moving) λ begin made all replies end run.
     subst (λ (s : HeapState). MeetsLarge s.kind (items_within all) replies) made.inner (large_met begin (items_within all) replies end run)
-told Save choice = λ old st new done is.
+shown Save choice = λ old st new done is.
     let did = did_all Saves old new st done is in
     printed_of SavesAs (effects_of old st new)
     (λ read had. save_met (run_at fresh_session (closed_state Moving)) did.end (effects_of old st new) read refl refl had (not_cut st is) did.outcome)
     old.source.rest refl
-told Load choice = λ old st new done is.
+shown Load choice = λ old st new done is.
     let did = did_all Loads old new st done is in
     printed_of LoadsAs (effects_of old st new)
     (λ read had. load_met (run_at fresh_session (closed_state Moving)) did.end (effects_of old st new) read had (not_cut st is) did.outcome)
     old.source.rest refl
-told Slice choice = own_told slices (IsMadeSliced choice.quantum) (MeetsSliced choice.quantum) λ begin made all replies end run.
+shown Slice choice = own_shown slices (IsMadeSliced choice.quantum) (MeetsSliced choice.quantum) λ begin made all replies end run.
     subst (λ (n : ℕ). MeetsSliced n (items_within all) replies) (ap (λ (s : SlicePlay). s.quantum) made)
     (sliced_headline_met begin (items_within all) replies end run)
-told Quota choice = own_told quota_tasks IsMadeForTasks MeetsTasks λ begin made. tasks_met begin
-told mode choice = λ old st new done is. tt
+shown Quota choice = own_shown quota_tasks IsMadeForTasks MeetsTasks λ begin made. tasks_met begin
+shown mode choice = λ old st new done is. tt
 
 -- only mode `load` ends by `BadImage`, and then the text is that of the refused image
-bad_image_told : (mode : Mode) (choice : Choice) (old new : Handed) → InMode mode choice old BadImage new
-    → TellsInMode mode choice (kinds_in old) (effects_of old BadImage new)
-bad_image_told Run choice old new done =
+bad_image_shown : (mode : Mode) (choice : Choice) (old new : Handed) → InMode mode choice old BadImage new
+    → PrintsInMode mode choice (kinds_in old) (effects_of old BadImage new)
+bad_image_shown Run choice old new done =
     absurd (never_bad_image one_manager (run_at fresh_session (chosen_of choice.kind old.managers)) done.end (effects_of old BadImage new) refl done.outcome)
-bad_image_told Compare choice old new done =
+bad_image_shown Compare choice old new done =
     absurd (never_bad_image many_managers (fresh_many old.managers) done.end (effects_of old BadImage new) refl done.outcome)
-bad_image_told Large choice old new done = absurd (never_bad_image large_heap done.begin done.end (effects_of old BadImage new) refl done.outcome)
-bad_image_told Save choice old new done =
+bad_image_shown Large choice old new done = absurd (never_bad_image large_heap done.begin done.end (effects_of old BadImage new) refl done.outcome)
+bad_image_shown Save choice old new done =
     absurd (never_bad_image one_manager (run_at fresh_session (closed_state Moving)) done.end (unseen (effects_of old BadImage new)) refl done.outcome.script)
-bad_image_told Load choice old new done = printed_of LoadsAs (effects_of old BadImage new)
+bad_image_shown Load choice old new done = printed_of LoadsAs (effects_of old BadImage new)
     (λ read had. load_met (run_at fresh_session (closed_state Moving)) done.end (effects_of old BadImage new) read had
     (λ cut. subst (λ (s : Status). AnswersInput s) cut tt) done.outcome) old.source.rest refl
-bad_image_told Slice choice old new done = absurd (never_bad_image slices done.begin done.end (effects_of old BadImage new) refl done.outcome)
-bad_image_told Quota choice old new done = absurd (never_bad_image quota_tasks done.begin done.end (effects_of old BadImage new) refl done.outcome)
-bad_image_told Bench choice old new done = tt
+bad_image_shown Slice choice old new done = absurd (never_bad_image slices done.begin done.end (effects_of old BadImage new) refl done.outcome)
+bad_image_shown Quota choice old new done = absurd (never_bad_image quota_tasks done.begin done.end (effects_of old BadImage new) refl done.outcome)
+bad_image_shown Bench choice old new done = tt
 
 -- the same at each status at which all that was read has its answer
-told_at : (mode : Mode) (choice : Choice) (old : Handed) (st : Status) (new : Handed) → OrLacks (InMode mode choice) old st new → AnswersInput st
-    → TellsInMode mode choice (kinds_in old) (effects_of old st new)
-told_at mode choice old BadImage new done is = bad_image_told mode choice old new done
-told_at mode choice old Done new done is = told mode choice old Done new done is
-told_at mode choice old BadScript new done is = told mode choice old BadScript new done is
-told_at mode choice old TooLong new done is = told mode choice old TooLong new done is
-told_at mode choice old ReadFault new done is = absurd is
-told_at mode choice old WriteFault new done is = absurd is
-told_at mode choice old OutOfMemory new done is = absurd is
-told_at mode choice old Words new done is = absurd is
+shown_at : (mode : Mode) (choice : Choice) (old : Handed) (st : Status) (new : Handed) → OrLacks (InMode mode choice) old st new → AnswersInput st
+    → PrintsInMode mode choice (kinds_in old) (effects_of old st new)
+shown_at mode choice old BadImage new done is = bad_image_shown mode choice old new done
+shown_at mode choice old Done new done is = shown mode choice old Done new done is
+shown_at mode choice old BadScript new done is = shown mode choice old BadScript new done is
+shown_at mode choice old TooLong new done is = shown mode choice old TooLong new done is
+shown_at mode choice old ReadFault new done is = absurd is
+shown_at mode choice old WriteFault new done is = absurd is
+shown_at mode choice old OutOfMemory new done is = absurd is
+shown_at mode choice old Words new done is = absurd is
 
 -- The arguments make a choice, and its mode ends so.
 module _ (words : List Text) (choice : Choice) (chosen : Chooses words choice) (old : Handed) (st : Status) (new : Handed)
@@ -131,8 +131,8 @@ module _ (words : List Text) (choice : Choice) (chosen : Chooses words choice) (
       go TooLong done = does TooLong done
       go BadImage done = does BadImage done
 
-  pub chosen_tells : TellsAsClaimed words old st new
-  chosen_tells is = record { choice = choice; chosen = chosen; tells = told_at choice.mode choice old st new ends.outcome is }
+  pub chosen_shows : PrintsAsClaimed words old st new
+  chosen_shows is = record { choice = choice; chosen = chosen; shows = shown_at choice.mode choice old st new ends.outcome is }
 
   pub chosen_whole : HasRightInput words old.source.rest → ¬ FailsLast old.source.faults new.source.faults new.source.failed → ¬ FailsLast old.sink.faults new.sink.faults new.sink.failed → EndsWhole st
   chosen_whole have = (sound choice.mode choice).whole old st new ends

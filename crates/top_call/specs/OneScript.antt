@@ -1,21 +1,25 @@
 -- When the words and the script fix the output of a call.
-use Rattle.std.specs.Prelude.{◌≡◌, ⊤, ℕ, IsSome, IsTrue, List, Some, if◌then◌else◌, length, nat_le}
+use Rattle.std.specs.Prelude.{◌≡◌, ⊤, ℕ, IsSome, List, [], Option, None, Some, if◌then◌else◌, length, nat_le}
 use Rattle.std.specs.List.{All}
 use Rattle.clap.specs.Words.{Text}
 use Rattle.cf_base.specs.declared.kind.Kind.{Kind}
 use Rattle.cf_base.specs.declared.status.Status.{Status}
 use Rattle.cf_base.specs.declared.status.Status.TheVariants.{Done, BadScript, TooLong}
-use Rattle.cf_model.specs.Rules.{IsPaged}
+use Rattle.cf_io.specs.Feeds.{appended}
 use Rattle.cf_model.specs.State.{HeapState}
 use Rattle.command_line.specs.declared.choice.Choice.{Choice}
 use Rattle.command_line.specs.declared.choice.Mode.{Mode}
-use Rattle.command_line.specs.declared.choice.Mode.TheVariants.{Run, Compare, Large, Load, Slice, Quota}
+use Rattle.command_line.specs.declared.choice.Mode.TheVariants.{Run, Compare}
+use Rattle.script_reader.specs.Items.{Item}
+use Rattle.run_model.specs.Runs.{Run as RunOver}
+use Rattle.run_model.specs.Sessions.{RunState}
+use Rattle.run_model.specs.Texts.{Reply, text_of}
+use Rattle.headline_laws.specs.OneOutput.{IsOrdered}
 use Rattle.script_loop.specs.Consequences.{AnswersAll}
 use Rattle.script_loop.specs.ScriptOutcome.{MOST_BYTES, has_bad, items_within}
-use Rattle.side_by_side.specs.First.{chosen_of, first_of_kind}
-use Rattle.slice_laws.specs.SliceHeadline.{AreNoPeeks}
-use Rattle.manager_modes.specs.Outcomes.{Handed, kinds_in}
-use Rattle.top_call.specs.TopOutcome.{EndsWell, TellsAsClaimed}
+use Rattle.side_by_side.specs.First.{chosen_of}
+use Rattle.manager_modes.specs.Outcomes.{Handed, kinds_in, orders_in}
+use Rattle.top_call.specs.TopOutcome.{EndsWell, PrintsAsClaimed}
 
 -- a call: what it works on, before and after it, and its status
 pub record TopCall : Type 0 where
@@ -26,39 +30,39 @@ pub record TopCall : Type 0 where
 -- the call keeps the contract of `cf_main` for these words
 pub record KeepsContract (words : List Text) (call : TopCall) : Type 0 where
   pub outcome : EndsWell words call.old call.status call.new
-  pub claimed : TellsAsClaimed words call.old call.status call.new
+  pub claimed : PrintsAsClaimed words call.old call.status call.new
   pub kinds : kinds_in call.new ≡ kinds_in call.old
+  pub orders : orders_in call.new ≡ orders_in call.old
 
 -- the source had these bytes, in whatever chunks, and the call read them to the end: each item within the limit has its reply, or they are an image
 pub record AnswersWhole (all : List ℕ) (call : TopCall) : Type 0 where
   pub had : call.old.source.rest ≡ Some all
   pub answered : AnswersAll call.status
 
--- an open manager has an order
-abbrev pub IsOrderedIfOpen : HeapState → Type 0
-IsOrderedIfOpen h = IsTrue h.is_open → IsSome h.order
+-- the manager promises an order
+abbrev pub PromisesOrder : HeapState → Type 0
+PromisesOrder h = IsSome h.order
 
--- a manager of the kind is given, the kind has pages, and the first of the kind is left with an order
-pub record RunsInOrder (kind : Kind) (call : TopCall) : Type 0 where
-  pub paged : IsPaged kind
-  pub given : IsSome (first_of_kind kind call.old.managers)
-  pub order : IsOrderedIfOpen (chosen_of kind call.new.managers)
-
--- all managers have pages, and each is left with an order
-pub record ComparesInOrder (call : TopCall) : Type 0 where
-  pub paged : All IsPaged (kinds_in call.old)
-  pub order : All IsOrderedIfOpen call.new.managers
-
--- the mode leaves no choice: `run` and `compare` with an order; `slice` if no item asks for a word of the region; `large`, `quota` and `load` always
-abbrev pub LeavesNoChoice : Mode → Choice → List ℕ → TopCall → Type 0
-LeavesNoChoice Run choice all call = RunsInOrder choice.kind call
-LeavesNoChoice Compare choice all call = ComparesInOrder call
-LeavesNoChoice Slice choice all call = AreNoPeeks (items_within all)
-LeavesNoChoice Large choice all call = ⊤
-LeavesNoChoice Quota choice all call = ⊤
-LeavesNoChoice Load choice all call = ⊤
-LeavesNoChoice mode choice all call = ⊥
+-- The mode leaves no choice: in mode `run` the first manager of the kind promises an order, as one does that is made if none is given; in mode `compare` each
+-- manager promises one. The other modes never leave one.
+abbrev pub LeavesNoChoice : Mode → Choice → List HeapState → Type 0
+LeavesNoChoice Run choice managers = PromisesOrder (chosen_of choice.kind managers)
+LeavesNoChoice Compare choice managers = All PromisesOrder managers
+LeavesNoChoice mode choice managers = ⊤
 
 -- the status of a call that answered each item of these bytes
 abbrev pub status_of : List ℕ → Status
 status_of all = if has_bad (items_within all) then BadScript else (if nat_le (length all) MOST_BYTES then Done else TooLong)
+
+-- replies to the items of these bytes were printed, and they are as claimed
+pub record PrintsReplies (Claim : List Item → List Reply → Type 0) (all : List ℕ) (call : TopCall) : Type 0 where
+  pub status : call.status ≡ status_of all
+  pub replies : List Reply
+  pub written : call.new.sink.written ≡ appended call.old.sink.written (text_of [] replies)
+  pub claimed : Claim (items_within all) replies
+
+-- the replies of a run in order: each address, choice, word and count of steps is the one that the order gives
+pub record IsRunInOrder (kind : Kind) (items : List Item) (replies : List Reply) : Type 0 where
+  pub end : Option RunState
+  pub run : RunOver kind None items replies end
+  pub ordered : IsOrdered end

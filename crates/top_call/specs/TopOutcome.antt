@@ -23,7 +23,7 @@ use Rattle.slice_laws.specs.SliceHeadline.{MeetsSliced}
 use Rattle.quota_heap.specs.State as quota_state
 use Rattle.quota_session.specs.Playing.{quota_tasks}
 use Rattle.quota_session.specs.QuotaRun.{QuotaRun, first_session, quota_run}
-use Rattle.manager_modes.specs.Claims.{HoldsImage, TellsAs}
+use Rattle.manager_modes.specs.Claims.{HoldsImage, MeetsClaim}
 use Rattle.manager_modes.specs.Outcomes.{Benches, Compares, Handed, Loads, OrLacks, PlaysLarge, PlaysOwn, Runs, Saves, effects_of, kinds_in}
 
 -- no id is live; a heap that was never open is to have slices of at most this number of words
@@ -71,21 +71,21 @@ PrintsBytes Claim (Some read) call = Prints Claim read call
 -- By the mode: the replies meet the headline; side by side they are woven of each manager's own, which meet it; each reply is a function of the lines in the
 -- modes `large`, `quota` and, but for the word that `p` prints, `slice`; an image is that of the objects that the script leaves, and a script that of the image
 -- read. Of mode `bench`, which reads nothing, `outcome` says all.
-abbrev pub TellsInMode : Mode → Choice → List Kind → Effects → Type 0
-TellsInMode Run choice kinds call = TellsAs (MeetsHeadline choice.kind) call.had call
-TellsInMode Compare choice kinds call = TellsAs (MeetHeadlines kinds) call.had call
-TellsInMode Large choice kinds call = TellsAs (MeetsLarge Moving) call.had call
-TellsInMode Save choice kinds call = PrintsBytes SavesAs call.had call
-TellsInMode Load choice kinds call = PrintsBytes LoadsAs call.had call
-TellsInMode Slice choice kinds call = TellsAs (MeetsSliced choice.quantum) call.had call
-TellsInMode Quota choice kinds call = TellsAs MeetsTasks call.had call
-TellsInMode mode choice kinds call = ⊤
+abbrev pub PrintsInMode : Mode → Choice → List Kind → Effects → Type 0
+PrintsInMode Run choice kinds call = MeetsClaim (MeetsHeadline choice.kind) call.had call
+PrintsInMode Compare choice kinds call = MeetsClaim (MeetHeadlines kinds) call.had call
+PrintsInMode Large choice kinds call = MeetsClaim (MeetsLarge Moving) call.had call
+PrintsInMode Save choice kinds call = PrintsBytes SavesAs call.had call
+PrintsInMode Load choice kinds call = PrintsBytes LoadsAs call.had call
+PrintsInMode Slice choice kinds call = MeetsClaim (MeetsSliced choice.quantum) call.had call
+PrintsInMode Quota choice kinds call = MeetsClaim MeetsTasks call.had call
+PrintsInMode mode choice kinds call = ⊤
 
 -- the same, of the choice that the arguments make and the kinds of the given managers
-pub record TellsChosen (words : List Text) (kinds : List Kind) (call : Effects) : Type 0 where
+pub record PrintsChosen (words : List Text) (kinds : List Kind) (call : Effects) : Type 0 where
   pub choice : Choice
   pub chosen : Chooses words choice
-  pub tells : TellsInMode choice.mode choice kinds call
+  pub shows : PrintsInMode choice.mode choice kinds call
 
 -- the statuses at which all that was read has its answer: every item within the limit, or an image, be it refused
 abbrev pub AnswersInput : Status → Type 0
@@ -93,8 +93,8 @@ AnswersInput BadImage = ⊤
 AnswersInput status = AnswersAll status
 
 -- if all that was read has its answer, the output is as claimed, whatever the chunks of the source
-abbrev pub TellsAsClaimed : List Text → Handed → Status → Handed → Type 0
-TellsAsClaimed words old status new = AnswersInput status → TellsChosen words (kinds_in old) (effects_of old status new)
+abbrev pub PrintsAsClaimed : List Text → Handed → Status → Handed → Type 0
+PrintsAsClaimed words old status new = AnswersInput status → PrintsChosen words (kinds_in old) (effects_of old status new)
 
 -- what a mode reads is right: an image, or a script within the limit with no bad line; mode `bench` reads nothing
 abbrev pub IsRightInput : Mode → Option (List ℕ) → Type 0

@@ -1,35 +1,59 @@
 //! Laws of two calls.
-ghost use Rattle.std.specs.Prelude.{◌≡◌, ℕ, IsSome, List, Option};
+ghost use Rattle.std.specs.Prelude.{◌≡◌, ℕ, IsSome, List, Option, map};
 ghost use Rattle.clap.specs.Words.{Text};
+ghost use Rattle.cf_base.specs.declared.kind.Kind.{Kind};
 ghost use Rattle.cf_base.specs.declared.status.Status.TheVariants.{Done};
-ghost use Rattle.cf_model.specs.Rules.{IsPaged};
+ghost use Rattle.cf_model.specs.State.{closed_state};
 ghost use Rattle.command_line.specs.Choices.{Chooses};
 ghost use Rattle.command_line.specs.declared.choice.Choice.{Choice};
+ghost use Rattle.command_line.specs.declared.choice.Mode.{Mode};
+ghost use Rattle.command_line.specs.declared.choice.Mode.TheVariants.{Run};
 ghost use Rattle.run_model.specs.Sessions.{RunState};
 ghost use Rattle.bench_run.specs.Bench.{EndsBench};
-ghost use Rattle.manager_modes.specs.Outcomes.{kinds_in};
-ghost use Rattle.top_call.specs.OneScript.{AnswersWhole, KeepsContract, LeavesNoChoice, TopCall};
+ghost use Rattle.side_by_side.specs.First.{chosen_of};
+ghost use Rattle.manager_modes.specs.Outcomes.{Benches, Handed, kinds_in};
+ghost use Rattle.top_call.specs.OneScript.{AnswersWhole, IsRunInOrder, KeepsContract, LeavesNoChoice, PrintsReplies, PromisesOrder, TopCall};
 
 /// Two calls with the same words and the same input print the same bytes and return the same status,
 /// whatever the chunks of their sources, if each item of the script has its reply, or the image is
-/// loaded. This includes each address, word and cost. In the modes `run` and `compare` the managers are
-/// of the same kinds, with pages, and those that ran have an order afterwards; what they held before may
-/// differ.
+/// loaded. This includes each address, word and cost, on managers of any kind. In the modes `run` and
+/// `compare` the managers are of the same kinds, and those that run promise an order before the call,
+/// as the managers of this repository do; what they held before may differ.
 pub fn equal_scripts_get_equal_output()
     ensures { (words : List Text) (choice : Choice) (all : List ℕ) (one two : TopCall) → Chooses words choice
         → KeepsContract words one → KeepsContract words two
         → AnswersWhole all one → AnswersWhole all two
         → kinds_in two.old ≡ kinds_in one.old
-        → LeavesNoChoice choice.mode choice all one → LeavesNoChoice choice.mode choice all two
+        → LeavesNoChoice choice.mode choice one.old.managers → LeavesNoChoice choice.mode choice two.old.managers
         → two.old.sink.written ≡ one.old.sink.written
         → (two.status ≡ one.status) × (two.new.sink.written ≡ one.new.sink.written) }
 {}
 
-/// Two benches of one seed and one count, on managers of one kind with pages that have an order at the
-/// end, print the same line, with all six numbers.
+/// In mode `run`, on a manager that promises an order, the replies printed are those of a run in that
+/// order: each address, choice, word and count of steps is the one that the order gives. There is one
+/// such list of replies (`one_output`).
+pub fn a_run_in_order_is_printed()
+    ensures { (words : List Text) (choice : Choice) (all : List ℕ) (call : TopCall) → Chooses words choice
+        → choice.mode ≡ Run → KeepsContract words call → AnswersWhole all call
+        → PromisesOrder (chosen_of choice.kind call.old.managers)
+        → PrintsReplies (IsRunInOrder choice.kind) all call }
+{}
+
+/// Managers that were never open, of any kinds, leave no choice in any mode. So two calls of the tool
+/// on one script print the same.
+pub fn closed_managers_leave_no_choice()
+    ensures { (mode : Mode) (choice : Choice) (kinds : List Kind)
+        → LeavesNoChoice mode choice (map closed_state kinds) }
+{}
+
+/// Two benches of one seed and one count on managers of one kind print the same line, with all six
+/// numbers: those of mode `bench`, and any two on managers that have an order at the end.
 pub fn equal_benches_print_equal_lines()
-    ensures { (seed count : ℕ) (from other to there : RunState) (before after written : Option (List ℕ))
-        → IsPaged from.heap.kind → other.heap.kind ≡ from.heap.kind
+    ensures calls { (choice : Choice) (one two last end : Handed)
+        → Benches choice one Done last → Benches choice two Done end
+        → two.sink.written ≡ one.sink.written → end.sink.written ≡ last.sink.written }
+    ensures runs { (seed count : ℕ) (from other to there : RunState) (before after written : Option (List ℕ))
+        → other.heap.kind ≡ from.heap.kind
         → EndsBench Done seed count from to before after → EndsBench Done seed count other there before written
         → IsSome to.heap.order → IsSome there.heap.order
         → written ≡ after }

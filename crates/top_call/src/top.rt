@@ -1,9 +1,9 @@
 //! The top call.
-ghost use Rattle.std.specs.Prelude.{◌≡◌, ◌<◌, ◌≤◌, ◌+◌, ◌⊎◌, map, string_bytes, ◌≢◌};
+ghost use Rattle.std.specs.Prelude.{◌≡◌, ◌<◌, ◌≤◌, ◌+◌, ◌⊎◌, is_some, map, string_bytes, ◌≢◌};
 ghost use Rattle.cf_io.specs.Feeds.{FailsLast, last_count};
 ghost use Rattle.script_loop.specs.ScriptOutcome.{MOST_BYTES};
 ghost use Rattle.manager_modes.specs.Outcomes.{Ends, EndsWhole, seen};
-ghost use Rattle.top_call.specs.TopOutcome.{EndsWell, HasRightInput, InMode, TellsAsClaimed};
+ghost use Rattle.top_call.specs.TopOutcome.{EndsWell, HasRightInput, InMode, PrintsAsClaimed};
 
 use crate::quota::play_quotas;
 use crate::slice::play_slices;
@@ -40,11 +40,14 @@ pub fn cf_main<H: Manager, S: Source, K: Sink>(
         (seen S.Source K.Sink H.Manager source.old sink.old managers.old.items) result
         (seen S.Source K.Sink H.Manager source.new sink.new managers.new.items) }
     // The replies meet the claim of the mode.
-    ensures claimed { TellsAsClaimed (map (λ word. string_bytes word) words.now)
+    ensures claimed { PrintsAsClaimed (map (λ word. string_bytes word) words.now)
         (seen S.Source K.Sink H.Manager source.old sink.old managers.old.items) result
         (seen S.Source K.Sink H.Manager source.new sink.new managers.new.items) }
     ensures kinds { map (λ h. h.kind) (map (λ m. H.state m) managers.new.items)
         ≡ map (λ h. h.kind) (map (λ m. H.state m) managers.old.items) }
+    // A manager promises an order afterwards if it did before.
+    ensures orders { map (λ h. is_some h.order) (map (λ m. H.state m) managers.new.items)
+        ≡ map (λ h. is_some h.order) (map (λ m. H.state m) managers.old.items) }
     ensures complete { HasRightInput (map (λ word. string_bytes word) words.now) (S.rest source.old)
         → ¬ FailsLast (S.faults source.old) (S.faults source.new) (S.last_failed source.new)
         → ¬ FailsLast (K.faults sink.old) (K.faults sink.new) (K.last_failed sink.new) → EndsWhole result }

@@ -11,10 +11,10 @@ use std::test::Fail;
 use step_ledger::Meter;
 
 /// The number of live objects of an open manager, and the address of object number 1, if it is live.
-type Stand = (u32, Option<u32>);
+type LieOn = (u32, Option<u32>);
 
 /// The state of a manager after each number of lines; `None` while it is closed.
-type Stands = [Option<Stand>; 15];
+type Stands = [Option<LieOn>; 15];
 
 /// The moving manager: the last free of four objects moves object number 1.
 const MOVING: Stands = [
@@ -127,7 +127,7 @@ const ANSWERS: [Answers; 5] = [
 const LINES: [usize; 16] = [0, 0, 0, 1, 2, 3, 4, 5, 6, 6, 8, 9, 11, 12, 13, 14];
 
 /// The state of an open manager; `None` if it is closed.
-fn stand_of(rt: &HostRuntime, manager: &Boxed) -> Option<Stand> {
+fn stand_of(rt: &HostRuntime, manager: &Boxed) -> Option<LieOn> {
     let mut meter = Meter::new(rt);
     if manager.is_open() {
         let live = manager.totals(meter.steps()).live;

@@ -274,11 +274,11 @@ fn lines_alike(text: &[u8]) -> Option<u32> {
     let mut count = 0u32;
     let mut reply: &[u8] = b"";
     for line in text.strip_suffix(b"\n")?.split(|b| *b == b'\n') {
-        let told = line.strip_prefix(NAMES[count as usize % 4])?;
+        let shown = line.strip_prefix(NAMES[count as usize % 4])?;
         if count % 4 == 0 {
-            reply = told;
+            reply = shown;
         }
-        if told != reply || told == b"refused space".as_slice() {
+        if shown != reply || shown == b"refused space".as_slice() {
             return None;
         }
         count = count.wrapping_add(1);

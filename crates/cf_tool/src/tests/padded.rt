@@ -56,7 +56,7 @@ fn pad(bound: u64, slack: u64, began: u64, steps: &mut Steps) -> u64
     requires low { bound ≤ 2 ^ 36 }
     requires early { began ≤ 2 ^ 63 }
     requires within { RoseAtMost began steps.old bound }
-    ensures told { steps.new ≡ began + result }
+    ensures cost { steps.new ≡ began + result }
     ensures within { RoseAtMost began steps.new bound }
 {
     let added = steps.count() - began;
@@ -215,7 +215,7 @@ fn prints_padded(rt: &HostRuntime, slack: u64, script: &[u8], text: &[u8]) -> Re
 
 /// What a `steps` line prints is what the manager handed in has ticked, to the step.
 #[test]
-fn each_steps_line_tells_the_steps_of_the_manager_handed_in(rt: HostRuntime) -> Result<(), Fail> {
+fn each_steps_line_shows_the_steps_of_the_manager_handed_in(rt: HostRuntime) -> Result<(), Fail> {
     for (slack, calls, resizes) in PADDED {
         assert!(rt; prints_padded(&rt, slack, PADDED_CALLS, calls)?, "{slack}");
         assert!(rt;

@@ -1,5 +1,6 @@
 use Rattle.std.proofs.Common.{◌≡◌, ◌-◌, ◌∙◌, ◌++◌, [], ◌∷◌, ap₂, arith, refl, sym}
 use Rattle.generator.specs.Generated.{generated}
+use Rattle.headline_laws.proofs.CallerLemmas.{step_keeps}
 use Rattle.run_model.proofs.CallerLemmas.{step_same}
 use Rattle.script_reader.specs.Owned.{owned_command}
 use Rattle.bench_run.proofs.Applied.{applied_all, applied_more, given_all, given_more, one_at_most}
@@ -12,6 +13,7 @@ loop-i-init g c = record {
   applied = record { replies = []; run = (refl, refl); ok_are = refl; refused_are = refl };
   going = c.requires;
   kind = refl;
+  promise = refl;
   few = omega arith;
 }
 
@@ -27,6 +29,7 @@ loop-i-preserved g c =
           c.add.ensures.ok c.add.ensures.refused;
       going = record { opened = c.in-Ok.ensures.open; rules = c.in-Ok.ensures.rules; tied = c.in-Ok.ensures.tied };
       kind = (step_same _ _ command answer.0.reply so_far.going.rules answer.0.turn.step).kind ∙ so_far.kind;
+      promise = step_keeps _ _ command answer.0.reply answer.0.turn.step ∙ so_far.promise;
       few = omega (arith, so_far.few, c.add.ensures.ok, c.add.ensures.refused, one_at_most c.in-Ok.outcome);
     }
 

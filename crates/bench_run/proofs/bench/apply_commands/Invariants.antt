@@ -1,5 +1,6 @@
 use Rattle.std.proofs.Common.{◌≡◌, ◌≤◌, ◌+◌, ◌-◌, ◌++◌, List}
 use Rattle.bench_run.specs.Bench.{IsAppliedTo}
+use Rattle.cf_model.specs.Ordered.{KeepsPromise}
 use Rattle.cf_session.specs.Apply.{run_at}
 use Rattle.generator.specs.Generated.{generated}
 use Rattle.run_model.specs.Sessions.{IsGoing}
@@ -14,5 +15,6 @@ invariant-loop-i g l = record {
       l.tally.ok l.tally.refused;
   going : IsGoing (run_at l.session (g.H.Manager.state l.heap));
   kind : (g.H.Manager.state l.heap).kind ≡ (g.H.Manager.state l.initial.heap).kind;
+  promise : KeepsPromise (g.H.Manager.state l.initial.heap) (g.H.Manager.state l.heap);
   few : l.tally.ok + l.tally.refused ≤ l.i;
 }

@@ -1,4 +1,4 @@
-use Rattle.std.proofs.Common.{◌≡◌, ◌≤◌}
+use Rattle.std.proofs.Common.{◌≡◌}
 use Rattle.cf_session.specs.Apply.{run_at}
 use Rattle.heap_image.proofs.ObjectsOut.{CameTo}
 use Rattle.heap_image.proofs.objects_out.put_objects.Given as goal

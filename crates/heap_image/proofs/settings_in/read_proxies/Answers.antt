@@ -6,7 +6,7 @@ use Rattle.cf_base.specs.Settings.{Profile, profile_from}
 use Rattle.heap_image.specs.Decoded.{count_decoded, proxies_decoded, unopened}
 use Rattle.heap_image.proofs.MarkLemmas.{settings_bad}
 use Rattle.heap_image.proofs.SettingsLemmas.{proxies_break, settings_pass}
-use Rattle.heap_image.proofs.StageLemmas.{field_bad, field_stops, field_tells}
+use Rattle.heap_image.proofs.StageLemmas.{field_bad, field_stops, field_shows}
 use Rattle.heap_image.proofs.settings_in.read_proxies.Goals as goal
 
 pub returns-in-Err-clause-settings : goal.returns-in-Err-clause-settings
@@ -24,7 +24,7 @@ returns-in-Ok-check-clause-settings g c =
       taken = reads.0;
       few = reads.1;
       took = reads.3;
-      tells = λ more. field_tells w32 (unopened 12) (λ n. is_within 1 65536 n)
+      shows = λ more. field_shows w32 (unopened 12) (λ n. is_within 1 65536 n)
           (λ n rest. count_decoded (profile_from c.args.pages c.args.page_bytes 1 n) rest) _ _ 12 c.in-Ok.proxies reads good more
           ∙ ap (λ (p : Profile). count_decoded p more) (sym c.in-Ok-check.ensures.value);
       one = ap (λ (p : Profile). p.k) c.in-Ok-check.ensures.value;

@@ -1,5 +1,5 @@
 use Rattle.cf_session.specs.Apply.{run_at}
-use Rattle.image_run.proofs.TellLemmas.{opening_cut, opening_then}
+use Rattle.image_run.proofs.PrintLemmas.{opening_cut, opening_then}
 use Rattle.image_run.proofs.print.print_script.Goals as goal
 
 pub returns-in-Err-clause-puts : goal.returns-in-Err-clause-puts

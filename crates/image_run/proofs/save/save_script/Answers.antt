@@ -1,4 +1,5 @@
-use Rattle.std.proofs.Common.{◌≡◌, ◌∙◌, refl}
+use Rattle.std.proofs.Common.{◌≡◌, ◌∙◌, Bool, ap, refl}
+use Rattle.cf_base.specs.declared.kind.Kind.{Kind}
 use Rattle.cf_base.specs.declared.kind.Kind.TheVariants.{Moving}
 use Rattle.cf_session.specs.Apply.{run_at}
 use Rattle.script_loop.specs.WithSettings.{settled}
@@ -12,6 +13,7 @@ returns-in_default g c =
       ends = ends_early (settled (run_at c.args.player.now.player (g.H.Manager.state c.args.heap.now)) c.args.player.now.settings)
           (settled (run_at c.play_script.new.player.player (g.H.Manager.state c.play_script.new.heap)) c.play_script.new.player.settings) _ _ _ _ _ _
           c.play_script.result c.in_default.not-Done by.causes.write_fault by.outcome refl;
+      promise = ap (λ (p : Kind × Bool). p.1) by.plan;
       causes = record {
         silent = λ is. refl;
         source_same = by.causes.source_same;
@@ -56,12 +58,12 @@ returns-in-Ok-clause-ends g c =
     let from = settled (run_at c.args.player.now.player (g.H.Manager.state c.args.heap.now)) c.args.player.now.settings in
     let to = settled (run_at c.play_script.new.player.player (g.H.Manager.state c.play_script.new.heap)) c.play_script.new.player.settings in
     let going = (opened from to _ c.in-Some.settings by.outcome c.in-Done.is c.in-Some.is c.requires.unset).0 in
-    let moving : (g.H.Manager.state c.play_script.new.heap).kind ≡ Moving = by.plan ∙ c.requires.moving in
+    let moving : (g.H.Manager.state c.play_script.new.heap).kind ≡ Moving = ap (λ (p : Kind × Bool). p.0) by.plan ∙ c.requires.moving in
     ends_saved from to _ _ _ _ _ _ c.play_script.result c.in-Done.is by.outcome (saved_going to.state going) c.in-Ok.ensures.puts
     (record {
       going = going;
       kind = moving;
-      have = (c.what_lives_has_an_image.ensures.lives to.state going c.handle-handle.ensures.within moving).0;
+      have = (c.live_objects_have_an_image.ensures.lives to.state going c.handle-handle.ensures.within moving).0;
     })
 
 pub returns-in-Err-clause-ends : goal.returns-in-Err-clause-ends
@@ -82,3 +84,12 @@ returns-in-Ok-clause-causes g c =
 pub returns-in-Err-clause-causes : goal.returns-in-Err-clause-causes
 returns-in-Err-clause-causes g c =
     cut_causes _ _ _ _ (done_same c.play_script.result c.in-Done.is c.play_script.ensures.causes.source_same) c.in-Err.ensures.failed
+
+pub returns-in_default-settings-clause-promise : goal.returns-in_default-settings-clause-promise
+returns-in_default-settings-clause-promise g c = ap (λ (p : Kind × Bool). p.1) c.play_script.ensures.plan
+
+pub returns-in-Ok-clause-promise : goal.returns-in-Ok-clause-promise
+returns-in-Ok-clause-promise g c = ap (λ (p : Kind × Bool). p.1) c.play_script.ensures.plan
+
+pub returns-in-Err-clause-promise : goal.returns-in-Err-clause-promise
+returns-in-Err-clause-promise g c = ap (λ (p : Kind × Bool). p.1) c.play_script.ensures.plan

@@ -15,4 +15,4 @@ returns g c = λ managers.
     let by = c.save_script.ensures in
     saved_ends _ _ _ _ managers c.save_script.result c.in-Ok.session (g.H.Manager.state c.args.heap.now)
     (run_at c.save_script.new.player.player (g.H.Manager.state c.save_script.new.heap)) c.in-Ok.ensures c.requires
-    by.causes by.ends
+    by.causes by.promise by.ends

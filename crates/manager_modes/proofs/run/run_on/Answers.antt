@@ -8,4 +8,4 @@ returns g c = λ managers none.
     own_ends c.args.kind _ _ _ _ c.run_script.result
     by.causes
     c.args.session.now (run_at c.run_script.new.session (g.H.Manager.state c.run_script.new.heap)) c.requires.fresh (g.H.Manager.state c.args.heap.now)
-    c.requires.closed managers none by.outcome
+    c.requires.closed managers none by.plan by.outcome

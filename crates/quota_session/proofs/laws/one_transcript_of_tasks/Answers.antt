@@ -1,9 +1,9 @@
 use Rattle.run_laws.proofs.CallerLemmas.{items_sayable}
-use Rattle.quota_session.proofs.ScriptTold.{transcript_told}
+use Rattle.quota_session.proofs.ScriptShown.{transcript_shown}
 use Rattle.quota_session.proofs.laws.one_transcript_of_tasks.Goals as goal
 
 pub returns-clause-run : goal.returns-clause-run
-returns-clause-run c = transcript_told
+returns-clause-run c = transcript_shown
 
 pub returns-clause-script : goal.returns-clause-script
-returns-clause-script c = λ given ended replies new run. transcript_told _ replies new (items_sayable given ended) run
+returns-clause-script c = λ given ended replies new run. transcript_shown _ replies new (items_sayable given ended) run

@@ -1,15 +1,15 @@
 use Rattle.std.proofs.Common.{Some, ap}
 use Rattle.cf_base.specs.Settings.{profile_of}
 use Rattle.script_reader.specs.Owned.{owned_command}
-use Rattle.script_loop.proofs.CallerLemmas.{told_line}
+use Rattle.script_loop.proofs.CallerLemmas.{shown_line}
 use Rattle.quota_session.specs.Layout.{session_of}
 use Rattle.quota_session.specs.Playing.{quota_tasks}
 use Rattle.quota_session.specs.QuotaRun.{quota_run}
-use Rattle.quota_session.proofs.ReplyLemmas.{told_walk}
+use Rattle.quota_session.proofs.ReplyLemmas.{shown_walk}
 use Rattle.quota_session.proofs.session.answer.Goals as goal
 
 pub returns-in_default-clause-answers : goal.returns-in_default-clause-answers
-returns-in_default-clause-answers g c = told_line quota_tasks (λ _ _ _ _ turn. turn)
+returns-in_default-clause-answers g c = shown_line quota_tasks (λ _ _ _ _ turn. turn)
     (quota_run (Some (profile_of c.args.s.now)) (session_of c.args.records.now) c.args.heap.now)
     (quota_run (Some (profile_of c.args.s.now)) (session_of c.speak-outcome.new.records) c.speak-outcome.new.heap)
     (owned_command c.args.c)
@@ -17,5 +17,5 @@ returns-in_default-clause-answers g c = told_line quota_tasks (λ _ _ _ _ turn. 
     c.speak-outcome.ensures.outcome c.put_line.ensures.puts c.ended-in_default.ensures
 
 pub returns-in-Walk-clause-answers : goal.returns-in-Walk-clause-answers
-returns-in-Walk-clause-answers g c = told_walk (quota_run (Some (profile_of c.args.s.now)) (session_of c.args.records.now) c.args.heap.now)
+returns-in-Walk-clause-answers g c = shown_walk (quota_run (Some (profile_of c.args.s.now)) (session_of c.args.records.now) c.args.heap.now)
     (owned_command c.args.c) _ _ c.walk-written.result c.ended.result (ap owned_command c.in-Walk.is) c.walk-written.ensures.puts c.ended.ensures

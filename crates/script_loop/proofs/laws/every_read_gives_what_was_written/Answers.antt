@@ -1,13 +1,13 @@
 use Rattle.script_loop.proofs.Consequences.{prints_reads, wrote_all}
 use Rattle.script_loop.specs.ScriptOutcome.{items_within}
-use Rattle.run_laws.proofs.CallerLemmas.{reads_are_told}
+use Rattle.run_laws.proofs.CallerLemmas.{reads_are_shown}
 use Rattle.script_loop.proofs.laws.every_read_gives_what_was_written.Goals as goal
 
 pub returns-clause-printed : goal.returns-clause-printed
-returns-clause-printed c = λ from to call all told met is. prints_reads from to (items_within all) call (wrote_all from to call all told met is)
+returns-clause-printed c = λ from to call all shown met is. prints_reads from to (items_within all) call (wrote_all from to call all shown met is)
 
 pub returns-clause-whole : goal.returns-clause-whole
-returns-clause-whole c = λ from to wanted call w. reads_are_told from.heap.kind wanted w.replies w.end w.run
+returns-clause-whole c = λ from to wanted call w. reads_are_shown from.heap.kind wanted w.replies w.end w.run
 
 pub returns-clause-in_part : goal.returns-clause-in_part
-returns-clause-in_part c = λ from to wanted call w. reads_are_told from.heap.kind w.before w.replies w.mid w.run
+returns-clause-in_part c = λ from to wanted call w. reads_are_shown from.heap.kind w.before w.replies w.mid w.run

@@ -61,12 +61,12 @@ returns-in-Cut g c =
     (λ other. turn.source_same (λ e. cc) ∙ at.source_same) (λ is. absurd (let e : WriteFault ≡ ReadFault = is in cc))
     (λ other. absurd (other refl)) (λ is. subst (λ n. FailsLast n (g.K.Sink.faults c.answer_kept.new.sink) (g.K.Sink.last_failed c.answer_kept.new.sink)) (turn.sink_same (λ e. cc) ∙ at.sink_same) (c.in-Cut.ensures.failed refl))
 
-pub returns-in-Wanting : goal.returns-in-Wanting
-returns-in-Wanting g c =
+pub returns-in-LacksMemory : goal.returns-in-LacksMemory
+returns-in-LacksMemory g c =
     let m = g.A.Player.semantics in
     let turn = c.in-Ended.ensures in
     let at = c.turns.invariant in
-    let went = rw c.finish.ensures at c.in-Wanting.ensures.goes in
+    let went = rw c.finish.ensures at c.in-LacksMemory.ensures.goes in
     plays_of m _ _ _ OutOfMemory _ _ _ (at_end m at.so_far _ turn.turn _ OutOfMemory went)
     (λ other. turn.source_same (λ e. cc) ∙ at.source_same) (λ is. absurd (let e : OutOfMemory ≡ ReadFault = is in cc))
-    (λ other. c.in-Wanting.ensures.same (λ e. cc) ∙ turn.sink_same (λ e. cc) ∙ at.sink_same) (λ is. absurd (let e : OutOfMemory ≡ WriteFault = is in cc))
+    (λ other. c.in-LacksMemory.ensures.same (λ e. cc) ∙ turn.sink_same (λ e. cc) ∙ at.sink_same) (λ is. absurd (let e : OutOfMemory ≡ WriteFault = is in cc))

@@ -1,13 +1,14 @@
 use Rattle.std.proofs.Common.{◌∙◌, ◌++◌, [], refl, sym, ap, arith}
 use Rattle.std.proofs.lemmas.List.{length-set}
+use Rattle.std.specs.Prelude.{is_some}
 use Rattle.cf_io.proofs.CallerLemmas.{appended_then}
 use Rattle.cf_io.proofs.CallerLemmas.{led-append}
 use Rattle.script_loop.proofs.CallerLemmas.{appended_none}
 use Rattle.cf_io.specs.Feeds.{appended}
 use Rattle.run_model.specs.Texts.{led}
 use Rattle.script_reader.specs.Owned.{owned_command}
-use Rattle.side_by_side.proofs.Passing.{seat_goes, seats_cut, seats_go, seats_more, seats_whole, swept_none}
 use Rattle.side_by_side.proofs.Zipping.{same_seen}
+use Rattle.side_by_side.proofs.Passing.{seat_goes, seats_cut, seats_go, seats_more, seats_whole, swept_none}
 use Rattle.side_by_side.proofs.answer.answer_each.Goals as goal
 
 pub loop-i-init : goal.loop-i-init
@@ -18,6 +19,7 @@ loop-i-init g c = record {
   managers = refl;
   going = c.requires.going;
   kinds = refl;
+  promise = refl;
   wrote = appended_none _;
   same = omega arith;
 }
@@ -54,6 +56,11 @@ returns-in-Err-clause-kinds g c =
     same_seen (λ m. (g.H.Manager.state m).kind) c.loop-i.managers.items c.loop-i.i c.index_mut-in-loop-i.result.now c.answer_one.new.manager
     (omega arith) c.index_mut-in-loop-i.ensures.value c.in-Err.ensures.kind ∙ c.loop-i.invariant.kinds
 
+pub returns-in-Err-clause-promise : goal.returns-in-Err-clause-promise
+returns-in-Err-clause-promise g c =
+    same_seen (λ m. is_some (g.H.Manager.state m).order) c.loop-i.managers.items c.loop-i.i c.index_mut-in-loop-i.result.now c.answer_one.new.manager
+    (omega arith) c.index_mut-in-loop-i.ensures.value c.in-Err.ensures.promise ∙ c.loop-i.invariant.promise
+
 pub loop-i-preserved : goal.loop-i-preserved
 loop-i-preserved g c =
     let so_far = c.loop-i.invariant in
@@ -72,6 +79,8 @@ loop-i-preserved g c =
           (omega arith) c.index_mut.ensures.value c.index_mut-in-loop-i.ensures.value so_far.going c.in-Ok.ensures.going;
       kinds = same_seen (λ m. (g.H.Manager.state m).kind) c.loop-i.managers.items c.loop-i.i c.index_mut-in-loop-i.result.now c.answer_one.new.manager
           (omega arith) c.index_mut-in-loop-i.ensures.value c.in-Ok.ensures.kind ∙ so_far.kinds;
+      promise = same_seen (λ m. is_some (g.H.Manager.state m).order) c.loop-i.managers.items c.loop-i.i c.index_mut-in-loop-i.result.now
+          c.answer_one.new.manager (omega arith) c.index_mut-in-loop-i.ensures.value c.in-Ok.ensures.promise ∙ so_far.promise;
       wrote = answer.2 ∙ ap (λ w. appended w (led [] answer.0)) so_far.wrote ∙ appended_then _ (led [] so_far.reply) (led [] answer.0)
           ∙ ap (λ t. appended (g.K.Sink.written c.args.sink.now) t) (sym (led-append [] so_far.reply answer.0));
       same = c.in-Ok.ensures.same ∙ so_far.same;

@@ -1,12 +1,12 @@
 use Rattle.command_line.proofs.CallerLemmas.{chosen_are_accepted, not_accepted}
-use Rattle.top_call.proofs.Modes.{chosen_ends, chosen_tells, chosen_whole}
+use Rattle.top_call.proofs.Modes.{chosen_ends, chosen_shows, chosen_whole}
 use Rattle.top_call.proofs.top.cf_main.Goals as goal
 
 pub returns-in-Ok-clause-outcome : goal.returns-in-Ok-clause-outcome
 returns-in-Ok-clause-outcome g c = chosen_ends _ c.in-Ok.choice c.in-Ok.ensures.reads _ c.run_mode.result _ c.run_mode.ensures
 
 pub returns-in-Ok-clause-claimed : goal.returns-in-Ok-clause-claimed
-returns-in-Ok-clause-claimed g c = chosen_tells _ c.in-Ok.choice c.in-Ok.ensures.reads _ c.run_mode.result _ c.run_mode.ensures
+returns-in-Ok-clause-claimed g c = chosen_shows _ c.in-Ok.choice c.in-Ok.ensures.reads _ c.run_mode.result _ c.run_mode.ensures
 
 pub returns-in-Ok-clause-complete : goal.returns-in-Ok-clause-complete
 returns-in-Ok-clause-complete g c = chosen_whole _ c.in-Ok.choice c.in-Ok.ensures.reads _ c.run_mode.result _ c.run_mode.ensures

@@ -1,4 +1,4 @@
-use Rattle.image_run.proofs.TellLemmas.{object_cut, object_put}
+use Rattle.image_run.proofs.PrintLemmas.{object_cut, object_put}
 use Rattle.image_run.proofs.print.LinesObjectWriter.put_object.Goals as goal
 
 pub put_writes-requires-clause-live : goal.put_writes-requires-clause-live

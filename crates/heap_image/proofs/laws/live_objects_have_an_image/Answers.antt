@@ -1,7 +1,7 @@
 use Rattle.cf_base.specs.declared.kind.Layout.TheVariants.{Words}
 use Rattle.page_model.specs.Paging.{paging_of}
 use Rattle.heap_image.proofs.LivesLemmas.{lives_have_image, lives_image, needed_within, room_of}
-use Rattle.heap_image.proofs.laws.what_lives_has_an_image.Goals as goal
+use Rattle.heap_image.proofs.laws.live_objects_have_an_image.Goals as goal
 
 pub returns-clause-pages : goal.returns-clause-pages
 returns-clause-pages c = λ p bounds m paging sound. needed_within p bounds m (c.objects_need_no_more_pages.ensures (paging_of p Words bounds) m paging sound)

@@ -2,7 +2,7 @@ use Rattle.std.proofs.Common.{◌≡◌, map, take, []}
 use Rattle.cf_io.specs.Feeds.{appended}
 use Rattle.run_model.specs.Texts.{led}
 use Rattle.side_by_side.specs.Many.{oks}
-use Rattle.side_by_side.proofs.open_reply.tell_open.Given as goal
+use Rattle.side_by_side.proofs.open_reply.put_opened.Given as goal
 
 abbrev pub invariant-loop-i : goal.invariant-loop-i
 invariant-loop-i g l = record {

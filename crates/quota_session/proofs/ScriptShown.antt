@@ -37,7 +37,7 @@ use Rattle.quota_session.specs.QuotaRun.{quota_fault, with_ids}
 use Rattle.quota_session.specs.TaskRun.{TaskRun, task_run}
 use Rattle.quota_session.proofs.RunInvariant.{ids_here, ids_there, present_kept, still_going}
 use Rattle.quota_session.proofs.OpenLemmas.{all_same, begins_going}
-use Rattle.quota_session.proofs.OwnTask.{IsTold, told}
+use Rattle.quota_session.proofs.OwnTask.{IsOwnReply, shown}
 
 -- what the lines of a script leave, of a run
 abbrev state_of : QuotaRun → TaskState
@@ -55,8 +55,8 @@ module _ (old : QuotaRun) (going : IsGoingQuotas old) where
     abbrev then_ : TaskRun
     then_ = task_run now s.ids new.heap
 
-    said_so : IsTold (present_run old.session old.heap) then_ going.rules (going.tied now (going.sixteen).present) t.objects refl reply c
-    said_so = told (present_run old.session old.heap) then_ going.rules (going.tied now (going.sixteen).present) t.objects refl reply c s.step
+    said_so : IsOwnReply (present_run old.session old.heap) then_ going.rules (going.tied now (going.sixteen).present) t.objects refl reply c
+    said_so = shown (present_run old.session old.heap) then_ going.rules (going.tied now (going.sixteen).present) t.objects refl reply c s.step
 
     objects_at : (u : ℕ) → objects_by_id (ids_of (with_ids old.session s.ids) u) (objects_by new.heap u)
         ≡ cond (nat_eq u now) (task_leaves t now c) (t.objects u)
@@ -118,12 +118,12 @@ module _ (old : QuotaRun) (going : IsGoingQuotas old) where
   present_then c reply new step = call_present c reply new step
 
   -- the reply to a call
-  pub reply_told : (c : Command) (reply : Reply) (new : QuotaRun) → is_for_task c ≡ true → QuotaStep old c reply new → reply ≡ task_reply t now c
-  reply_told (command.Task task) reply new own step = absurd (let e : false ≡ true = own in cc)
-  reply_told (command.Quota task pages) reply new own step = absurd (let e : false ≡ true = own in cc)
-  reply_told (command.Need task bytes count) reply new own step = absurd (let e : false ≡ true = own in cc)
-  reply_told (command.Admit task) reply new own step = absurd (let e : false ≡ true = own in cc)
-  reply_told c reply new own step = call_reply c reply new step
+  pub reply_shown : (c : Command) (reply : Reply) (new : QuotaRun) → is_for_task c ≡ true → QuotaStep old c reply new → reply ≡ task_reply t now c
+  reply_shown (command.Task task) reply new own step = absurd (let e : false ≡ true = own in cc)
+  reply_shown (command.Quota task pages) reply new own step = absurd (let e : false ≡ true = own in cc)
+  reply_shown (command.Need task bytes count) reply new own step = absurd (let e : false ≡ true = own in cc)
+  reply_shown (command.Admit task) reply new own step = absurd (let e : false ≡ true = own in cc)
+  reply_shown c reply new own step = call_reply c reply new step
 
 -- a reply to a task follows from the settings, its quota and its objects
 abbrev pub ReplyLaw : Type 0
@@ -131,13 +131,13 @@ ReplyLaw = (one other : Tasks) (task : ℕ) (command : Command) → other.profil
     → other.objects task ≡ one.objects task → task_reply other task command ≡ task_reply one task command
 
 -- two runs that are alike for a task give it the same replies
-pub alike_replies : ReplyLaw → (task : ℕ) (one other after later : QuotaRun) (c : Command) (reply told_ : Reply) → IsGoingQuotas one → IsGoingQuotas other
-    → AreAlikeFor task one other → is_for_task c ≡ true → QuotaStep one c reply after → QuotaStep other c told_ later → told_ ≡ reply
-alike_replies law task one other after later c reply told_ goes going a own step more =
-    reply_told other going c told_ later own more
+pub alike_replies : ReplyLaw → (task : ℕ) (one other after later : QuotaRun) (c : Command) (reply shown_ : Reply) → IsGoingQuotas one → IsGoingQuotas other
+    → AreAlikeFor task one other → is_for_task c ≡ true → QuotaStep one c reply after → QuotaStep other c shown_ later → shown_ ≡ reply
+alike_replies law task one other after later c reply shown_ goes going a own step more =
+    reply_shown other going c shown_ later own more
     ∙ ap (λ v. task_reply (tasks_of other) v c) a.there
     ∙ law (tasks_of one) (tasks_of other) task c a.profile a.quota a.objects
-    ∙ sym (reply_told one goes c reply after own step ∙ ap (λ v. task_reply (tasks_of one) v c) a.here)
+    ∙ sym (reply_shown one goes c reply after own step ∙ ap (λ v. task_reply (tasks_of one) v c) a.here)
 
 pub begun_is : (p : Profile) (s : QuotaRun) → BeginsQuotas p s → tasks_of s ≡ no_tasks (at_bound_one p)
 begun_is p s b =
@@ -147,8 +147,8 @@ begun_is p s b =
           ∙ none_by_id (objects_by (empty_state (at_bound_one p)) u)) i;
     })
 
-begun_told : (p : Profile) (s : QuotaRun) → BeginsQuotas p s → state_of s ≡ first_state p
-begun_told p s b = λ i. record {
+begun_shown : (p : Profile) (s : QuotaRun) → BeginsQuotas p s → state_of s ≡ first_state p
+begun_shown p s b = λ i. record {
   present = ap (λ (e : TaskSession). e.present) b.session i;
   tasks = begun_is p s b i;
   needs = λ u. (ap (λ (e : TaskSession). needs_of e u) b.session ∙ all_same {X = List Need} 16 u []) i;
@@ -156,11 +156,11 @@ begun_told p s b = λ i. record {
 
 module _ (old : QuotaRun) (going : IsGoingQuotas old) where
   -- the entries after a command
-  needs_told : (c : Command) (reply : Reply) (new : QuotaRun) → IsSayable c → QuotaStep old c reply new → (u : ℕ)
+  needs_shown : (c : Command) (reply : Reply) (new : QuotaRun) → IsSayable c → QuotaStep old c reply new → (u : ℕ)
       → needs_of new.session u ≡ needs_after (needs_of old.session) c u
-  needs_told (command.Task task) reply new can step u = ap (λ (r : QuotaRun). needs_of r.session u) step.1
-  needs_told (command.Quota task pages) reply new can step u = ap (λ (r : QuotaRun). needs_of r.session u) step.whole
-  needs_told (command.Need task bytes count) reply new can step u = ap (λ (r : QuotaRun). needs_of r.session u) step.1 ∙ elim (cases_eq u task) [
+  needs_shown (command.Task task) reply new can step u = ap (λ (r : QuotaRun). needs_of r.session u) step.1
+  needs_shown (command.Quota task pages) reply new can step u = ap (λ (r : QuotaRun). needs_of r.session u) step.whole
+  needs_shown (command.Need task bytes count) reply new can step u = ap (λ (r : QuotaRun). needs_of r.session u) step.1 ∙ elim (cases_eq u task) [
     | inl is ↦ (
         let many = (going.sixteen).needs in
         let low : task ≤ 15 = can.formed in
@@ -172,25 +172,25 @@ module _ (old : QuotaRun) (going : IsGoingQuotas old) where
     where
       entry : Need
       entry = record { bytes = bytes; count = count }
-  needs_told (command.Admit task) reply new can step u = ap (λ (r : QuotaRun). needs_of r.session u) step.1
-  needs_told c reply new can step u = ap (λ (r : QuotaRun). needs_of r.session u) step.whole
+  needs_shown (command.Admit task) reply new can step u = ap (λ (r : QuotaRun). needs_of r.session u) step.1
+  needs_shown c reply new can step u = ap (λ (r : QuotaRun). needs_of r.session u) step.whole
 
-  state_told : (c : Command) (reply : Reply) (new : QuotaRun) → IsSayable c → QuotaStep old c reply new → state_of new ≡ state_after (state_of old) c
-  state_told c reply new can step = λ i. record {
+  state_shown : (c : Command) (reply : Reply) (new : QuotaRun) → IsSayable c → QuotaStep old c reply new → state_of new ≡ state_after (state_of old) c
+  state_shown c reply new can step = λ i. record {
     present = present_then old going c reply new step i;
     tasks = tasks_after old going c reply new can step i;
-    needs = λ u. needs_told c reply new can step u i;
+    needs = λ u. needs_shown c reply new can step u i;
   }
 
   -- the reply to any command
-  command_told : (c : Command) (reply : Reply) (new : QuotaRun) → IsSayable c → QuotaStep old c reply new → reply ≡ command_reply (state_of old) c
-  command_told (command.Task task) reply new can step = step.0
-  command_told (command.Quota task pages) reply new can step = step.reply_is
+  command_shown : (c : Command) (reply : Reply) (new : QuotaRun) → IsSayable c → QuotaStep old c reply new → reply ≡ command_reply (state_of old) c
+  command_shown (command.Task task) reply new can step = step.0
+  command_shown (command.Quota task pages) reply new can step = step.reply_is
       ∙ ap (λ f. said (quota_text f)) (fault_same old going task pages (below old going task can.formed))
-  command_told (command.Need task bytes count) reply new can step = step.0
-  command_told (command.Admit task) reply new can step = (step.0).reply_is
+  command_shown (command.Need task bytes count) reply new can step = step.0
+  command_shown (command.Admit task) reply new can step = (step.0).reply_is
       ∙ ap (λ a. said (admission_text a)) (admission_is _ (needs_of old.session task) (step.0).answer (step.0).meets)
-  command_told c reply new can step = call_reply old going c reply new step
+  command_shown c reply new can step = call_reply old going c reply new step
 
 -- a run that hasn't begun, or is in progress
 abbrev GoesOn : Option QuotaRun → Type 0
@@ -198,48 +198,48 @@ GoesOn None = ⊤
 GoesOn (Some s) = IsGoingQuotas s
 
 -- the reply to an item, and the run after it
-record IsToldItem (old : Option QuotaRun) (item : Item) (reply : Reply) (new : Option QuotaRun) : Type 0 where
+record IsShownItem (old : Option QuotaRun) (item : Item) (reply : Reply) (new : Option QuotaRun) : Type 0 where
   reply_is : reply ≡ reply_in (option_map state_of old) item
   state : option_map state_of new ≡ state_in (option_map state_of old) item
   going : GoesOn new
 
-item_told : (old : Option QuotaRun) (item : Item) (reply : Reply) (new : Option QuotaRun) → GoesOn old → IsSayableItem item
-    → PlayStep BeginsAtOne QuotaStep old item reply new → IsToldItem old item reply new
-item_told old (starts p) reply new going can step = record {
+item_shown : (old : Option QuotaRun) (item : Item) (reply : Reply) (new : Option QuotaRun) → GoesOn old → IsSayableItem item
+    → PlayStep BeginsAtOne QuotaStep old item reply new → IsShownItem old item reply new
+item_shown old (starts p) reply new going can step = record {
   reply_is = step.1.1;
-  state = ap (option_map state_of) step.2 ∙ ap (λ t. Some t) (begun_told p step.0 step.1.0);
+  state = ap (option_map state_of) step.2 ∙ ap (λ t. Some t) (begun_shown p step.0 step.1.0);
   going = subst GoesOn (sym step.2) (begins_going p step.0 step.1.0);
 }
-item_told None (asks c) reply new going can step = record {
+item_shown None (asks c) reply new going can step = record {
   reply_is = step.0;
   state = ap (option_map state_of) step.1;
   going = subst GoesOn (sym step.1) tt;
 }
-item_told (Some old) (asks c) reply new going can step = record {
-  reply_is = command_told old going c reply step.0 can step.1;
-  state = ap (option_map state_of) step.2 ∙ ap (λ t. Some t) (state_told old going c reply step.0 can step.1);
+item_shown (Some old) (asks c) reply new going can step = record {
+  reply_is = command_shown old going c reply step.0 can step.1;
+  state = ap (option_map state_of) step.2 ∙ ap (λ t. Some t) (state_shown old going c reply step.0 can step.1);
   going = subst GoesOn (sym step.2) (still_going old going c reply step.0 can.formed step.1);
 }
-item_told old (bad n) reply new going can step = record {
+item_shown old (bad n) reply new going can step = record {
   reply_is = step.0;
   state = ap (option_map state_of) step.1;
   going = subst GoesOn (sym step.1) going;
 }
 
-run_told : (items : List Item) (old : Option QuotaRun) (replies : List Reply) (end : Option QuotaRun) → GoesOn old → AreSayable items
+run_shown : (items : List Item) (old : Option QuotaRun) (replies : List Reply) (end : Option QuotaRun) → GoesOn old → AreSayable items
     → RunsQuotas old items replies end → replies ≡ task_replies (option_map state_of old) items
-run_told [] old replies end going can run = run.0
-run_told (item ∷ rest) old replies end going can run =
-    let now = item_told old item run.1 run.0 going can.0 run.3 in
-    run.4 ∙ ap (λ l. run.1 ∷ l) (run_told rest run.0 run.2 end now.going can.1 run.5)
+run_shown [] old replies end going can run = run.0
+run_shown (item ∷ rest) old replies end going can run =
+    let now = item_shown old item run.1 run.0 going can.0 run.3 in
+    run.4 ∙ ap (λ l. run.1 ∷ l) (run_shown rest run.0 run.2 end now.going can.1 run.5)
     ∙ (λ i. now.reply_is i ∷ task_replies (now.state i) rest)
 
 -- the replies to a script
-pub transcript_told : (items : List Item) (replies : List Reply) (end : Option QuotaRun) → AreSayable items → RunsQuotas None items replies end
+pub transcript_shown : (items : List Item) (replies : List Reply) (end : Option QuotaRun) → AreSayable items → RunsQuotas None items replies end
     → MeetsTasks items replies
-transcript_told items replies end can run = run_told items None replies end tt can run
+transcript_shown items replies end can run = run_shown items None replies end tt can run
 
 -- and to the bytes of one, from any state before its `heap` line
 pub tasks_met : (from : QuotaRun) (all : List ℕ) (replies : List Reply) (end : Option QuotaRun) → RunBy quota_tasks from None (items_within all) replies end
     → MeetsTasks (items_within all) replies
-tasks_met from all replies end run = transcript_told (items_within all) replies end (items_sayable (take MOST_BYTES all) (nat_le (length all) MOST_BYTES)) run
+tasks_met from all replies end run = transcript_shown (items_within all) replies end (items_sayable (take MOST_BYTES all) (nat_le (length all) MOST_BYTES)) run

@@ -7,7 +7,7 @@ use Rattle.std.specs.Prelude.{codes}
 use Rattle.side_by_side.specs.Many.{lead_of}
 use Rattle.side_by_side.proofs.Oks.{kind_at, oks_cut, oks_more}
 use Rattle.side_by_side.specs.Many.{oks}
-use Rattle.side_by_side.proofs.open_reply.tell_open.Goals as goal
+use Rattle.side_by_side.proofs.open_reply.put_opened.Goals as goal
 
 pub returns-in-Err-clause-puts : goal.returns-in-Err-clause-puts
 returns-in-Err-clause-puts g c =

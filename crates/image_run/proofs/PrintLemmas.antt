@@ -16,21 +16,21 @@ use Rattle.run_model.specs.Sessions.{RunState}
 use Rattle.script_reader.specs.declared.command.Command.{Command}
 use Rattle.script_reader.specs.declared.command.Command.TheVariants.{Malloc}
 
-abbrev Told : Type 0
-Told = Option (List ℕ)
+abbrev Written : Type 0
+Written = Option (List ℕ)
 
 lines_joined : (cs ds : List Command) → lines_of (cs ++ ds) ≡ lines_of cs ++ lines_of ds
 lines_joined [] ds = refl
 lines_joined (c ∷ cs) ds = ap (λ (l : List ℕ). line_of c ++ l) (lines_joined cs ds) ∙ sym (append_assoc (line_of c) (lines_of cs) (lines_of ds))
 
 -- the line that makes an object, and those that write its bytes
-pub object_put : {T : Type 0} (w x y : Told) (id n : ℕ) (bytes : List ℕ) (r : Result T Failed) → n ≡ length bytes → x ≡ appended w (line_of (Malloc id n))
+pub object_put : {T : Type 0} (w x y : Written) (id n : ℕ) (bytes : List ℕ) (r : Result T Failed) → n ≡ length bytes → x ≡ appended w (line_of (Malloc id n))
     → Puts x (lines_of (writes_of id bytes)) r y → Puts w (object_lines id bytes) r y
 object_put {T} w x y id n bytes r same put rest =
     puts_then {T = T} w x y (line_of (Malloc id (length bytes))) (lines_of (writes_of id bytes)) r
     (put ∙ ap (λ n. appended w (line_of (Malloc id n))) same) rest
 
-pub object_cut : (w y : Told) (id n : ℕ) (bytes : List ℕ) (e : Failed) → n ≡ length bytes → Puts {T = Unit {0}} w (line_of (Malloc id n)) (Err e) y
+pub object_cut : (w y : Written) (id n : ℕ) (bytes : List ℕ) (e : Failed) → n ≡ length bytes → Puts {T = Unit {0}} w (line_of (Malloc id n)) (Err e) y
     → Puts {T = Unit {0}} w (object_lines id bytes) (Err e) y
 object_cut w y id n bytes e same put =
     puts_cut w y (line_of (Malloc id (length bytes))) (lines_of (writes_of id bytes)) e
@@ -43,7 +43,7 @@ lines_are (e ∷ es) = lines_joined (object_commands e.0 e.1) (commands_of es) �
 
 module _ (s : RunState) where
   -- the `heap` line was written, and then those of the objects
-  pub opening_then : (w x y : Told) (p : Profile) (r : Result Unit Failed) → s.heap.profile ≡ p → x ≡ appended w (opening_line p)
+  pub opening_then : (w x y : Written) (p : Profile) (r : Result Unit Failed) → s.heap.profile ≡ p → x ≡ appended w (opening_line p)
       → Puts x (texts_of object_lines (entries (objects_of s))) r y → Puts w (heap_script s) r y
   opening_then w x y p r same put rest =
       puts_then {T = Unit {0}} w x y (opening_line s.heap.profile) (lines_of (commands_of (entries (objects_of s)))) r
@@ -51,7 +51,7 @@ module _ (s : RunState) where
       (puts_same x y _ (lines_of (commands_of (entries (objects_of s)))) r (sym (lines_are (entries (objects_of s)))) rest)
 
   -- it was cut
-  pub opening_cut : (w y : Told) (p : Profile) (e : Failed) → s.heap.profile ≡ p → Puts {T = Unit {0}} w (opening_line p) (Err e) y
+  pub opening_cut : (w y : Written) (p : Profile) (e : Failed) → s.heap.profile ≡ p → Puts {T = Unit {0}} w (opening_line p) (Err e) y
       → Puts {T = Unit {0}} w (heap_script s) (Err e) y
   opening_cut w y p e same put = puts_cut w y (opening_line s.heap.profile) (lines_of (commands_of (entries (objects_of s)))) e
       (puts_same w y (opening_line p) (opening_line s.heap.profile) (Err e) (ap opening_line (sym same)) put)
