@@ -1,1 +1,2 @@
 pub mod EmptyHeap
+pub mod Exact

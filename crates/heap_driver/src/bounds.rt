@@ -4,7 +4,7 @@ ghost use Rattle.heap_driver.specs.EmptyHeap.{IsOpenedEmpty};
 
 use cf_base::Settings;
 use cf_model::Manager;
-use wrong_answers::{Wrong, hold};
+use test_support::{Wrong, hold};
 
 /// Opens the heap, and gives classes bounds of their own: the words of a slot, and the bound.
 pub(crate) fn open_bounded<H: Manager>(

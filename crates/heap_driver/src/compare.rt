@@ -1,5 +1,5 @@
 //! Comparisons of the heap with the reference implementation.
-ghost use Rattle.std.specs.Prelude.{◌≡◌, ◌<◌, ◌≤◌, None, OnOk, Some, slice_get};
+ghost use Rattle.std.specs.Prelude.{◌≡◌, ◌<◌, ◌≤◌, None, OnOk, Some};
 ghost use Rattle.page_model.specs.Figures.{figures_of, totals_of};
 ghost use Rattle.page_model.specs.Paging.{classes};
 ghost use Rattle.cf_model.specs.Answers.{figures_in, totals_in};
@@ -9,19 +9,19 @@ use cf_base::Handle;
 use cf_model::Manager;
 use page_reference::frames::block_of;
 use std::alloc::Global;
-use wrong_answers::{Wrong, hold};
+use test_support::{Wrong, hold};
 
 impl<H: Manager> RandomRun<H> {
     /// Compares the figures of a class, which has at most as many pages partly full as it may.
     pub(crate) fn compare_figures(&self, class: u32) -> Result<(), Wrong>
-        ensures same { OnOk result (class < classes self.now.reference.paging → figures_in (H.state self.now.heap) class
+        ensures same { OnOk result (class < classes self.now.reference.paging → figures_in (H.state self.now.calls.heap) class
             ≡ Some (figures_of self.now.reference.paging self.now.reference.held class)) }
-        ensures none { OnOk result (classes self.now.reference.paging ≤ class → figures_in (H.state self.now.heap) class ≡ None) }
+        ensures none { OnOk result (classes self.now.reference.paging ≤ class → figures_in (H.state self.now.calls.heap) class ≡ None) }
     {
-        if !self.heap.is_open() {
+        if !self.calls.heap.is_open() {
             return Err(Wrong::Closed);
         }
-        let figures = self.heap.figures(class);
+        let figures = self.calls.heap.figures(class);
         if class >= self.reference.classes() {
             return hold(figures.is_none(), Wrong::Class(figures));
         }
@@ -43,27 +43,25 @@ impl<H: Manager> RandomRun<H> {
         let image = self.reference.image(alloc)?;
         let mut w = 0;
         for word in image.iter() {
-            self.compare_word(w, Some(*word))?;
+            self.calls.compare_word(w, Some(*word))?;
             w = w.wrapping_add(1);
         }
-        self.compare_word(w, None)?;
-        for number in 0..PROXIES {
-            self.read(Handle(number))?;
-            self.compare_blocks(Handle(number))?;
+        self.calls.compare_word(w, None)?;
+        for number in 0..PROXIES as u16 {
+            self.read(number)?;
+            self.compare_blocks(number)?;
         }
         Ok(())
     }
 
     /// Compares the figures of the heap. If every bound is 1 the used pages are those of the arithmetic.
     fn compare_totals(&mut self) -> Result<(), Wrong>
-        ensures same { OnOk result (totals_in (H.state self.new.heap).kind (H.state self.new.heap)
+        ensures same { OnOk result (totals_in (H.state self.new.calls.heap).kind (H.state self.new.calls.heap)
             ≡ totals_of self.new.reference.paging self.new.reference.held) }
-        ensures rest { self.new ≡ record self.old { meter = self.new.meter } }
+        ensures rest { self.new ≡ record self.old { calls = self.new.calls } }
+        ensures heap { self.new.calls.heap ≡ self.old.calls.heap }
     {
-        if !self.heap.is_open() {
-            return Err(Wrong::Closed);
-        }
-        let totals = self.heap.totals(self.meter.steps());
+        let totals = self.calls.totals()?;
         let needed = self.bounds.iter().any(|bound| *bound != 1)
             || totals.used == self.reference.pages_needed();
         hold(
@@ -72,33 +70,19 @@ impl<H: Manager> RandomRun<H> {
         )
     }
 
-    /// Compares a word of the region.
-    fn compare_word(&mut self, w: u32, want: Option<u64>) -> Result<(), Wrong>
-        ensures same { OnOk result (slice_get (H.state self.new.heap).words w ≡ want) }
-        ensures rest { self.new ≡ record self.old { meter = self.new.meter } }
-    {
-        if !self.heap.is_open() {
-            return Err(Wrong::Closed);
-        }
-        let word = self.heap.peek(w, self.meter.steps());
-        hold(word == want, Wrong::Word(w, word))
-    }
-
     /// Compares the address of an object, and each of its blocks.
-    fn compare_blocks(&mut self, handle: Handle) -> Result<(), Wrong> {
-        if !self.heap.is_open() {
-            return Err(Wrong::Closed);
-        }
-        let place = self.heap.place(handle, self.meter.steps());
-        let Some((at, length)) = self.known(handle) else {
-            return hold(place.is_none(), Wrong::Place(place));
+    fn compare_blocks(&mut self, number: u16) -> Result<(), Wrong> {
+        let handle = Handle(u32::from(number));
+        let Some((place, length)) = self.reference.object(number) else {
+            return self.calls.compare_place(handle, None);
         };
-        hold(place == Some(at), Wrong::Place(place))?;
+        self.calls.compare_place(handle, Some(place))?;
         let blocks = self.reference.slot_words(self.reference.class_for(length)) / 4;
         for i in 0..blocks {
-            self.compare_block(handle, i, self.block_at(at, i))?;
+            let want = self.block_at(place, i);
+            self.calls.compare_block(handle, i, want)?;
         }
-        self.compare_block(handle, blocks, None)
+        self.calls.compare_block(handle, blocks, None)
     }
 
     /// The physical block of block i of an object at an address; none if words are moved.
@@ -108,14 +92,5 @@ impl<H: Manager> RandomRun<H> {
         } else {
             None
         }
-    }
-
-    /// Compares a block of an object.
-    fn compare_block(&mut self, handle: Handle, i: u32, want: Option<u32>) -> Result<(), Wrong> {
-        if !self.heap.is_open() {
-            return Err(Wrong::Closed);
-        }
-        let block = self.heap.block(handle, i, self.meter.steps());
-        hold(block == want, Wrong::Block(block))
     }
 }

@@ -1,6 +1,6 @@
 //! Runs that differ from the reference.
 use crate::random_run::Bounds;
-use wrong_answers::Wrong;
+use test_support::Wrong;
 
 /// A run that differs: the bounds, the number of calls before it differed, and the difference.
 #[derive(Debug, Drop)]

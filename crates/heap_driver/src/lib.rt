@@ -6,10 +6,11 @@
 mod bounds;
 mod compare;
 mod costs;
+mod exact;
 mod failures;
 mod random_run;
 
 pub use costs::{Call, first_with_other_steps, steps_of};
 pub use failures::RunFailure;
 pub use random_run::{Bounds, RandomRun};
-pub use wrong_answers::Wrong;
+pub use test_support::Wrong;

@@ -5,3 +5,4 @@ pub mod Ranges
 pub mod Bytes
 pub mod WordSearch
 pub mod SoundWords
+pub mod Places

@@ -12,7 +12,7 @@ use Rattle.cf_lemmas.proofs.Sums.{sum_by-inserted}
 use Rattle.cf_lemmas.proofs.Numbered.{numbered_below}
 use Rattle.page_model.specs.Held.{Held, Placed, objects}
 use Rattle.page_model.specs.Paging.{Paging, class_for, slot_words}
-use Rattle.page_model.specs.Arrangement.{live, objects_on, standing_on}
+use Rattle.page_model.specs.Arrangement.{live, objects_on, count_on}
 use Rattle.page_model.specs.Figures.{asked_bytes}
 use Rattle.cf_lemmas.proofs.Values.{no_values}
 use Rattle.page_reference.specs.declared.object.Object.{Object}
@@ -57,8 +57,8 @@ module _ (p : Paging) (os : List (Option Object)) where
   unfolding objects_on
   on_total c page = total-values (amount_of p (OfClassOnPage c page)) os
 
-  pub standing_total : (page : ℕ) → total_of (amount_of p (OnPage page)) os ≡ standing_on p (held_of os) page
-  unfolding standing_on
+  pub standing_total : (page : ℕ) → total_of (amount_of p (OnPage page)) os ≡ count_on p (held_of os) page
+  unfolding count_on
   standing_total page = total-values (amount_of p (OnPage page)) os
 
   pub asked_total : total_of (amount_of p Length) os ≡ asked_bytes (objects (held_of os))

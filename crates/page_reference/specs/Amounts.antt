@@ -3,7 +3,7 @@ use Rattle.std.specs.Prelude.{ℕ, ◌&&◌, ◌^◌, ◌<◌, List, Option, Som
 use Rattle.cf_lemmas.specs.Maps.{numbered}
 use Rattle.page_model.specs.Held.{Held, Placed}
 use Rattle.page_model.specs.Paging.{Paging, slot_words, class_for, page_of}
-use Rattle.page_model.specs.Arrangement.{standing_on}
+use Rattle.page_model.specs.Arrangement.{count_on}
 use Rattle.page_model.specs.Steps.{MustMove, resized}
 use Rattle.page_reference.specs.declared.object.Object.{Object}
 use Rattle.page_reference.specs.declared.object.Amount.{Amount}
@@ -50,7 +50,7 @@ total_of f os = sum_by (amount_in f) os
 
 -- every page holds an object
 abbrev pub AreAllUsed : Paging → Held → Type 0
-AreAllUsed p m = (page : ℕ) → page < p.pages → 0 < standing_on p m page
+AreAllUsed p m = (page : ℕ) → page < p.pages → 0 < count_on p m page
 
 -- there is an object, and a free of it moves another one
 abbrev pub MovesOne : Paging → Held → Option Placed → Type 0

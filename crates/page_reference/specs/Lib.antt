@@ -1,3 +1,4 @@
 pub mod Arranged
+pub mod Next
 pub mod Words
 pub mod Amounts

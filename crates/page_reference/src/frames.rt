@@ -1,6 +1,7 @@
 //! The block table of a manager that exchanges blocks, as a list: entry v is the physical block of
 //! virtual block v. A block is four words.
 ghost use Rattle.std.specs.Prelude.{◌≡◌, ◌+◌, ◌/◌, ◌^◌, ◌<◌, ◌≤◌, IfOk, length};
+ghost use Rattle.std.specs.List.{range_with_len};
 ghost use Rattle.page_model.specs.Frames.{block_of as physical_block, first_frames};
 ghost use Rattle.cf_lemmas.specs.Exchanges.{exchanged, partner};
 
@@ -10,7 +11,14 @@ use std::alloc::{AllocError, Global};
 pub fn new_frames(alloc: Global, blocks: u32) -> Result<Vec<u32>, AllocError>
     ensures { IfOk result (λ v. v.items ≡ first_frames blocks) }
 {
-    (0..blocks).collect(alloc)
+    numbers_below(alloc, blocks)
+}
+
+/// The numbers below `n`, in rising order.
+pub(crate) fn numbers_below(alloc: Global, n: u32) -> Result<Vec<u32>, AllocError>
+    ensures { IfOk result (λ v. v.items ≡ range_with_len 0 n) }
+{
+    (0..n).collect(alloc)
 }
 
 /// The table after the `n` entries from `a` on changed places with those from `b` on, pair by pair.

@@ -1,5 +1,5 @@
 //! Pages and size classes.
-ghost use Rattle.std.specs.Prelude.{◌≡◌, ◌*◌, ◌<◌, ◌≤◌, ◌^◌, IfOk, length};
+ghost use Rattle.std.specs.Prelude.{◌≡◌, ◌*◌, ◌<◌, ◌≤◌, ◌^◌, IfOk, length, slice_set};
 ghost use Rattle.page_model.specs.Paging.{classes, slot_words, slots_of, bound_of, class_for, page_of, paging_of, first_bounds};
 ghost use Rattle.cf_base.specs.Settings.{profile_of};
 ghost use Rattle.page_reference.specs.Amounts.{amount_of, most_of, amount_in, total_of};
@@ -48,6 +48,15 @@ impl Pages {
             sizes,
             bounds,
         })
+    }
+
+    /// Changes the bound of a class, if there is one.
+    pub fn set_bound(&mut self, c: u32, k: u32)
+        ensures { self.new ≡ record self.old { bounds = slice_set self.old.bounds c k } }
+    {
+        if (c as usize) < self.bounds.len() {
+            self.bounds[c as usize] = k;
+        }
     }
 
     /// The number of pages.

@@ -1,17 +1,19 @@
 //! Pages with objects on them.
-ghost use Rattle.std.specs.Prelude.{◌≡◌, ◌↔◌, ◌+◌, ◌*◌, ◌^◌, ◌&&◌, ◌<◌, ◌≤◌, IfOk, IsTrue, OnOk, OnErr, length, option_map, slice_set, nat_lt, cond};
+ghost use Rattle.std.specs.Prelude.{◌≡◌, ◌↔◌, ◌+◌, ◌*◌, ◌^◌, ◌&&◌, ◌<◌, ◌≤◌, IfNone, IfOk, IfSome, IsTrue, None, OnOk, OnErr, Some, length, option_map, slice_set, nat_lt, cond};
 ghost use Rattle.std.specs.FinMap as map;
 ghost use Rattle.cf_base.specs.Classes.{need};
 ghost use Rattle.cf_base.specs.Settings.{profile_of};
-ghost use Rattle.page_model.specs.Held.{objects};
-ghost use Rattle.page_model.specs.Paging.{bound_of, classes, slot_words, slots_of, class_for, paging_of, first_bounds};
+ghost use Rattle.page_model.specs.Held.{Placed, objects};
+ghost use Rattle.page_model.specs.Order.{IsLeastFree, IsLeastTaken, IsTaken};
+ghost use Rattle.page_model.specs.Paging.{address_of, bound_of, classes, slot_words, slots_of, class_for, page_of, paging_of, first_bounds};
 ghost use Rattle.page_model.specs.Counts.{ceil_div};
-ghost use Rattle.page_model.specs.Arrangement.{live, objects_on, standing_on, home_pages, not_full_pages, used_pages, free_pages, pages_needed};
+ghost use Rattle.page_model.specs.Arrangement.{live, objects_on, count_on, home_pages, not_full_pages, used_pages, free_pages, pages_needed};
 ghost use Rattle.page_model.specs.Arrangement.{pages_needed_with, IsSound, LacksRoom};
 ghost use Rattle.page_model.specs.Figures.{asked_bytes, taken_bytes, figures_of, totals_of};
 ghost use Rattle.page_model.specs.Image.{IsApart, IsImage};
 ghost use Rattle.page_model.specs.Steps.{MustMove, moved_to, resized};
 ghost use Rattle.page_reference.specs.Amounts.{AreAllUsed, MovesOne, at_place, held_of, placed};
+ghost use Rattle.page_reference.specs.Next.{IsAt, IsEntryAt, IsFreePage, IsFullPage};
 ghost use Rattle.page_reference.specs.Words.{AreInside, IsWordAt};
 
 use crate::object::{Amount, Object};
@@ -105,6 +107,13 @@ impl Plain {
         }
     }
 
+    /// Changes the bound of a class, if there is one: how many of its pages may be partly full.
+    pub fn set_bound(&mut self, c: u32, k: u32)
+        ensures { self.new ≡ record self.old { paging = record self.old.paging { bounds = slice_set self.old.paging.bounds c k } } }
+    {
+        self.pages.set_bound(c, k);
+    }
+
     /// The number of pages.
     pub fn pages(&self) -> u32
         ensures value { result ≡ self.now.paging.pages }
@@ -131,7 +140,8 @@ impl Plain {
 
     /// The words of a slot of a class; 0 if there is no such class.
     pub fn slot_words(&self, c: u32) -> u32
-        ensures { result ≡ slot_words self.now.paging c }
+        ensures value { result ≡ slot_words self.now.paging c }
+        ensures small { result ≤ 16384 }
     {
         self.pages.slot_words(c)
     }
@@ -177,8 +187,8 @@ impl Plain {
     }
 
     /// How many objects of any class are on the page.
-    pub fn standing_on(&self, page: u32) -> u32
-        ensures { result ≡ standing_on self.now.paging self.now.held page }
+    pub fn count_on(&self, page: u32) -> u32
+        ensures { result ≡ count_on self.now.paging self.now.held page }
     {
         self.pages.total(Amount::OnPage(page), &self.objects) as u32
     }
@@ -308,6 +318,97 @@ impl Plain {
         self.not_full_pages(c) == self.pages.bound(c)
     }
 
+    /// The number of the object at an address.
+    pub fn number_at(&self, place: u32) -> Option<u32>
+        ensures found { IfSome result (λ q. IsAt self.now.held q place) }
+        ensures none { IfNone result (¬ IsTaken self.now.held place) }
+    {
+        for number in 0..self.objects.len() {
+            if is_at(&self.objects[number], place) {
+                return Some(number as u32);
+            }
+        }
+        None
+    }
+
+    /// Whether an object is at the address.
+    fn is_taken(&self, place: u32) -> bool
+        ensures { IsTrue result ↔ IsTaken self.now.held place }
+    {
+        match self.number_at(place) {
+            Some(_number) => true,
+            None => false,
+        }
+    }
+
+    /// The address and the length in bytes of the object under this number, if there is one.
+    pub fn object(&self, number: u16) -> Option<(u32, u32)>
+        ensures found { IfSome result (λ r. (x : Placed) × (map.get self.now.held number ≡ Some x) × (x.place ≡ r.0) × (length x.bytes ≡ r.1)) }
+        ensures none { IfNone result (map.get self.now.held number ≡ None) }
+    {
+        if self.objects.len() <= number as usize {
+            return None;
+        }
+        match &self.objects[number as usize] {
+            Some(object) => Some((object.place, object.length)),
+            None => None,
+        }
+    }
+
+    /// The page of an address.
+    pub fn page_of(&self, place: u32) -> u32
+        ensures { result ≡ page_of self.now.paging place }
+    {
+        self.pages.page_of(place)
+    }
+
+    /// The address of a slot of class c.
+    pub fn address_of(&self, c: u32, page: u32, slot: u32) -> u32
+        requires page { page < 4096 }
+        requires slot { slot < 4096 }
+        ensures { result ≡ address_of self.now.paging c page slot }
+    {
+        page * self.page_words() + slot * self.slot_words(c)
+    }
+
+    /// The least free slot of the page, seen as one of class c; none if each slot is taken, or there is
+    /// no such page.
+    pub fn least_free(&self, c: u32, page: u32) -> Option<u32>
+        requires { c < classes self.now.paging }
+        ensures least { IfSome result (λ slot. IsLeastFree self.now.paging self.now.held c page slot) }
+        ensures within { IfSome result (λ slot. (page < 4096) × (slot < 4096)) }
+        ensures none { IfNone result (page < self.now.paging.pages → IsFullPage self.now.paging self.now.held c page) }
+    {
+        if self.pages() <= page {
+            return None;
+        }
+        for slot in 0..self.slots(c) {
+            if !self.is_taken(self.address_of(c, page, slot)) {
+                return Some(slot);
+            }
+        }
+        None
+    }
+
+    /// The least taken slot of the page, seen as one of class c; none if each slot is free, or there is
+    /// no such page.
+    pub fn least_taken(&self, c: u32, page: u32) -> Option<u32>
+        requires { c < classes self.now.paging }
+        ensures least { IfSome result (λ slot. IsLeastTaken self.now.paging self.now.held c page slot) }
+        ensures within { IfSome result (λ slot. (page < 4096) × (slot < 4096)) }
+        ensures none { IfNone result (page < self.now.paging.pages → IsFreePage self.now.paging self.now.held c page) }
+    {
+        if self.pages() <= page {
+            return None;
+        }
+        for slot in 0..self.slots(c) {
+            if self.is_taken(self.address_of(c, page, slot)) {
+                return Some(slot);
+            }
+        }
+        None
+    }
+
     /// Whether class c has no slot left: none of its pages is partly full, and every page holds an
     /// object.
     pub fn lacks_room(&self, c: u32) -> bool
@@ -322,7 +423,7 @@ impl Plain {
         ensures { IsTrue result ↔ AreAllUsed self.now.paging self.now.held }
     {
         for page in 0..self.pages() {
-            if self.standing_on(page) == 0 {
+            if self.count_on(page) == 0 {
                 return false;
             }
         }
@@ -411,6 +512,16 @@ fn one(test: bool) -> u32
     ensures few { result ≤ 1 }
 {
     if test { 1 } else { 0 }
+}
+
+/// Whether the object of this entry, if there is one, is at the address.
+fn is_at(entry: &Option<Object>, place: u32) -> bool
+    ensures { IsTrue result ↔ IsEntryAt (option_map placed entry.now) place }
+{
+    match entry {
+        Some(object) => object.place == place,
+        None => false,
+    }
 }
 
 /// Whether a page of `slots` slots with `objects` objects is partly full.

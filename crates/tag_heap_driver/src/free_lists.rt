@@ -1,10 +1,11 @@
-//! The free lists of each kind, as the least size of each. A list holds the sizes from its least
-//! one up to that of the next list.
+//! The free lists of each kind, as the least size of each, in words. A list holds the sizes from its
+//! least one on that are below that of the next list.
 ghost use Rattle.std.specs.Prelude.{◌≡◌, IfOk, length};
 
 use std::alloc::{AllocError, Global};
 
-/// TLSF (2004): a list for each size below 16 words, and 16 for each power of two from there on.
+/// The least sizes of the lists of TLSF (2004): a list for each size below 16 words, and 16 lists for
+/// each power of two from there on.
 pub fn tlsf_sizes(alloc: Global) -> Result<Vec<u32>, AllocError>
     ensures count { IfOk result (λ sizes. length sizes.items ≡ 336) }
 {
@@ -20,7 +21,7 @@ pub fn tlsf_sizes(alloc: Global) -> Result<Vec<u32>, AllocError>
     Ok(sizes)
 }
 
-/// Half-Fit (1995): a list for each power of two.
+/// The least sizes of the lists of Half-Fit (1995): a list for each power of two.
 pub fn half_fit_sizes(alloc: Global) -> Result<Vec<u32>, AllocError>
     ensures count { IfOk result (λ sizes. length sizes.items ≡ 24) }
 {

@@ -10,4 +10,4 @@ mod run;
 pub use free_lists::{half_fit_sizes, tlsf_sizes};
 pub use plain_blocks::PlainBlocks;
 pub use run::BlockRun;
-pub use wrong_answers::Wrong;
+pub use test_support::Wrong;

@@ -3,7 +3,7 @@ ghost use Rattle.std.specs.Prelude.{◌≡◌};
 
 use crate::free_lists::{first_for, list_of};
 use std::alloc::Global;
-use wrong_answers::Wrong;
+use test_support::Wrong;
 
 /// The address of no block, in the links of a free list.
 const NONE: u64 = 0xffff_ffff;

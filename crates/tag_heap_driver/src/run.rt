@@ -1,37 +1,28 @@
 //! Calls on a manager with blocks, each held against a plain list of blocks.
-ghost use Rattle.std.specs.Prelude.{◌≡◌, ◌≤◌, ◌<◌, IfOk, OnOk, slice_get};
-ghost use Rattle.cf_model.specs.Answers.{place_of, totals_in};
+ghost use Rattle.std.specs.Prelude.{◌≡◌, IfOk};
+ghost use Rattle.cf_model.specs.Answers.{totals_in};
 ghost use Rattle.cf_model.specs.Steps.{IsMallocStep};
 
 use crate::plain_blocks::{Block, PlainBlocks};
 use cf_base::{Freed, Handle, Refusal, ResizeFault, Settings, Totals};
 use cf_model::Manager;
-use rand_core::{Rng, SeedableRng};
-use rand_xoshiro::SplitMix64;
 use std::alloc::Global;
 use step_ledger::Meter;
-use wrong_answers::{Wrong, hold};
-
-/// A live object: the address of its block, and its bytes.
-#[derive(Drop)]
-struct Object {
-    place: u32,
-    bytes: Vec<u8>,
-}
+use test_support::{Calls, Draw, Objects, Wrong, hold};
 
 /// A manager with blocks, the plain list of blocks beside it, and the live objects by number.
 #[derive(Drop)]
 pub struct BlockRun<H: Manager> {
-    heap: H,
-    meter: Meter,
+    calls: Calls<H>,
     plain: PlainBlocks,
-    objects: Vec<Option<Object>>,
+    /// Each with the address of its block.
+    objects: Objects<u32>,
     page_words: u32,
     words: u32,
     proxies: u32,
     /// There are more frees than mallocs now.
     drains: bool,
-    draw: SplitMix64,
+    draw: Draw,
 }
 
 impl<H: Manager> BlockRun<H> {
@@ -48,38 +39,33 @@ impl<H: Manager> BlockRun<H> {
         let settings = Settings::check(pages, page_bytes, 1, proxies)?;
         heap.open_heap(&settings)?;
         let words = pages.wrapping_mul(settings.page_words);
-        let mut objects = Vec::new(alloc);
-        for _i in 0..proxies {
-            objects.push(None)?;
-        }
         Ok(BlockRun {
-            heap,
-            meter,
+            calls: Calls { heap, meter },
             plain: PlainBlocks::new(alloc, sizes, words)?,
-            objects,
+            objects: Objects::none(alloc, proxies)?,
             page_words: settings.page_words,
             words,
             proxies,
             drains: true,
-            draw: SplitMix64::seed_from_u64(u64::from(pages)),
+            draw: Draw::seeded(u64::from(pages)),
         })
     }
 
     /// Makes `calls` drawn calls, and then compares everything. In turn the heap fills and drains.
-    pub fn play(&mut self, alloc: Global, calls: u32) -> Result<(), Wrong> {
+    pub fn play(&mut self, calls: u32) -> Result<(), Wrong> {
         self.drains = !self.drains;
         for _i in 0..calls {
-            self.draw_call(alloc)?;
+            self.draw_call()?;
         }
         self.compare_all()
     }
 
     /// Frees all that is live, compares all, and returns the words of the largest free block.
     pub fn drain(&mut self) -> Result<u32, Wrong>
-        ensures largest { IfOk result (λ largest. largest ≡ (totals_in (H.state self.new.heap).kind (H.state self.new.heap)).largest) }
+        ensures largest { IfOk result (λ largest. largest ≡ (totals_in (H.state self.new.calls.heap).kind (H.state self.new.calls.heap)).largest) }
     {
         for number in 0..self.proxies {
-            if self.is_live(Handle(number)) {
+            if self.objects.get(number).is_some() {
                 self.free(Handle(number))?;
             }
         }
@@ -88,26 +74,16 @@ impl<H: Manager> BlockRun<H> {
     }
 
     /// A malloc, which returns what the plain list predicts.
-    pub fn malloc(&mut self, alloc: Global, bytes: u32) -> Result<Result<Handle, Refusal>, Wrong>
-        ensures step { IfOk result (λ given. IsMallocStep (H.state self.old.heap) bytes given (H.state self.new.heap)) }
+    pub fn malloc(&mut self, bytes: u32) -> Result<Result<Handle, Refusal>, Wrong>
+        ensures step { IfOk result (λ given. IsMallocStep (H.state self.old.calls.heap) bytes given (H.state self.new.calls.heap)) }
     {
         let want = self.refusal(bytes);
-        if !self.heap.is_open() {
-            return Err(Wrong::Closed);
-        }
-        self.meter.lap();
-        let given = self.heap.malloc(bytes, self.meter.steps());
+        let given = self.calls.malloc(bytes)?;
         hold(given.err() == want, Wrong::Malloc(given))?;
         if let Ok(handle) = given {
-            let number = handle.0 as usize;
-            let unused = number < self.objects.len() && self.objects[number].is_none();
-            hold(unused, Wrong::Malloc(given))?;
             let place = self.plain.carve(block_need(bytes), handle.0)?;
-            self.compare_place(handle, place)?;
-            if let (Some(place), Some(entry)) = (place, self.objects.get_mut(number)) {
-                let bytes = Vec::from_elem(alloc, 0, bytes as usize)?;
-                *entry = Some(Object { place, bytes });
-            }
+            self.calls.compare_place(handle, place)?;
+            self.objects.add(handle.0, place.unwrap_or(0), bytes)?;
         }
         self.totals()?;
         Ok(given)
@@ -115,12 +91,8 @@ impl<H: Manager> BlockRun<H> {
 
     /// A free, which returns what the plain list predicts.
     pub fn free(&mut self, handle: Handle) -> Result<(), Wrong> {
-        if !self.heap.is_open() {
-            return Err(Wrong::Closed);
-        }
-        self.meter.lap();
-        let freed = self.heap.free(handle, self.meter.steps());
-        let Some(object) = self.take(handle) else {
+        let freed = self.calls.free(handle)?;
+        let Some(object) = self.objects.take(handle.0) else {
             return hold(freed.is_err(), Wrong::Free(freed));
         };
         let want = Freed {
@@ -129,22 +101,21 @@ impl<H: Manager> BlockRun<H> {
         };
         hold(freed == Ok(want), Wrong::Free(freed))?;
         self.plain.release(object.place)?;
-        self.compare_place(handle, None)?;
+        self.calls.compare_place(handle, None)?;
         self.totals()?;
         Ok(())
     }
 
     /// The figures of the heap, which are those of the plain list.
     pub fn totals(&mut self) -> Result<Totals, Wrong>
-        ensures told { IfOk result (λ totals. totals ≡ totals_in (H.state self.new.heap).kind (H.state self.new.heap)) }
-        ensures heap { self.new.heap ≡ self.old.heap }
+        ensures shown { IfOk result (λ totals. totals ≡ totals_in (H.state self.new.calls.heap).kind (H.state self.new.calls.heap)) }
+        ensures heap { self.new.calls.heap ≡ self.old.calls.heap }
     {
         let (words, used, free, largest) = self.plain.figures();
-        let mut live: u32 = 0;
+        let live = self.objects.count();
         let mut asked: u64 = 0;
-        for entry in self.objects.iter() {
+        for entry in self.objects.entries() {
             if let Some(object) = entry {
-                live = live.wrapping_add(1);
                 asked = asked.wrapping_add(object.bytes.len() as u64);
             }
         }
@@ -157,10 +128,7 @@ impl<H: Manager> BlockRun<H> {
             free,
             largest,
         };
-        if !self.heap.is_open() {
-            return Err(Wrong::Closed);
-        }
-        let totals = self.heap.totals(self.meter.steps());
+        let totals = self.calls.totals()?;
         hold(totals == want && used == live, Wrong::Whole(totals))?;
         Ok(totals)
     }
@@ -169,11 +137,11 @@ impl<H: Manager> BlockRun<H> {
     pub fn compare_all(&mut self) -> Result<(), Wrong> {
         self.compare_words()?;
         for number in 0..self.proxies {
-            let place = match self.objects.get(number as usize) {
-                Some(Some(object)) => Some(object.place),
-                _ => None,
+            let place = match self.objects.get(number) {
+                Some(object) => Some(object.place),
+                None => None,
             };
-            self.compare_place(Handle(number), place)?;
+            self.calls.compare_place(Handle(number), place)?;
         }
         Ok(())
     }
@@ -185,44 +153,37 @@ impl<H: Manager> BlockRun<H> {
             let block = self.block(i)?;
             for word in 0..block.size {
                 let want = self.word_of(block, before, word);
-                self.compare_word(block.address.wrapping_add(word), Some(want))?;
+                self.calls
+                    .compare_word(block.address.wrapping_add(word), Some(want))?;
             }
             before = block.size;
         }
-        self.compare_word(self.words, None)
-    }
-
-    /// A number below the bound.
-    fn below(&mut self, bound: u32) -> u32
-        requires { 1 ≤ bound }
-        ensures { result < bound }
-    {
-        (self.draw.next_u64() >> 32) as u32 % bound
+        self.calls.compare_word(self.words, None)
     }
 
     /// A length: most are small, and some don't fit a page.
     fn length(&mut self) -> u32 {
-        if self.below(4) > 0 {
-            return self.below(200);
+        if self.draw.below(4) > 0 {
+            return self.draw.below(200);
         }
-        let most = 8 + 8 * self.below(80);
-        self.below(most)
+        let most = 8 + 8 * self.draw.below(80);
+        self.draw.below(most)
     }
 
     /// One call, drawn.
-    fn draw_call(&mut self, alloc: Global) -> Result<(), Wrong> {
-        let handle = Handle(self.below(64));
-        match self.below(8) {
+    fn draw_call(&mut self) -> Result<(), Wrong> {
+        let handle = Handle(self.draw.below(64));
+        match self.draw.below(8) {
             0 | 1 if self.drains => self.free(handle),
             0 | 1 | 2 => {
                 let length = self.length();
-                let _given = self.malloc(alloc, length)?;
+                let _given = self.malloc(length)?;
                 Ok(())
             }
             3 | 4 => self.free(handle),
             5 => self.resize(handle),
             6 => self.write(handle),
-            _ => self.read(alloc, handle),
+            _ => self.read(handle),
         }
     }
 
@@ -230,7 +191,7 @@ impl<H: Manager> BlockRun<H> {
     fn refusal(&self, bytes: u32) -> Option<Refusal> {
         if self.page_words < bytes.div_ceil(8).saturating_add(1) {
             Some(Refusal::Size)
-        } else if self.objects.iter().all(|entry| entry.is_some()) {
+        } else if self.objects.count() == self.proxies {
             Some(Refusal::Proxy)
         } else if self.plain.lacks(block_need(bytes)) {
             Some(Refusal::Space)
@@ -239,82 +200,33 @@ impl<H: Manager> BlockRun<H> {
         }
     }
 
-    /// Whether there is such an object.
-    fn is_live(&self, handle: Handle) -> bool {
-        matches!(self.objects.get(handle.0 as usize), Some(Some(_)))
-    }
-
-    /// Removes an object, if it is live, and returns what was known of it.
-    fn take(&mut self, handle: Handle) -> Option<Object> {
-        match self.objects.get_mut(handle.0 as usize) {
-            Some(entry) => entry.take(),
-            None => None,
-        }
-    }
-
     /// A resize, which is always refused.
     fn resize(&mut self, handle: Handle) -> Result<(), Wrong> {
-        let why = if self.is_live(handle) {
+        let why = if self.objects.get(handle.0).is_some() {
             ResizeFault::Kind
         } else {
             ResizeFault::Unknown
         };
-        if !self.heap.is_open() {
-            return Err(Wrong::Closed);
-        }
-        self.meter.lap();
-        let resized = self.heap.resize(handle, 8, self.meter.steps());
+        let resized = self.calls.resize(handle, 8)?;
         hold(resized == Err(why), Wrong::Resize(resized))
     }
 
     /// Writes up to eight bytes.
     fn write(&mut self, handle: Handle) -> Result<(), Wrong> {
-        let at = self.below(200);
-        let piece = self.draw.next_u64().to_le_bytes();
-        let n = self.below(9) as usize;
-        if !self.heap.is_open() {
-            return Err(Wrong::Closed);
-        }
-        self.meter.lap();
-        let written = self.heap.write(handle, at, &piece[..n], self.meter.steps());
-        let Some(mut object) = self.take(handle) else {
-            return hold(written.is_err(), Wrong::Access(written));
-        };
-        let at = at as usize;
-        let fits = n <= object.bytes.len() && at <= object.bytes.len() - n;
-        if fits {
-            for i in 0..n {
-                if let Some(byte) = object.bytes.get_mut(at + i) {
-                    *byte = piece[i];
-                }
-            }
-        }
-        if let Some(entry) = self.objects.get_mut(handle.0 as usize) {
-            *entry = Some(object);
-        }
-        hold(written.is_ok() == fits, Wrong::Access(written))
+        let at = self.draw.below(200);
+        let part = self.draw.number().to_le_bytes();
+        let n = self.draw.below(9) as usize;
+        let done = self.calls.write(handle, at, &part[..n])?;
+        self.objects.written(handle.0, at, &part[..n], done)
     }
 
     /// Reads an object from one of its first bytes on.
-    fn read(&mut self, alloc: Global, handle: Handle) -> Result<(), Wrong> {
-        let at = self.below(20);
-        if !self.heap.is_open() {
-            return Err(Wrong::Closed);
-        }
-        self.meter.lap();
-        let Some(Some(object)) = self.objects.get(handle.0 as usize) else {
-            let done = self.heap.read(handle, 0, &mut [], self.meter.steps());
-            return hold(done.is_err(), Wrong::Access(done));
-        };
-        let from = (at as usize).min(object.bytes.len());
-        let want = &object.bytes.as_slice()[from..];
-        let mut out = Vec::from_elem(alloc, 0xee, want.len())?;
-        let done = self.heap.read(handle, from as u32, out.as_mut_slice(), self.meter.steps());
-        hold(done.is_ok(), Wrong::Access(done))?;
-        hold(
-            out.as_slice() == want,
-            Wrong::Differs("the bytes of an object"),
-        )
+    fn read(&mut self, handle: Handle) -> Result<(), Wrong> {
+        let length = self.objects.length(handle.0).unwrap_or(0);
+        let at = self.draw.below(20).min(length);
+        let mut buffer = self.objects.buffer(length - at)?;
+        let done = self.calls.read(handle, at, buffer.as_mut_slice())?;
+        self.objects.read(handle.0, at, buffer.as_slice(), done)
     }
 
     /// Block i.
@@ -335,7 +247,7 @@ impl<H: Manager> BlockRun<H> {
                 _ => 0,
             };
         };
-        let Some(Some(object)) = self.objects.get(owner as usize) else {
+        let Some(object) = self.objects.get(owner) else {
             return 0;
         };
         match word {
@@ -343,30 +255,6 @@ impl<H: Manager> BlockRun<H> {
             1 => u64::from(owner) | (object.bytes.len() as u64) << 32,
             _ => word_of_bytes(object.bytes.as_slice(), word - 2),
         }
-    }
-
-    /// Compares a word of the region.
-    fn compare_word(&mut self, word: u32, want: Option<u64>) -> Result<(), Wrong>
-        ensures same { OnOk result (slice_get (H.state self.new.heap).words word ≡ want) }
-        ensures rest { self.new ≡ record self.old { meter = self.new.meter } }
-    {
-        if !self.heap.is_open() {
-            return Err(Wrong::Closed);
-        }
-        let value = self.heap.peek(word, self.meter.steps());
-        hold(value == want, Wrong::Word(word, value))
-    }
-
-    /// Compares the address of an object.
-    fn compare_place(&mut self, handle: Handle, want: Option<u32>) -> Result<(), Wrong>
-        ensures same { OnOk result (place_of (H.state self.new.heap) handle.0 ≡ want) }
-        ensures rest { self.new ≡ record self.old { meter = self.new.meter } }
-    {
-        if !self.heap.is_open() {
-            return Err(Wrong::Closed);
-        }
-        let place = self.heap.place(handle, self.meter.steps());
-        hold(place == want, Wrong::Place(place))
     }
 }
 

@@ -20,7 +20,7 @@ fn churn<H: Manager>(rt: &HostRuntime, heap: H, sizes: Vec<u32>) -> Result<u32, 
     let alloc = rt.alloc();
     let mut run = BlockRun::new(alloc, heap, Meter::new(rt), sizes, CHURNED)?;
     for _i in 0..100 {
-        run.play(alloc, 100)?;
+        run.play(100)?;
     }
     Ok(run.drain()?)
 }

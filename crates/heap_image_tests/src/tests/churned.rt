@@ -18,7 +18,7 @@ use std::alloc::Global;
 use std::test::Fail;
 use wrong_answers::Wrong;
 
-/// So many commands are done on a heap.
+/// How many commands are done on a heap.
 const COMMANDS: u32 = 3_000;
 
 /// A number below the bound.

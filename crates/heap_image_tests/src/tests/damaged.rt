@@ -14,7 +14,7 @@ use wrong_answers::Wrong;
 
 /// Whether what is loaded of the bytes is what the rules require: the same image again, or `Bad` at the
 /// first field that is broken.
-fn is_loaded_as_told<H: Manager>(
+fn is_loaded_as_shown<H: Manager>(
     rt: &HostRuntime,
     alloc: Global,
     heap: &mut H,
@@ -43,7 +43,7 @@ fn cut_each<H: Manager>(
     ensures { (H.state heap.new).kind ≡ Moving }
 {
     'cuts: for n in 0..image.len() {
-        if !is_loaded_as_told(rt, alloc, heap, &image[..n])? {
+        if !is_loaded_as_shown(rt, alloc, heap, &image[..n])? {
             return Ok(Some(n));
         }
     }
@@ -66,7 +66,7 @@ fn change_each<H: Manager>(
         'values: for value in [0, 255, byte.wrapping_sub(1), byte.wrapping_add(1)] {
             let mut changed = Vec::from_slice(alloc, image)?;
             changed[i] = value;
-            if !is_loaded_as_told(rt, alloc, heap, &changed)? {
+            if !is_loaded_as_shown(rt, alloc, heap, &changed)? {
                 return Ok(Some((i, value)));
             }
         }
@@ -75,7 +75,7 @@ fn change_each<H: Manager>(
 }
 
 #[test]
-fn each_cut_and_each_changed_byte_is_loaded_as_told(rt: HostRuntime) -> Result<(), Fail> {
+fn each_cut_and_each_changed_byte_is_loaded_as_defined(rt: HostRuntime) -> Result<(), Fail> {
     let alloc = rt.alloc();
     let mut heap = MovingHeap::closed(alloc);
     'rows: for row in ROWS.iter() {

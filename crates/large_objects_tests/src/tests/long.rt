@@ -15,7 +15,7 @@ use wrong_answers::Wrong;
 /// The bytes of the object.
 const BYTES: u32 = 60_000_000;
 
-/// So many are written and read at once.
+/// How many bytes are written and read at once.
 const CHUNK: usize = 4_096;
 
 /// The byte at each place is its place over 251, the rest: no length of a page or of a piece is a

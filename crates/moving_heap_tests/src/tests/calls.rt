@@ -7,7 +7,7 @@ use std::test::Fail;
 use step_ledger::Meter;
 
 /// The pages that are free, or counted in a class that shows the same number in its figures.
-fn pages_told(heap: &MovingHeap) -> Option<u32> {
+fn pages_shown(heap: &MovingHeap) -> Option<u32> {
     if !heap.is_open() {
         return None;
     }
@@ -38,6 +38,6 @@ fn long_runs_agree_with_the_reference_implementation(rt: HostRuntime) -> Result<
     let heap = MovingHeap::closed(alloc);
     let mut run = RandomRun::new(alloc, heap, Layout::Words, Meter::new(&rt))?;
     run.play(alloc)?;
-    assert_eq!(rt; pages_told(&run.heap), Some(16));
+    assert_eq!(rt; pages_shown(&run.calls.heap), Some(16));
     Ok(())
 }

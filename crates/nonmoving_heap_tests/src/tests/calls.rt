@@ -13,15 +13,15 @@ fn long_runs_agree_with_the_reference_implementation(rt: HostRuntime) -> Result<
     let heap = NonMovingHeap::closed(alloc);
     let mut run = RandomRun::new(alloc, heap, Layout::Blocks, Meter::new(&rt))?;
     run.play(alloc)?;
-    assert!(rt; run.heap.is_open());
-    let mut pages = run.heap.free_pages();
-    for c in 0..run.heap.classes() {
-        let Some(figures) = run.heap.figures(c) else {
+    assert!(rt; run.calls.heap.is_open());
+    let mut pages = run.calls.heap.free_pages();
+    for c in 0..run.calls.heap.classes() {
+        let Some(figures) = run.calls.heap.figures(c) else {
             panic!(rt; "class {c} has no figures");
         };
-        assert!(rt; c < run.heap.classes());
-        assert_eq!(rt; run.heap.pages_of(c), figures.pages, "class {c}");
-        assert_eq!(rt; run.heap.not_full(c), figures.not_full, "class {c}");
+        assert!(rt; c < run.calls.heap.classes());
+        assert_eq!(rt; run.calls.heap.pages_of(c), figures.pages, "class {c}");
+        assert_eq!(rt; run.calls.heap.not_full(c), figures.not_full, "class {c}");
         pages = pages.wrapping_add(figures.pages);
     }
     assert_eq!(rt; pages, 16);

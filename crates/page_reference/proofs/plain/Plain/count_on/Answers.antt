@@ -1,6 +1,6 @@
 use Rattle.std.proofs.Common.{◌∙◌}
 use Rattle.page_reference.proofs.Totals.{standing_total}
-use Rattle.page_reference.proofs.plain.Plain.standing_on.Goals as goal
+use Rattle.page_reference.proofs.plain.Plain.count_on.Goals as goal
 
 pub returns : goal.returns
 returns c = rw (← c.self.view_is) (c.total.ensures.value ∙ rw c.deref.ensures.value

@@ -1,0 +1,151 @@
+//! The exact steps of calls, computed from the objects and the order before them.
+ghost use Rattle.std.specs.Prelude.{◌≡◌, ◌*◌, ◌+◌, ◌<◌, ◌≤◌, Err, IsTrue, None, Ok, Option, Some, false, is_some};
+ghost use Rattle.std.specs.FinMap as map;
+ghost use Rattle.cf_base.specs.declared.answers.Freed.{Freed};
+ghost use Rattle.cf_base.specs.declared.answers.Handle.{Handle};
+ghost use Rattle.cf_base.specs.declared.answers.NotLive.{NotLive};
+ghost use Rattle.cf_base.specs.declared.answers.Refusal.{Refusal};
+ghost use Rattle.cf_base.specs.declared.answers.ResizeFault.{ResizeFault};
+ghost use Rattle.cf_base.specs.declared.answers.Resized.{Resized};
+ghost use Rattle.cf_model.specs.ExactCosts.{carrying_cost, free_cost, leaving_cost, malloc_cost, resize_cost, resized_cost, tail_steps as tail};
+ghost use Rattle.cf_model.specs.State.{HeapState};
+ghost use Rattle.heap_driver.specs.Exact.{HasPages, IsFreed, IsObject};
+ghost use Rattle.page_model.specs.Held.{Placed};
+ghost use Rattle.page_model.specs.Paging.{class_for, classes};
+ghost use Rattle.page_reference.specs.Next.{order_of};
+
+use cf_base::{Kind, ResizeFault};
+use page_reference::Plain;
+use page_reference::order::PlainOrder;
+use page_reference::steps::{copy_steps, run_steps, slot_steps, wipe_steps, word_steps};
+
+/// What the steps of a call depend on.
+#[derive(Clone, Copy)]
+pub(crate) struct Exact<'a> {
+    pub(crate) kind: Kind,
+    pub(crate) plain: &'a Plain,
+    pub(crate) order: &'a PlainOrder,
+}
+
+impl<'a> Exact<'a> {
+    /// A malloc of `bytes` bytes, which is given or refused.
+    pub(crate) fn malloc_steps(&self, bytes: u32, is_given: bool) -> u64
+        ensures given { (s : HeapState) (h : Handle) → HasPages self.now.kind self.now.plain.now s → IsTrue is_given
+            → class_for self.now.plain.now.paging bytes < classes self.now.plain.now.paging
+            → result ≡ malloc_cost s (order_of self.now.order.now) bytes (Ok h) }
+        ensures refused { (s : HeapState) (e : Refusal) → is_given ≡ false → result ≡ malloc_cost s (order_of self.now.order.now) bytes (Err e) }
+    {
+        let class = self.plain.class_for(bytes);
+        if is_given && class < self.plain.classes() {
+            3 + word_steps(self.kind) + self.order.steps_to_take(self.plain, class)
+        } else {
+            1
+        }
+    }
+
+    /// A free of the object of this number, or of none.
+    pub(crate) fn free_steps(&self, number: u16) -> u64
+        ensures live { (s : HeapState) (x : Placed) (freed : Freed) → HasPages self.now.kind self.now.plain.now s
+            → IsFreed self.now.plain.now number x freed.moved → result ≡ free_cost s (order_of self.now.order.now) number (Ok freed) }
+        ensures refused { (s : HeapState) (e : NotLive) → map.get self.now.plain.now.held number ≡ None
+            → result ≡ free_cost s (order_of self.now.order.now) number (Err e) }
+    {
+        match self.plain.object(number) {
+            Some((place, length)) => {
+                let moves = self.plain.must_move(number);
+                5 + word_steps(self.kind) + self.leaving_steps(place, length, moves)
+            }
+            None => 1,
+        }
+    }
+
+    /// An object of `length` bytes leaves its slot at this address, and another one moves there or not.
+    fn leaving_steps(&self, place: u32, length: u32, moves: bool) -> u64
+        ensures value { (s : HeapState) (x : Placed) (moved : Option Handle) → HasPages self.now.kind self.now.plain.now s
+            → IsObject self.now.plain.now place length x → is_some moved ≡ moves
+            → result ≡ leaving_cost s (order_of self.now.order.now) x moved }
+        ensures few { result ≤ 32786 }
+    {
+        let class = self.plain.class_for(length);
+        if self.plain.classes() <= class {
+            return 0;
+        }
+        let words = self.plain.slot_words(class);
+        if moves {
+            1 + word_steps(self.kind)
+                + slot_steps(self.kind, words)
+                + self.order.steps_to_fill(self.plain, class)
+        } else {
+            let page = self.plain.page_of(place);
+            wipe_steps(self.kind, words) + self.plain.steps_to_drop(class, page)
+        }
+    }
+
+    /// A resize of the object of this number to `bytes` bytes, or why it is refused.
+    pub(crate) fn resize_steps(&self, number: u16, bytes: u32, fault: Option<ResizeFault>) -> u64
+        ensures done { (s : HeapState) (x : Placed) (done : Resized) → HasPages self.now.kind self.now.plain.now s → fault ≡ None
+            → IsFreed self.now.plain.now number x done.moved → class_for self.now.plain.now.paging bytes < classes self.now.plain.now.paging
+            → result ≡ resize_cost s (order_of self.now.order.now) (record { number = number; length = bytes }) (Ok done) }
+        ensures refused { (s : HeapState) (e : ResizeFault) → s.kind ≡ self.now.kind → fault ≡ Some e
+            → result ≡ resize_cost s (order_of self.now.order.now) (record { number = number; length = bytes }) (Err e) }
+    {
+        match (fault, self.plain.object(number)) {
+            (None, Some((place, length))) => {
+                self.resized_steps(place, length, bytes, self.plain.must_move(number))
+            }
+            (Some(ResizeFault::Unknown), _) => 1,
+            (Some(ResizeFault::Size), _) => 2,
+            (Some(ResizeFault::Space), _) => 4 + word_steps(self.kind),
+            _ => 0,
+        }
+    }
+
+    /// An object of `length` bytes gets `bytes` bytes.
+    fn resized_steps(&self, place: u32, length: u32, bytes: u32, moves: bool) -> u64
+        ensures { (s : HeapState) (x : Placed) (moved : Option Handle) → HasPages self.now.kind self.now.plain.now s
+            → IsObject self.now.plain.now place length x → is_some moved ≡ moves
+            → class_for self.now.plain.now.paging bytes < classes self.now.plain.now.paging
+            → result ≡ resized_cost s (order_of self.now.order.now) bytes x moved }
+    {
+        let class = self.plain.class_for(bytes);
+        if class == self.plain.class_for(length) {
+            3 + 2 * word_steps(self.kind) + self.tail_steps(bytes, u64::from(length))
+        } else if class < self.plain.classes() {
+            4 + word_steps(self.kind)
+                + self.order.steps_to_take(self.plain, class)
+                + self.carrying_steps(length, bytes)
+                + self.leaving_steps(place, length, moves)
+        } else {
+            0
+        }
+    }
+
+    /// `most` bytes are cut to `bytes`: the word where they end, and the cleared ones after it.
+    fn tail_steps(&self, bytes: u32, most: u64) -> u64
+        requires { most ≤ 4294967303 }
+        ensures value { result ≡ tail self.now.kind 0 bytes most }
+        ensures few { result ≤ 2 + 2 * most }
+    {
+        let bytes = u64::from(bytes);
+        if bytes < most {
+            let last = bytes / 8;
+            let cleared = (most + 7) / 8 - last - 1;
+            word_steps(self.kind) + run_steps(self.kind, (2 + last) as u32, cleared as u32)
+        } else {
+            0
+        }
+    }
+
+    /// An object of `length` bytes is copied to another slot with `bytes` bytes: the words that it keeps,
+    /// which are cut, the header and the proxy.
+    fn carrying_steps(&self, length: u32, bytes: u32) -> u64
+        ensures value { result ≡ carrying_cost self.now.kind length bytes }
+        ensures few { result ≤ 100000000000 }
+    {
+        let words = (u64::from(length.min(bytes)) + 7) / 8;
+        copy_steps(self.kind, 1, words as u32)
+            + self.tail_steps(bytes, 8 * words)
+            + word_steps(self.kind)
+            + 1
+    }
+}

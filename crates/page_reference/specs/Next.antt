@@ -1,0 +1,89 @@
+-- What a manager uses next, in the words of the reference implementation.
+use Rattle.std.specs.Prelude.{◌≡◌, ℕ, ◌<◌, ◌≤◌, ◌⊎◌, ⊤, List, [], ◌∷◌, Option, Some, None, map}
+use Rattle.std.specs.FinMap.{get}
+use Rattle.page_model.specs.Arrangement.{class_at}
+use Rattle.page_model.specs.Held.{Held, Placed}
+use Rattle.page_model.specs.Order.{Order, IsNextToMove, not_full_in, IsTaken, ResizeFollows, SlotFollows, TakesNext}
+use Rattle.page_model.specs.Paging.{Paging, address_of, class_for, classes, slots_of}
+use Rattle.page_model.specs.Steps.{Leaves, Request, resized_at}
+use Rattle.page_reference.specs.Amounts.{MovesOne}
+use Rattle.page_reference.specs.declared.order.PlainOrder.{PlainOrder}
+
+-- the order that is stored
+abbrev pub order_of : PlainOrder → Order
+order_of o = record { pool = o.pool.items; not_full = map (λ pages. pages.items) o.not_full.items; spare = o.spare.items }
+
+-- the object of this number is at the address
+pub record IsAt (m : Held) (q a : ℕ) : Type 0 where
+  pub object : Placed
+  pub found : get m q ≡ Some object
+  pub place : object.place ≡ a
+
+-- there is an object, and it is at the address
+abbrev pub IsEntryAt : Option Placed → ℕ → Type 0
+IsEntryAt None a = ⊥
+IsEntryAt (Some x) a = x.place ≡ a
+
+-- every slot of the page is taken
+abbrev pub IsFullPage : Paging → Held → ℕ → ℕ → Type 0
+IsFullPage p m c page = (slot : ℕ) → slot < slots_of p c → IsTaken m (address_of p c page slot)
+
+-- every slot of the page is free
+abbrev pub IsFreePage : Paging → Held → ℕ → ℕ → Type 0
+IsFreePage p m c page = (slot : ℕ) → slot < slots_of p c → ¬ IsTaken m (address_of p c page slot)
+
+-- object q, at the address, is the next of class c to move
+pub record IsNextObject (p : Paging) (m : Held) (o : Order) (c q a : ℕ) : Type 0 where
+  pub object : Placed
+  pub found : get m q ≡ Some object
+  pub next : IsNextToMove p m o c object
+  pub place : object.place ≡ a
+
+-- the list is empty, or its first entry is no page
+abbrev pub BeginsWithNoPage : Paging → List ℕ → Type 0
+BeginsWithNoPage p [] = ⊤
+BeginsWithNoPage p (page ∷ rest) = p.pages ≤ page
+
+-- of these partly full pages, the first has no free slot, or there is none, and no page is free
+abbrev pub HasNoSlot : Paging → Held → Order → ℕ → List ℕ → Type 0
+HasNoSlot p m o c [] = BeginsWithNoPage p o.pool
+HasNoSlot p m o c (page ∷ rest) = page < p.pages → IsFullPage p m c page
+
+-- no slot of class c is next
+abbrev pub HasNoNext : Paging → Held → Order → ℕ → Type 0
+HasNoNext p m o c = HasNoSlot p m o c (not_full_in o c)
+
+-- there is no first page, or it has no object
+abbrev pub HasNoObject : Paging → Held → ℕ → List ℕ → Type 0
+HasNoObject p m c [] = ⊤
+HasNoObject p m c (page ∷ rest) = page < p.pages → IsFreePage p m c page
+
+-- no object of class c is next to move
+abbrev pub HasNoMover : Paging → Held → Order → ℕ → Type 0
+HasNoMover p m o c = HasNoObject p m c (not_full_in o c)
+
+-- object h, if it is live and some class holds it, must make another one move, and none is next
+abbrev pub CannotLeave : Paging → Held → Order → ℕ → Type 0
+CannotLeave p m o h = (x : Placed) → get m h ≡ Some x → class_at p x < classes p → MovesOne p m (get m h) × HasNoMover p m o (class_at p x)
+
+-- object h leaves its slot, and the object that is given moves there
+pub record LeavesSlot (p : Paging) (m : Held) (h : ℕ) (moved : Option ℕ) (old new : Order) : Type 0 where
+  pub object : Placed
+  pub found : get m h ≡ Some object
+  pub follows : SlotFollows p m object moved old new
+
+-- an object moves exactly if a free of object h must move one
+abbrev pub MovesTo : Paging → Held → ℕ → Option ℕ → Type 0
+MovesTo p m h None = ¬ MovesOne p m (get m h)
+MovesTo p m h (Some q) = MovesOne p m (get m h)
+
+-- a resize that leaves the object at this address, and moves this other object, follows the order
+abbrev pub FollowsResize : Paging → Held → Request → ℕ → Option ℕ → Order → Order → Type 0
+FollowsResize p m asked place moved old new = (after : Leaves) → after.moved ≡ moved
+    → ((x : Placed) → get m asked.number ≡ Some x → get after.held asked.number ≡ Some (resized_at place x asked.length))
+    → ResizeFollows p m asked after old new
+
+-- a resize has no address: there is no such object, no slot of the class is next, or the object can't leave its slot after the next one is taken
+abbrev pub CannotRefit : Paging → Held → Request → Order → Type 0
+CannotRefit p m asked o = (get m asked.number ≡ None) ⊎ (classes p ≤ class_for p asked.length) ⊎ HasNoNext p m o (class_for p asked.length)
+    ⊎ ((place : ℕ) × (between : Order) × TakesNext p m o (class_for p asked.length) place between × CannotLeave p m between asked.number)

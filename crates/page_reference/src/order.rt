@@ -1,0 +1,323 @@
+//! What a manager uses next, computed by the definitions of its order.
+ghost use Rattle.std.specs.Prelude.{◌≡◌, ◌+◌, ◌<◌, ◌≤◌, ◌⊎◌, ◌∷◌, [], IfNone, IfOk, IfSome, OnOk, Some, drop, if◌then◌else◌, nat_eq, not, slice_get};
+ghost use Rattle.std.specs.List.{filter};
+ghost use Rattle.page_model.specs.Order.{FreeFollows, MallocFollows, TakesNext, TakesOnFreePage, TakesOnOpenPage, first_order, not_full_in, slot_freed, with_not_full};
+ghost use Rattle.page_model.specs.Arrangement.{objects_on};
+ghost use Rattle.page_model.specs.Paging.{class_for, classes, slots_of};
+ghost use Rattle.page_reference.specs.Next.{CannotLeave, CannotRefit, FollowsResize, HasNoMover, HasNoNext, IsNextObject, LeavesSlot, MovesTo, order_of};
+
+use crate::frames::numbers_below;
+use crate::plain::Plain;
+use std::alloc::{AllocError, Global};
+
+/// The pages without objects, the partly full pages of each class, and the numbers without an object.
+/// Each list begins with the one that is used next.
+#[derive(Drop)]
+pub struct PlainOrder {
+    pool: Vec<u32>,
+    not_full: Vec<Vec<u32>>,
+    spare: Vec<u32>,
+}
+
+/// The number that a new object gets, and its address.
+#[derive(Clone, Copy, Debug, PartialEq, Eq)]
+pub struct Next {
+    pub number: u32,
+    pub place: u32,
+}
+
+/// The address that a resized object gets, and the object that moves to its old one, if one does.
+#[derive(Clone, Copy, Debug, PartialEq, Eq)]
+pub struct Refit {
+    pub place: u32,
+    pub moved: Option<u32>,
+}
+
+impl PlainOrder {
+    /// The order of an empty heap with these pages, and numbers below a limit.
+    pub fn first(alloc: Global, plain: &Plain, limit: u32) -> Result<PlainOrder, AllocError>
+        ensures { IfOk result (λ o. order_of o ≡ first_order plain.now.paging limit) }
+    {
+        let mut not_full = Vec::new(alloc);
+        for _class in 0..plain.classes() {
+            not_full.push(Vec::new(alloc))?;
+        }
+        Ok(PlainOrder {
+            pool: numbers_below(alloc, plain.pages())?,
+            not_full,
+            spare: numbers_below(alloc, limit)?,
+        })
+    }
+
+    /// A malloc: the next number, and the next slot of the class. None if there is none.
+    pub fn malloc(
+        &mut self,
+        alloc: Global,
+        plain: &Plain,
+        bytes: u32,
+    ) -> Result<Option<Next>, AllocError>
+        ensures follows { IfOk result (λ next. IfSome next (λ next. MallocFollows plain.now.paging plain.now.held (record { number = next.number; length = bytes }) next.place (order_of self.old) (order_of self.new))) }
+        ensures none { IfOk result (λ next. IfNone next (self.old.spare.items ≡ [] ⊎ (classes plain.now.paging ≤ class_for plain.now.paging bytes ⊎ HasNoNext plain.now.paging plain.now.held (order_of self.old) (class_for plain.now.paging bytes)))) }
+    {
+        let Some(number) = self.spare.first().copied() else {
+            return Ok(None);
+        };
+        self.spare = behind_first(alloc, &self.spare)?;
+        match self.take(alloc, plain, plain.class_for(bytes))? {
+            Some(place) => Ok(Some(Next { number, place })),
+            None => Ok(None),
+        }
+    }
+
+    /// A free of the object of this number: the object that moves to its address, if one does. None if
+    /// there is no such object.
+    pub fn free(
+        &mut self,
+        alloc: Global,
+        plain: &Plain,
+        number: u16,
+    ) -> Result<Option<Option<u32>>, AllocError>
+        ensures follows { IfOk result (λ moved. IfSome moved (λ moved. FreeFollows plain.now.paging plain.now.held number moved (order_of self.old) (order_of self.new))) }
+        ensures moves { IfOk result (λ moved. IfSome moved (λ moved. MovesTo plain.now.paging plain.now.held number moved)) }
+        ensures none { IfOk result (λ moved. IfNone moved (CannotLeave plain.now.paging plain.now.held (order_of self.old) number)) }
+    {
+        let left = self.leave(alloc, plain, number)?;
+        if left.is_some() {
+            self.spare = with_first(alloc, u32::from(number), &self.spare)?;
+        }
+        Ok(left)
+    }
+
+    /// A resize of the object of this number: the address that it gets, and the object that moves to its
+    /// old one, if one does. None if there is no such object, or no slot.
+    pub fn resize(
+        &mut self,
+        alloc: Global,
+        plain: &Plain,
+        number: u16,
+        bytes: u32,
+    ) -> Result<Option<Refit>, AllocError>
+        ensures follows { IfOk result (λ refit. IfSome refit (λ refit. FollowsResize plain.now.paging plain.now.held (record { number = number; length = bytes }) refit.place refit.moved (order_of self.old) (order_of self.new))) }
+        ensures none { IfOk result (λ refit. IfNone refit (CannotRefit plain.now.paging plain.now.held (record { number = number; length = bytes }) (order_of self.old))) }
+    {
+        let Some((place, length)) = plain.object(number) else {
+            return Ok(None);
+        };
+        let class = plain.class_for(bytes);
+        if class == plain.class_for(length) {
+            return Ok(Some(Refit { place, moved: None }));
+        }
+        let Some(place) = self.take(alloc, plain, class)? else {
+            return Ok(None);
+        };
+        match self.leave(alloc, plain, number)? {
+            Some(moved) => Ok(Some(Refit { place, moved })),
+            None => Ok(None),
+        }
+    }
+}
+
+// What each call is made of.
+impl PlainOrder {
+    /// The partly full pages of a class.
+    pub(crate) fn not_full_in(&self, c: u32) -> &[u32]
+        ensures { result.now ≡ not_full_in (order_of self.now) c }
+    {
+        let c = c as usize;
+        if c < self.not_full.len() {
+            &self.not_full[c]
+        } else {
+            &[]
+        }
+    }
+
+    /// Replaces the list of the partly full pages of a class.
+    fn set_not_full(&mut self, c: u32, pages: Vec<u32>)
+        ensures value { order_of self.new ≡ with_not_full (order_of self.old) c pages.items }
+        ensures spare { self.new.spare ≡ self.old.spare }
+    {
+        let c = c as usize;
+        if c < self.not_full.len() {
+            self.not_full[c] = pages;
+        }
+    }
+
+    /// Takes the next slot of a class, and returns its address; none if the class has no slot left.
+    fn take(&mut self, alloc: Global, plain: &Plain, c: u32) -> Result<Option<u32>, AllocError>
+        ensures next { IfOk result (λ a. IfSome a (λ a. TakesNext plain.now.paging plain.now.held (order_of self.old) c a (order_of self.new))) }
+        ensures none { IfOk result (λ a. IfNone a (classes plain.now.paging ≤ c ⊎ HasNoNext plain.now.paging plain.now.held (order_of self.old) c)) }
+    {
+        if plain.classes() <= c {
+            return Ok(None);
+        }
+        match self.not_full_in(c).first().copied() {
+            Some(page) => self.take_on_open(alloc, plain, c, page),
+            None => self.take_on_free(alloc, plain, c),
+        }
+    }
+
+    /// Takes the least free slot of the first partly full page.
+    fn take_on_open(
+        &mut self,
+        alloc: Global,
+        plain: &Plain,
+        c: u32,
+        page: u32,
+    ) -> Result<Option<u32>, AllocError>
+        requires class { c < classes plain.now.paging }
+        requires first { slice_get (not_full_in (order_of self.old) c) 0 ≡ Some page }
+        ensures next { IfOk result (λ a. IfSome a (λ a. TakesOnOpenPage plain.now.paging plain.now.held (order_of self.old) c a (order_of self.new))) }
+        ensures none { IfOk result (λ a. IfNone a (classes plain.now.paging ≤ c ⊎ HasNoNext plain.now.paging plain.now.held (order_of self.old) c)) }
+    {
+        let Some(slot) = plain.least_free(c, page) else {
+            return Ok(None);
+        };
+        self.use_slot(alloc, plain, c, page)?;
+        Ok(Some(plain.address_of(c, page, slot)))
+    }
+
+    /// A slot of the first partly full page is taken: the page leaves its list if that fills it.
+    fn use_slot(
+        &mut self,
+        alloc: Global,
+        plain: &Plain,
+        c: u32,
+        page: u32,
+    ) -> Result<(), AllocError>
+        requires { c < classes plain.now.paging }
+        ensures { OnOk result (order_of self.new ≡ (if nat_eq (objects_on plain.now.paging plain.now.held c page + 1) (slots_of plain.now.paging c)
+            then with_not_full (order_of self.old) c (drop 1 (not_full_in (order_of self.old) c)) else order_of self.old)) }
+    {
+        if u64::from(plain.objects_on(c, page)) + 1 == u64::from(plain.slots(c)) {
+            let rest = behind_first(alloc, self.not_full_in(c))?;
+            self.set_not_full(c, rest);
+        }
+        Ok(())
+    }
+
+    /// Takes slot 0 of the first free page.
+    fn take_on_free(
+        &mut self,
+        alloc: Global,
+        plain: &Plain,
+        c: u32,
+    ) -> Result<Option<u32>, AllocError>
+        requires class { c < classes plain.now.paging }
+        requires none { not_full_in (order_of self.old) c ≡ [] }
+        ensures next { IfOk result (λ a. IfSome a (λ a. TakesOnFreePage plain.now.paging (order_of self.old) c a (order_of self.new))) }
+        ensures none { IfOk result (λ a. IfNone a (classes plain.now.paging ≤ c ⊎ HasNoNext plain.now.paging plain.now.held (order_of self.old) c)) }
+    {
+        let Some(page) = self.pool.first().copied() else {
+            return Ok(None);
+        };
+        if plain.pages() <= page {
+            return Ok(None);
+        }
+        if plain.slots(c) != 1 {
+            self.set_not_full(c, with_first(alloc, page, &[])?);
+        }
+        self.pool = behind_first(alloc, &self.pool)?;
+        Ok(Some(plain.address_of(c, page, 0)))
+    }
+
+    /// A slot of a class on the page becomes free.
+    fn free_slot(
+        &mut self,
+        alloc: Global,
+        plain: &Plain,
+        c: u32,
+        page: u32,
+    ) -> Result<(), AllocError>
+        requires { c < classes plain.now.paging }
+        ensures value { OnOk result (order_of self.new ≡ slot_freed plain.now.paging plain.now.held (order_of self.old) c page) }
+        ensures spare { self.new.spare ≡ self.old.spare }
+    {
+        let used = plain.objects_on(c, page);
+        if used == 1 {
+            let others = without(alloc, self.not_full_in(c), page)?;
+            self.set_not_full(c, others);
+            self.pool = with_first(alloc, page, &self.pool)?;
+        } else if used == plain.slots(c) {
+            let pages = with_first(alloc, page, self.not_full_in(c))?;
+            self.set_not_full(c, pages);
+        }
+        Ok(())
+    }
+
+    /// The next object of a class to move, and its address; none if no page is partly full.
+    fn next_object(&self, plain: &Plain, c: u32) -> Option<(u32, u32)>
+        requires { c < classes plain.now.paging }
+        ensures next { IfSome result (λ r. IsNextObject plain.now.paging plain.now.held (order_of self.now) c r.0 r.1) }
+        ensures none { IfNone result (HasNoMover plain.now.paging plain.now.held (order_of self.now) c) }
+    {
+        let page = self.not_full_in(c).first().copied()?;
+        let Some(slot) = plain.least_taken(c, page) else {
+            return None;
+        };
+        let place = plain.address_of(c, page, slot);
+        match plain.number_at(place) {
+            Some(number) => Some((number, place)),
+            None => None,
+        }
+    }
+
+    /// The object of this number leaves its slot, which becomes free, or the next object to move moves
+    /// there. Returns that object. None if there is no object of this number.
+    fn leave(
+        &mut self,
+        alloc: Global,
+        plain: &Plain,
+        number: u16,
+    ) -> Result<Option<Option<u32>>, AllocError>
+        ensures slot { IfOk result (λ left. IfSome left (λ moved. LeavesSlot plain.now.paging plain.now.held number moved (order_of self.old) (order_of self.new))) }
+        ensures moves { IfOk result (λ left. IfSome left (λ moved. MovesTo plain.now.paging plain.now.held number moved)) }
+        ensures none { IfOk result (λ left. IfNone left (CannotLeave plain.now.paging plain.now.held (order_of self.old) number)) }
+        ensures spare { IfOk result (λ left. IfSome left (λ _. self.new.spare ≡ self.old.spare)) }
+    {
+        let Some((place, length)) = plain.object(number) else {
+            return Ok(None);
+        };
+        let class = plain.class_for(length);
+        if plain.classes() <= class {
+            return Ok(None);
+        }
+        if !plain.must_move(number) {
+            self.free_slot(alloc, plain, class, plain.page_of(place))?;
+            return Ok(Some(None));
+        }
+        let Some((other, from)) = self.next_object(plain, class) else {
+            return Ok(None);
+        };
+        self.free_slot(alloc, plain, class, plain.page_of(from))?;
+        Ok(Some(Some(other)))
+    }
+}
+
+/// The list without its first entry.
+fn behind_first(alloc: Global, list: &[u32]) -> Result<Vec<u32>, AllocError>
+    ensures { IfOk result (λ rest. rest.items ≡ drop 1 list.now) }
+{
+    if list.is_empty() {
+        return Ok(Vec::new(alloc));
+    }
+    Vec::from_slice(alloc, &list[1..])
+}
+
+/// The list after this entry.
+fn with_first(alloc: Global, first: u32, list: &[u32]) -> Result<Vec<u32>, AllocError>
+    ensures { IfOk result (λ all. all.items ≡ first ∷ list.now) }
+{
+    let mut all = Vec::new(alloc);
+    all.push(first)?;
+    all.extend_from_slice(list)?;
+    Ok(all)
+}
+
+/// The list without this entry.
+fn without(alloc: Global, list: &[u32], gone: u32) -> Result<Vec<u32>, AllocError>
+    ensures { IfOk result (λ rest. rest.items ≡ filter (λ other. not (nat_eq other gone)) list.now) }
+{
+    let mut rest = Vec::from_slice(alloc, list)?;
+    rest.retain(|other| *other != gone);
+    Ok(rest)
+}

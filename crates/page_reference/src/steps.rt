@@ -1,0 +1,133 @@
+//! The steps of the parts of a call.
+ghost use Rattle.std.specs.Prelude.{◌≡◌, ◌*◌, ◌<◌, ◌≤◌};
+ghost use Rattle.page_model.specs.Order.{open_steps as opening, steps_to_drop as dropping, steps_to_fill as filling, steps_to_take as taking, word_steps as word};
+ghost use Rattle.page_model.specs.Arrangement.{objects_on};
+ghost use Rattle.page_model.specs.Paging.{classes, slots_of};
+ghost use Rattle.page_model.specs.WordSteps.{blocks_of as blocks, copy_steps as copying, run_steps as running, slot_steps as moving, wipe_steps as wiping};
+ghost use Rattle.page_reference.specs.Next.{order_of};
+
+use crate::order::PlainOrder;
+use crate::plain::Plain;
+use cf_base::Kind;
+
+impl PlainOrder {
+    /// Taking the next slot of a class.
+    pub fn steps_to_take(&self, plain: &Plain, c: u32) -> u64
+        requires { c < classes plain.now.paging }
+        ensures value { result ≡ taking plain.now.paging plain.now.held (order_of self.now) c }
+        ensures few { result ≤ 13 }
+    {
+        match self.not_full_in(c).first().copied() {
+            Some(page) => plain.steps_to_open(c, page),
+            None => 11,
+        }
+    }
+
+    /// Freeing the slot of the next object of a class to move.
+    pub fn steps_to_fill(&self, plain: &Plain, c: u32) -> u64
+        requires { c < classes plain.now.paging }
+        ensures value { result ≡ filling plain.now.paging plain.now.held (order_of self.now) c }
+        ensures few { result ≤ 12 }
+    {
+        match self.not_full_in(c).first().copied() {
+            Some(page) if plain.objects_on(c, page) == 1 => 12,
+            Some(_) => 7,
+            None => 0,
+        }
+    }
+}
+
+impl Plain {
+    /// Taking a slot of a class on the page.
+    fn steps_to_open(&self, c: u32, page: u32) -> u64
+        requires { c < classes self.now.paging }
+        ensures value { result ≡ opening (objects_on self.now.paging self.now.held c page) (slots_of self.now.paging c) }
+        ensures few { result ≤ 13 }
+    {
+        if u64::from(self.objects_on(c, page)) + 1 == u64::from(self.slots(c)) {
+            13
+        } else {
+            5
+        }
+    }
+
+    /// Freeing a slot of a class on the page.
+    pub fn steps_to_drop(&self, c: u32, page: u32) -> u64
+        requires { c < classes self.now.paging }
+        ensures value { result ≡ dropping self.now.paging self.now.held c page }
+        ensures few { result ≤ 13 }
+    {
+        let used = self.objects_on(c, page);
+        if used == 1 {
+            10
+        } else if used == self.slots(c) {
+            13
+        } else {
+            5
+        }
+    }
+}
+
+/// Reading or writing a word.
+pub fn word_steps(kind: Kind) -> u64
+    ensures value { result ≡ word kind }
+    ensures few { result ≤ 2 }
+{
+    match kind {
+        Kind::NonMoving => 2,
+        _ => 1,
+    }
+}
+
+/// How many blocks the n words from i on are in.
+fn blocks_of(i: u32, n: u32) -> u64
+    ensures value { result ≡ blocks i n }
+    ensures few { result ≤ n }
+{
+    let (i, n) = (u64::from(i), u64::from(n));
+    n.min((i % 4 + n + 3) / 4)
+}
+
+/// Touching n words from i on.
+pub fn run_steps(kind: Kind, i: u32, n: u32) -> u64
+    ensures value { result ≡ running kind i n }
+    ensures few { result ≤ 2 * n }
+{
+    match kind {
+        Kind::NonMoving => u64::from(n) + blocks_of(i, n),
+        _ => u64::from(n),
+    }
+}
+
+/// Copying n words from i on.
+pub fn copy_steps(kind: Kind, i: u32, n: u32) -> u64
+    ensures value { result ≡ copying kind i n }
+    ensures few { result ≤ 3 * n }
+{
+    match kind {
+        Kind::NonMoving => u64::from(n) + 2 * blocks_of(i, n),
+        _ => u64::from(n),
+    }
+}
+
+/// Clearing a slot of n words.
+pub fn wipe_steps(kind: Kind, n: u32) -> u64
+    ensures value { result ≡ wiping kind n }
+    ensures few { result ≤ 2 * n }
+{
+    match kind {
+        Kind::NonMoving => u64::from(n) + u64::from(n / 4),
+        _ => u64::from(n),
+    }
+}
+
+/// Moving a slot of n words.
+pub fn slot_steps(kind: Kind, n: u32) -> u64
+    ensures value { result ≡ moving kind n }
+    ensures few { result ≤ 2 * n }
+{
+    match kind {
+        Kind::NonMoving => u64::from(n) + u64::from(n / 2),
+        _ => u64::from(n),
+    }
+}

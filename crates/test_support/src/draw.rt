@@ -1,0 +1,49 @@
+//! Drawn numbers and bytes.
+ghost use Rattle.std.specs.Prelude.{◌≤◌, ◌<◌};
+
+use rand_core::{Rng, SeedableRng};
+use rand_xoshiro::SplitMix64;
+
+/// A source of drawn numbers, the same ones for the same seed.
+#[derive(Drop)]
+pub struct Draw {
+    numbers: SplitMix64,
+}
+
+impl Draw {
+    /// A source with this seed.
+    pub fn seeded(seed: u64) -> Draw {
+        Draw {
+            numbers: SplitMix64::seed_from_u64(seed),
+        }
+    }
+
+    /// A number.
+    pub fn number(&mut self) -> u64 {
+        self.numbers.next_u64()
+    }
+
+    /// A number below the bound.
+    pub fn below(&mut self, bound: u32) -> u32
+        requires { 1 ≤ bound }
+        ensures { result < bound }
+    {
+        (self.number() >> 32) as u32 % bound
+    }
+
+    /// Bytes that count up from a drawn one.
+    pub fn bytes(&mut self) -> [u8; 1_200] {
+        counted_from(self.below(256) as u8)
+    }
+}
+
+/// Bytes that count up from `first`, and from 0 after 255.
+pub fn counted_from(first: u8) -> [u8; 1_200] {
+    let mut bytes = [0; 1_200];
+    let mut byte = first;
+    for i in 0..1_200 {
+        bytes[i] = byte;
+        byte = byte.wrapping_add(1);
+    }
+    bytes
+}

@@ -1,0 +1,182 @@
+//! The objects that must be live, and their bytes.
+use crate::wrong::{Wrong, hold};
+use cf_base::AccessFault;
+use std::alloc::Global;
+
+/// Each byte of a buffer before a read.
+const UNREAD: u8 = 0xee;
+
+/// A live object: where it is, as far as a test computes that, and its bytes.
+#[derive(Drop)]
+pub struct Object<P: Drop> {
+    pub place: P,
+    pub bytes: Vec<u8>,
+}
+
+impl<P: Drop> Object<P> {
+    /// Its length in bytes.
+    pub fn length(&self) -> u32 {
+        self.bytes.len().min(u32::MAX as usize) as u32
+    }
+}
+
+/// The objects by number.
+#[derive(Drop)]
+pub struct Objects<P: Drop> {
+    alloc: Global,
+    entries: Vec<Option<Object<P>>>,
+}
+
+impl<P: Drop> Objects<P> {
+    /// No objects, of `count` numbers.
+    pub fn none(alloc: Global, count: u32) -> Result<Objects<P>, Wrong> {
+        let mut entries = Vec::new(alloc);
+        for _i in 0..count {
+            entries.push(None)?;
+        }
+        Ok(Objects { alloc, entries })
+    }
+
+    /// The entry of each number.
+    pub fn entries(&self) -> &[Option<Object<P>>] {
+        self.entries.as_slice()
+    }
+
+    /// The object of this number, if there is one.
+    pub fn get(&self, number: u32) -> Option<&Object<P>> {
+        match self.entries.get(number as usize) {
+            Some(Some(object)) => Some(object),
+            _ => None,
+        }
+    }
+
+    /// Its length in bytes, if there is one.
+    pub fn length(&self, number: u32) -> Option<u32> {
+        match self.get(number) {
+            Some(object) => Some(object.length()),
+            None => None,
+        }
+    }
+
+    /// How many objects there are.
+    pub fn count(&self) -> u32 {
+        let mut count: u32 = 0;
+        for entry in self.entries.iter() {
+            if entry.is_some() {
+                count = count.wrapping_add(1);
+            }
+        }
+        count
+    }
+
+    /// Adds an object of `length` zeros under a number that has none.
+    pub fn add(&mut self, number: u32, place: P, length: u32) -> Result<(), Wrong> {
+        let bytes = Vec::from_elem(self.alloc, 0, length as usize)?;
+        self.put(number, Object { place, bytes })
+    }
+
+    /// Puts an object under a number that has none.
+    pub fn put(&mut self, number: u32, object: Object<P>) -> Result<(), Wrong> {
+        match self.entries.get_mut(number as usize) {
+            Some(entry) if entry.is_none() => {
+                *entry = Some(object);
+                Ok(())
+            }
+            _ => Err(Wrong::Differs("the number of a new object")),
+        }
+    }
+
+    /// Removes the object of this number, and returns it if there was one.
+    pub fn take(&mut self, number: u32) -> Option<Object<P>> {
+        match self.entries.get_mut(number as usize) {
+            Some(entry) => entry.take(),
+            None => None,
+        }
+    }
+
+    /// The object of this number, if there is one, is at another place from now on.
+    pub fn move_to(&mut self, number: u32, place: P) {
+        if let Some(Some(object)) = self.entries.get_mut(number as usize) {
+            object.place = place;
+        }
+    }
+
+    /// The object of this number, if there is one, has this length from now on: its first bytes stay,
+    /// and added bytes are zeros.
+    pub fn resize(&mut self, number: u32, length: u32) -> Result<(), Wrong> {
+        if let Some(Some(object)) = self.entries.get_mut(number as usize) {
+            object.bytes.resize(length as usize, 0)?;
+        }
+        Ok(())
+    }
+
+    /// What a read or a write of `count` bytes from byte `at` on must return.
+    fn access(&self, number: u32, at: u32, count: usize) -> Result<(), AccessFault> {
+        let Some(object) = self.get(number) else {
+            return Err(AccessFault::Unknown);
+        };
+        match object.bytes.len().checked_sub(at as usize) {
+            Some(left) if count <= left => Ok(()),
+            _ => Err(AccessFault::Range),
+        }
+    }
+
+    /// Compares what a write of these bytes from byte `at` on returned. The object has them from now on,
+    /// unless the write was refused.
+    pub fn written(
+        &mut self,
+        number: u32,
+        at: u32,
+        bytes: &[u8],
+        done: Result<(), AccessFault>,
+    ) -> Result<(), Wrong> {
+        hold(
+            done == self.access(number, at, bytes.len()),
+            Wrong::Access(done),
+        )?;
+        if let Some(Some(object)) = self.entries.get_mut(number as usize) {
+            overwrite(object.bytes.as_mut_slice(), at as usize, bytes);
+        }
+        Ok(())
+    }
+
+    /// A buffer for a read of `count` bytes.
+    pub fn buffer(&self, count: u32) -> Result<Vec<u8>, Wrong> {
+        Ok(Vec::from_elem(self.alloc, UNREAD, count as usize)?)
+    }
+
+    /// Compares what a read from byte `at` on returned, and what is in its buffer then: the bytes of the
+    /// object, or what was there before if the read was refused.
+    pub fn read(
+        &self,
+        number: u32,
+        at: u32,
+        buffer: &[u8],
+        done: Result<(), AccessFault>,
+    ) -> Result<(), Wrong> {
+        hold(
+            done == self.access(number, at, buffer.len()),
+            Wrong::Access(done),
+        )?;
+        let same = match self.get(number) {
+            Some(object) if done.is_ok() => begins_at(object.bytes.as_slice(), at as usize, buffer),
+            _ => buffer.iter().all(|byte| *byte == UNREAD),
+        };
+        hold(same, Wrong::Differs("the bytes of an object"))
+    }
+}
+
+/// Puts the bytes into the object from byte `at` on, if they are within it.
+fn overwrite(object: &mut [u8], at: usize, bytes: &[u8]) {
+    if at <= object.len() && bytes.len() <= object.len() - at {
+        object[at..at + bytes.len()].copy_from_slice(bytes);
+    }
+}
+
+/// Whether the object has these bytes from byte `at` on.
+fn begins_at(object: &[u8], at: usize, bytes: &[u8]) -> bool {
+    match object.get(at..) {
+        Some(rest) => rest.starts_with(bytes),
+        None => false,
+    }
+}
