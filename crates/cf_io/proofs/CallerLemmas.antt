@@ -10,7 +10,7 @@ use Rattle.std.proofs.lemmas.Fmt.{decimal_is_IsNumeral}
 use Rattle.std.proofs.lemmas.Str.Parse.{digit_from_value}
 use Rattle.cf_io.specs.Lines.{word_text}
 use Rattle.cf_io.specs.Numbers.{is_digit, number_in}
-pub use Rattle.cf_io.proofs.Digits.{Spells, digits_end, digits_more, digits_stop, digits_within, first_told, number_spelled, other_byte, spells}
+pub use Rattle.cf_io.proofs.Digits.{Spells, digits_end, digits_more, digits_stop, digits_within, first_shown, number_spelled, other_byte, spells}
 pub use Rattle.cf_io.proofs.Feeding.{appended_then}
 pub use Rattle.cf_io.proofs.LineLemmas.{decimal_short, five, led-append, pushed, puts_cut, puts_line, puts_then, three}
 

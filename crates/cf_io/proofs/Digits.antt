@@ -105,13 +105,13 @@ pub first_none : (text : List ℕ) → (0 < length text → is_digit (get_or tex
 first_none text ends = rw (digits_end text 0 (omega arith) refl ends) refl
 
 -- what the first digits show of a whole text
-pub first_told : (text : List ℕ) (v n : ℕ) → Some (v, n) ≡ leading_number text → (n ≡ digits_first text) × (number_in (take n text) ≡ Some v)
-first_told text v n told = go (number_in (take (digits_first text) text)) refl told
+pub first_shown : (text : List ℕ) (v n : ℕ) → Some (v, n) ≡ leading_number text → (n ≡ digits_first text) × (number_in (take n text) ≡ Some v)
+first_shown text v n shown = go (number_in (take (digits_first text) text)) refl shown
   where
     go : (o : Option ℕ) → number_in (take (digits_first text) text) ≡ o → ◌≡◌ {A = Option (ℕ × ℕ)} (Some (v, n)) (option_map (λ m. (m, digits_first text)) o)
         → (n ≡ digits_first text) × (number_in (take n text) ≡ Some v)
-    go None is told = absurd cc
-    go (Some m) is told = let e : ◌≡◌ {A = ℕ × ℕ} (v, n) (m, digits_first text) = cc in
+    go None is shown = absurd cc
+    go (Some m) is shown = let e : ◌≡◌ {A = ℕ × ℕ} (v, n) (m, digits_first text) = cc in
         (ap (λ p. p.1) e, rw (ap (λ p. p.1) e) (is ∙ ap Some (sym (ap (λ p. p.0) e))))
 
 pub whole_none : (text : List ℕ) → None ≡ leading_number text → None ≡ number_in text
@@ -125,8 +125,8 @@ whole_none text none = elim (cases_lt (digits_first text) (length text)) [
     go (Some m) none = absurd cc
 
 pub whole_other : (text : List ℕ) (v n : ℕ) → Some (v, n) ≡ leading_number text → n < length text → None ≡ number_in text
-whole_other text v n told below =
-    let e = (first_told text v n told).0 in
+whole_other text v n shown below =
+    let e = (first_shown text v n shown).0 in
     sym (other_byte text (digits_first text) (omega (arith, e)) (digits_stop text (omega (arith, e))))
 
 -- a value that stays just past the largest number, one digit on

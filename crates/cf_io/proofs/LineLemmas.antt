@@ -24,21 +24,21 @@ led-append lead (text ∷ rest) more =
     ap (λ xs. (lead ++ (text ++ 10 ∷ [])) ++ xs) (led-append lead rest more)
     ∙ sym (append_assoc (lead ++ (text ++ 10 ∷ [])) (led lead rest) (led lead more))
 
-abbrev Told : Type 0
-Told = Option (List ℕ)
+abbrev Written : Type 0
+Written = Option (List ℕ)
 
 -- the first piece is whole, and then the second one is put
-pub puts_then : {T : Type 0} (w x y : Told) (a b : List ℕ) (r : Result T Failed) → x ≡ appended w a → Puts x b r y → Puts w (a ++ b) r y
-puts_then w x y a b (Ok u) first next = next ∙ ap (λ (o : Told). appended o b) first ∙ appended_then w a b
+pub puts_then : {T : Type 0} (w x y : Written) (a b : List ℕ) (r : Result T Failed) → x ≡ appended w a → Puts x b r y → Puts w (a ++ b) r y
+puts_then w x y a b (Ok u) first next = next ∙ ap (λ (o : Written). appended o b) first ∙ appended_then w a b
 puts_then w x y a b (Err e) first (front, lost, parts, is) =
-    (a ++ front, lost, ap (λ xs. a ++ xs) parts ∙ sym (append_assoc a front lost), is ∙ ap (λ (o : Told). appended o front) first ∙ appended_then w a front)
+    (a ++ front, lost, ap (λ xs. a ++ xs) parts ∙ sym (append_assoc a front lost), is ∙ ap (λ (o : Written). appended o front) first ∙ appended_then w a front)
 
 -- the first piece is cut
-pub puts_cut : (w y : Told) (a b : List ℕ) (e : Failed) → Puts {T = Unit {0}} w a (Err e) y → Puts {T = Unit {0}} w (a ++ b) (Err e) y
+pub puts_cut : (w y : Written) (a b : List ℕ) (e : Failed) → Puts {T = Unit {0}} w a (Err e) y → Puts {T = Unit {0}} w (a ++ b) (Err e) y
 puts_cut w y a b e (front, lost, parts, is) = (front, lost ++ b, ap (λ xs. xs ++ b) parts ∙ append_assoc front lost b, is)
 
 -- a line that was built after its lead
-pub puts_line : {T : Type 0} (w y : Told) (lead text line : List ℕ) (r : Result T Failed) → line ≡ lead ++ text → Puts w (line ++ 10 ∷ []) r y
+pub puts_line : {T : Type 0} (w y : Written) (lead text line : List ℕ) (r : Result T Failed) → line ≡ lead ++ text → Puts w (line ++ 10 ∷ []) r y
     → Puts w (led lead (said text)) r y
 puts_line {T = T} w y lead text line r is put =
     let P : List ℕ → Type 0 = λ bytes. Puts {T = T} w bytes r y in

@@ -9,7 +9,7 @@ Reply = List (List ℕ)
 abbrev pub said : List ℕ → Reply
 said text = text ∷ []
 
--- the lines of a reply as bytes, each after the lead and with a line feed after it
+-- the lines of a reply as bytes, each after the lead (a manager's name in mode `compare`) and with a line feed after it
 abbrev pub led : List ℕ → Reply → List ℕ
 led lead [] = []
 led lead (text ∷ rest) = (lead ++ (text ++ 10 ∷ [])) ++ led lead rest

@@ -76,7 +76,7 @@ impl Line {
         if bytes.len() > (LINE_ROOM - start) / 2 {
             return Err(Full);
         }
-        // The bytes, twice, are the space that their digits are written into.
+        // Appending the bytes twice reserves two places per byte; the digits then overwrite them.
         self.buffer.try_extend_from_slice(bytes).unwrap();
         self.buffer.try_extend_from_slice(bytes).unwrap();
         let room = &mut self.buffer.as_mut_slice()[start..];

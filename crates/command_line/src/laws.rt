@@ -20,14 +20,14 @@ pub fn all_such_commands_read_alike()
     ensures matches { (a b : App) (words : List Text) → IsCfApp a → IsCfApp b → matches_of b words ≡ matches_of a words }
 {}
 
-/// No arguments are both refused and accepted.
-pub fn refused_words_are_not_chosen()
+/// Refused arguments are not accepted, and make no choice.
+pub fn refused_arguments_are_not_chosen()
     ensures accepted { (words : List Text) → AreRefused words → ¬ AreAccepted words }
     ensures chosen { (words : List Text) (choice : Choice) → AreRefused words → ¬ Chooses words choice }
 {}
 
 /// Arguments make at most one choice.
-pub fn words_choose_once()
+pub fn arguments_choose_once()
     ensures { (words : List Text) (one other : Choice) → Chooses words one → Chooses words other → other ≡ one }
 {}
 
@@ -44,7 +44,7 @@ pub fn known_words_are_refused()
 {}
 
 /// The program's name alone makes the default choice.
-pub fn no_words_are_taken()
+pub fn no_arguments_are_taken()
     ensures { (name : Text) → Chooses (name ∷ []) (chosen Run Moving 0 1000 16) }
 {}
 

@@ -10,8 +10,8 @@ pub use choice::{Choice, Mode, WordsFault};
 pub use command::cf_command;
 pub use laws::{
     a_count_too_far_is_refused, a_quantum_out_of_range_is_refused, all_such_commands_read_alike,
-    help_is_refused, known_words_are_read, known_words_are_refused, no_words_are_taken,
-    other_names_are_refused, refused_words_are_not_chosen, words_choose_once,
+    arguments_choose_once, help_is_refused, known_words_are_read, known_words_are_refused,
+    no_arguments_are_taken, other_names_are_refused, refused_arguments_are_not_chosen,
     words_choose_what_they_say,
 };
 pub use reading::read_words;

@@ -38,8 +38,8 @@ module _ (exactly : (bytes : List ℕ) (p : Profile) (o : Objects) → AreBytes 
       → (two.after ≡ Some all) × AreAlike to end × IsGoing end
   loaded_and_saved from to begin end one two all script b had done before after ends moving had2 before2 done2 ends2 =
       let l = load_done from to one all had done ends in
-      let is = (exactly all l.profile l.objects b).0 l.told in
-      let told : Some script ≡ Some (script_under l.profile l.objects) = sym after ∙ l.script ∙ ap (λ w. appended w (script_under l.profile l.objects)) before in
+      let is = (exactly all l.profile l.objects b).0 l.stated in
+      let stated : Some script ≡ Some (script_under l.profile l.objects) = sym after ∙ l.script ∙ ap (λ w. appended w (script_under l.profile l.objects)) before in
       let same : script ≡ script_under l.profile l.objects = cc in
       let had3 = had2 ∙ ap (λ s. Some s) same in
       let few3 = script_short l.profile l.objects is.have in

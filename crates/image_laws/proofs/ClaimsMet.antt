@@ -22,12 +22,12 @@ use Rattle.run_model.specs.Runs.{Run}
 use Rattle.run_model.specs.Sessions.{RunState}
 use Rattle.script_loop.proofs.CallerLemmas.{appended_none, wrote_all}
 use Rattle.script_loop.specs.Consequences.{AnswersAll}
-use Rattle.script_loop.specs.ScriptOutcome.{Effects, StandsAfter, items_within}
+use Rattle.script_loop.specs.ScriptOutcome.{Effects, EndsAt, items_within}
 
 -- Mode `save`.
 module _ (from to : RunState) (call : Effects) (read : List ℕ) (moving : from.heap.kind ≡ Moving) (closed : from.heap.is_open ≡ false)
     (had : call.had ≡ Some read) where
-  image_is : (end : Option RunState) → StandsAfter from end to → IsUnderWay Moving end → saved to ≡ image_shown (shown_at end)
+  image_is : (end : Option RunState) → EndsAt from end to → IsUnderWay Moving end → saved to ≡ image_shown (shown_at end)
   image_is None stands on = ap (λ (s : RunState). saved s) stands ∙ ap (λ b. if b then heap_image from else []) closed
   image_is (Some s) stands on = ap (λ (s : RunState). saved s) stands ∙ ap (λ b. if b then heap_image s else []) on.1.opened ∙ same_image s on.1
 

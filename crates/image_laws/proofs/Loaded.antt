@@ -16,7 +16,7 @@ use Rattle.heap_image.specs.declared.fault.LoadFault.TheVariants as fault
 use Rattle.image_run.specs.Loads.{EndsLoad, EndsLoadBy}
 use Rattle.image_run.specs.Saves.{EndsSave, WritesAtEnd, saved, unseen}
 use Rattle.image_run.specs.Script.{commands_of, object_commands, script_under, writes_from}
-use Rattle.headline_laws.proofs.CallerLemmas.{one_told, run_met, shown, shown_at, view}
+use Rattle.headline_laws.proofs.CallerLemmas.{one_shown, run_met, shown, shown_at, view}
 use Rattle.run_laws.proofs.CallerLemmas.{run_keeps}
 use Rattle.run_laws.specs.Sayable.{IsUnderWay}
 use Rattle.run_model.specs.Runs.{Run}
@@ -26,7 +26,7 @@ use Rattle.transcript_laws.proofs.CallerLemmas.{stays_at_one}
 use Rattle.script_loop.proofs.CallerLemmas.{wrote_all, within_all}
 use Rattle.script_loop.specs.Consequences.{AnswersAll}
 use Rattle.script_loop.specs.OneManager.{one_manager}
-use Rattle.script_loop.specs.ScriptOutcome.{Effects, MOST_BYTES, StandsAfter, Wrote, items_within}
+use Rattle.script_loop.specs.ScriptOutcome.{Effects, MOST_BYTES, EndsAt, Wrote, items_within}
 use Rattle.script_reader.specs.Items.{Item, asks, items}
 use Rattle.script_reader.specs.declared.command.Command.{Command}
 use Rattle.script_reader.specs.declared.command.Command.TheVariants.{Malloc, Write}
@@ -110,7 +110,7 @@ module _ (p : Profile) (o : Objects) (h : HaveImage p o) where
   pub run_ok : (replies : List Reply) (last : Option RunState) → Run Moving None (items (script_under p o) true) replies last
       → replies ≡ map (λ i. said (codes "ok")) (script_items p o)
   run_ok replies last run =
-      one_told Moving (script_items p o) replies last refl asked_ones asked_places (of_items replies last run) ∙ all_ok p o h
+      one_shown Moving (script_items p o) replies last refl asked_ones asked_places (of_items replies last run) ∙ all_ok p o h
 
 -- the objects that a run shows are those by its ids
 pub held_objects : (p : Profile) (o : Objects) (s : RunState) → IsGoing s → view (shown s) ≡ holding p o → (s.heap.profile ≡ p) × (objects_of s ≡ o)
@@ -130,7 +130,7 @@ module _ (p : Profile) (o : Objects) (h : HaveImage p o) (from to : RunState) (c
       (subst (λ (is : List Item). Run from.heap.kind None is whole_run.replies whole_run.end) (within_all (script_under p o) few) whole_run.run))
 
   stands : to ≡ holds.state
-  stands = subst (λ (e : Option RunState). StandsAfter from e to) holds.is whole_run.stands
+  stands = subst (λ (e : Option RunState). EndsAt from e to) holds.is whole_run.stands
 
   pub kind : to.heap.kind ≡ Moving
   kind = ap (λ (s : RunState). s.heap.kind) stands ∙ holds.kind
@@ -151,7 +151,7 @@ module _ (p : Profile) (o : Objects) (h : HaveImage p o) (from to : RunState) (c
 pub record Loaded (all : List ℕ) (to : RunState) (call : Effects) : Type 0 where
   pub profile : Profile
   pub objects : Objects
-  pub told : decoded all ≡ whole profile objects
+  pub stated : decoded all ≡ whole profile objects
   pub held : (to.heap.profile ≡ profile) × (objects_of to ≡ objects)
   pub loading : IsLoading to
   pub script : call.after ≡ appended call.before (script_under profile objects)
@@ -164,7 +164,7 @@ load_done from to call all had done ends =
     record {
       profile = profile_of e.0;
       objects = l.objects;
-      told = ap decoded (row.1 ∙ ap (λ (more : List ℕ). e.1.taken ++ more) l.ended ∙ append-nil e.1.taken) ∙ l.reads;
+      stated = ap decoded (row.1 ∙ ap (λ (more : List ℕ). e.1.taken ++ more) l.ended ∙ append-nil e.1.taken) ∙ l.reads;
       held = (l.holds.profile, l.holds.objects);
       loading = l.holds.loading;
       script = e.2 ∙ (λ i. appended call.before (script_under (l.holds.profile i) (l.holds.objects i)));

@@ -35,7 +35,7 @@ bytes_left n l b i = rw (get_or-drop n l i 0) (b (n + i))
 pub breaks_not : (d : Decoded) (at : ℕ) → d.broken ≡ Some at → d.broken ≡ None → ⊥
 breaks_not d at some none = (let z : Some at ≡ None = sym some ∙ none in cc)
 
--- of a choice between what is broken and what isn't it is the other one
+-- if a choice is whole and one branch is broken, the choice is the other branch
 pub second_whole : (t : Bool) (x y : Decoded) (at : ℕ) → x.broken ≡ Some at → (if t then x else y).broken ≡ None → (t ≡ false) × (y.broken ≡ None)
 second_whole true x y at breaks none = absurd (breaks_not x at breaks none)
 second_whole false x y at breaks none = (refl, none)
@@ -209,7 +209,7 @@ module _ (p : Profile) (o : Objects) (h : MayBeHeld p o) (id : ℕ) (v : List �
     room = subst (λ n. n ≤ p.pages) (sym (needed_added (image_paging p) o id v unused)) needs;
   }
 
--- the entries up to the end: what objects come to be held
+-- the objects that the entries up to the end add
 pub record EntersAll (p : Profile) (r : Reached) (n : ℕ) (bytes : List ℕ) : Type 0 where
   pub more : List (ℕ × List ℕ)
   pub objects : Objects

@@ -148,8 +148,8 @@ module _ (read_back : (p : Profile) (o : Objects) → HaveImage p o → decoded 
       let objects : n ≡ o = ap (λ (d : Decoded). d.objects) e in
       subst (λ (r : Profile). IsImageOf bytes r o) profile (subst (λ (m : Objects). IsImageOf bytes q m) objects is)
 
-  pub told_exactly : AreBytes bytes → (decoded bytes ≡ whole p o) ↔ IsImageOf bytes p o
-  told_exactly b = (
+  pub shown_exactly : AreBytes bytes → (decoded bytes ≡ whole p o) ↔ IsImageOf bytes p o
+  shown_exactly b = (
     λ e.
         let i = image_of_objects bytes b (ap (λ (d : Decoded). d.broken) e) in
         same_whole i.0 i.1 (sym (read_back i.0 i.1 i.2.have) ∙ ap decoded (sym i.2.are) ∙ e) i.2,

@@ -52,26 +52,26 @@ module _ (read_back : (p : Profile) (o : Objects) → HaveImage p o → decoded 
         → (objects_of there ≡ objects_of to) × (there.heap.profile ≡ at_bound_one to.heap.profile) × IsLoading there
     loaded_again there from2 two had2 done2 ends2 =
         let l = load_done from2 there two image had2 done2 ends2 in
-        let told : whole (at_bound_one to.heap.profile) (objects_of to) ≡ whole l.profile l.objects =
-        sym (read_back (at_bound_one to.heap.profile) (objects_of to) have) ∙ ap decoded (sym same) ∙ l.told in
-        let settings : Some (at_bound_one to.heap.profile) ≡ Some l.profile = ap (λ (d : Decoded). d.settings) told in
+        let stated : whole (at_bound_one to.heap.profile) (objects_of to) ≡ whole l.profile l.objects =
+        sym (read_back (at_bound_one to.heap.profile) (objects_of to) have) ∙ ap decoded (sym same) ∙ l.stated in
+        let settings : Some (at_bound_one to.heap.profile) ≡ Some l.profile = ap (λ (d : Decoded). d.settings) stated in
         let profile : at_bound_one to.heap.profile ≡ l.profile = cc in
-        (l.held.1 ∙ sym (ap (λ (d : Decoded). d.objects) told), l.held.0 ∙ sym profile, l.loading)
+        (l.held.1 ∙ sym (ap (λ (d : Decoded). d.objects) stated), l.held.0 ∙ sym profile, l.loading)
 
     -- so the same further items get the same replies
     module _ (there from2 : RunState) (two : Effects) (had2 : two.had ≡ Some image) (done2 : two.status ≡ Done) (ends2 : EndsLoad from2 two there)
-        (equally : (one other : RunState) (items : List Item) (replies told : List Reply) (last end : Option RunState)
+        (equally : (one other : RunState) (items : List Item) (replies stated : List Reply) (last end : Option RunState)
         → IsGoing one → IsGoing other → IsPaged one.heap.kind → AreAlike one other → AreOne (paging_in one.heap) → AreOne (paging_in other.heap)
-        → AreFurther items → Run one.heap.kind (Some one) items replies last → Run one.heap.kind (Some other) items told end → told ≡ replies)
+        → AreFurther items → Run one.heap.kind (Some one) items replies last → Run one.heap.kind (Some other) items stated end → stated ≡ replies)
         (k : to.heap.profile.k ≡ 1) (ones : AreOne (paging_in to.heap)) where
-      pub further_replies : (items : List Item) (replies told : List Reply) (last end : Option RunState) → AreFurther items
-          → Run Moving (Some to) items replies last → Run Moving (Some there) items told end → told ≡ replies
-      further_replies items replies told last end further run run2 =
+      pub further_replies : (items : List Item) (replies stated : List Reply) (last end : Option RunState) → AreFurther items
+          → Run Moving (Some to) items replies last → Run Moving (Some there) items stated end → stated ≡ replies
+      further_replies items replies stated last end further run run2 =
           let s = ends.image done opened in
           let l = loaded_again there from2 two had2 done2 ends2 in
           let bound : at_bound_one to.heap.profile ≡ to.heap.profile = (λ i. record to.heap.profile { k = sym k i }) in
           let paged : IsPaged to.heap.kind = subst IsPaged (sym s.kind) refl in
-          equally to there items replies told last end s.going l.2.going paged
+          equally to there items replies stated last end s.going l.2.going paged
           (alike to there s.going l.2.going (l.2.kind ∙ sym s.kind) (l.1 ∙ bound) l.0) ones l.2.ones further
           (subst (λ (q : Kind). Run q (Some to) items replies last) (sym s.kind) run)
-          (subst (λ (q : Kind). Run q (Some there) items told end) (sym s.kind) run2)
+          (subst (λ (q : Kind). Run q (Some there) items stated end) (sym s.kind) run2)

@@ -99,8 +99,8 @@ pub fn what_was_saved_is_loaded_again()
         → (image : List ℕ) → one.before ≡ Some [] → one.after ≡ Some image
         → (there begin : RunState) (two : Effects) → two.had ≡ Some image → two.status ≡ Done → EndsLoad begin two there
         → to.heap.profile.k ≡ 1 → AreOne (paging_in to.heap)
-        → (items : List Item) (replies told : List Reply) (last end : Option RunState) → AreFurther items
-        → Run Moving (Some to) items replies last → Run Moving (Some there) items told end → told ≡ replies }
+        → (items : List Item) (replies stated : List Reply) (last end : Option RunState) → AreFurther items
+        → Run Moving (Some to) items replies last → Run Moving (Some there) items stated end → stated ≡ replies }
 {
     an_image_is_read_back();
     equal_objects_get_equal_replies();

@@ -76,9 +76,9 @@ module _ (old new : LargeRun) (going : IsGoingLarge old) (later : IsGoingLarge n
       → MatchOption o (MallocsLarge old id n reply new) (λ h. StaysLarge old (codes "live") reply new) → Answered (command.Malloc id n)
   malloc_answered id n None none st =
       let no' = gone_by_id old.ids old.heap.objects id none in
-      let told = malloc_is id n st.answer st.step st.ids in (
-        st.reply_is ∙ ap said (text_is st.answer ∙ sym (ap (λ o. malloc_line o t n) no' ∙ ap (ok_or (λ e. malloc_text (Err e))) told.0)),
-        stays_shown st.kept ∙ ap with (told.1 ∙ sym (ap (λ o. malloc_leaves o t id n) no' ∙ ap (λ f. put_unless f (by_id old) id (replicate n 0)) told.0)),
+      let stated = malloc_is id n st.answer st.step st.ids in (
+        st.reply_is ∙ ap said (text_is st.answer ∙ sym (ap (λ o. malloc_line o t n) no' ∙ ap (ok_or (λ e. malloc_text (Err e))) stated.0)),
+        stays_shown st.kept ∙ ap with (stated.1 ∙ sym (ap (λ o. malloc_leaves o t id n) no' ∙ ap (λ f. put_unless f (by_id old) id (replicate n 0)) stated.0)),
       )
   malloc_answered id n (Some h) named st =
       let v = found id h named in (
@@ -138,9 +138,9 @@ module _ (old new : LargeRun) (going : IsGoingLarge old) (later : IsGoingLarge n
       )
   write_answered id from bytes (Some h) named st =
       let v = found id h named in
-      let told = write_is id h from bytes v.0 named v.1 st.answer st.step st.ids in (
-        st.reply_is ∙ ap said (told.0 ∙ sym (ap (λ o. write_said o from (length bytes)) v.2)),
-        stays_shown st.kept ∙ ap with (told.1 ∙ sym (ap (λ o. write_leaves o (by_id old) (record { id = id; at = from; bytes = bytes })) v.2)),
+      let stated = write_is id h from bytes v.0 named v.1 st.answer st.step st.ids in (
+        st.reply_is ∙ ap said (stated.0 ∙ sym (ap (λ o. write_said o from (length bytes)) v.2)),
+        stays_shown st.kept ∙ ap with (stated.1 ∙ sym (ap (λ o. write_leaves o (by_id old) (record { id = id; at = from; bytes = bytes })) v.2)),
       )
 
   -- r

@@ -12,8 +12,8 @@ ghost use Rattle.script_reader.specs.Items.{Item};
 ghost use Rattle.large_laws.specs.LargeHeadline.{MeetsLarge};
 ghost use Rattle.large_laws.specs.Small.{MeetsSmall, small_replies, small_walk, walk_of_wholes};
 
-/// The replies of every run in mode large meet the claim, and just one list of replies meets it:
-/// nothing is left open.
+/// The replies of every run in mode large meet the claim (`MeetsLarge`), and exactly one list of replies
+/// meets it: nothing is left open. `play` is about a run of the script loop (`RunBy`).
 pub fn the_large_headline()
     ensures run { (kind : Kind) (items : List Item) (replies : List Reply) (end : Option LargeRun)
         → RunsLarge kind None items replies end → MeetsLarge kind items replies }

@@ -19,7 +19,7 @@ pub use Rattle.page_model.proofs.SlotImages.{image_after_malloc, image_after_fre
 pub use Rattle.page_model.proofs.Frames.{first_permuted, place_is_block, physical_word}
 pub use Rattle.page_model.proofs.Writing.{byte_of_object, word_by_bytes, object_word_small, length-written, written_before, written_inside}
 pub use Rattle.page_model.proofs.Writing.{written_behind, zeros_are_bytes, written_are_bytes, resized_are_bytes, resized_before, resized_behind}
-pub use Rattle.page_model.proofs.Writing.{written_nothing, image_after_bytes, storable_added, storable_without, header_told}
+pub use Rattle.page_model.proofs.Writing.{written_nothing, image_after_bytes, storable_added, storable_without, header_shown}
 pub use Rattle.page_model.proofs.Addresses.{address_is_slot, slot_is_address}
 pub use Rattle.page_model.proofs.OpenPages.{IsOpen, IsTaken, IsVacant, taken_or_vacant, open_counts, open_page, classed, some_move, vacant_where_less}
 pub use Rattle.page_model.proofs.Nothing.{sound_empty, image_empty, no_objects, none_asked, none_live, none_needed, none_taken, nothing_held}

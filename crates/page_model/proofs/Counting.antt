@@ -13,7 +13,7 @@ use Rattle.cf_lemmas.proofs.Values.{no_values, still}
 use Rattle.cf_lemmas.proofs.Ranges.{one, count_same, count_changed}
 use Rattle.page_model.specs.Held.{Held, Placed}
 use Rattle.page_model.specs.Paging.{Paging, slots_of, page_of}
-use Rattle.page_model.specs.Arrangement.{class_at, is_on, objects_on, standing_on, not_full_pages, home_pages}
+use Rattle.page_model.specs.Arrangement.{class_at, is_on, objects_on, count_on, not_full_pages, home_pages}
 
 pub one_le : (b : Bool) → one b ≤ 1
 one_le true = omega arith
@@ -91,8 +91,8 @@ module _ (p : Paging) where
   unfolding objects_on
   here m q y f = counted (is_on p (class_at p y) (page_of p y.place)) m q y f (on_yes _ _ y refl refl)
 
-  pub stands_here : (m : Held) (q : ℕ) (y : Placed) → get m q ≡ Some y → 0 < standing_on p m (page_of p y.place)
-  unfolding standing_on
+  pub stands_here : (m : Held) (q : ℕ) (y : Placed) → get m q ≡ Some y → 0 < count_on p m (page_of p y.place)
+  unfolding count_on
   stands_here m q y f = counted (λ (x : Placed). nat_eq (page_of p x.place) (page_of p y.place)) m q y f (eq_yes _ _ refl)
 
   -- a page with an object of the class
@@ -101,8 +101,8 @@ module _ (p : Paging) where
   unfolding objects_on
   on_page m c page lt = (let o = some_counted (is_on p c page) m lt in let e = on_parts c page o.1 o.3 in (o.0, o.1, o.2, e.0, e.1))
 
-  pub standing : (m : Held) (page : ℕ) → 0 < standing_on p m page → (q : ℕ) × (y : Placed) × (get m q ≡ Some y) × (page_of p y.place ≡ page)
-  unfolding standing_on
+  pub standing : (m : Held) (page : ℕ) → 0 < count_on p m page → (q : ℕ) × (y : Placed) × (get m q ≡ Some y) × (page_of p y.place ≡ page)
+  unfolding count_on
   standing m page lt = (
       let o = some_counted (λ (x : Placed). nat_eq (page_of p x.place) page) m lt in (
         o.0,
@@ -115,8 +115,8 @@ module _ (p : Paging) where
       ))
 
   -- no object is on a page whose count is 0
-  pub nothing_on : (m : Held) (page : ℕ) → standing_on p m page ≡ 0 → (q : ℕ) (y : Placed) → get m q ≡ Some y → page_of p y.place ≢ page
-  nothing_on m page none q y f is = (let s = stands_here m q y f in let t : standing_on p m (page_of p y.place) ≡ 0 = rw is none in omega arith)
+  pub nothing_on : (m : Held) (page : ℕ) → count_on p m page ≡ 0 → (q : ℕ) (y : Placed) → get m q ≡ Some y → page_of p y.place ≢ page
+  nothing_on m page none q y f is = (let s = stands_here m q y f in let t : count_on p m (page_of p y.place) ≡ 0 = rw is none in omega arith)
 
 -- Two arrangements with the same objects of a class on every page but one.
 module _ (p : Paging) (m n : Held) (c page : ℕ) (others : (g : ℕ) → g ≢ page → objects_on p n c g ≡ objects_on p m c g) where

@@ -5,7 +5,7 @@ use Rattle.std.proofs.Math.Nat.{div-mul-le_self, div-zero}
 use Rattle.cf_lemmas.proofs.Ranges.{sum_grows, sum_le}
 use Rattle.page_model.specs.Held.{Held, objects}
 use Rattle.page_model.specs.Paging.{Paging, IsPaging, classes, slots_of}
-use Rattle.page_model.specs.Counts.{Stand, ceil_div}
+use Rattle.page_model.specs.Counts.{LieOn, ceil_div}
 use Rattle.page_model.specs.Arrangement.{live, home_pages, used_pages, pages_for, pages_needed, IsSound}
 use Rattle.std.specs.List.{range_with_len}
 use Rattle.page_model.proofs.Totals.{sum_same}
@@ -30,7 +30,7 @@ pages_same p f g same = sum_same (λ c. ceil_div (f c) (slots_of p c)) (λ c. ce
     (λ c. ap (λ n. ceil_div n (slots_of p c)) (same c))
 
 -- n objects on h pages need at most h pages
-enough : (h n m k q : ℕ) → 0 < m → Stand h n m k q → ceil_div n m ≤ h
+enough : (h n m k q : ℕ) → 0 < m → LieOn h n m k q → ceil_div n m ≤ h
 enough h n m k q pos s =
     let w = s.within in
     let most = s.most in

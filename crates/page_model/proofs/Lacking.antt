@@ -10,8 +10,8 @@ use Rattle.std.specs.FinMap.{get}
 use Rattle.cf_lemmas.proofs.Ranges.{one}
 use Rattle.page_model.specs.Held.{Held, Placed, objects}
 use Rattle.page_model.specs.Paging.{Paging, IsPaging, classes, slots_of, bound_of, page_of}
-use Rattle.page_model.specs.Counts.{Stand, most_pages}
-use Rattle.page_model.specs.Arrangement.{class_at, live, objects_on, standing_on, home_pages, not_full_pages, used_pages, free_pages, most_pages_besides}
+use Rattle.page_model.specs.Counts.{LieOn, most_pages}
+use Rattle.page_model.specs.Arrangement.{class_at, live, objects_on, count_on, home_pages, not_full_pages, used_pages, free_pages, most_pages_besides}
 use Rattle.page_model.specs.Arrangement.{IsSound, LacksRoom}
 use Rattle.cf_lemmas.proofs.Tests.{eq_yes, eq_no}
 use Rattle.page_model.proofs.Counting.{less_counts, not_less_counts_none, here, stands_here, on_page, standing}
@@ -113,29 +113,29 @@ module _ (f : ℕ → Bool) where
 module _ (p : Paging) (m : Held) (s : IsSound p m) where
   -- the number of pages that hold an object
   abbrev pub standing_pages : ℕ
-  standing_pages = count_by (λ g. nat_lt 0 (standing_on p m g)) (range_with_len 0 p.pages)
+  standing_pages = count_by (λ g. nat_lt 0 (count_on p m g)) (range_with_len 0 p.pages)
 
   -- the objects of a page have one class
-  one_home : (g : ℕ) → one (nat_lt 0 (standing_on p m g)) ≡ sum_by (λ c. one (nat_lt 0 (objects_on p m c g))) (range_with_len 0 (classes p))
-  one_home g = elim (cases_lt 0 (standing_on p m g)) [
+  one_home : (g : ℕ) → one (nat_lt 0 (count_on p m g)) ≡ sum_by (λ c. one (nat_lt 0 (objects_on p m c g))) (range_with_len 0 (classes p))
+  one_home g = elim (cases_lt 0 (count_on p m g)) [
     | inl some ↦ (
         let o = standing p m g some in
         of_class o.0 o.1 o.2 o.3 some)
     | inr none ↦ (
-        let e = not_less_counts_none 0 (standing_on p m g) none in
+        let e = not_less_counts_none 0 (count_on p m g) none in
         let z = sum_zeros (λ c. one (nat_lt 0 (objects_on p m c g))) (range_with_len 0 (classes p))
         (λ c. not_less_counts_none 0 (objects_on p m c g) (elim (cases_lt 0 (objects_on p m c g)) [
-          | inl some ↦ absurd (let o = on_page p m c g some in let t = stands_here p m o.0 o.1 o.2 in let t' : 0 < standing_on p m g =
+          | inl some ↦ absurd (let o = on_page p m c g some in let t = stands_here p m o.0 o.1 o.2 in let t' : 0 < count_on p m g =
               rw (← o.3) t in omega arith)
           | inr le ↦ le
         ])) in
         omega arith)
   ]
     where
-      of_class : (q : ℕ) (y : Placed) → get m q ≡ Some y → page_of p y.place ≡ g → 0 < standing_on p m g
-          → one (nat_lt 0 (standing_on p m g)) ≡ sum_by (λ c. one (nat_lt 0 (objects_on p m c g))) (range_with_len 0 (classes p))
+      of_class : (q : ℕ) (y : Placed) → get m q ≡ Some y → page_of p y.place ≡ g → 0 < count_on p m g
+          → one (nat_lt 0 (count_on p m g)) ≡ sum_by (λ c. one (nat_lt 0 (objects_on p m c g))) (range_with_len 0 (classes p))
       of_class q y f is some =
-          let e = less_counts 0 (standing_on p m g) some in
+          let e = less_counts 0 (count_on p m g) some in
           let h : 0 < objects_on p m (class_at p y) g = rw is at (here p m q y f) in
           let same = sum_same (λ c. one (nat_lt 0 (objects_on p m c g))) (λ c. one (nat_eq (class_at p y) c && true)) (range_with_len 0 (classes p))
           (λ c. elim (cases_eq (class_at p y) c) [
@@ -151,22 +151,22 @@ module _ (p : Paging) (m : Held) (s : IsSound p m) where
   -- the pages in use are those that hold an object
   pub used_is : used_pages p m ≡ standing_pages
   unfolding used_pages home_pages
-  used_is = sym (sum_same (λ g. one (nat_lt 0 (standing_on p m g))) (λ g. sum_by (λ c. one (nat_lt 0 (objects_on p m c g))) (range_with_len 0 (classes p)))
+  used_is = sym (sum_same (λ g. one (nat_lt 0 (count_on p m g))) (λ g. sum_by (λ c. one (nat_lt 0 (objects_on p m c g))) (range_with_len 0 (classes p)))
       (range_with_len 0 p.pages) one_home
       ∙ swap_sums (λ g c. one (nat_lt 0 (objects_on p m c g))) (range_with_len 0 p.pages) (range_with_len 0 (classes p)))
 
   pub used_le : used_pages p m ≤ p.pages
-  used_le = (let e = used_is in let l = count_le (λ g. nat_lt 0 (standing_on p m g)) 0 p.pages in omega arith)
+  used_le = (let e = used_is in let l = count_le (λ g. nat_lt 0 (count_on p m g)) 0 p.pages in omega arith)
 
   -- if every page holds an object, the pages in use are all
-  pub none_free : ((page : ℕ) → page < p.pages → 0 < standing_on p m page) → used_pages p m ≡ p.pages
-  none_free all = used_is ∙ count_all (λ g. nat_lt 0 (standing_on p m g)) 0 p.pages (λ d _ h. less_counts 0 (standing_on p m d) (all d (omega arith)))
+  pub none_free : ((page : ℕ) → page < p.pages → 0 < count_on p m page) → used_pages p m ≡ p.pages
+  none_free all = used_is ∙ count_all (λ g. nat_lt 0 (count_on p m g)) 0 p.pages (λ d _ h. less_counts 0 (count_on p m d) (all d (omega arith)))
 
-  pub all_taken : used_pages p m ≡ p.pages → (page : ℕ) → page < p.pages → 0 < standing_on p m page
-  all_taken is page lt = elim (cases_lt 0 (standing_on p m page)) [
+  pub all_taken : used_pages p m ≡ p.pages → (page : ℕ) → page < p.pages → 0 < count_on p m page
+  all_taken is page lt = elim (cases_lt 0 (count_on p m page)) [
     | inl some ↦ some
-    | inr none ↦ absurd (let e = all_counted (λ g. nat_lt 0 (standing_on p m g)) 0 p.pages (sym used_is ∙ is) page (omega arith) (omega arith) in let z =
-        not_less_counts_none 0 (standing_on p m page) none in omega arith)
+    | inr none ↦ absurd (let e = all_counted (λ g. nat_lt 0 (count_on p m g)) 0 p.pages (sym used_is ∙ is) page (omega arith) (omega arith) in let z =
+        not_less_counts_none 0 (count_on p m page) none in omega arith)
   ]
 
   -- a class has no slot left if and only if none of its pages is partly full and no page is free
@@ -195,7 +195,7 @@ module _ (p : Paging) (m : Held) (s : IsSound p m) where
         (sound_can_hold p ok d (omega arith) m s)) in
         (omega arith, omega arith)
       where
-        from_stand : (h n k q b : ℕ) → Stand h n k b q → q ≡ 0 → n ≡ h * k
+        from_stand : (h n k q b : ℕ) → LieOn h n k b q → q ≡ 0 → n ≡ h * k
         from_stand h n k q b st z =
             let least : (h - 0) * k + 0 ≤ n = rw z at st.least in
             let most : n ≤ (h - 0) * k + 0 * (k - 1) = rw z at st.most in

@@ -5,7 +5,7 @@ use Rattle.std.specs.List.{Contains}
 use Rattle.std.proofs.lemmas.Bool.{cases_eq, cases_lt}
 use Rattle.page_model.specs.Held.{Held}
 use Rattle.page_model.specs.Paging.{Paging, IsPaging, address_of, class_for, classes, page_of, slots_of}
-use Rattle.page_model.specs.Arrangement.{IsSound, LacksRoom, not_full_pages, objects_on, standing_on}
+use Rattle.page_model.specs.Arrangement.{IsSound, LacksRoom, not_full_pages, objects_on, count_on}
 use Rattle.page_model.specs.Order.{IsLeastFree, IsTaken, Order, TakesNext, not_full_in, with_not_full}
 use Rattle.page_model.specs.Steps.{IsFreePlace}
 use Rattle.page_model.proofs.Addresses.{address_is_slot}
@@ -109,8 +109,8 @@ module _ (p : Paging) (ok : IsPaging p) (m : Held) (s : IsSound p m) where
       | inr le ↦ omega arith
     ]
 
-    all_taken : o.pool ≡ [] → (page : ℕ) → page < p.pages → 0 < standing_on p m page
-    all_taken none page within = elim (cases_lt 0 (standing_on p m page)) [
+    all_taken : o.pool ≡ [] → (page : ℕ) → page < p.pages → 0 < count_on p m page
+    all_taken none page within = elim (cases_lt 0 (count_on p m page)) [
       | inl some ↦ some
       | inr le ↦ absurd (not_in_nil page (subst (λ xs. Contains xs page) none ((is.pool page).1 (within, omega arith))))
     ]

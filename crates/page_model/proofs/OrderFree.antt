@@ -7,7 +7,7 @@ use Rattle.std.proofs.lemmas.Bool.{cases_eq, cases_lt}
 use Rattle.cf_lemmas.proofs.Tests.{eq_no, eq_yes}
 use Rattle.page_model.specs.Held.{Held, Placed}
 use Rattle.page_model.specs.Paging.{IsPaging, Paging, classes, page_of, slots_of}
-use Rattle.page_model.specs.Arrangement.{IsSound, class_at, objects_on, standing_on}
+use Rattle.page_model.specs.Arrangement.{IsSound, class_at, objects_on, count_on}
 use Rattle.page_model.specs.Order.{Order, not_full_in, slot_freed, with_not_full}
 use Rattle.page_model.proofs.Counting.{on_page}
 use Rattle.page_model.proofs.NumberLists.{at_head, front_once, head_or_tail, in_tail, left_once, left_were, leaving_out, others_left}
@@ -61,13 +61,13 @@ module _ (p : Paging) (ok : IsPaging p) (m : Held) (s : IsSound p m) (n : Held) 
   others_are : (d : ℕ) → d < classes p → d ≢ c → IsList p n d (not_full_in o d)
   others_are d within ne = list_same p n m d (not_full_in o d) (λ g. sym (one.others d g (inr (λ e. ne (sym e))))) (is.not_full d within)
 
-  bare_now : (g : ℕ) → page ≢ g → standing_on p m g ≡ 0 → standing_on p n g ≡ 0
+  bare_now : (g : ℕ) → page ≢ g → count_on p m g ≡ 0 → count_on p n g ≡ 0
   bare_now g ne bare = bare_same p n m g (λ d. sym (one.others d g (inl ne))) bare
 
-  bare_then : (g : ℕ) → page ≢ g → standing_on p n g ≡ 0 → standing_on p m g ≡ 0
+  bare_then : (g : ℕ) → page ≢ g → count_on p n g ≡ 0 → count_on p m g ≡ 0
   bare_then g ne bare = bare_same p m n g (λ d. one.others d g (inl ne)) bare
 
-  stood : 0 < standing_on p m page
+  stood : 0 < count_on p m page
   stood = occupied p m c page used
 
   not_free : ¬ Contains o.pool page
@@ -75,7 +75,7 @@ module _ (p : Paging) (ok : IsPaging p) (m : Held) (s : IsSound p m) (n : Held) 
 
   -- the page is empty now
   module _ (last : objects_on p m c page ≡ 1) where
-    empty : standing_on p n page ≡ 0
+    empty : count_on p n page ≡ 0
     empty = bare_page p n page (λ d. elim (cases_eq c d) [
       | inl e ↦ subst (λ j. objects_on p n j page ≡ 0) e (let f = one.more in omega arith)
       | inr ne ↦ sym (one.others d page (inr ne)) ∙ alone d ne
@@ -84,7 +84,7 @@ module _ (p : Paging) (ok : IsPaging p) (m : Held) (s : IsSound p m) (n : Held) 
     pool_more : IsPool p n (page ∷ o.pool)
     pool_more g = elim (cases_eq page g) [
       | inl e ↦ (
-        λ _. (subst (λ j. j < p.pages) e inside, subst (λ j. standing_on p n j ≡ 0) e empty),
+        λ _. (subst (λ j. j < p.pages) e inside, subst (λ j. count_on p n j ≡ 0) e empty),
         λ _. subst (λ q. Contains (page ∷ o.pool) q) e (at_head page o.pool),
       )
       | inr ne ↦ (
@@ -124,7 +124,7 @@ module _ (p : Paging) (ok : IsPaging p) (m : Held) (s : IsSound p m) (n : Held) 
         λ (l, bare). absurd (
             let f = one.more in
             let u = used in
-            let st = subst (λ j. 0 < standing_on p n j) e (occupied p n c page (omega arith)) in
+            let st = subst (λ j. 0 < count_on p n j) e (occupied p n c page (omega arith)) in
             omega arith),
       )
       | inr ne ↦ (

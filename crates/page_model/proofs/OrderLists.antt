@@ -7,18 +7,18 @@ use Rattle.std.proofs.lemmas.List.{get_or-set_same, get_or-set_other, length-set
 use Rattle.cf_lemmas.proofs.Ranges.{one}
 use Rattle.page_model.specs.Held.{Held, Placed}
 use Rattle.page_model.specs.Paging.{Paging, classes, page_of}
-use Rattle.page_model.specs.Arrangement.{class_at, is_on, objects_on, standing_on}
+use Rattle.page_model.specs.Arrangement.{class_at, is_on, objects_on, count_on}
 use Rattle.page_model.specs.Order.{Order, IsOrderOf, IsPartlyFull, not_full_in}
 use Rattle.page_model.proofs.Counting.{here, on_no, on_page, on_yes, standing, stands_here}
 
 module _ (p : Paging) (m : Held) where
   -- a page with objects of a class has objects
-  pub occupied : (c g : ℕ) → 0 < objects_on p m c g → 0 < standing_on p m g
-  occupied c g some = (let f = on_page p m c g some in subst (λ j. 0 < standing_on p m j) f.3 (stands_here p m f.0 f.1 f.2))
+  pub occupied : (c g : ℕ) → 0 < objects_on p m c g → 0 < count_on p m g
+  occupied c g some = (let f = on_page p m c g some in subst (λ j. 0 < count_on p m j) f.3 (stands_here p m f.0 f.1 f.2))
 
   -- a page without objects of any class has none
-  pub bare_page : (g : ℕ) → ((d : ℕ) → objects_on p m d g ≡ 0) → standing_on p m g ≡ 0
-  bare_page g none = elim (cases_lt 0 (standing_on p m g)) [
+  pub bare_page : (g : ℕ) → ((d : ℕ) → objects_on p m d g ≡ 0) → count_on p m g ≡ 0
+  bare_page g none = elim (cases_lt 0 (count_on p m g)) [
     | inl some ↦ absurd (
         let f = standing p m g some in
         let h : 0 < objects_on p m (class_at p f.1) g = subst (λ j. 0 < objects_on p m (class_at p f.1) j) f.3 (here p m f.0 f.1 f.2) in
@@ -27,7 +27,7 @@ module _ (p : Paging) (m : Held) where
     | inr le ↦ omega arith
   ]
 
-  pub bare_class : (g : ℕ) → standing_on p m g ≡ 0 → (d : ℕ) → objects_on p m d g ≡ 0
+  pub bare_class : (g : ℕ) → count_on p m g ≡ 0 → (d : ℕ) → objects_on p m d g ≡ 0
   bare_class g bare d = elim (cases_lt 0 (objects_on p m d g)) [
     | inl some ↦ absurd (let s = occupied d g some in omega arith)
     | inr le ↦ omega arith
@@ -35,14 +35,14 @@ module _ (p : Paging) (m : Held) where
 
   -- the list has exactly the free pages
   abbrev pub IsPool : List ℕ → Type 0
-  IsPool xs = (g : ℕ) → Contains xs g ↔ ((g < p.pages) × (standing_on p m g ≡ 0))
+  IsPool xs = (g : ℕ) → Contains xs g ↔ ((g < p.pages) × (count_on p m g ≡ 0))
 
   -- the list has exactly the partly full pages of class d
   abbrev pub IsList : ℕ → List ℕ → Type 0
   IsList d xs = (g : ℕ) → Contains xs g ↔ ((g < p.pages) × IsPartlyFull p m d g)
 
 -- the same counts on a page
-pub bare_same : (p : Paging) (n m : Held) (g : ℕ) → ((d : ℕ) → objects_on p n d g ≡ objects_on p m d g) → standing_on p m g ≡ 0 → standing_on p n g ≡ 0
+pub bare_same : (p : Paging) (n m : Held) (g : ℕ) → ((d : ℕ) → objects_on p n d g ≡ objects_on p m d g) → count_on p m g ≡ 0 → count_on p n g ≡ 0
 bare_same p n m g same bare = bare_page p n g (λ d. same d ∙ bare_class p m g bare d)
 
 pub list_same : (p : Paging) (n m : Held) (d : ℕ) (xs : List ℕ) → ((g : ℕ) → objects_on p n d g ≡ objects_on p m d g) → IsList p m d xs → IsList p n d xs

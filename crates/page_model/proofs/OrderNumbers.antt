@@ -8,7 +8,7 @@ use Rattle.cf_lemmas.proofs.Maps.{get_insert_other, get_remove_other, get_remove
 use Rattle.cf_lemmas.proofs.Searches.{len_without}
 use Rattle.page_model.specs.Held.{Held, Placed}
 use Rattle.page_model.specs.Paging.{IsPaging, Paging, class_for}
-use Rattle.page_model.specs.Arrangement.{IsSound, objects_on, standing_on}
+use Rattle.page_model.specs.Arrangement.{IsSound, objects_on, count_on}
 use Rattle.page_model.specs.Order.{IsOrderOf, Order}
 use Rattle.page_model.specs.Steps.{Moves, without}
 use Rattle.page_model.proofs.FreeSteps.{mover_is_other}
@@ -40,7 +40,7 @@ order_is p m limit o pages numbers = record {
 -- other bounds of the classes
 pub order_bounded : (p : Paging) (bounds : List ℕ) (m : Held) (limit : ℕ) (o : Order) → IsOrderOf p m limit o
     → IsOrderOf (record p { bounds = bounds }) m limit o
-unfolding objects_on standing_on class_for
+unfolding objects_on count_on class_for
 order_bounded p bounds m limit o is = record {
   pool = is.pool;
   pool_once = is.pool_once;

@@ -6,7 +6,7 @@ use Rattle.std.proofs.lemmas.Bool.{cases_eq}
 use Rattle.cf_lemmas.proofs.Tests.{eq_no, eq_yes}
 use Rattle.page_model.specs.Held.{Held}
 use Rattle.page_model.specs.Paging.{Paging, classes, slots_of}
-use Rattle.page_model.specs.Arrangement.{objects_on, standing_on}
+use Rattle.page_model.specs.Arrangement.{objects_on, count_on}
 use Rattle.page_model.specs.Order.{Order, not_full_in, with_not_full}
 use Rattle.page_model.proofs.NumberLists.{at_head, head_once, head_or_tail, in_tail, not_in_nil, one_once, tail_once}
 use Rattle.page_model.proofs.OrderLists.{HasOneMore, IsList, IsPool, ListsPages, bare_class, bare_same, list_changed, list_same, lists_kept, occupied}
@@ -17,13 +17,13 @@ module _ (p : Paging) (n m : Held) (c page : ℕ) (one : HasOneMore p n m c page
   others_are d inside ne = list_same p m n d (not_full_in o d) (λ g. one.others d g (inr (λ e. ne (sym e)))) (is.not_full d inside)
 
   -- each other page is as free as before
-  bare_now : (g : ℕ) → page ≢ g → standing_on p n g ≡ 0 → standing_on p m g ≡ 0
+  bare_now : (g : ℕ) → page ≢ g → count_on p n g ≡ 0 → count_on p m g ≡ 0
   bare_now g ne bare = bare_same p m n g (λ d. one.others d g (inl ne)) bare
 
-  bare_then : (g : ℕ) → page ≢ g → standing_on p m g ≡ 0 → standing_on p n g ≡ 0
+  bare_then : (g : ℕ) → page ≢ g → count_on p m g ≡ 0 → count_on p n g ≡ 0
   bare_then g ne bare = bare_same p n m g (λ d. sym (one.others d g (inl ne))) bare
 
-  stands_now : 0 < standing_on p m page
+  stands_now : 0 < count_on p m page
   stands_now = (let e = one.more in occupied p m c page (omega arith))
 
   -- the slot is on the first partly full page
@@ -37,7 +37,7 @@ module _ (p : Paging) (n m : Held) (c page : ℕ) (one : HasOneMore p n m c page
     some : 0 < objects_on p n c page
     some = (((is.not_full c lt page).0 listed).1).0
 
-    stood : 0 < standing_on p n page
+    stood : 0 < count_on p n page
     stood = occupied p n c page some
 
     pages_once : IsDistinct nat_eq (page ∷ pages)
@@ -48,9 +48,9 @@ module _ (p : Paging) (n m : Held) (c page : ℕ) (one : HasOneMore p n m c page
       | inl e ↦ (
         λ there. absurd (
             let bare = ((is.pool g).0 there).1 in
-            let st = subst (λ j. 0 < standing_on p n j) e stood in
+            let st = subst (λ j. 0 < count_on p n j) e stood in
             omega arith),
-        λ (inside, bare). absurd (let st = subst (λ j. 0 < standing_on p m j) e stands_now in omega arith),
+        λ (inside, bare). absurd (let st = subst (λ j. 0 < count_on p m j) e stands_now in omega arith),
       )
       | inr ne ↦ (
         λ there. (let (inside, bare) = (is.pool g).0 there in (inside, bare_now g ne bare)),
@@ -124,7 +124,7 @@ module _ (p : Paging) (n m : Held) (c page : ℕ) (one : HasOneMore p n m c page
     pool_rest g = elim (cases_eq page g) [
       | inl e ↦ (
         λ there. absurd (head_once page pages pool_once (subst (λ q. Contains pages q) (sym e) there)),
-        λ (inside, bare). absurd (let st = subst (λ j. 0 < standing_on p m j) e stands_now in omega arith),
+        λ (inside, bare). absurd (let st = subst (λ j. 0 < count_on p m j) e stands_now in omega arith),
       )
       | inr ne ↦ (
         λ there. (

@@ -9,7 +9,7 @@ use Rattle.std.proofs.Math.Nat.{mod-lt}
 use Rattle.cf_lemmas.proofs.Ranges.{one}
 use Rattle.page_model.specs.Held.{Held, objects}
 use Rattle.page_model.specs.Paging.{Paging, IsPaging, classes, slot_words, slots_of, bound_of}
-use Rattle.page_model.specs.Counts.{Stand, CanHold}
+use Rattle.page_model.specs.Counts.{LieOn, CanHold}
 use Rattle.page_model.specs.Arrangement.{objects_on, not_full_pages, home_pages, live, IsSound}
 use Rattle.page_model.proofs.Counting.{part_full, part_yes, part_empty, part_over, less_counts, not_less_counts_none}
 use Rattle.page_model.proofs.PageLaws.{can_hold_bound}
@@ -58,7 +58,7 @@ module _ (on : ℕ → ℕ) (m : ℕ) (some : 0 < m) where
       ]
 
 stand_from : (home part full total live m k : ℕ) → home ≡ full + part → full * m + part ≤ total → total ≤ full * m + part * (m - 1) → total ≡ live → part ≤ k
-    → Stand home live m k part
+    → LieOn home live m k part
 stand_from home part full total live m k all least most is few =
     let e : home - part ≡ full = omega arith in
     record { few = few; within = omega arith; least = rw (e, ← is) least; most = rw (e, ← is) most }
@@ -87,7 +87,7 @@ module _ (p : Paging) (ok : IsPaging p) (c : ℕ) (lt : c < classes p) where
     within page = page_within p c page m size_some s
 
     -- the pages of a class are its full ones and its partly full ones
-    pub sound_stand : Stand (home_pages p m c) (live p (objects m) c) (slots_of p c) (bound_of p c) (not_full_pages p m c)
+    pub sound_stand : LieOn (home_pages p m c) (live p (objects m) c) (slots_of p c) (bound_of p c) (not_full_pages p m c)
     unfolding home_pages not_full_pages
     sound_stand =
         let st = stands (objects_on p m c) (slots_of p c) slots_some 0 p.pages within in

@@ -102,13 +102,13 @@ tested p n m k (q, s) = any_in (λ q. nat_le q p && nat_le ((p - q) * m + q) n &
     let c : nat_le n ((p - q) * m + q * (m - 1)) ≡ true = grind (arith, nat_tests, s.most) in
     rw (a, b, c) refl)
 
-pub test_tells : (p n m k : ℕ) → can_hold p n m k ≡ true → CanHold p n m k
-test_tells p n m k e =
+pub test_shows : (p n m k : ℕ) → can_hold p n m k ≡ true → CanHold p n m k
+test_shows p n m k e =
     let o = in_any (λ q. nat_le q p && nat_le ((p - q) * m + q) n && nat_le n ((p - q) * m + q * (m - 1))) 0 (k + 1) e in
-    told o.0 o.2 o.3
+    shown o.0 o.2 o.3
   where
-    told : (q : ℕ) → q < 0 + (k + 1) → (nat_le q p && nat_le ((p - q) * m + q) n && nat_le n ((p - q) * m + q * (m - 1))) ≡ true → CanHold p n m k
-    told q below e =
+    shown : (q : ℕ) → q < 0 + (k + 1) → (nat_le q p && nat_le ((p - q) * m + q) n && nat_le n ((p - q) * m + q * (m - 1))) ≡ true → CanHold p n m k
+    shown q below e =
         let x = and_parts (nat_le q p && nat_le ((p - q) * m + q) n) (nat_le n ((p - q) * m + q * (m - 1))) e in
         let y = and_parts (nat_le q p) (nat_le ((p - q) * m + q) n) x.0 in
         let a : nat_le q p ≡ true = y.0 in
@@ -149,7 +149,7 @@ unfolding most_pages
 most_pages_reached n m k pos some =
     let one = one_can_hold (ceil_div n m) n m pos refl in
     let wider : CanHold (ceil_div n m) n m k = widen one in
-    test_tells (greatest (λ p. can_hold p n m k) (n / m + k)) n m k
+    test_shows (greatest (λ p. can_hold p n m k) (n / m + k)) n m k
     (greatest_passes (λ p. can_hold p n m k) (n / m + k) (ceil_div n m) (can_hold_bound (ceil_div n m) n m k pos wider) (tested (ceil_div n m) n m k wider))
   where
     widen : CanHold (ceil_div n m) n m 1 → CanHold (ceil_div n m) n m k

@@ -7,7 +7,7 @@ use Rattle.cf_lemmas.proofs.Sums.{sum_by-inserted}
 use Rattle.cf_lemmas.proofs.Ranges.{one, sum_changed, sum_range_same}
 use Rattle.page_model.specs.Held.{Held, Objects, objects}
 use Rattle.page_model.specs.Paging.{Paging, IsPaging, AreOne, classes, slots_of, class_for}
-use Rattle.page_model.specs.Counts.{Stand, CanHold, ceil_div}
+use Rattle.page_model.specs.Counts.{LieOn, CanHold, ceil_div}
 use Rattle.page_model.specs.Arrangement.{live, home_pages, not_full_pages, used_pages, pages_needed, pages_needed_with, IsSound, LacksRoom}
 use Rattle.cf_lemmas.proofs.Tests.{eq_yes, eq_no}
 use Rattle.page_model.proofs.Totals.{sum_same}
@@ -16,7 +16,7 @@ use Rattle.page_model.proofs.PageLaws.{between_multiples, can_hold_one}
 use Rattle.page_model.proofs.Lacking.{used_le, none_free, all_taken}
 
 -- one object more takes one page more if and only if all pages are full
-next_page : (h n m q : ℕ) → 0 < m → Stand h n m 1 q → ceil_div (n + 1) m ≡ h + (1 - q)
+next_page : (h n m q : ℕ) → 0 < m → LieOn h n m 1 q → ceil_div (n + 1) m ≡ h + (1 - q)
 next_page h n m zero pos s =
     let e : h - 0 ≡ h = omega arith in
     let low : h * m + 0 ≤ n = rw e at s.least in
@@ -61,8 +61,8 @@ module _ (p : Paging) (ok : IsPaging p) (ones : AreOne p) (m : Held) (s : IsSoun
     unfolding used_pages pages_needed_with
     needed_next =
         let c : ℕ = class_for p n in
-        let one_page : Stand (home_pages p m (class_for p n)) (live p (objects m) (class_for p n)) (slots_of p (class_for p n)) 1
-        (not_full_pages p m (class_for p n)) = subst (λ k. Stand (home_pages p m (class_for p n)) (live p (objects m) (class_for p n))
+        let one_page : LieOn (home_pages p m (class_for p n)) (live p (objects m) (class_for p n)) (slots_of p (class_for p n)) 1
+        (not_full_pages p m (class_for p n)) = subst (λ k. LieOn (home_pages p m (class_for p n)) (live p (objects m) (class_for p n))
         (slots_of p (class_for p n)) k (not_full_pages p m (class_for p n))) (ones (class_for p n) fits) (sound_stand p ok (class_for p n) fits m s) in
         let next = next_page _ _ _ _ (slots_some p ok (class_for p n) fits) one_page in
         let e = eq_yes (class_for p n) (class_for p n) refl in

@@ -197,9 +197,9 @@ storable_without m h a (Some q) good = go (get m q) refl
     go (Some y) e = storable_added (remove m h) q (record { place = a; bytes = y.bytes }) (storable_taken m h good) (good q y e).0 (good q y e).1
 
 -- a header holds the object's number and length
-pub header_told : (m : Held) (words : List ℕ) (h : ℕ) (x : Placed) → IsImage m words → get m h ≡ Some x → h < 2 ^ 32
+pub header_shown : (m : Held) (words : List ℕ) (h : ℕ) (x : Placed) → IsImage m words → get m h ≡ Some x → h < 2 ^ 32
     → (get_or words x.place 0 % 2 ^ 32 ≡ h) × (get_or words x.place 0 / 2 ^ 32 ≡ length x.bytes)
-header_told m words h x im e small =
+header_shown m words h x im e small =
     let at : x.place + 0 ≡ x.place = omega arith in
     let head : get_or words x.place 0 ≡ h + 2 ^ 32 * length x.bytes = rw at at (im.held h x e 0 (omega arith)) in
     (omega arith, omega arith)

@@ -23,8 +23,8 @@ unfoldable pub objects_on : Paging → Held → ℕ → ℕ → ℕ
 objects_on p m c page = count_by (is_on p c page) (values m)
 
 -- how many objects of any class are on the page
-unfoldable pub standing_on : Paging → Held → ℕ → ℕ
-standing_on p m page = count_by (λ (x : Placed). nat_eq (page_of p x.place) page) (values m)
+unfoldable pub count_on : Paging → Held → ℕ → ℕ
+count_on p m page = count_by (λ (x : Placed). nat_eq (page_of p x.place) page) (values m)
 
 -- how many pages hold an object of class c
 unfoldable pub home_pages : Paging → Held → ℕ → ℕ
@@ -78,4 +78,4 @@ pub record IsSound (p : Paging) (m : Held) : Type 0 where
 -- class c has no slot left: none of its pages is partly full, and every page holds an object
 pub record LacksRoom (p : Paging) (m : Held) (c : ℕ) : Type 0 where
   pub full : not_full_pages p m c ≡ 0
-  pub taken : (page : ℕ) → page < p.pages → 0 < standing_on p m page
+  pub taken : (page : ℕ) → page < p.pages → 0 < count_on p m page

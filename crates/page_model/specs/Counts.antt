@@ -3,7 +3,7 @@ use Rattle.std.specs.Prelude.{ℕ, zero, suc, Bool, true, false, ◌&&◌, ◌+�
 use Rattle.std.specs.List.{range_with_len, list_any}
 
 -- n objects are on p pages of m slots; no page is empty, and q, at most k, are partly full
-pub record Stand (p n m k q : ℕ) : Type 0 where
+pub record LieOn (p n m k q : ℕ) : Type 0 where
   pub few : q ≤ k
   pub within : q ≤ p
   pub least : (p - q) * m + q ≤ n
@@ -11,7 +11,7 @@ pub record Stand (p n m k q : ℕ) : Type 0 where
 
 -- n objects can be on p pages of m slots, none empty and at most k partly full
 abbrev pub CanHold : ℕ → ℕ → ℕ → ℕ → Type 0
-CanHold p n m k = (q : ℕ) × Stand p n m k q
+CanHold p n m k = (q : ℕ) × LieOn p n m k q
 
 -- the same as a test
 abbrev pub can_hold : ℕ → ℕ → ℕ → ℕ → Bool

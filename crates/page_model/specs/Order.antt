@@ -6,7 +6,7 @@ use Rattle.cf_base.specs.declared.kind.Kind.{Kind}
 use Rattle.cf_base.specs.declared.kind.Kind.TheVariants.{Moving, NonMoving, Tlsf, HalfFit}
 use Rattle.page_model.specs.Held.{Held, Placed}
 use Rattle.page_model.specs.Paging.{Paging, classes, class_for, slots_of, page_of, address_of}
-use Rattle.page_model.specs.Arrangement.{class_at, objects_on, standing_on}
+use Rattle.page_model.specs.Arrangement.{class_at, objects_on, count_on}
 use Rattle.page_model.specs.Steps.{Leaves, Request, resized_at}
 
 -- what is given out next: the free pages, the partly full pages of each class, and the numbers that no object has; each list begins with the next one
@@ -30,7 +30,7 @@ IsPartlyFull p m c page = (0 < objects_on p m c page) × (objects_on p m c page 
 -- an order of this arrangement, with numbers below a limit: it lists the pages without objects, the partly full pages of each class, and the numbers without an
 -- object, each once
 pub record IsOrderOf (p : Paging) (m : Held) (limit : ℕ) (o : Order) : Type 0 where
-  pub pool : (page : ℕ) → Contains o.pool page ↔ ((page < p.pages) × (standing_on p m page ≡ 0))
+  pub pool : (page : ℕ) → Contains o.pool page ↔ ((page < p.pages) × (count_on p m page ≡ 0))
   pub pool_once : IsDistinct nat_eq o.pool
   pub as_many : length o.not_full ≡ classes p
   pub not_full : (c page : ℕ) → c < classes p → Contains (not_full_in o c) page ↔ ((page < p.pages) × IsPartlyFull p m c page)

@@ -3,7 +3,7 @@ use Rattle.std.specs.Prelude.{◌≡◌, ◌≢◌, ℕ, ◌⊎◌, ◌-◌, ◌
 use Rattle.std.specs.FinMap.{get, insert, remove}
 use Rattle.page_model.specs.Held.{Held, Placed}
 use Rattle.page_model.specs.Paging.{Paging, slots_of, bound_of, class_for, page_of}
-use Rattle.page_model.specs.Arrangement.{class_at, objects_on, standing_on, not_full_pages, IsSlotAt}
+use Rattle.page_model.specs.Arrangement.{class_at, objects_on, count_on, not_full_pages, IsSlotAt}
 
 -- an object that is requested or resized: its number, and its length in bytes
 pub record Request : Type 0 where
@@ -20,7 +20,7 @@ pub record IsFreePlace (p : Paging) (m : Held) (n a : ℕ) : Type 0 where
   pub slot : IsSlotAt p (class_for p n) a
   pub unused : (q : ℕ) (y : Placed) → get m q ≡ Some y → y.place ≢ a
   pub choice : ((0 < objects_on p m (class_for p n) (page_of p a)) × (objects_on p m (class_for p n) (page_of p a) < slots_of p (class_for p n)))
-      ⊎ ((not_full_pages p m (class_for p n) ≡ 0) × (standing_on p m (page_of p a) ≡ 0))
+      ⊎ ((not_full_pages p m (class_for p n) ≡ 0) × (count_on p m (page_of p a) ≡ 0))
 
 -- n zeros at an address
 abbrev pub zeros_at : ℕ → ℕ → Placed

@@ -41,7 +41,7 @@ pub use soundness::{
     page_counts_of_a_sound_arrangement,
 };
 pub use words::{
-    a_part_is_written, a_word_is_its_bytes, bytes_are_read_back, headers_tell,
+    a_part_is_written, a_word_is_its_bytes, bytes_are_read_back, headers_show,
     objects_stay_storable, what_stands_at_places, words_after_a_free, words_after_a_malloc,
-    words_after_a_resize, words_after_a_write, words_are_one_list, words_tell_what_is_held,
+    words_after_a_resize, words_after_a_write, words_are_one_list, words_show_what_is_held,
 };

@@ -44,8 +44,8 @@ pub fn a_free_can_follow_an_order()
         × IsOrderOf p (without m h x.place moved) limit new }
 {}
 
-/// A resize of each live object can follow the order, within its class, and to another class that has
-/// a slot left. It leaves an order of the new arrangement.
+/// A resize of each live object can follow the order if the new length has a class and, in another
+/// class, a slot is left there. It leaves an order of the new arrangement.
 pub fn a_resize_can_follow_an_order()
     ensures { (p : Paging) (m : Held) (limit : ℕ) (asked : Request) (x : Placed) (o : Order) → IsPaging p → IsSound p m → IsOrderOf p m limit o
         → get m asked.number ≡ Some x → class_for p asked.length < classes p

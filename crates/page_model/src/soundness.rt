@@ -2,7 +2,7 @@
 ghost use Rattle.std.specs.Prelude.{ℕ, ◌≡◌, ◌≢◌, ◌+◌, ◌/◌, ◌<◌, ◌≤◌, ◌&&◌, Option, Some, None, cond, length, nat_lt, replicate};
 ghost use Rattle.std.specs.FinMap.{empty, get, insert, remove};
 ghost use Rattle.page_model.specs.Arrangement.{IsSound, class_at, home_pages, is_on, live, not_full_pages, objects_on};
-ghost use Rattle.page_model.specs.Counts.{CanHold, Stand};
+ghost use Rattle.page_model.specs.Counts.{CanHold, LieOn};
 ghost use Rattle.page_model.specs.Held.{Held, Placed, objects, places};
 ghost use Rattle.page_model.specs.Paging.{IsPaging, Paging, bound_of, class_for, classes, slots_of};
 ghost use Rattle.page_model.specs.Steps.{ChangesClass, IsFreePlace, RemovesObject, PlacesObject, RefitsObject, MayFill, Moves, MustMove, Leaves, Request};
@@ -21,7 +21,7 @@ pub fn page_counts_of_a_sound_arrangement()
     ensures can_hold { (p : Paging) (m : Held) (c : ℕ) → IsPaging p → IsSound p m → c < classes p
         → CanHold (home_pages p m c) (live p (objects m) c) (slots_of p c) (bound_of p c) }
     ensures not_full { (p : Paging) (m : Held) (c : ℕ) → IsPaging p → IsSound p m → c < classes p
-        → Stand (home_pages p m c) (live p (objects m) c) (slots_of p c) (bound_of p c)
+        → LieOn (home_pages p m c) (live p (objects m) c) (slots_of p c) (bound_of p c)
         (not_full_pages p m c) }
     ensures few { (p : Paging) (m : Held) (c : ℕ) → IsPaging p → IsSound p m → c < classes p
         → home_pages p m c ≤ live p (objects m) c / slots_of p c + bound_of p c }
@@ -48,8 +48,9 @@ pub fn a_resize_keeps_soundness()
         → RefitsObject p old asked after → IsSound p after.held }
 {}
 
-/// A resize to another class has this result: the object is at a free address under its own number,
-/// and the rest is what a free of its old address leaves. `spare` is any number that isn't in use.
+/// A resize to another class leaves what a free of the object leaves, and the object under its own
+/// number at a free address. `given`: each such arrangement is the result of a resize, whatever unused
+/// number the definition takes as `spare`. `taken`: each resize has such a result.
 pub fn a_resize_in_two_steps()
     ensures given { (p : Paging) (m : Held) (h n a spare : ℕ) (x : Placed) (moved : Option ℕ)
         → IsPaging p → IsSound p m → get m h ≡ Some x → class_for p n ≢ class_at p x

@@ -99,7 +99,7 @@ pub fn words_after_a_resize()
 {}
 
 /// The header of an object holds its number and its length.
-pub fn headers_tell()
+pub fn headers_show()
     ensures { (m : Held) (words : List ℕ) (h : ℕ) (x : Placed) → IsImage m words → get m h ≡ Some x
         → h < 2 ^ 32
         → (slice_index words x.place % 2 ^ 32 ≡ h) × (slice_index words x.place / 2 ^ 32
@@ -107,7 +107,7 @@ pub fn headers_tell()
 {}
 
 /// The words and the addresses determine the objects.
-pub fn words_tell_what_is_held()
+pub fn words_show_what_is_held()
     ensures { (m : Held) (at : FinMap nat_cmp ℕ) (words : List ℕ) → IsImage m words → at ≡ places m
         → AreStorable m → held_at words at ≡ m }
 {}

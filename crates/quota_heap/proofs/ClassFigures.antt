@@ -25,7 +25,7 @@ figures_same p m c w s l g n ew es el eg en = rw (ew, es, el, eg, en) refl
 
 module _ (g : SharedPages) (k : ArePages g) (t : ℕ) (x : Task) (i : IsTask g t x) (c : ℕ) (lt : c < classes (paging_at g)) where
   pub class_in : c < x.lists.classes
-  class_in = (let e = i.tell.tables.classes in omega arith)
+  class_in = (let e = i.serve.tables.classes in omega arith)
 
   pub class_listed : c < length g.classes.sizes
   class_listed = (let e = as_many g k in omega arith)
@@ -35,7 +35,7 @@ module _ (g : SharedPages) (k : ArePages g) (t : ℕ) (x : Task) (i : IsTask g t
 
   pub pages_few : length (pages_in x.lists c Full) + length (pages_in x.lists c NotFull) ≤ 4096
   pages_few = (
-      let e = home_pages_are (paging_at g) (paging_ok g) (held_of g x) (tables_of g x) i.tell i.occupied c in
+      let e = home_pages_are (paging_at g) (paging_ok g) (held_of g x) (tables_of g x) i.serve i.occupied c in
       let l = home_at_most (paging_at g) (held_of g x) c in
       let few = g.settings.few_pages in
       omega arith)
@@ -47,8 +47,8 @@ module _ (g : SharedPages) (k : ArePages g) (t : ℕ) (x : Task) (i : IsTask g t
       (ew ∙ size_is g k c)
       (es ∙ ap (λ (d : ClassTable). slots d.page_words d.sizes c) (sym (table_is g k)))
       (el ∙ i.counted c lt)
-      (ep ∙ sym (home_pages_are (paging_at g) (paging_ok g) (held_of g x) (tables_of g x) i.tell i.occupied c))
-      (en ∙ sym (not_full_pages_are (paging_at g) (paging_ok g) (held_of g x) (tables_of g x) i.tell i.occupied c))
+      (ep ∙ sym (home_pages_are (paging_at g) (paging_ok g) (held_of g x) (tables_of g x) i.serve i.occupied c))
+      (en ∙ sym (not_full_pages_are (paging_at g) (paging_ok g) (held_of g x) (tables_of g x) i.serve i.occupied c))
 
 -- the same as callers see it
 pub figures_seen : (h : OpenTasks) (k : IsValid h) (t : ℕ) (x : Task) (at : IsTaskIn h t x) (c : ℕ) (f : Figures)

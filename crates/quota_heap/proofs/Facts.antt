@@ -62,16 +62,16 @@ module _ (g : SharedPages) where
 
 module _ (g : SharedPages) (k : ArePages g) (t : ℕ) (x : Task) (i : IsTask g t x) where
   pub tables_ok : AreTables g.classes (tables_of g x)
-  tables_ok = subst (λ c. AreTables c (tables_of g x)) (table_is g k) i.tell.tables
+  tables_ok = subst (λ c. AreTables c (tables_of g x)) (table_is g k) i.serve.tables
 
   pub table_ok : IsClassTable g.classes.page_words g.classes.sizes
-  table_ok = subst (λ (c : ClassTable). IsClassTable c.page_words c.sizes) (table_is g k) i.tell.tables.table
+  table_ok = subst (λ (c : ClassTable). IsClassTable c.page_words c.sizes) (table_is g k) i.serve.tables.table
 
   pub few_classes : classes (paging_at g) ≤ 67
-  few_classes = i.tell.tables.table.are_sizes.few
+  few_classes = i.serve.tables.table.are_sizes.few
 
   pub page_small : g.settings.page_words ≤ 16384
-  page_small = i.tell.tables.table.small
+  page_small = i.serve.tables.table.small
 
   pub no_place : (q : ℕ) → get x.proxies.places q ≡ None → get (held_of g x) q ≡ None
   no_place q e = get-map_values (λ a. record { place = a; bytes = bytes_at g.region a }) x.proxies.places q

@@ -11,10 +11,10 @@ use Rattle.quota_heap.specs.Layout.{ArePages, IsTask, tables_of}
 use Rattle.quota_heap.specs.declared.shared_pages.SharedPages.{SharedPages}
 use Rattle.quota_heap.specs.declared.task.Task.{Task}
 use Rattle.quota_heap.proofs.Facts.{place_known}
-use Rattle.quota_heap.proofs.FreeKinds.{filled_account, is_other, number_told, other, slots_apart, source_in}
+use Rattle.quota_heap.proofs.FreeKinds.{filled_account, is_other, number_shown, other, slots_apart, source_in}
 
 -- the number in the header at b, and its address
-pub record Told (g : SharedPages) (x : Task) (t q b w : ℕ) : Type 0 where
+pub record IsFiller (g : SharedPages) (x : Task) (t q b w : ℕ) : Type 0 where
   pub above : t * 65536 ≤ w
   pub there : get x.proxies.places (w - t * 65536) ≡ Some b
   pub still : get (remove x.proxies.places q) (w - t * 65536) ≡ Some b
@@ -32,10 +32,10 @@ module _ {g : SharedPages} (k : ArePages g) {t : ℕ} {x : Task} (i : IsTask g t
       let y = other k i o new tables b moves f in
       subst (λ m. IsDisjoint b m a m) (sym is) (slots_apart k i o new tables b moves f y.0 y.1 y.2 y.3))
 
-  pub filler_told : t < 16 → (w : ℕ) → w ≡ get_or g.region b 0 % 2 ^ 32 → Told g x t q b w
-  filler_told lt w is =
+  pub filler_shown : t < 16 → (w : ℕ) → w ≡ get_or g.region b 0 % 2 ^ 32 → IsFiller g x t q b w
+  filler_shown lt w is =
       let y = other k i o new tables b moves f in
-      let e : w ≡ key_of t y.0 = is ∙ number_told k i o new tables b moves f y.0 y.1 y.2 y.3 lt in
+      let e : w ≡ key_of t y.0 = is ∙ number_shown k i o new tables b moves f y.0 y.1 y.2 y.3 lt in
       let known = place_known g k t x i y.0 y.1 y.2 ∙ ap Some y.3 in
       let ne = is_other k i o new tables b moves f y.0 y.1 y.2 y.3 in
       let r : w - t * 65536 ≡ y.0 = omega arith in

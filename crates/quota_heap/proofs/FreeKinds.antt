@@ -18,7 +18,7 @@ use Rattle.page_model.specs.Paging.{slot_words}
 use Rattle.page_model.specs.Steps.{MayFill, Moves, MustMove, moved_to, without}
 use Rattle.page_model.proofs.CallerLemmas.{mover_is_other, sound_apart_from}
 use Rattle.page_slots.specs.Release.{FillsFrom, Vacates}
-use Rattle.page_slots.specs.Occupying.{Occupies, TellPart, class_table}
+use Rattle.page_slots.specs.Occupying.{Occupies, ServePart, class_table}
 use Rattle.page_slots.specs.Tables.{AreTables, Tables, page_at, slot_at}
 use Rattle.page_slots.proofs.CallerLemmas.{filled_occupied, filled_part, filler, filler_in, filler_may, vacated_occupied, vacated_part}
 use Rattle.proxy_table.specs.Proxies.{Proxies}
@@ -46,17 +46,17 @@ module _ {g : SharedPages} (k : ArePages g) {t : ℕ} {x : Task} (i : IsTask g t
   of_table = subst (λ s. AreTables s new) (sym (table_is g k)) tables
 
   module _ (v : Vacates (tables_of g x) c (page_at g.classes a) (slot_at g.classes c a) new) where
-    pub vacated_tells : TellPart (paging_at g) new
-    vacated_tells = vacated_part (paging_ok g) i.tell i.occupied of_table i.sound q (it_found k i o) v (it_class k i o) (page_same k i o) (slot_same k i o)
+    pub vacated_serves : ServePart (paging_at g) new
+    vacated_serves = vacated_part (paging_ok g) i.serve i.occupied of_table i.sound q (it_found k i o) v (it_class k i o) (page_same k i o) (slot_same k i o)
 
     pub vacated_occupies : Occupies (paging_at g) (remove (held_of g x) q) new
-    vacated_occupies = vacated_occupied (paging_ok g) i.tell i.occupied of_table i.sound q (it_found k i o) v (it_class k i o) (page_same k i o)
+    vacated_occupies = vacated_occupied (paging_ok g) i.serve i.occupied of_table i.sound q (it_found k i o) v (it_class k i o) (page_same k i o)
         (slot_same k i o)
 
-    -- the pool has got no more than the task had
+    -- the pool has no more than its pages before and those of the task
     pub vacated_account : length new.pool.free ≤ x.pages + length g.pool.free
     vacated_account =
-        let e = used_after g k t x i c o.in_range (remove (held_of g x) q) new vacated_tells vacated_occupies
+        let e = used_after g k t x i c o.in_range (remove (held_of g x) q) new vacated_serves vacated_occupies
         (vacate_accounts g.classes (tables_of g x) (tables_ok g k t x i) c new (page_at g.classes a) (slot_at g.classes c a) v) in
         omega arith
 
@@ -70,11 +70,11 @@ module _ {g : SharedPages} (k : ArePages g) {t : ℕ} {x : Task} (i : IsTask g t
         (subst (λ s. FillsFrom s (tables_of g x) c b new) (sym (table_is g k)) f)
 
     pub other : (r : ℕ) × (y : Placed) × (get (held_of g x) r ≡ Some y) × (y.place ≡ b)
-    other = filler (paging_ok g) i.tell i.occupied (filler_in fills)
+    other = filler (paging_ok g) i.serve i.occupied (filler_in fills)
 
     module _ (r : ℕ) (y : Placed) (there : get (held_of g x) r ≡ Some y) (at : y.place ≡ b) where
       pub may : MayFill (paging_at g) (held_of g x) (it k i o) y
-      may = filler_may (paging_ok g) i.tell i.occupied (it k i o) (filler_in fills) i.sound r there at
+      may = filler_may (paging_ok g) i.serve i.occupied (it k i o) (filler_in fills) i.sound r there at
 
       pub is_other : r ≢ q
       is_other = mover_is_other (paging_at g) (paging_ok g) (held_of g x) i.sound q (it k i o) (it_found k i o) r y there due may
@@ -82,15 +82,15 @@ module _ {g : SharedPages} (k : ArePages g) {t : ℕ} {x : Task} (i : IsTask g t
       pub same_slot : get_or g.classes.sizes c 0 ≡ slot_for (paging_at g) (length y.bytes)
       same_slot = it_slot k i o ∙ sym (ap (slot_words (paging_at g)) may.class)
 
-      pub filled_tells : TellPart (paging_at g) new
-      filled_tells = filled_part (paging_ok g) i.tell i.occupied of_table q (it_found k i o) fills
+      pub filled_serves : ServePart (paging_at g) new
+      filled_serves = filled_part (paging_ok g) i.serve i.occupied of_table q (it_found k i o) fills
 
       pub filled_occupies : Occupies (paging_at g) (without (held_of g x) q a (Some r)) new
-      filled_occupies = filled_occupied (paging_ok g) i.tell i.occupied of_table q (it_found k i o) fills i.sound r there at due
+      filled_occupies = filled_occupied (paging_ok g) i.serve i.occupied of_table q (it_found k i o) fills i.sound r there at due
 
       pub filled_account : length new.pool.free ≤ x.pages + length g.pool.free
       filled_account =
-          let e = used_after g k t x i c o.in_range (without (held_of g x) q a (Some r)) new filled_tells filled_occupies
+          let e = used_after g k t x i c o.in_range (without (held_of g x) q a (Some r)) new filled_serves filled_occupies
           (fill_accounts g.classes (tables_of g x) (tables_ok g k t x i) c new b f) in
           omega arith
 
@@ -118,8 +118,8 @@ module _ {g : SharedPages} (k : ArePages g) {t : ℕ} {x : Task} (i : IsTask g t
           elim d [ inl l ↦ inl (omega arith) | inr l ↦ inr (omega arith) ]
 
       -- its header holds its number
-      pub number_told : t < 16 → (get_or g.region b 0 % 2 ^ 32 ≡ key_of t r)
-      number_told lt =
+      pub number_shown : t < 16 → (get_or g.region b 0 % 2 ^ 32 ≡ key_of t r)
+      number_shown lt =
           let e = i.headed r y there in
           let small = number_small g k t x i r y.place (place_known g k t x i r y there) in
           let w : get_or g.region b 0 ≡ header_word (key_of t r) (length y.bytes) = ap (λ j. get_or g.region j 0) (sym at) ∙ e in
@@ -156,7 +156,7 @@ module _ (h n : OpenTasks) (k : IsValid h) (t : ℕ) (x x' : Task) (at : IsTaskI
       (removed_image (profile_of h.shared_pages.settings) (held_in h) k.shared h.shared_pages.settings.page_size h.shared_pages.region k.image n.shared_pages.region t q
       (without (held_in h) (key_of t q) a None) (removed h n k t x x' at tasks granted q a size c o None stays)
       (subst (λ s. Clears h.shared_pages.region n.shared_pages.region (record { from = a; count = s })) (it_slot k.shared_pages i o) go.words))
-      (vacated_tells k.shared_pages i o (tables_of n.shared_pages x') go.rest.tables go.vacated)
+      (vacated_serves k.shared_pages i o (tables_of n.shared_pages x') go.rest.tables go.vacated)
       (vacated_occupies k.shared_pages i o (tables_of n.shared_pages x') go.rest.tables go.vacated)
       (ap (λ (p : Proxies). p.limit) go.proxies)
       (vacate_accounts h.shared_pages.classes (tables_of h.shared_pages x) (tables_ok h.shared_pages k.shared_pages t x i) c (tables_of n.shared_pages x') (page_at h.shared_pages.classes a)
@@ -239,7 +239,7 @@ module _ (h n : OpenTasks) (k : IsValid h) (t : ℕ) (x x' : Task) (at : IsTaskI
       (without (held_in h) (key_of t q) a (Some (key_of t r))) (removed h n k t x x' at tasks granted q a size c o (Some r) mover) part_there
       (subst (λ s. MovesWords h.shared_pages.region n.shared_pages.region (record { from = fi.from; count = s }) a)
       (same_slot k.shared_pages i' o new fi.rest.tables fi.from moves fi.filled r y there refl) fi.words))
-      (filled_tells k.shared_pages i' o new fi.rest.tables fi.from moves fi.filled r y there refl)
+      (filled_serves k.shared_pages i' o new fi.rest.tables fi.from moves fi.filled r y there refl)
       (filled_occupies k.shared_pages i' o new fi.rest.tables fi.from moves fi.filled r y there refl)
       (ap (λ (p : Proxies). p.limit) fi.proxies)
       (fill_accounts h.shared_pages.classes (tables_of h.shared_pages x) (tables_ok h.shared_pages k.shared_pages t x i') c new fi.from fi.filled)

@@ -19,7 +19,7 @@ use Rattle.page_model.specs.Paging.{bound_of, class_for, classes, page_of, slot_
 use Rattle.page_model.specs.Steps.{Moves, MustMove, without}
 use Rattle.page_model.proofs.CallerLemmas.{bytes_held, live_taken, storable_without}
 use Rattle.page_slots.specs.Release.{MovesObject}
-use Rattle.page_slots.specs.Occupying.{Occupies, TellPart, class_table}
+use Rattle.page_slots.specs.Occupying.{Occupies, ServePart, class_table}
 use Rattle.page_slots.specs.Tables.{IsUsed, page_at, slot_at, slots_on}
 use Rattle.page_slots.proofs.CallerLemmas.{found_page, moves_is, moves_some}
 use Rattle.quota_model.specs.Joined.{joined}
@@ -87,7 +87,7 @@ module _ {g : SharedPages} (k : ArePages g) {t : ℕ} {x : Task} (i : IsTask g t
 
   pub page_there : page_at g.classes a < length g.maps.items
   page_there =
-      let lt = found_page (paging_ok g) i.tell i.occupied q it_found in
+      let lt = found_page (paging_ok g) i.serve i.occupied q it_found in
       subst (λ p. p < length g.maps.items) page_same lt
 
   along : (p p' d d' b b' : ℕ) → p ≡ p' → d ≡ d' → b ≡ b' → MovesObject (slots_on (tables_of g x) p) (length (pages_in x.lists d NotFull)) b
@@ -102,14 +102,14 @@ module _ {g : SharedPages} (k : ArePages g) {t : ℕ} {x : Task} (i : IsTask g t
 
   -- the test of a move is the model's
   pub must : IsMoving g x a c → MustMove (paging_at g) (held_of g x) it
-  must v = (moves_is (paging_ok g) i.tell i.occupied q it_found).0 (along _ _ _ _ _ _ (sym page_same) (sym it_class) bound_same v)
+  must v = (moves_is (paging_ok g) i.serve i.occupied q it_found).0 (along _ _ _ _ _ _ (sym page_same) (sym it_class) bound_same v)
 
   pub moving : MustMove (paging_at g) (held_of g x) it → IsMoving g x a c
-  moving v = along _ _ _ _ _ _ page_same it_class (sym bound_same) ((moves_is (paging_ok g) i.tell i.occupied q it_found).1 v)
+  moving v = along _ _ _ _ _ _ page_same it_class (sym bound_same) ((moves_is (paging_ok g) i.serve i.occupied q it_found).1 v)
 
   pub some_not_full : IsMoving g x a c → 1 ≤ length (pages_in x.lists c NotFull)
   some_not_full v =
-      let l = moves_some (paging_ok g) i.tell i.occupied q it_found (must v) (let e = it_class in let lt = o.in_range in omega arith) in
+      let l = moves_some (paging_ok g) i.serve i.occupied q it_found (must v) (let e = it_class in let lt = o.in_range in omega arith) in
       subst (λ d. 1 ≤ length (pages_in x.lists d NotFull)) it_class l
 
 -- what a free leaves, by the other object that moves
@@ -159,10 +159,10 @@ module _ (h n : OpenTasks) (k : IsValid h) (t : ℕ) (x x' : Task) (at : IsTaskI
         omega arith
 
     pub goes : joined (places_of (set h.tasks.items t x')) ≡ places after → length n.shared_pages.region ≡ length h.shared_pages.region
-        → IsSlotImage (paging_at h.shared_pages) after n.shared_pages.region → TellPart (paging_at h.shared_pages) (tables_of n.shared_pages x')
+        → IsSlotImage (paging_at h.shared_pages) after n.shared_pages.region → ServePart (paging_at h.shared_pages) (tables_of n.shared_pages x')
         → Occupies (paging_at h.shared_pages) (without (held_of h.shared_pages x) q a moved) (tables_of n.shared_pages x') → x'.proxies.limit ≡ x.proxies.limit
         → Accounts (tables_of h.shared_pages x) (tables_of n.shared_pages x') c → Becomes h n t x x' after
-    goes at_places long image tell occupied limit accounts =
+    goes at_places long image serve occupied limit accounts =
         let occupied' : Occupies (paging_at h.shared_pages) (part_of after t) (tables_of n.shared_pages x') =
         subst (λ m. Occupies (paging_at h.shared_pages) m (tables_of n.shared_pages x')) (sym own_part) occupied in
         record {
@@ -178,12 +178,12 @@ module _ (h n : OpenTasks) (k : IsValid h) (t : ℕ) (x x' : Task) (at : IsTaskI
           quotas = free_quotas (profile_of h.shared_pages.settings) (held_in h) t q moved after h.shared_pages.settings.page_size k.shared removed (quotas_of h.tasks.items)
               k.quotas;
           others = λ u ne. others_kept (profile_of h.shared_pages.settings) (held_in h) t q moved after h.shared_pages.settings.page_size k.shared removed u ne;
-          tell = tell;
+          serve = serve;
           occupied = occupied';
           limit = limit;
           live_long = ap length live_is ∙ length-set x.live c (get_or x.live c 0 - 1) ∙ i.live_long;
           counted = counts;
-          pages = pages_after h.shared_pages k.shared_pages t x i c o.in_range (part_of after t) (tables_of n.shared_pages x') tell occupied' accounts (shared_after.sound t)
+          pages = pages_after h.shared_pages k.shared_pages t x i c o.in_range (part_of after t) (tables_of n.shared_pages x') serve occupied' accounts (shared_after.sound t)
               x'.pages rest.account;
         }
 

@@ -16,8 +16,8 @@ use Rattle.page_model.specs.Image.{IsSlotImage, header_word}
 use Rattle.page_model.specs.Paging.{class_for, classes, page_of}
 use Rattle.page_model.specs.Steps.{IsFreePlace, Request, zeros_at}
 use Rattle.page_model.proofs.CallerLemmas.{bytes_missing, live_added, malloc_objects, malloc_places, storable_added, zeros_are_bytes, class_of_zeros}
-use Rattle.page_slots.specs.Occupying.{Occupies, TellPart, class_table}
-use Rattle.page_slots.specs.Tables.{AreTables, IsElsewhere, IsOf, Tables}
+use Rattle.page_slots.specs.Occupying.{Occupies, ServePart, class_table}
+use Rattle.page_slots.specs.Tables.{AreTables, IsForeign, IsOf, Tables}
 use Rattle.page_slots.specs.Take.{TakesAt}
 use Rattle.page_slots.proofs.CallerLemmas.{taken_is_free, taken_occupied, taken_part}
 use Rattle.proxy_table.specs.Proxies.{Proxies}
@@ -26,7 +26,7 @@ use Rattle.quota_model.proofs.CallerLemmas.{image_of_malloc, joined_insert}
 use Rattle.quota_model.specs.Parts.{key_of, number_of, part_of, task_of}
 use Rattle.quota_model.specs.Shared.{PlacesForTask}
 use Rattle.quota_model.proofs.CallerLemmas.{found_part, others_stay, part_inserted, quotas_stay, stays_shared}
-use Rattle.quota_heap.specs.Calls.{Comes}
+use Rattle.quota_heap.specs.Calls.{IsAdded}
 use Rattle.quota_heap.specs.Layout.{ArePages, IsTask, IsTaskIn, IsValid, held_in, held_of, objects_of, paging_at, places_of, quotas_of, state_of, tables_of}
 use Rattle.quota_heap.specs.Steps.{GivesTask}
 use Rattle.quota_heap.specs.declared.shared_pages.SharedPages.{SharedPages}
@@ -59,14 +59,14 @@ module _ (g : SharedPages) (k : ArePages g) (t : ℕ) (x : Task) (i : IsTask g t
   of_table = subst (λ s. AreTables s new) (sym (table_is g k)) tables
 
   pub taken_free : (n : ℕ) → class_for (paging_at g) n ≡ c → IsFreePlace (paging_at g) (held_of g x) n a
-  taken_free n class = taken_is_free (paging_ok g) i.tell i.occupied of_table lt at_table n class
+  taken_free n class = taken_is_free (paging_ok g) i.serve i.occupied of_table lt at_table n class
 
-  pub taken_tells : TellPart (paging_at g) new
-  taken_tells = taken_part (paging_ok g) i.tell i.occupied of_table lt at_table
+  pub taken_serves : ServePart (paging_at g) new
+  taken_serves = taken_part (paging_ok g) i.serve i.occupied of_table lt at_table
 
   pub taken_occupies : (q : ℕ) (y : Placed) → get (held_of g x) q ≡ None → y.place ≡ a → class_at (paging_at g) y ≡ c
       → Occupies (paging_at g) (insert (held_of g x) q y) new
-  taken_occupies q y none at class = taken_occupied (paging_ok g) i.tell i.occupied of_table lt at_table q y none at class
+  taken_occupies q y none at class = taken_occupied (paging_ok g) i.serve i.occupied of_table lt at_table q y none at class
 
   -- the address is in the region
   pub taken_inside : (n : ℕ) → class_for (paging_at g) n ≡ c → a < length g.region
@@ -77,17 +77,17 @@ module _ (g : SharedPages) (k : ArePages g) (t : ℕ) (x : Task) (i : IsTask g t
       let long = k.words_long in
       omega arith
 
-  -- the pool has given no more than the task got
+  -- the pool has no more than its pages before and those of the task
   pub taken_account : (q n : ℕ) → get x.proxies.places q ≡ None → class_for (paging_at g) n ≡ c → length new.pool.free ≤ x.pages + length g.pool.free
   taken_account q n unused class =
-      let e = used_after g k t x i c lt (insert (held_of g x) q (zeros_at a n)) new taken_tells
+      let e = used_after g k t x i c lt (insert (held_of g x) q (zeros_at a n)) new taken_serves
       (taken_occupies q (zeros_at a n) (no_place g k t x i q unused) refl (class_of_zeros (paging_at g) a n c class))
       (take_accounts g.classes (tables_of g x) (tables_ok g k t x i) c new a taken) in
       omega arith
 
 module _ (h n : OpenTasks) (k : IsValid h) (t : ℕ) (x x' : Task) (at : IsTaskIn h t x) (tasks : n.tasks.items ≡ set h.tasks.items t x')
     (granted : n.granted ≡ h.granted) (c bytes q : ℕ)
-    (class : class_for (paging_at h.shared_pages) bytes ≡ c) (lt : c < classes (paging_at h.shared_pages)) (co : Comes h.shared_pages x t c bytes q n.shared_pages x')
+    (class : class_for (paging_at h.shared_pages) bytes ≡ c) (lt : c < classes (paging_at h.shared_pages)) (co : IsAdded h.shared_pages x t c bytes q n.shared_pages x')
     (none : None ≡ reason h k t x at bytes) where
   abbrev i : IsTask h.shared_pages t x
   i = k.task t x at
@@ -122,7 +122,7 @@ module _ (h n : OpenTasks) (k : IsValid h) (t : ℕ) (x x' : Task) (at : IsTaskI
   listed = subst (λ d. IsOf (tables_of n.shared_pages x') d (page_of (paging_at h.shared_pages) co.place)) (class_of_zeros (paging_at h.shared_pages) co.place bytes c class)
       (occupied_own.stands q (zeros_at co.place bytes) (get_inserted (held_of h.shared_pages x) q (zeros_at co.place bytes))).of
 
-  not_elsewhere : IsElsewhere (tables_of h.shared_pages x) (page_of (paging_at h.shared_pages) co.place) → ⊥
+  not_elsewhere : IsForeign (tables_of h.shared_pages x) (page_of (paging_at h.shared_pages) co.place) → ⊥
   not_elsewhere e =
       let now = co.rest.elsewhere.still (page_of (paging_at h.shared_pages) co.place) e in
       elim listed [ inl f ↦ now.unlisted c Full f | inr f ↦ now.unlisted c NotFull f ]
@@ -148,8 +148,8 @@ module _ (h n : OpenTasks) (k : IsValid h) (t : ℕ) (x x' : Task) (at : IsTaskI
           let away = λ (d : ℕ) (w : Which) (l : Contains (pages_in z.lists d w) (page_of (paging_at h.shared_pages) y.place)).
           k.others t (task_of key) x z at e ne d (page_of (paging_at h.shared_pages) y.place) w l in
           elim of [
-            | inl l ↦ not_elsewhere (subst (IsElsewhere (tables_of h.shared_pages x)) page (away (class_at (paging_at h.shared_pages) y) Full l))
-            | inr l ↦ not_elsewhere (subst (IsElsewhere (tables_of h.shared_pages x)) page (away (class_at (paging_at h.shared_pages) y) NotFull l))
+            | inl l ↦ not_elsewhere (subst (IsForeign (tables_of h.shared_pages x)) page (away (class_at (paging_at h.shared_pages) y) Full l))
+            | inr l ↦ not_elsewhere (subst (IsForeign (tables_of h.shared_pages x)) page (away (class_at (paging_at h.shared_pages) y) NotFull l))
           ]
 
   part : part_of (held_in h) t ≡ held_of h.shared_pages x
@@ -217,13 +217,13 @@ module _ (h n : OpenTasks) (k : IsValid h) (t : ℕ) (x x' : Task) (at : IsTaskI
     shared = shared_after;
     quotas = quotas_stay (profile_of h.shared_pages.settings) (held_in h) t asked after few placed (quotas_of h.tasks.items) k.quotas (sym none);
     others = λ u ne. others_stay (profile_of h.shared_pages.settings) (held_in h) t asked after few placed u ne;
-    tell = taken_tells h.shared_pages k.shared_pages t x i c lt co.place (tables_of n.shared_pages x') co.taken co.rest.tables;
+    serve = taken_serves h.shared_pages k.shared_pages t x i c lt co.place (tables_of n.shared_pages x') co.taken co.rest.tables;
     occupied = subst (λ m. Occupies (paging_at h.shared_pages) m (tables_of n.shared_pages x')) (sym own_part) occupied_own;
     limit = ap (λ (p : Proxies). p.limit) co.proxies;
     live_long = ap length co.live ∙ length-set x.live c (get_or x.live c 0 + 1) ∙ i.live_long;
     counted = counts;
     pages = pages_after h.shared_pages k.shared_pages t x i c lt (part_of after t) (tables_of n.shared_pages x')
-        (taken_tells h.shared_pages k.shared_pages t x i c lt co.place (tables_of n.shared_pages x') co.taken co.rest.tables)
+        (taken_serves h.shared_pages k.shared_pages t x i c lt co.place (tables_of n.shared_pages x') co.taken co.rest.tables)
         (subst (λ m. Occupies (paging_at h.shared_pages) m (tables_of n.shared_pages x')) (sym own_part) occupied_own)
         (take_accounts h.shared_pages.classes (tables_of h.shared_pages x) (tables_ok h.shared_pages k.shared_pages t x i) c (tables_of n.shared_pages x')
         co.place co.taken)

@@ -1,17 +1,17 @@
--- An object more needs a page more if and only if no page of its class is partly full.
+-- One more object needs one more page if and only if no page of its class is partly full.
 use Rattle.std.proofs.Common.{◌≡◌, ℕ, zero, suc, ◌+◌, ◌-◌, ◌*◌, ◌<◌, ◌≤◌, cond, arith, refl, sym, subst, inl, inr}
 use Rattle.std.specs.Prelude.{nat_eq}
 use Rattle.std.proofs.lemmas.Bool.{cases_eq, cases_lt}
 use Rattle.cf_lemmas.proofs.Tests.{eq_no, eq_yes}
 use Rattle.cf_lemmas.proofs.Ranges.{sum_changed}
 use Rattle.page_model.specs.Arrangement.{IsSound, home_pages, live, not_full_pages, pages_needed, pages_needed_with}
-use Rattle.page_model.specs.Counts.{CanHold, Stand, ceil_div}
+use Rattle.page_model.specs.Counts.{CanHold, LieOn, ceil_div}
 use Rattle.page_model.specs.Held.{Held, objects}
 use Rattle.page_model.specs.Paging.{AreOne, IsPaging, Paging, class_for, classes, slots_of}
 use Rattle.page_model.proofs.CallerLemmas.{can_hold_one, slots_some, sound_stand, home_at_one}
 
 -- n and one more on pages that may have one partly full
-one_more : (h n m q : ℕ) → 0 < m → Stand h n m 1 q → CanHold (h + (1 - q)) (n + 1) m 1
+one_more : (h n m q : ℕ) → 0 < m → LieOn h n m 1 q → CanHold (h + (1 - q)) (n + 1) m 1
 one_more h n m zero pos s =
     let e : h - 0 ≡ h = omega arith in
     let low : h * m + 0 ≤ n = rw e at s.least in
@@ -44,8 +44,8 @@ one_more (suc h) n m (suc zero) pos s =
 one_more h n m (suc (suc q)) pos s = absurd (omega (arith, s.few))
 
 module _ (p : Paging) (ok : IsPaging p) (ones : AreOne p) (m : Held) (s : IsSound p m) where
-  stand : (c : ℕ) → c < classes p → Stand (home_pages p m c) (live p (objects m) c) (slots_of p c) 1 (not_full_pages p m c)
-  stand c lt = subst (λ k. Stand (home_pages p m c) (live p (objects m) c) (slots_of p c) k (not_full_pages p m c)) (ones c lt) (sound_stand p ok c lt m s)
+  stand : (c : ℕ) → c < classes p → LieOn (home_pages p m c) (live p (objects m) c) (slots_of p c) 1 (not_full_pages p m c)
+  stand c lt = subst (λ k. LieOn (home_pages p m c) (live p (objects m) c) (slots_of p c) k (not_full_pages p m c)) (ones c lt) (sound_stand p ok c lt m s)
 
   pub not_full_few : (c : ℕ) → c < classes p → not_full_pages p m c ≤ 1
   not_full_few c lt = (stand c lt).few

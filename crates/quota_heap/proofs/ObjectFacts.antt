@@ -15,13 +15,13 @@ use Rattle.quota_heap.proofs.Facts.{class_is, class_there, paging_ok, sizes_are}
 module _ (g : SharedPages) (k : ArePages g) (t : ℕ) (x : Task) (i : IsTask g t x) where
   pub pool_few : length g.pool.free ≤ 4096
   pool_few = (
-      let w = free_within g.pool.pages g.pool.free i.tell.tables.pool in
-      let p = i.tell.pages in let few = g.settings.few_pages in
+      let w = free_within g.pool.pages g.pool.free i.serve.tables.pool in
+      let p = i.serve.pages in let few = g.settings.few_pages in
       omega arith)
 
-  module _ (q a : ℕ) (some : get x.proxies.places q ≡ Some a) (size : ℕ) (told : size ≡ get_or g.region a 0 / 2 ^ 32) where
+  module _ (q a : ℕ) (some : get x.proxies.places q ≡ Some a) (size : ℕ) (shown : size ≡ get_or g.region a 0 / 2 ^ 32) where
     long : length (bytes_at g.region a) ≡ size
-    long = bytes_long g.region a ∙ sym told
+    long = bytes_long g.region a ∙ sym shown
 
     -- it has a class
     pub has_class : None ≡ class_of g.classes.sizes size → ⊥

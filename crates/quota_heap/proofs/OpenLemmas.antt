@@ -8,6 +8,7 @@ use Rattle.std.proofs.lemmas.List.{get_or-replicate, get_or_past, length-replica
 use Rattle.std.proofs.lemmas.List.Sums.{sum_by-cons}
 use Rattle.std.specs.Ordering.{nat_cmp}
 use Rattle.std.specs.FinMap.{empty, get, get-empty}
+use Rattle.cf_lemmas.proofs.Members.{contains_nil}
 use Rattle.cf_base.specs.Classes.{sizes}
 use Rattle.cf_base.specs.Settings.{profile_of}
 use Rattle.cf_base.specs.declared.kind.Layout.TheVariants.{Words}
@@ -15,7 +16,6 @@ use Rattle.cf_base.specs.declared.settings.Settings.{Settings}
 use Rattle.cf_base.proofs.CallerLemmas.{are_sizes}
 use Rattle.cf_lemmas.proofs.Maps.{equal_maps}
 use Rattle.class_lists.specs.PageLists.{empty_lists, pages_in}
-use Rattle.class_lists.proofs.CallerLemmas.{contains_nil}
 use Rattle.page_model.specs.Arrangement.{IsSound, live, pages_needed}
 use Rattle.page_model.specs.Bytes.{held_at}
 use Rattle.page_model.specs.Held.{objects}
@@ -106,8 +106,8 @@ module _ (s : Settings) (h : OpenTasks) (f : AreFirstPages s h.shared_pages) (n 
         (let e = length-replicate s.pages (replicate 1 false) in omega arith))
   ]
 
-  told : AreTables (class_table (paging_at h.shared_pages)) (tables h.shared_pages.maps.items (empty_lists n s.pages) h.shared_pages.pool)
-  told =
+  shown : AreTables (class_table (paging_at h.shared_pages)) (tables h.shared_pages.maps.items (empty_lists n s.pages) h.shared_pages.pool)
+  shown =
       let small = s.small_region in
       let t = first_table h.shared_pages.settings.page_words Words h.shared_pages.settings.page_size in
       let long : length h.shared_pages.maps.items ≡ s.pages = ap length f.maps ∙ length-replicate s.pages (replicate 1 false) in
@@ -122,7 +122,7 @@ module _ (s : Settings) (h : OpenTasks) (f : AreFirstPages s h.shared_pages) (n 
   first_kept : (t : ℕ) → IsTask h.shared_pages t (first_task n s.pages s.proxies)
   first_kept t = record {
     sound = subst (IsSound (paging_at h.shared_pages)) (sym held_none) (sound_empty (paging_at h.shared_pages));
-    tell = record { tables = told; pages = ap (λ (q : Pool). q.pages) f.pool ∙ sym pages_is };
+    serve = record { tables = shown; pages = ap (λ (q : Pool). q.pages) f.pool ∙ sym pages_is };
     occupied = subst (λ m. Occupies (paging_at h.shared_pages) m (tables h.shared_pages.maps.items (empty_lists n s.pages) h.shared_pages.pool)) (sym held_none)
         (first_occupied n s.pages (paging_at h.shared_pages) h.shared_pages.maps.items h.shared_pages.pool);
     headed = λ q y e. absurd (

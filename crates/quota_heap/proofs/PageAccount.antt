@@ -3,17 +3,17 @@ use Rattle.std.proofs.Common.{◌≡◌, ◌≢◌, ℕ, ◌+◌, ◌<◌, lengt
 use Rattle.std.proofs.Common.{inl, inr, subst}
 use Rattle.std.specs.List.{Contains}
 use Rattle.std.proofs.lemmas.Bool.{cases_eq}
+use Rattle.cf_lemmas.proofs.Members.{length-without}
 use Rattle.size_classes.specs.Table.{ClassTable}
 use Rattle.class_lists.specs.declared.Which.{Which}
 use Rattle.class_lists.specs.declared.Which.TheVariants.{Full, NotFull}
 use Rattle.class_lists.specs.PageLists.{AreApart, PageLists, pages_in}
-use Rattle.class_lists.proofs.CallerLemmas.{length-without}
 use Rattle.page_model.specs.Arrangement.{home_pages, used_pages}
 use Rattle.page_model.specs.Held.{Held}
 use Rattle.page_model.specs.Paging.{IsPaging, Paging, classes}
 use Rattle.page_pool.specs.Pool.{Pool}
 use Rattle.page_slots.specs.Release.{FillsFrom, Vacates}
-use Rattle.page_slots.specs.Occupying.{Occupies, TellPart}
+use Rattle.page_slots.specs.Occupying.{Occupies, ServePart}
 use Rattle.page_slots.specs.Tables.{AreTables, JoinsList, LeavesList, Tables, slots_in, slots_on, used_in}
 use Rattle.page_slots.specs.Take.{TakesAt, TakesOnFreePage, TakesOnOpenPage}
 use Rattle.page_slots.proofs.CallerLemmas.{home_pages_are, front_listed}
@@ -136,14 +136,14 @@ module _ (k : ClassTable) (old : Tables) (a : AreTables k old) (c : ℕ) (new : 
   pub fill_accounts : (at : ℕ) → FillsFrom k old c at new → Accounts old new c
   fill_accounts at f = vacate_accounts f.page f.slot f.vacates
 
--- so it is with the pages that the task uses
-pub used_accounts : (p : Paging) → IsPaging p → (m m' : Held) (old new : Tables) → TellPart p old → Occupies p m old → TellPart p new → Occupies p m' new
+-- the same for the pages that the task uses
+pub used_accounts : (p : Paging) → IsPaging p → (m m' : Held) (old new : Tables) → ServePart p old → Occupies p m old → ServePart p new → Occupies p m' new
     → (c : ℕ) → c < classes p → Accounts old new c → used_pages p m' + length new.pool.free ≡ used_pages p m + length old.pool.free
 unfolding used_pages
-used_accounts p ok m m' old new tell o tell' o' c lt a =
-    let was = home_pages_are p ok m old tell o c in
-    let now = home_pages_are p ok m' new tell' o' c in
+used_accounts p ok m m' old new serve o serve' o' c lt a =
+    let was = home_pages_are p ok m old serve o c in
+    let now = home_pages_are p ok m' new serve' o' c in
     let sum = sum_changed (home_pages p m') (home_pages p m) 0 (classes p) c (omega arith) (omega arith)
-    (λ d _ _ ne. home_pages_are p ok m' new tell' o' d ∙ a.others d ne ∙ sym (home_pages_are p ok m old tell o d)) in
+    (λ d _ _ ne. home_pages_are p ok m' new serve' o' d ∙ a.others d ne ∙ sym (home_pages_are p ok m old serve o d)) in
     let here = a.here in
     omega arith

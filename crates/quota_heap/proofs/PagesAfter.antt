@@ -4,7 +4,7 @@ use Rattle.page_model.specs.Arrangement.{IsSound, pages_needed, used_pages}
 use Rattle.page_model.specs.Held.{Held, objects}
 use Rattle.page_model.specs.Paging.{classes}
 use Rattle.page_model.proofs.CallerLemmas.{used_at_one}
-use Rattle.page_slots.specs.Occupying.{Occupies, TellPart}
+use Rattle.page_slots.specs.Occupying.{Occupies, ServePart}
 use Rattle.page_slots.specs.Tables.{Tables}
 use Rattle.quota_heap.specs.Layout.{ArePages, IsTask, held_of, paging_at, tables_of}
 use Rattle.quota_heap.specs.declared.shared_pages.SharedPages.{SharedPages}
@@ -13,15 +13,15 @@ use Rattle.quota_heap.proofs.Facts.{at_one, paging_ok, used_is}
 use Rattle.quota_heap.proofs.PageAccount.{Accounts, used_accounts}
 
 module _ (g : SharedPages) (k : ArePages g) (t : ℕ) (x : Task) (i : IsTask g t x) (c : ℕ) (lt : c < classes (paging_at g)) (m : Held) (new : Tables)
-    (tell : TellPart (paging_at g) new) (occupied : Occupies (paging_at g) m new) (a : Accounts (tables_of g x) new c) where
-  -- what the pool lost the task has
+    (serve : ServePart (paging_at g) new) (occupied : Occupies (paging_at g) m new) (a : Accounts (tables_of g x) new c) where
+  -- the pages of the task and those of the pool sum to the same as before
   pub used_after : used_pages (paging_at g) m + length new.pool.free ≡ x.pages + length g.pool.free
   used_after =
-      let e = used_accounts (paging_at g) (paging_ok g) (held_of g x) m (tables_of g x) new i.tell i.occupied tell occupied c lt a in
+      let e = used_accounts (paging_at g) (paging_ok g) (held_of g x) m (tables_of g x) new i.serve i.occupied serve occupied c lt a in
       let f = used_is g k t x i in
       omega arith
 
-  -- and that is what its objects need
+  -- a number of pages with that sum is what the task's objects need
   pub pages_after : IsSound (paging_at g) m → (pages : ℕ) → pages + length new.pool.free ≡ x.pages + length g.pool.free
       → pages ≡ pages_needed (paging_at g) (objects m)
   pages_after s pages account =

@@ -58,7 +58,7 @@ module _ (h : OpenTasks) (k : IsValid h) (t : ℕ) (x : Task) (at : IsTaskIn h t
     past = p.past;
   }
 
-  -- what was found of the task is so of the heap
+  -- what was found for the task holds for the heap
   pub found_in : (part : Part) (count : ℕ) (r : Result ℕ AccessFault) → IsFound h.shared_pages x part count r → IsFoundIn h t part count r
   found_in part count (Ok place) l = λ y e. (
       let z : Some x ≡ Some y = sym at ∙ e in
@@ -281,7 +281,7 @@ module _ (h : OpenTasks) (k : IsValid h) (t : ℕ) (x : Task) (at : IsTaskIn h t
     shared = rewritten_shared (profile_of h.shared_pages.settings) (held_in h) t q it part_found new class k.shared;
     quotas = rewritten_quotas (profile_of h.shared_pages.settings) (held_in h) t q it part_found new class (quotas_of h.tasks.items) k.quotas;
     others = λ u ne. others_rewritten (profile_of h.shared_pages.settings) (held_in h) t q it part_found new class u ne;
-    tell = own.tell;
+    serve = own.serve;
     occupied = subst (λ m. Occupies (paging_at h.shared_pages) m (tables_of h.shared_pages x)) (sym own_part) (rewritten_occupied own.occupied q found new class);
     limit = refl;
     live_long = own.live_long;

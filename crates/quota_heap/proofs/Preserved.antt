@@ -12,7 +12,7 @@ use Rattle.page_model.specs.Held.{Held, Placed, objects, places}
 use Rattle.page_model.specs.Image.{IsSlotImage, header_word}
 use Rattle.page_model.specs.Paging.{classes}
 use Rattle.page_model.proofs.CallerLemmas.{class_holds, held_at_bytes, held_from_image, places-held_at}
-use Rattle.page_slots.specs.Occupying.{Occupies, TellPart}
+use Rattle.page_slots.specs.Occupying.{Occupies, ServePart}
 use Rattle.page_slots.specs.Tables.{AreOthers, AreTables}
 use Rattle.page_slots.proofs.CallerLemmas.{mine_elsewhere, others_elsewhere, others_occupied, others_tables}
 use Rattle.quota_model.specs.Joined.{AreNumbers, joined}
@@ -42,14 +42,14 @@ pub record Becomes (h n : OpenTasks) (t : ℕ) (x x' : Task) (m : Held) : Type 0
   pub shared : IsShared (profile_of h.shared_pages.settings) m
   pub quotas : AreQuotas (profile_of h.shared_pages.settings) (quotas_of h.tasks.items) m
   pub others : (u : ℕ) → u ≢ t → part_of m u ≡ part_of (held_in h) u
-  pub tell : TellPart (paging_at h.shared_pages) (tables_of n.shared_pages x')
+  pub serve : ServePart (paging_at h.shared_pages) (tables_of n.shared_pages x')
   pub occupied : Occupies (paging_at h.shared_pages) (part_of m t) (tables_of n.shared_pages x')
   pub limit : x'.proxies.limit ≡ x.proxies.limit
   pub live_long : length x'.live ≡ 128
   pub counted : (c : ℕ) → c < classes (paging_at h.shared_pages) → get_or x'.live c 0 ≡ live (paging_at h.shared_pages) (objects (part_of m t)) c
   pub pages : x'.pages ≡ pages_needed (paging_at h.shared_pages) (objects (part_of m t))
 
--- n, with what no call changes as it is in h
+-- n; what no call changes is as in h
 abbrev pub with_rest : OpenTasks → OpenTasks → OpenTasks
 with_rest h n = record n { shared_pages = record n.shared_pages { settings = h.shared_pages.settings; classes = h.shared_pages.classes } }
 
@@ -112,7 +112,7 @@ module _ (h n : OpenTasks) (k : IsValid h) (t : ℕ) (x x' : Task) (m : Held) (b
   own_task =
       let e = part_here t x' own_in in record {
         sound = sound t x' own_in;
-        tell = b.tell;
+        serve = b.serve;
         occupied = subst (λ a. Occupies (paging_at h.shared_pages) a (tables_of n.shared_pages x')) (sym e) b.occupied;
         headed = headed t x' own_in;
         numbers = b.limit ∙ (k.task t x b.at).numbers;
@@ -127,10 +127,10 @@ module _ (h n : OpenTasks) (k : IsValid h) (t : ℕ) (x x' : Task) (m : Held) (b
   new_tables = b.rest.tables
 
   pages_same : n.shared_pages.pool.pages ≡ h.shared_pages.pool.pages
-  pages_same = b.tell.pages ∙ sym (k.task t x b.at).tell.pages
+  pages_same = b.serve.pages ∙ sym (k.task t x b.at).serve.pages
 
   abbrev old_tables_of : (u : ℕ) (y : Task) → IsTaskIn h u y → AreTables h.shared_pages.classes (tables_of h.shared_pages y)
-  old_tables_of u y e = subst (λ c. AreTables c (tables_of h.shared_pages y)) (table_is h.shared_pages k.shared_pages) (k.task u y e).tell.tables
+  old_tables_of u y e = subst (λ c. AreTables c (tables_of h.shared_pages y)) (table_is h.shared_pages k.shared_pages) (k.task u y e).serve.tables
 
   other_tables : (u : ℕ) (y : Task) → u ≢ t → IsTaskIn h u y → AreTables h.shared_pages.classes (tables_of n.shared_pages y)
   other_tables u y ne e = others_tables h.shared_pages.classes (tables_of h.shared_pages x) (tables_of n.shared_pages x') new_tables pages_same b.rest.elsewhere y.lists
@@ -143,9 +143,9 @@ module _ (h n : OpenTasks) (k : IsValid h) (t : ℕ) (x x' : Task) (m : Held) (b
       let was = k.task u y f in
       let eq : held_of w.shared_pages y ≡ held_of h.shared_pages y = part_here u y e ∙ b.others u ne ∙ part_is h k u y f in record {
         sound = sound u y e;
-        tell = record {
+        serve = record {
           tables = subst (λ c. AreTables c (tables_of n.shared_pages y)) (sym (table_is h.shared_pages k.shared_pages)) (other_tables u y ne f);
-          pages = pages_same ∙ was.tell.pages;
+          pages = pages_same ∙ was.serve.pages;
         };
         occupied = subst (λ a. Occupies (paging_at h.shared_pages) a (tables_of n.shared_pages y)) (sym eq)
             (others_occupied h.shared_pages.classes (tables_of h.shared_pages x) (tables_of n.shared_pages x') new_tables pages_same b.rest.elsewhere y.lists
@@ -158,7 +158,7 @@ module _ (h n : OpenTasks) (k : IsValid h) (t : ℕ) (x x' : Task) (m : Held) (b
         pages = was.pages ∙ ap (λ a. pages_needed (paging_at h.shared_pages) (objects a)) (sym eq);
       }
 
-  -- no page is in the hands of two tasks
+  -- no page is used by two tasks
   from_own : (u : ℕ) (y : Task) → u ≢ t → IsTaskIn h u y → AreOthers (tables_of n.shared_pages x') y.lists
   from_own u y ne e = others_elsewhere h.shared_pages.classes (tables_of h.shared_pages x) (tables_of n.shared_pages x') new_tables pages_same b.rest.elsewhere y.lists
       (k.others t u x y b.at e ne) (old_tables_of u y e)

@@ -60,7 +60,7 @@ module _ (h : OpenTasks) (k : IsValid h) (t : ℕ) (x : Task) (at : IsTaskIn h t
   module _ (c n : ℕ) (fits : need n ≤ h.shared_pages.settings.page_words) (class : class_for (paging_at h.shared_pages) n ≡ c) (lt : c < classes (paging_at h.shared_pages)) where
     few : length (pages_in x.lists c NotFull) ≤ 1
     few =
-        let e = not_full_pages_are (paging_at h.shared_pages) (paging_ok h.shared_pages) (held_of h.shared_pages x) (tables_of h.shared_pages x) i.tell i.occupied c in
+        let e = not_full_pages_are (paging_at h.shared_pages) (paging_ok h.shared_pages) (held_of h.shared_pages x) (tables_of h.shared_pages x) i.serve i.occupied c in
         let l = not_full_few (paging_at h.shared_pages) (paging_ok h.shared_pages) (at_one h.shared_pages) (held_of h.shared_pages x) i.sound c lt in
         omega arith
 
@@ -69,7 +69,7 @@ module _ (h : OpenTasks) (k : IsValid h) (t : ℕ) (x : Task) (at : IsTaskIn h t
         let o = ap (λ os. pages_needed_with (paging_at h.shared_pages) os n) objects_same in
         let e = needed_next (paging_at h.shared_pages) (paging_ok h.shared_pages) (at_one h.shared_pages) (held_of h.shared_pages x) i.sound n
         (subst (λ d. d < classes (paging_at h.shared_pages)) (sym class) lt) in
-        let f = not_full_pages_are (paging_at h.shared_pages) (paging_ok h.shared_pages) (held_of h.shared_pages x) (tables_of h.shared_pages x) i.tell i.occupied
+        let f = not_full_pages_are (paging_at h.shared_pages) (paging_ok h.shared_pages) (held_of h.shared_pages x) (tables_of h.shared_pages x) i.serve i.occupied
         (class_for (paging_at h.shared_pages) n) in
         let g : length (pages_in x.lists (class_for (paging_at h.shared_pages) n) NotFull) ≡ length (pages_in x.lists c NotFull) =
         ap (λ d. length (pages_in x.lists d NotFull)) class in

@@ -120,7 +120,7 @@ module _ (h : OpenTasks) (k : IsValid h) (t : ℕ) (sixteen : t < 16) (n : ℕ) 
         let i = k.task u w.0 w.1 in
         subst (IsTask h.shared_pages u) (sym w.2) (record {
           sound = i.sound;
-          tell = i.tell;
+          serve = i.serve;
           occupied = i.occupied;
           headed = i.headed;
           numbers = i.numbers;

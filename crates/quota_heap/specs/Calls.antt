@@ -10,7 +10,7 @@ use Rattle.page_model.specs.Bytes.{bytes_at}
 use Rattle.page_model.specs.Image.{Clears, MovesWords, header_word}
 use Rattle.page_model.specs.Paging.{class_for, classes}
 use Rattle.page_slots.specs.Release.{FillsFrom, MovesObject, Vacates}
-use Rattle.page_slots.specs.Tables.{AreTables, KeepsElsewhere, page_at, slot_at, slots_on}
+use Rattle.page_slots.specs.Tables.{AreTables, KeepsForeign, page_at, slot_at, slots_on}
 use Rattle.page_slots.specs.Take.{TakesAt}
 use Rattle.proxy_table.specs.Proxies.{AreBelowLimit, with_place, without_place}
 use Rattle.quota_model.specs.Parts.{key_of}
@@ -26,12 +26,12 @@ pub record KeepsRest (g : SharedPages) (x : Task) (g' : SharedPages) (x' : Task)
   pub classes : g'.classes ≡ g.classes
   pub quota : x'.quota ≡ x.quota
   pub tables : AreTables g.classes (tables_of g' x')
-  pub elsewhere : KeepsElsewhere (tables_of g x) (tables_of g' x')
+  pub elsewhere : KeepsForeign (tables_of g x) (tables_of g' x')
   pub handles : AreBelowLimit x'.proxies
   pub account : x'.pages + length g'.pool.free ≡ x.pages + length g.pool.free
 
 -- an object of `bytes` bytes is added at a free slot of class c, under number q
-pub record Comes (g : SharedPages) (x : Task) (t c bytes q : ℕ) (g' : SharedPages) (x' : Task) : Type 0 where
+pub record IsAdded (g : SharedPages) (x : Task) (t c bytes q : ℕ) (g' : SharedPages) (x' : Task) : Type 0 where
   pub rest : KeepsRest g x g' x'
   pub place : ℕ
   pub taken : TakesAt g.classes (tables_of g x) c place (tables_of g' x')
@@ -93,7 +93,7 @@ abbrev pub IsFound : SharedPages → Task → Part → ℕ → Result ℕ Access
 IsFound g x part count (Ok place) = Lies g x part count place
 IsFound g x part count (Err e) = IsMissing g x part count e
 
--- the object is removed; if its slot had to be filled another one has moved there, else none
+-- the object is removed; another one has moved into its slot if the slot had to be filled, else none
 abbrev pub IsRemoved : SharedPages → Task → ℕ → ℕ → ℕ → Option ℕ → SharedPages → Task → Type 0
 IsRemoved g x q place c None g' x' = (IsMoving g x place c → ⊥) × Goes g x q place c g' x'
 IsRemoved g x q place c (Some r) g' x' = IsMoving g x place c × Fills g x q place c r g' x'

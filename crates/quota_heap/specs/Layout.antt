@@ -12,7 +12,7 @@ use Rattle.page_model.specs.Bytes.{held_at}
 use Rattle.page_model.specs.Held.{Held, Objects, Placed, objects}
 use Rattle.page_model.specs.Image.{IsSlotImage, header_word}
 use Rattle.page_model.specs.Paging.{Paging, classes}
-use Rattle.page_slots.specs.Occupying.{Occupies, TellPart}
+use Rattle.page_slots.specs.Occupying.{Occupies, ServePart}
 use Rattle.page_slots.specs.Tables.{AreOthers, Tables, tables}
 use Rattle.proxy_table.specs.Proxies.{AreBelowLimit, no_proxies}
 use Rattle.quota_model.specs.Joined.{joined}
@@ -48,7 +48,7 @@ pub record ArePages (g : SharedPages) : Type 0 where
 -- What holds of task t: its objects are a sound arrangement, and its tables hold it; each object has its header; its numbers and counts are theirs.
 pub record IsTask (g : SharedPages) (t : ℕ) (x : Task) : Type 0 where
   pub sound : IsSound (paging_at g) (held_of g x)
-  pub tell : TellPart (paging_at g) (tables_of g x)
+  pub serve : ServePart (paging_at g) (tables_of g x)
   pub occupied : Occupies (paging_at g) (held_of g x) (tables_of g x)
   pub headed : (q : ℕ) (y : Placed) → get (held_of g x) q ≡ Some y → slice_index g.region y.place ≡ header_word (key_of t q) (length y.bytes)
   pub numbers : x.proxies.limit ≡ g.settings.proxies
@@ -86,8 +86,8 @@ state_of h = record {
   words = h.shared_pages.region;
 }
 
--- What an open heap of sixteen tasks keeps: each task as above, no page in the hands of two, all together the arrangement and the words of one heap, and no
--- page lost: those that are free and those that tasks use are all.
+-- What an open heap of sixteen tasks keeps: each task as above, no page used by two tasks, all together the arrangement and the words of one heap, and no
+-- page lost: the free pages and those that tasks use are all pages.
 pub record IsValid (h : OpenTasks) : Type 0 where
   pub shared_pages : ArePages h.shared_pages
   pub many : length h.tasks.items ≡ 16

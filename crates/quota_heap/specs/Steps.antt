@@ -48,7 +48,7 @@ pub record FreesOfTask (old : QuotaState) (task h : ℕ) (freed : Freed) (new : 
   pub slot : freed.slot_words ≡ slot_for (task_paging old.profile) (length (removed.freed).bytes)
   pub whole : new ≡ with_held old new.held new.words
 
--- a free takes an object of the task away, or there is none and nothing changes
+-- a free removes an object of the task, or there is none and nothing changes
 abbrev pub IsFreeStep : QuotaState → ℕ → ℕ → Result Freed NotLive → QuotaState → Type 0
 IsFreeStep old task h (Ok freed) new = FreesOfTask old task h freed new
 IsFreeStep old task h (Err e) new = (get (held_by old task) h ≡ None) × (new ≡ old)

@@ -6,7 +6,7 @@ ghost use Rattle.quota_heap.specs.Calls.{Fills, Goes, IsMoving, IsObjectAt, IsRe
 ghost use Rattle.class_lists.specs.PageLists.{pages_in};
 ghost use Rattle.class_lists.specs.declared.Which.TheVariants.{NotFull};
 ghost use Rattle.page_slots.specs.Release.{FillsFrom, Vacates};
-ghost use Rattle.page_slots.specs.Tables.{AreTables, IsUsed, KeepsElsewhere, page_at, slot_at};
+ghost use Rattle.page_slots.specs.Tables.{AreTables, IsUsed, KeepsForeign, page_at, slot_at};
 ghost use Rattle.quota_heap.specs.Layout.{ArePages, IsTask, tables_of};
 
 use crate::shared_pages::{Found, SharedPages, shift, wipe};
@@ -51,7 +51,7 @@ impl SharedPages {
         }
     }
 
-    /// Takes an object away, and moves no other.
+    /// Removes an object, and moves no other.
     fn free_alone(
         &mut self,
         task: &mut Task,
@@ -82,7 +82,7 @@ impl SharedPages {
         }
     }
 
-    /// Takes an object away, and moves another one of the task to its slot.
+    /// Removes an object, and moves another one of the task into its slot.
     fn free_and_fill(
         &mut self,
         task: &mut Task,
@@ -118,13 +118,13 @@ impl SharedPages {
         }
     }
 
-    /// The used slot of class c at an address becomes free.
+    /// Frees the used slot of class c at an address.
     fn release_slot(&mut self, task: &mut Task, c: u32, place: u32, steps: &mut Steps)
         requires tables { AreTables self.old.classes (tables_of self.old task.old) }
         requires used { IsUsed (tables_of self.old task.old) c (page_at self.old.classes place) (slot_at self.old.classes c place) }
         ensures freed { Vacates (tables_of self.old task.old) c (page_at self.old.classes place) (slot_at self.old.classes c place)
             (tables_of self.new task.new) }
-        ensures others { KeepsElsewhere (tables_of self.old task.old) (tables_of self.new task.new) }
+        ensures others { KeepsForeign (tables_of self.old task.old) (tables_of self.new task.new) }
         ensures tables { AreTables self.old.classes (tables_of self.new task.new) }
         ensures rest { self.new ≡ record self.old { maps = self.new.maps; pool = self.new.pool } }
         ensures task { task.new ≡ record task.old { lists = task.new.lists } }
@@ -141,13 +141,13 @@ impl SharedPages {
         );
     }
 
-    /// The address of the object of class c that fills a freed slot; its own slot becomes free.
+    /// Returns the address of the object of class c that fills a freed slot, and frees its own slot.
     fn take_filler(&mut self, task: &mut Task, c: u32, steps: &mut Steps) -> u32
         requires tables { AreTables self.old.classes (tables_of self.old task.old) }
         requires class { c < length self.old.classes.sizes }
         requires some { 1 ≤ length (pages_in task.old.lists c NotFull) }
         ensures filled { FillsFrom self.old.classes (tables_of self.old task.old) c result (tables_of self.new task.new) }
-        ensures others { KeepsElsewhere (tables_of self.old task.old) (tables_of self.new task.new) }
+        ensures others { KeepsForeign (tables_of self.old task.old) (tables_of self.new task.new) }
         ensures tables { AreTables self.old.classes (tables_of self.new task.new) }
         ensures rest { self.new ≡ record self.old { maps = self.new.maps; pool = self.new.pool } }
         ensures task { task.new ≡ record task.old { lists = task.new.lists } }

@@ -46,8 +46,8 @@ impl QuotaHeap {
         QuotaHeap { alloc, inner: None }
     }
 
-    /// Opens the heap: no task has an object, all quotas are 0, and each task has as many proxies as
-    /// the settings say. Out of memory, the heap is closed.
+    /// Opens the heap: no task has an object, all quotas are 0, and each task has the number of proxies
+    /// in the settings. Fails if out of memory; the heap is closed then.
     pub fn open_heap(&mut self, s: &Settings) -> Result<(), OutOfMemory>
         ensures opened { IfOk result (λ done. self.new ≡ empty_state (profile_of s.now)) }
         ensures kept { IfOk result (λ done. KeepsTasks self.new) }
@@ -135,7 +135,7 @@ impl QuotaHeap {
         }
     }
 
-    /// Takes an object of a task away; another one of the task may move to its slot.
+    /// Frees an object of a task; another one of the task may move into its slot.
     pub fn free(&mut self, task: u32, h: Handle, steps: &mut Steps) -> Result<Freed, NotLive>
         requires opened { IsTrue self.old.is_open }
         requires sixteen { task < 16 }

@@ -5,7 +5,7 @@ ghost use Rattle.step_ledger.specs.Counting.{RoseAtMost};
 ghost use Rattle.class_lists.specs.PageLists.{pages_in};
 ghost use Rattle.class_lists.specs.declared.Which.TheVariants.{NotFull};
 ghost use Rattle.page_model.specs.Paging.{class_for, classes};
-ghost use Rattle.quota_heap.specs.Calls.{Comes};
+ghost use Rattle.quota_heap.specs.Calls.{IsAdded};
 ghost use Rattle.quota_heap.specs.Layout.{ArePages, IsTask, paging_at};
 
 use crate::shared_pages::SharedPages;
@@ -16,7 +16,7 @@ use step_ledger::Steps;
 use word_bytes::Header;
 
 impl SharedPages {
-    /// Gives task t an object of `bytes` zeros in class c: there is a slot for it and a number.
+    /// Gives task t an object of `bytes` zeros in class c. A slot and a number for it must be free.
     pub(crate) fn malloc_inner(
         &mut self,
         task: &mut Task,
@@ -33,7 +33,7 @@ impl SharedPages {
         requires some { len task.old.proxies.places ≢ task.old.proxies.limit }
         requires room { pages_in task.old.lists c NotFull ≡ [] → self.old.pool.free ≡ [] → ⊥ }
         requires few { task.old.pages ≤ 4096 }
-        ensures comes { Comes self.old task.old t c bytes result.0 self.new task.new }
+        ensures comes { IsAdded self.old task.old t c bytes result.0 self.new task.new }
         ensures bound { RoseAtMost steps.old steps.new 16 }
     {
         let left = self.pool.left();

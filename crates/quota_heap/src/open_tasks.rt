@@ -58,7 +58,7 @@ impl OpenTasks {
         task.quota
     }
 
-    /// Makes `pages` pages the quota of a task.
+    /// Sets the quota of a task to `pages` pages.
     pub(crate) fn set_quota(&mut self, t: u32, pages: u32) -> Result<(), QuotaFault>
         requires kept { IsValid self.old }
         requires sixteen { t < 16 }
@@ -86,7 +86,7 @@ impl OpenTasks {
         task.pages
     }
 
-    /// The pages of no quota.
+    /// The pages that are in no task's quota.
     pub(crate) fn unassigned(&self) -> u32
         requires kept { IsValid self.now }
         ensures { result + sum (state_of self.now).quotas ≡ self.now.shared_pages.settings.pages }
@@ -94,7 +94,7 @@ impl OpenTasks {
         self.shared_pages.settings.pages - self.granted
     }
 
-    /// The quota of a task becomes this one, with which all quotas sum to `granted`.
+    /// Sets the quota of a task; with it all quotas sum to `granted`.
     fn grant(&mut self, t: u32, pages: u32, granted: u32)
         requires kept { IsValid self.old }
         requires sixteen { t < 16 }
@@ -132,7 +132,7 @@ impl OpenTasks {
         Ok(self.shared_pages.malloc_inner(task, t, c, bytes, steps))
     }
 
-    /// Why a task gets no object of class c, if it gets none.
+    /// Why a malloc of class c by the task is refused; none if it isn't.
     fn refusal(&self, t: u32, c: u32) -> Option<Refusal>
         requires kept { IsValid self.now }
         requires sixteen { t < 16 }
@@ -150,7 +150,7 @@ impl OpenTasks {
         None
     }
 
-    /// Takes an object of a task away.
+    /// Frees an object of a task.
     pub(crate) fn free(&mut self, t: u32, h: Handle, steps: &mut Steps) -> Result<Freed, NotLive>
         requires kept { IsValid self.old }
         requires sixteen { t < 16 }
@@ -267,7 +267,7 @@ impl OpenTasks {
         }
     }
 
-    /// The figures of a class that there is.
+    /// The figures of an existing class.
     fn figures_of(&self, t: u32, c: u32) -> Figures
         requires kept { IsValid self.now }
         requires sixteen { t < 16 }

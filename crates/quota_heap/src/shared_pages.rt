@@ -37,7 +37,7 @@ pub(crate) struct Found {
 }
 
 impl SharedPages {
-    /// Pages that are all free. It alone takes memory.
+    /// Pages that are all free. Only this call takes memory.
     pub(crate) fn new(alloc: Global, s: &Settings) -> Result<SharedPages, OutOfMemory>
         ensures { IfOk result (λ g. AreFirstPages s.now g) }
     {

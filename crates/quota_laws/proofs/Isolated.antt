@@ -340,14 +340,14 @@ module _ (task : ℕ) (lt : task < 16) where
       let same = isolated_first rest (present_after present c) in
       λ i. cond (is_own task present c) ([] ∷ same i) (same i)
 
-  pub isolated_in : (items : List Item) (replies told : List Reply) → MeetsTasks items replies → MeetsTasks (own_items task None items) told
-      → replies_of task 0 (own_items task None items) told ≡ replies_of task 0 items replies
-  isolated_in items replies told meets met =
+  pub isolated_in : (items : List Item) (replies shown : List Reply) → MeetsTasks items replies → MeetsTasks (own_items task None items) shown
+      → replies_of task 0 (own_items task None items) shown ≡ replies_of task 0 items replies
+  isolated_in items replies shown meets met =
       ap (replies_of task 0 (own_items task None items)) met ∙ isolated_first items 0 ∙ sym (ap (replies_of task 0 items) meets)
 
   -- two scripts with the same lines of the task
-  pub isolated_alike : (items others : List Item) (replies told : List Reply) → own_items task None others ≡ own_items task None items
-      → MeetsTasks items replies → MeetsTasks others told → replies_of task 0 others told ≡ replies_of task 0 items replies
-  isolated_alike items others replies told same meets met =
-      sym (isolated_in others told _ met refl) ∙ ap (λ (l : List Item). replies_of task 0 l (task_replies None l)) same
+  pub isolated_alike : (items others : List Item) (replies shown : List Reply) → own_items task None others ≡ own_items task None items
+      → MeetsTasks items replies → MeetsTasks others shown → replies_of task 0 others shown ≡ replies_of task 0 items replies
+  isolated_alike items others replies shown same meets met =
+      sym (isolated_in others shown _ met refl) ∙ ap (λ (l : List Item). replies_of task 0 l (task_replies None l)) same
       ∙ isolated_in items replies _ meets refl

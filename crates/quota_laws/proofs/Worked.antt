@@ -59,13 +59,13 @@ malloc_meets : (replies : List Reply) → MeetsTasks (items (codes "heap 2 512 1
     → replies ≡ said (codes "ok") ∷ said (codes "ok") ∷ said (codes "ok") ∷ []
 malloc_meets replies meets = begins_with _ _ replies asked_malloc meets ∙ (λ i. said (codes "ok") ∷ said (codes "ok") ∷ malloc_said i ∷ [])
 
-pub refused_whole : MeetsTasks (items (codes "heap 2 512 1 8\nquota 0 1\nm 1 176\n") true)
+pub quota_refused_wrongly : MeetsTasks (items (codes "heap 2 512 1 8\nquota 0 1\nm 1 176\n") true)
     (said (codes "ok") ∷ said (codes "refused sum") ∷ said (codes "refused space") ∷ []) → ⊥
-refused_whole meets = (let d : ◌≡◌ {A = ℕ} 114 111 = ap (λ (l : List Reply). byte_at 0 (get_or l 1 [])) (malloc_meets _ meets) in omega arith)
+quota_refused_wrongly meets = (let d : ◌≡◌ {A = ℕ} 114 111 = ap (λ (l : List Reply). byte_at 0 (get_or l 1 [])) (malloc_meets _ meets) in omega arith)
 
-pub refused_in_vain : MeetsTasks (items (codes "heap 2 512 1 8\nquota 0 1\nm 1 176\n") true)
+pub refused_wrongly : MeetsTasks (items (codes "heap 2 512 1 8\nquota 0 1\nm 1 176\n") true)
     (said (codes "ok") ∷ said (codes "ok") ∷ said (codes "refused space") ∷ []) → ⊥
-refused_in_vain meets = (let d : ◌≡◌ {A = ℕ} 114 111 = ap (λ (l : List Reply). byte_at 0 (get_or l 2 [])) (malloc_meets _ meets) in omega arith)
+refused_wrongly meets = (let d : ◌≡◌ {A = ℕ} 114 111 = ap (λ (l : List Reply). byte_at 0 (get_or l 2 [])) (malloc_meets _ meets) in omega arith)
 
 pub silent : MeetsTasks (items (codes "heap 2 512 1 8\nquota 0 1\nm 1 176\n") true) (said (codes "ok") ∷ said (codes "ok") ∷ [] ∷ []) → ⊥
 silent meets = (let d : ◌≡◌ {A = ℕ} 0 1 = ap (λ (l : List Reply). length (get_or l 2 [])) (malloc_meets _ meets) in omega arith)

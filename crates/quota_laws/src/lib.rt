@@ -51,13 +51,13 @@ pub fn tasks_are_isolated()
 /// lines after this, the replies to the task are the same in both, whatever the other tasks do. The
 /// scripts may belong to different calls: only replies are compared.
 pub fn tasks_are_isolated_in_a_script()
-    ensures own { (items : List Item) (task : ℕ) (replies told : List Reply) → task < 16
-        → MeetsTasks items replies → MeetsTasks (own_items task None items) told
-        → replies_of task 0 (own_items task None items) told ≡ replies_of task 0 items replies }
-    ensures alike { (items others : List Item) (task : ℕ) (replies told : List Reply) → task < 16
+    ensures own { (items : List Item) (task : ℕ) (replies shown : List Reply) → task < 16
+        → MeetsTasks items replies → MeetsTasks (own_items task None items) shown
+        → replies_of task 0 (own_items task None items) shown ≡ replies_of task 0 items replies }
+    ensures alike { (items others : List Item) (task : ℕ) (replies shown : List Reply) → task < 16
         → own_items task None others ≡ own_items task None items
-        → MeetsTasks items replies → MeetsTasks others told
-        → replies_of task 0 others told ≡ replies_of task 0 items replies }
+        → MeetsTasks items replies → MeetsTasks others shown
+        → replies_of task 0 others shown ≡ replies_of task 0 items replies }
 {}
 
 /// Admission: suppose `admit` of a task prints `yes`, each later malloc of the task asks for an object

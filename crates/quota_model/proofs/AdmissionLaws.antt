@@ -17,7 +17,7 @@ use Rattle.quota_model.specs.declared.answers.Need.{Need}
 use Rattle.quota_model.proofs.Ceilings.{count-cons, pages_grow, pages_of_none}
 use Rattle.quota_model.proofs.Declared.{all_fit, declared_is, length-in_order}
 use Rattle.quota_model.proofs.Enough.{is_enough}
-use Rattle.quota_model.proofs.InOrder.{Agrees, IsTold, are_within, runs_short, told}
+use Rattle.quota_model.proofs.InOrder.{Agrees, IsInOrderAt, are_within, runs_short, shown}
 
 count_takes : (f : ℕ → Bool) (ns : List ℕ) (i j : ℕ) → i ≤ j → count_by f (take i ns) ≤ count_by f (take j ns)
 count_takes f ns zero j le = omega arith
@@ -44,17 +44,17 @@ nothing_agrees = record {
 }
 
 module _ (t : Share) (needs : List Need) (asked : CanBeAsked t.profile needs) where
-  whole_told : IsTold (task_paging t.profile) t.quota [] (in_order needs) 0 (first_short t empty 0 (in_order needs))
-  whole_told =
+  whole_shown : IsInOrderAt (task_paging t.profile) t.quota [] (in_order needs) 0 (first_short t empty 0 (in_order needs))
+  whole_shown =
       let count = length-in_order needs in
       let few = asked.few in
       let none = pages_of_none (task_paging t.profile) in
-      told t (in_order needs) empty 0 [] (all_fit t.profile needs asked.none_large) (omega arith) nothing_agrees (omega arith)
+      shown t (in_order needs) empty 0 [] (all_fit t.profile needs asked.none_large) (omega arith) nothing_agrees (omega arith)
 
   pub enough_iff : IsEnough t needs ↔ (pages_of (task_paging t.profile) (in_order needs) ≤ t.quota)
-  enough_iff = (λ enough. go enough (first_short t empty 0 (in_order needs)) refl whole_told, λ le. is_enough t needs le)
+  enough_iff = (λ enough. go enough (first_short t empty 0 (in_order needs)) refl whole_shown, λ le. is_enough t needs le)
     where
-      go : IsEnough t needs → (x : Option ℕ) → first_short t empty 0 (in_order needs) ≡ x → IsTold (task_paging t.profile) t.quota [] (in_order needs) 0 x
+      go : IsEnough t needs → (x : Option ℕ) → first_short t empty 0 (in_order needs) ≡ x → IsInOrderAt (task_paging t.profile) t.quota [] (in_order needs) 0 x
           → pages_of (task_paging t.profile) (in_order needs) ≤ t.quota
       go enough None e x = x
       go enough (Some nth) e x =
@@ -66,20 +66,20 @@ module _ (t : Share) (needs : List Need) (asked : CanBeAsked t.profile needs) wh
           omega arith)) in
           absurd (enough (mallocs 0 (in_order needs)) within (runs_short t (in_order needs) empty 0 nth e))
 
-  none_from : (x : Option ℕ) → IsTold (task_paging t.profile) t.quota [] (in_order needs) 0 x → pages_of (task_paging t.profile) (in_order needs) ≤ t.quota
+  none_from : (x : Option ℕ) → IsInOrderAt (task_paging t.profile) t.quota [] (in_order needs) 0 x → pages_of (task_paging t.profile) (in_order needs) ≤ t.quota
       → x ≡ None
-  none_from None told le = refl
-  none_from (Some nth) told le =
-      let f = told.2 in
+  none_from None shown le = refl
+  none_from (Some nth) shown le =
+      let f = shown.2 in
       let w = f.within in
-      let past : t.quota < pages_of (task_paging t.profile) (take (suc told.0) (in_order needs)) = f.past in
-      let below = takes_below (task_paging t.profile) (in_order needs) (suc told.0) (omega arith) in
+      let past : t.quota < pages_of (task_paging t.profile) (take (suc shown.0) (in_order needs)) = f.past in
+      let below = takes_below (task_paging t.profile) (in_order needs) (suc shown.0) (omega arith) in
       absurd (omega arith)
 
   pub none_iff : (first_short t empty 0 (in_order needs) ≡ None) ↔ (pages_of (task_paging t.profile) (in_order needs) ≤ t.quota)
   none_iff = (
-    λ e. subst (λ (x : Option ℕ). IsTold (task_paging t.profile) t.quota [] (in_order needs) 0 x) e whole_told,
-    none_from (first_short t empty 0 (in_order needs)) whole_told,
+    λ e. subst (λ (x : Option ℕ). IsInOrderAt (task_paging t.profile) t.quota [] (in_order needs) 0 x) e whole_shown,
+    none_from (first_short t empty 0 (in_order needs)) whole_shown,
   )
 
   -- the first sum that passes the quota
@@ -87,26 +87,26 @@ module _ (t : Share) (needs : List Need) (asked : CanBeAsked t.profile needs) wh
   IsFirst nth = (1 ≤ nth) × (nth ≤ length (in_order needs)) × (pages_of (task_paging t.profile) (take (nth - 1) (in_order needs)) ≤ t.quota)
       × (t.quota < pages_of (task_paging t.profile) (take nth (in_order needs)))
 
-  first_from : (nth : ℕ) → IsTold (task_paging t.profile) t.quota [] (in_order needs) 0 (Some nth) → IsFirst nth
-  first_from nth told =
-      let is = told.1 in
-      let f = told.2 in
+  first_from : (nth : ℕ) → IsInOrderAt (task_paging t.profile) t.quota [] (in_order needs) 0 (Some nth) → IsFirst nth
+  first_from nth shown =
+      let is = shown.1 in
+      let f = shown.2 in
       let w = f.within in
-      let e : nth - 1 ≡ told.0 = omega arith in
-      let e' : nth ≡ suc told.0 = omega arith in (
+      let e : nth - 1 ≡ shown.0 = omega arith in
+      let e' : nth ≡ suc shown.0 = omega arith in (
         omega arith,
         omega arith,
         subst (λ x. pages_of (task_paging t.profile) (take x (in_order needs)) ≤ t.quota) (sym e) f.enough,
         subst (λ x. t.quota < pages_of (task_paging t.profile) (take x (in_order needs))) (sym e') f.past,
       )
 
-  some_from : (x : Option ℕ) → IsTold (task_paging t.profile) t.quota [] (in_order needs) 0 x → (nth : ℕ) → IsFirst nth → x ≡ Some nth
-  some_from None told nth first =
+  some_from : (x : Option ℕ) → IsInOrderAt (task_paging t.profile) t.quota [] (in_order needs) 0 x → (nth : ℕ) → IsFirst nth → x ≡ Some nth
+  some_from None shown nth first =
       let past = first.3 in
       let below = takes_below (task_paging t.profile) (in_order needs) nth first.1 in
-      absurd (let le : pages_of (task_paging t.profile) (in_order needs) ≤ t.quota = told in omega arith)
-  some_from (Some other) told nth first =
-      let f = first_from other told in
+      absurd (let le : pages_of (task_paging t.profile) (in_order needs) ≤ t.quota = shown in omega arith)
+  some_from (Some other) shown nth first =
+      let f = first_from other shown in
       elim (cases_lt nth other) [
         | inl lt ↦ absurd (
             let a = takes_grow (task_paging t.profile) (in_order needs) nth (other - 1) (omega arith) in
@@ -125,8 +125,8 @@ module _ (t : Share) (needs : List Need) (asked : CanBeAsked t.profile needs) wh
 
   pub some_iff : (nth : ℕ) → (first_short t empty 0 (in_order needs) ≡ Some nth) ↔ IsFirst nth
   some_iff nth = (
-    λ e. first_from nth (subst (λ (x : Option ℕ). IsTold (task_paging t.profile) t.quota [] (in_order needs) 0 x) e whole_told),
-    λ first. some_from (first_short t empty 0 (in_order needs)) whole_told nth first,
+    λ e. first_from nth (subst (λ (x : Option ℕ). IsInOrderAt (task_paging t.profile) t.quota [] (in_order needs) 0 x) e whole_shown),
+    λ first. some_from (first_short t empty 0 (in_order needs)) whole_shown nth first,
   )
 
 module _ (t : Share) (needs : List Need) where

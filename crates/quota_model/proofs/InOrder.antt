@@ -31,24 +31,24 @@ pub record FirstPast (p : Paging) (quota : ℕ) (pre rest : List ℕ) (i : ℕ) 
   pub past : quota < pages_of p (pre ++ take (suc i) rest)
 
 -- no malloc is the first refused, or the first has a number, from k + 1 on
-abbrev pub IsTold : Paging → ℕ → List ℕ → List ℕ → ℕ → Option ℕ → Type 0
-IsTold p quota pre rest k None = pages_of p (pre ++ rest) ≤ quota
-IsTold p quota pre rest k (Some nth) = (i : ℕ) × (nth ≡ k + suc i) × FirstPast p quota pre rest i
+abbrev pub IsInOrderAt : Paging → ℕ → List ℕ → List ℕ → ℕ → Option ℕ → Type 0
+IsInOrderAt p quota pre rest k None = pages_of p (pre ++ rest) ≤ quota
+IsInOrderAt p quota pre rest k (Some nth) = (i : ℕ) × (nth ≡ k + suc i) × FirstPast p quota pre rest i
 
-lifted : (p : Paging) (quota : ℕ) (pre : List ℕ) (n : ℕ) (ns : List ℕ) (k : ℕ) (x : Option ℕ) → IsTold p quota (pre ++ n ∷ []) ns (k + 1) x
-    → IsTold p quota pre (n ∷ ns) k x
-lifted p quota pre n ns k None told = subst (λ xs. pages_of p xs ≤ quota) (append_assoc pre (n ∷ []) ns) told
-lifted p quota pre n ns k (Some nth) told =
-    let i : ℕ = told.0 in
-    let is = told.1 in
-    let f = told.2 in
+lifted : (p : Paging) (quota : ℕ) (pre : List ℕ) (n : ℕ) (ns : List ℕ) (k : ℕ) (x : Option ℕ) → IsInOrderAt p quota (pre ++ n ∷ []) ns (k + 1) x
+    → IsInOrderAt p quota pre (n ∷ ns) k x
+lifted p quota pre n ns k None shown = subst (λ xs. pages_of p xs ≤ quota) (append_assoc pre (n ∷ []) ns) shown
+lifted p quota pre n ns k (Some nth) shown =
+    let i : ℕ = shown.0 in
+    let is = shown.1 in
+    let f = shown.2 in
     let w = f.within in (
-      suc told.0,
+      suc shown.0,
       omega arith,
       record {
         within = omega arith;
-        enough = subst (λ xs. pages_of p xs ≤ quota) (append_assoc pre (n ∷ []) (take told.0 ns)) f.enough;
-        past = subst (λ xs. quota < pages_of p xs) (append_assoc pre (n ∷ []) (take (suc told.0) ns)) f.past;
+        enough = subst (λ xs. pages_of p xs ≤ quota) (append_assoc pre (n ∷ []) (take shown.0 ns)) f.enough;
+        past = subst (λ xs. quota < pages_of p xs) (append_assoc pre (n ∷ []) (take (suc shown.0) ns)) f.past;
       },
     )
 
@@ -98,15 +98,15 @@ module _ (t : Share) where
       let z = needed_is o k pre n a in
       rw (x, y, z)
 
-  pub told : (rest : List ℕ) (o : Objects) (k : ℕ) (pre : List ℕ) → AllFit t.profile.page_words rest → k + length rest ≤ t.profile.proxies → Agrees o k pre
-      → pages_of (task_paging t.profile) pre ≤ t.quota → IsTold (task_paging t.profile) t.quota pre rest k (first_short t o k rest)
-  told [] o k pre fit few a le = subst (λ xs. pages_of (task_paging t.profile) xs ≤ t.quota) (sym (append-nil pre)) le
-  told (n ∷ ns) o k pre fit few a le =
+  pub shown : (rest : List ℕ) (o : Objects) (k : ℕ) (pre : List ℕ) → AllFit t.profile.page_words rest → k + length rest ≤ t.profile.proxies → Agrees o k pre
+      → pages_of (task_paging t.profile) pre ≤ t.quota → IsInOrderAt (task_paging t.profile) t.quota pre rest k (first_short t o k rest)
+  shown [] o k pre fit few a le = subst (λ xs. pages_of (task_paging t.profile) xs ≤ t.quota) (sym (append-nil pre)) le
+  shown (n ∷ ns) o k pre fit few a le =
       let r = refusal_is o k pre n a fit.0 (omega arith) in
       elim (cases_lt t.quota (pages_of (task_paging t.profile) (pre ++ n ∷ []))) [
         | inl more ↦ (
             let e : malloc_refusal t.profile t.quota o n ≡ Some refusal.Space = r ∙ ap (λ b. cond b (Some refusal.Space) None) (lt_yes _ _ more) in
-            subst (λ (x : Option Refusal). IsTold (task_paging t.profile) t.quota pre (n ∷ ns) k
+            subst (λ (x : Option Refusal). IsInOrderAt (task_paging t.profile) t.quota pre (n ∷ ns) k
             (cond (is_short x) (Some (k + 1)) (first_short t (granted x o k n) (k + 1) ns))) (sym e) (
               0,
               omega arith,
@@ -118,10 +118,10 @@ module _ (t : Share) where
             ))
         | inr fine ↦ (
             let e : malloc_refusal t.profile t.quota o n ≡ None = r ∙ ap (λ b. cond b (Some refusal.Space) None) (lt_no _ _ fine) in
-            subst (λ (x : Option Refusal). IsTold (task_paging t.profile) t.quota pre (n ∷ ns) k
+            subst (λ (x : Option Refusal). IsInOrderAt (task_paging t.profile) t.quota pre (n ∷ ns) k
             (cond (is_short x) (Some (k + 1)) (first_short t (granted x o k n) (k + 1) ns))) (sym e)
             (lifted (task_paging t.profile) t.quota pre n ns k (first_short t (insert o k (replicate n 0)) (k + 1) ns)
-            (told ns (insert o k (replicate n 0)) (k + 1) (pre ++ n ∷ []) fit.1 (omega arith) (agrees_more o k pre n a) fine)))
+            (shown ns (insert o k (replicate n 0)) (k + 1) (pre ++ n ∷ []) fit.1 (omega arith) (agrees_more o k pre n a) fine)))
       ]
 
   -- the declared mallocs are within what is declared

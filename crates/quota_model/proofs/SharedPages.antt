@@ -8,7 +8,7 @@ use Rattle.cf_base.specs.Limits.{is_page_size}
 use Rattle.cf_base.specs.Settings.{Profile}
 use Rattle.cf_base.specs.declared.kind.Layout.TheVariants.{Words}
 use Rattle.cf_lemmas.proofs.Ranges.{one, sum_at_least, sum_grows}
-use Rattle.page_model.specs.Arrangement.{standing_on, used_pages}
+use Rattle.page_model.specs.Arrangement.{count_on, used_pages}
 use Rattle.page_model.specs.Held.{Held}
 use Rattle.page_model.specs.Paging.{AreOne, IsPaging}
 use Rattle.page_model.proofs.CallerLemmas.{first_ones, first_paged, less_counts, not_less_counts_none, one_le, standing, stands_here, sum_plus, sum_same}
@@ -75,20 +75,20 @@ one_fails f a (suc n) less =
 
 module _ (s : Profile) (quotas : List ℕ) (m : Held) (shared : IsShared s m) (are : AreQuotas s quotas m) (is_page : IsTrue (is_page_size s.page_words)) where
   -- what lies on a page is some task's
-  stands_for_one : (g : ℕ) → one (nat_lt 0 (standing_on (task_paging s) m g))
-      ≤ sum_by (λ task. one (nat_lt 0 (standing_on (task_paging s) (part_of m task) g))) (range_with_len 0 16)
-  stands_for_one g = elim (cases_lt 0 (standing_on (task_paging s) m g)) [
-    | inr none ↦ (let e = not_less_counts_none 0 (standing_on (task_paging s) m g) none in omega arith)
+  stands_for_one : (g : ℕ) → one (nat_lt 0 (count_on (task_paging s) m g))
+      ≤ sum_by (λ task. one (nat_lt 0 (count_on (task_paging s) (part_of m task) g))) (range_with_len 0 16)
+  stands_for_one g = elim (cases_lt 0 (count_on (task_paging s) m g)) [
+    | inr none ↦ (let e = not_less_counts_none 0 (count_on (task_paging s) m g) none in omega arith)
     | inl some ↦ (
         let o = standing (task_paging s) m g some in
         let f = found_part m o.0 o.1 o.2 in
         let there = stands_here (task_paging s) (part_of m (task_of o.0)) (number_of o.0) o.1 f in
-        let there' : 0 < standing_on (task_paging s) (part_of m (task_of o.0)) g =
-        subst (λ k. 0 < standing_on (task_paging s) (part_of m (task_of o.0)) k) o.3 there in
-        let yes = less_counts 0 (standing_on (task_paging s) (part_of m (task_of o.0)) g) there' in
-        let most = one_le (nat_lt 0 (standing_on (task_paging s) m g)) in
+        let there' : 0 < count_on (task_paging s) (part_of m (task_of o.0)) g =
+        subst (λ k. 0 < count_on (task_paging s) (part_of m (task_of o.0)) k) o.3 there in
+        let yes = less_counts 0 (count_on (task_paging s) (part_of m (task_of o.0)) g) there' in
+        let most = one_le (nat_lt 0 (count_on (task_paging s) m g)) in
         let t = shared.tasks o.0 o.1 o.2 in
-        let le = sum_at_least (λ task. one (nat_lt 0 (standing_on (task_paging s) (part_of m task) g))) 0 16 (task_of o.0) (omega arith) (omega arith) in
+        let le = sum_at_least (λ task. one (nat_lt 0 (count_on (task_paging s) (part_of m task) g))) 0 16 (task_of o.0) (omega arith) (omega arith) in
         omega arith)
   ]
 
@@ -100,25 +100,25 @@ module _ (s : Profile) (quotas : List ℕ) (m : Held) (shared : IsShared s m) (a
       omega arith
 
   pub page_left : (task : ℕ) → task < 16 → used_pages (task_paging s) (part_of m task) < get_or quotas task 0
-      → (page : ℕ) × (page < s.pages) × (standing_on (task_paging s) m page ≡ 0)
+      → (page : ℕ) × (page < s.pages) × (count_on (task_paging s) m page ≡ 0)
   page_left task lt less =
-      let a : count_by (λ g. nat_lt 0 (standing_on (task_paging s) m g)) (range_with_len 0 s.pages)
-      ≤ sum_by (λ g. sum_by (λ t. one (nat_lt 0 (standing_on (task_paging s) (part_of m t) g))) (range_with_len 0 16)) (range_with_len 0 s.pages) =
-      sum_grows (λ g. one (nat_lt 0 (standing_on (task_paging s) m g)))
-      (λ g. sum_by (λ t. one (nat_lt 0 (standing_on (task_paging s) (part_of m t) g))) (range_with_len 0 16)) (range_with_len 0 s.pages) stands_for_one in
-      let b = sums_swapped (λ g t. one (nat_lt 0 (standing_on (task_paging s) (part_of m t) g))) (range_with_len 0 s.pages) (range_with_len 0 16) in
-      let c = sum_same (λ t. sum_by (λ g. one (nat_lt 0 (standing_on (task_paging s) (part_of m t) g))) (range_with_len 0 s.pages))
+      let a : count_by (λ g. nat_lt 0 (count_on (task_paging s) m g)) (range_with_len 0 s.pages)
+      ≤ sum_by (λ g. sum_by (λ t. one (nat_lt 0 (count_on (task_paging s) (part_of m t) g))) (range_with_len 0 16)) (range_with_len 0 s.pages) =
+      sum_grows (λ g. one (nat_lt 0 (count_on (task_paging s) m g)))
+      (λ g. sum_by (λ t. one (nat_lt 0 (count_on (task_paging s) (part_of m t) g))) (range_with_len 0 16)) (range_with_len 0 s.pages) stands_for_one in
+      let b = sums_swapped (λ g t. one (nat_lt 0 (count_on (task_paging s) (part_of m t) g))) (range_with_len 0 s.pages) (range_with_len 0 16) in
+      let c = sum_same (λ t. sum_by (λ g. one (nat_lt 0 (count_on (task_paging s) (part_of m t) g))) (range_with_len 0 s.pages))
       (λ t. used_pages (task_paging s) (part_of m t)) (range_with_len 0 16) (λ t. sym (used_is (task_paging s) (part_of m t) (shared.sound t))) in
       let d = sum_less (λ t. used_pages (task_paging s) (part_of m t)) (λ t. get_or quotas t 0) 0 16 task (omega arith) (omega arith) used_within less in
       let e = sum_by_places (λ t. get_or quotas t 0) quotas 0 (λ i. ap (λ j. get_or quotas j 0) (omega arith)) in
       let f : sum_by (λ t. get_or quotas t 0) (range_with_len 0 (length quotas)) ≡ sum_by (λ t. get_or quotas t 0) (range_with_len 0 16) =
       ap (λ n. sum_by (λ t. get_or quotas t 0) (range_with_len 0 n)) are.many in
       let all = are.all in
-      let found = one_fails (λ g. nat_lt 0 (standing_on (task_paging s) m g)) 0 s.pages (omega arith) in (
+      let found = one_fails (λ g. nat_lt 0 (count_on (task_paging s) m g)) 0 s.pages (omega arith) in (
         found.0,
         (let within = found.1 in omega arith),
-        elim (cases_lt 0 (standing_on (task_paging s) m found.0)) [
-          | inl some ↦ absurd (let y = less_counts 0 (standing_on (task_paging s) m found.0) some in let z = found.2 in omega arith)
+        elim (cases_lt 0 (count_on (task_paging s) m found.0)) [
+          | inl some ↦ absurd (let y = less_counts 0 (count_on (task_paging s) m found.0) some in let z = found.2 in omega arith)
           | inr none ↦ omega arith
         ],
       )

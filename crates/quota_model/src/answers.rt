@@ -1,11 +1,11 @@
-//! What the calls on quotas are given and return.
+//! Arguments and results of the calls on quotas.
 
 /// Why a quota was refused, in the order in which the causes are tested.
 #[derive(Clone, Copy, Debug, PartialEq, Eq)]
 pub enum QuotaFault {
     /// The quotas would add up to more pages than there are.
     Sum,
-    /// The task has more pages in use.
+    /// The task has more pages in use than the quota.
     Used,
 }
 
@@ -21,8 +21,8 @@ pub struct Need {
 pub enum Admission {
     /// No malloc within the needs is refused for space.
     Yes,
-    /// Of the mallocs of all entries in order, each as often as its count, number `nth`, from 1 on,
-    /// is the first that is refused for space.
+    /// If the declared objects are allocated in the order of the entries, the `nth` malloc, counted
+    /// from 1, is the first that is refused for space.
     No { nth: u32 },
     /// An object of this entry, counted from 0, is larger than a page; it is the first such entry.
     Size { entry: u32 },

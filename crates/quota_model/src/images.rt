@@ -17,14 +17,15 @@ ghost use Rattle.quota_model.specs.Shared.{AreQuotas, IsShared, PlacesForTask, R
 
 /// Under the key of an object is its address. A task's part of all objects at their addresses is its
 /// own objects at theirs.
-pub fn addresses_stand_by_their_keys()
+pub fn addresses_are_found_by_key()
     ensures found { (all : List (FinMap nat_cmp ℕ)) (task h : ℕ) → AreNumbers all → h < 65536
         → get (joined all) (key_of task h) ≡ get (places_at all task) h }
     ensures part { (all : List (FinMap nat_cmp ℕ)) (task : ℕ) (words : List ℕ) → AreNumbers all
         → part_of (held_at words (joined all)) task ≡ held_at words (places_at all task) }
 {}
 
-/// What is said of whole slots holds of the objects' own words.
+/// Words that are an image of the objects' whole slots (`IsSlotImage`) are an image of the objects
+/// (`IsImage`).
 pub fn words_are_those_of_the_objects()
     ensures { (s : Profile) (m : Held) (words : List ℕ) → IsTrue (is_page_size s.page_words)
         → IsShared s m → IsSlotImage (task_paging s) m words → IsImage m words }
@@ -41,8 +42,8 @@ pub fn words_after_a_malloc_of_a_task()
         (slice_set words step.place (header_word (key_of task asked.number) asked.length)) }
 {}
 
-/// A free of a task clears the object's slot, or moves there the slot of the object that moves, and
-/// leaves zeros in the old place.
+/// A free of a task clears the object's slot; or it moves another object's slot into it, and clears
+/// the slot that the other object leaves.
 pub fn words_after_a_free_of_a_task()
     ensures still { (s : Profile) (old : Held) (words left : List ℕ) (task h : ℕ) (new : Held)
         (step : RemovesForTask s old task h None new)

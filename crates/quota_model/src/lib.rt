@@ -15,7 +15,7 @@ pub use admitting::{
 };
 pub use answers::{Admission, Need, QuotaFault};
 pub use images::{
-    a_write_keeps_tasks_apart, addresses_stand_by_their_keys, words_after_a_free_of_a_task,
+    a_write_keeps_tasks_apart, addresses_are_found_by_key, words_after_a_free_of_a_task,
     words_after_a_malloc_of_a_task, words_after_a_write_of_a_task, words_are_those_of_the_objects,
 };
 pub use sharing::{

@@ -3,7 +3,7 @@ ghost use Rattle.std.specs.Prelude.{ℕ, ◌≡◌, ◌≢◌, ◌<◌, ◌≤�
 ghost use Rattle.std.specs.FinMap.{empty, get, insert, remove};
 ghost use Rattle.cf_base.specs.Limits.{is_page_size};
 ghost use Rattle.cf_base.specs.Settings.{Profile};
-ghost use Rattle.page_model.specs.Arrangement.{standing_on, used_pages};
+ghost use Rattle.page_model.specs.Arrangement.{count_on, used_pages};
 ghost use Rattle.page_model.specs.Held.{Held, objects};
 ghost use Rattle.page_model.specs.Steps.{Request};
 ghost use Rattle.quota_model.specs.Parts.{key_of, part_of};
@@ -23,7 +23,7 @@ pub fn a_page_is_there_for_each_quota()
     ensures { (s : Profile) (quotas : List ℕ) (m : Held) (task : ℕ)
         → IsShared s m → AreQuotas s quotas m → IsTrue (is_page_size s.page_words) → task < 16
         → used_pages (task_paging s) (part_of m task) < slice_index quotas task
-        → (page : ℕ) × (page < s.pages) × (standing_on (task_paging s) m page ≡ 0) }
+        → (page : ℕ) × (page < s.pages) × (count_on (task_paging s) m page ≡ 0) }
 {}
 
 /// A malloc leaves the objects of all tasks on pages of their own, and adds zeros to those of its

@@ -75,7 +75,7 @@ answers_then a b c (Bad line) p answer =
     subst (λ (o : Option ℕ). AnswersBad a o line c) (sym p.reads.going) all
 answers_then a b c End p answer = record {
   passes = passes_then a b c p answer.passes;
-  told = sym p.reads.same_end ∙ answer.told;
+  shown = sym p.reads.same_end ∙ answer.shown;
   none_left = p.reads.left [] true ∙ answer.none_left;
   empty = answer.empty;
 }
@@ -228,11 +228,11 @@ empty_kept (x ∷ r) none = absurd (false≢true (sym none))
 
 -- and the end was announced
 pub step_ends : (old : Reading) (kept : List ℕ) → old.stopped ≡ None → kept ≡ old.kept → HasNoLine kept old.ended → old.ended ≡ true → HasEnded old old
-step_ends old kept going same none told =
-    let none2 = subst (λ (e : Bool). HasNoLine old.kept e) told (subst (λ (k : List ℕ). HasNoLine k old.ended) same none) in
+step_ends old kept going same none shown =
+    let none2 = subst (λ (e : Bool). HasNoLine old.kept e) shown (subst (λ (k : List ℕ). HasNoLine k old.ended) same none) in
     record {
       passes = passes_none old going;
-      told = told;
-      none_left = rw (going, told) (no_items old.kept true none2 old.passed old.stage);
+      shown = shown;
+      none_left = rw (going, shown) (no_items old.kept true none2 old.passed old.stage);
       empty = empty_kept old.kept none2.1;
     }

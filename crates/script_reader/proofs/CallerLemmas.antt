@@ -27,10 +27,10 @@ answer_same_end old End new answer = answer.passes.reads.same_end
 
 -- after the end nothing is fed
 fed_nothing : (calls : List ReaderCall) (old now : Reading) → old.ended ≡ true → AreCalls old calls now → bytes_fed calls ≡ []
-fed_nothing [] old now told are = refl
-fed_nothing (feeds bytes ∷ rest) old now told (mid, (open_end, is), are) = absurd (true≢false (sym told ∙ open_end))
-fed_nothing (finishes ∷ rest) old now told (mid, is, are) = fed_nothing rest mid now (ap (λ (r : Reading). r.ended) is) are
-fed_nothing (answers next ∷ rest) old now told (mid, is, are) = fed_nothing rest mid now (answer_same_end old next mid is ∙ told) are
+fed_nothing [] old now shown are = refl
+fed_nothing (feeds bytes ∷ rest) old now shown (mid, (open_end, is), are) = absurd (true≢false (sym shown ∙ open_end))
+fed_nothing (finishes ∷ rest) old now shown (mid, is, are) = fed_nothing rest mid now (ap (λ (r : Reading). r.ended) is) are
+fed_nothing (answers next ∷ rest) old now shown (mid, is, are) = fed_nothing rest mid now (answer_same_end old next mid is ∙ shown) are
 
 -- bytes that were fed come before those to come
 pub fed_left : (old : Reading) (bytes more : List ℕ) (e : Bool) → old.ended ≡ false → items_left old (bytes ++ more) e ≡ items_left (fed_with old bytes) more e
@@ -41,7 +41,7 @@ pub finished_left : (old : Reading) (e : Bool) → items_left old [] true ≡ it
 finished_left old e = go old.ended refl
   where
     go : (b : Bool) → old.ended ≡ b → items_left old [] true ≡ items_left (record old { ended = true }) [] e
-    go true told = rw told refl
+    go true shown = rw shown refl
     go false open_end = rw (open_end, append-nil) refl
 
 -- nothing is left after a bad line

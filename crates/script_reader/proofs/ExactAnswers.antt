@@ -10,17 +10,17 @@ use Rattle.script_reader.specs.declared.next.Next.{Next}
 use Rattle.script_reader.specs.declared.next.Next.TheVariants.{Start, Command, NeedMore, Bad, End}
 use Rattle.script_reader.proofs.CallerLemmas.{answer_same_end, bad_now, given_then_left, over_then}
 
-told_stays : (calls : List ReaderCall) (old now : Reading) → old.ended ≡ true → AreCalls old calls now → now.ended ≡ true
-told_stays [] old now told are = ap (λ (r : Reading). r.ended) are ∙ told
-told_stays (feeds bytes ∷ rest) old now told (mid, (open_end, is), are) = told_stays rest mid now (ap (λ (r : Reading). r.ended) is ∙ told) are
-told_stays (finishes ∷ rest) old now told (mid, is, are) = told_stays rest mid now (ap (λ (r : Reading). r.ended) is) are
-told_stays (answers next ∷ rest) old now told (mid, is, are) = told_stays rest mid now (answer_same_end old next mid is ∙ told) are
+shown_stays : (calls : List ReaderCall) (old now : Reading) → old.ended ≡ true → AreCalls old calls now → now.ended ≡ true
+shown_stays [] old now shown are = ap (λ (r : Reading). r.ended) are ∙ shown
+shown_stays (feeds bytes ∷ rest) old now shown (mid, (open_end, is), are) = shown_stays rest mid now (ap (λ (r : Reading). r.ended) is ∙ shown) are
+shown_stays (finishes ∷ rest) old now shown (mid, is, are) = shown_stays rest mid now (ap (λ (r : Reading). r.ended) is) are
+shown_stays (answers next ∷ rest) old now shown (mid, is, are) = shown_stays rest mid now (answer_same_end old next mid is ∙ shown) are
 
 -- the reader knows whether the end was announced
 ended_is : (calls : List ReaderCall) (old now : Reading) → old.ended ≡ false → AreCalls old calls now → now.ended ≡ is_finished calls
 ended_is [] old now open_end are = ap (λ (r : Reading). r.ended) are ∙ open_end
 ended_is (feeds bytes ∷ rest) old now open_end (mid, (_, is), are) = ended_is rest mid now (ap (λ (r : Reading). r.ended) is ∙ open_end) are
-ended_is (finishes ∷ rest) old now open_end (mid, is, are) = told_stays rest mid now (ap (λ (r : Reading). r.ended) is) are
+ended_is (finishes ∷ rest) old now open_end (mid, is, are) = shown_stays rest mid now (ap (λ (r : Reading). r.ended) is) are
 ended_is (answers next ∷ rest) old now open_end (mid, is, are) = ended_is rest mid now (answer_same_end old next mid is ∙ open_end) are
 
 -- the reader knows whether a bad line was returned
@@ -61,8 +61,8 @@ module _ (calls : List ReaderCall) (now new : Reading) (are : AreCalls fresh cal
   by_answer (Start settings) answer going none = absurd (let e = sym (answer.reads.left [] false) ∙ none in cc)
   by_answer (Command command) answer going none = absurd (let e = sym (answer.reads.left [] false) ∙ none in cc)
   by_answer (Bad line) answer going none = absurd (let e = sym ((bad_now now line new going answer).reads.left [] false) ∙ none in cc)
-  by_answer NeedMore answer going none = (λ open_end. refl, λ told. absurd (true≢false (sym told ∙ answer.open_end)))
-  by_answer End answer going none = (λ open_end. absurd (true≢false (sym answer.told ∙ open_end)), λ told. refl)
+  by_answer NeedMore answer going none = (λ open_end. refl, λ shown. absurd (true≢false (sym shown ∙ answer.open_end)))
+  by_answer End answer going none = (λ open_end. absurd (true≢false (sym answer.shown ∙ open_end)), λ shown. refl)
 
   pub need_more_exactly : (next : Next) → Answers now next new → (next ≡ NeedMore ↔ AllGiven calls × (is_finished calls ≡ false))
   need_more_exactly next answer = (forth, back)
@@ -81,11 +81,11 @@ module _ (calls : List ReaderCall) (now new : Reading) (are : AreCalls fresh cal
       forth : next ≡ End → AllGiven calls × (is_finished calls ≡ true)
       forth is =
           let ends = subst (λ (n : Next). Answers now n new) is answer in
-          let same : items_left now [] false ≡ items_left now [] true = rw ends.told refl in
-          (all_given ends.passes.reads.going (same ∙ ends.none_left), sym (ended_is calls fresh now refl are) ∙ ends.told)
+          let same : items_left now [] false ≡ items_left now [] true = rw ends.shown refl in
+          (all_given ends.passes.reads.going (same ∙ ends.none_left), sym (ended_is calls fresh now refl are) ∙ ends.shown)
 
       back : AllGiven calls × (is_finished calls ≡ true) → next ≡ End
-      back (all, told) = (by_answer next answer (going_on all.none_bad) (none_left all)).1 (ended_is calls fresh now refl are ∙ told)
+      back (all, shown) = (by_answer next answer (going_on all.none_bad) (none_left all)).1 (ended_is calls fresh now refl are ∙ shown)
 
   pub bad_exactly : (next : Next) (line : ℕ) → Answers now next new → is_stopped calls ≡ false
       → (next ≡ Bad line ↔ items (bytes_fed calls) (is_finished calls) ≡ items_given calls ++ bad line ∷ [])
@@ -103,5 +103,5 @@ module _ (calls : List ReaderCall) (now new : Reading) (are : AreCalls fresh cal
       back (Bad other) answer is = let e = sym ((bad_now now other new (going_on none) answer).reads.left [] false) ∙ is in cc
       back NeedMore answer is = absurd (let e = sym answer.none_left ∙ is in cc)
       back End answer is = absurd (
-          let same : items_left now [] false ≡ items_left now [] true = rw answer.told refl in
+          let same : items_left now [] false ≡ items_left now [] true = rw answer.shown refl in
           let e = sym answer.none_left ∙ sym same ∙ is in cc)

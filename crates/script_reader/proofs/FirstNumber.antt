@@ -7,7 +7,7 @@ use Rattle.std.proofs.lemmas.Bool.{cases_lt, eq-eqb, false≢true, ne_eqb}
 use Rattle.std.proofs.lemmas.List.{drop_all, get_or-take, length-take, nil_from_length}
 use Rattle.std.proofs.lemmas.List.Sums.{fails_before_first, passes_at_first}
 use Rattle.cf_io.specs.Numbers.{digits_first, is_digit, leading_number, number_in}
-use Rattle.cf_io.proofs.CallerLemmas.{digits_stop, digits_within, first_told, other_byte}
+use Rattle.cf_io.proofs.CallerLemmas.{digits_stop, digits_within, first_shown, other_byte}
 use Rattle.script_reader.specs.Commands.{none_of}
 use Rattle.script_reader.specs.Fields.{first_by}
 use Rattle.script_reader.specs.Lines.{is_gap, is_parted, tokens}
@@ -94,19 +94,19 @@ module _ (s : List ℕ) (begun : gaps_in s ≡ 0) where
 
   pub not_parted : (v n : ℕ) → ◌≡◌ {A = Option (ℕ × ℕ)} (Some (v, n)) (leading_number s) → is_parted (drop n s) ≡ false
       → ◌≡◌ {A = Numbered} None (first_by number_in (tokens s))
-  not_parted v n told isnt = none_where (λ some. elim (cases_lt digits token) [
+  not_parted v n shown isnt = none_where (λ some. elim (cases_lt digits token) [
     | inl below ↦ no_number below
     | inr above ↦
-        let same : n ≡ token = omega (arith, above, digits_in_token, (first_told s v n told).0) in
+        let same : n ≡ token = omega (arith, above, digits_in_token, (first_shown s v n shown).0) in
         absurd (false≢true (sym isnt ∙ ap (λ k. is_parted (drop k s)) same ∙ parted))
   ])
 
   pub parted_number : (v n : ℕ) → ◌≡◌ {A = Option (ℕ × ℕ)} (Some (v, n)) (leading_number s) → is_parted (drop n s) ≡ true
       → ◌≡◌ {A = Numbered} (Some (v, tokens (drop n s))) (first_by number_in (tokens s))
-  parted_number v n told is = elim (cases_lt n token) [
+  parted_number v n shown is = elim (cases_lt n token) [
     | inl below ↦ absurd (false≢true (sym (goes_on n below) ∙ is))
     | inr above ↦
-        let first = first_told s v n told in
+        let first = first_shown s v n shown in
         let same : n ≡ token = omega (arith, above, digits_in_token, first.0) in
         elim (cases_lt 0 (length s)) [
           | inl some ↦ rw same (sym (tokens_are some ∙ ap (option_map (λ m. (m, tokens (drop token s)))) (ap (λ k. number_in (take k s)) (sym same) ∙ first.1)))

@@ -99,7 +99,7 @@ pub record NeedsMore (old new : Reading) : Type 0 where
 -- no item is left, and the end was announced
 pub record HasEnded (old new : Reading) : Type 0 where
   pub passes : PassesOver old new
-  pub told : old.ended ≡ true
+  pub shown : old.ended ≡ true
   pub none_left : items_left old [] true ≡ []
   pub empty : new.kept ≡ []
 

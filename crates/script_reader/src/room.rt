@@ -1,4 +1,4 @@
-//! Room for the bytes of a write.
+//! A buffer for the bytes of a write.
 ghost use Rattle.std.specs.Prelude.{◌≡◌, ◌≤◌, IsTrue, length};
 ghost use Rattle.script_reader.specs.Commands.{bytes_in};
 ghost use Rattle.script_reader.specs.Answered.{some_if};
@@ -8,8 +8,8 @@ use std::marker::Model;
 /// The most bytes of a write.
 const MOST: usize = 4_096;
 
-/// Room for the bytes of one write, at most 4,096. Its owner makes it once, and a reader fills it in
-/// place.
+/// A buffer for the bytes of one write, at most 4,096. Its owner makes it once, and a reader fills it
+/// in place.
 #[derive(Drop)]
 pub struct Room {
     cells: [u8; MOST],
@@ -27,7 +27,7 @@ impl Model for Room {
 }
 
 impl Room {
-    /// A room with no bytes in it.
+    /// An empty buffer.
     pub fn new() -> Room
         ensures { length result ≡ 0 }
     {

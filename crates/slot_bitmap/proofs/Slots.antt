@@ -48,9 +48,9 @@ used_from_bit : (words : List ℕ) (i : ℕ) (b : Bool) → bit_at (get_or words
 used_from_bit words i true h = eq-eqb _ 1 h
 used_from_bit words i false h = ne_eqb _ 1 (λ e. absurd (omega arith))
 
-pub slot_told : (words : List ℕ) (n i : ℕ) (b : Bool) → i < n → bit_at (get_or words (i / 64) 0) (i % 64) ≡ cond b 1 0
+pub slot_shown : (words : List ℕ) (n i : ℕ) (b : Bool) → i < n → bit_at (get_or words (i / 64) 0) (i % 64) ≡ cond b 1 0
     → slice_get (slots_in_words words n) i ≡ Some b
-slot_told words n i b lt is =
+slot_shown words n i b lt is =
     slice_get-get_or (slots_in_words words n) i b (omega (arith, length-slots_of words n)) ∙ ap Some (slot-at words n i b lt ∙ used_from_bit words i b is)
 
 -- ---- no slot is used
@@ -105,7 +105,7 @@ module _ (words : List ℕ) (f u n c : ℕ) (count : length words ≡ 64) (tidy 
         [ inl lt ↦ lt | inr ge ↦ absurd (omega (arith, bit_at_above (get_or words j 0) (bits_in n j) b clean ge, low.1)) ] in
         let row : (64 * j + b) / 64 ≡ j = omega arith in
         let column : (64 * j + b) % 64 ≡ b = omega arith in
-        let on : slice_get (slots_in_words words n) (64 * j + b) ≡ Some true = slot_told words n (64 * j + b) true (omega arith) (rw (row, column) low.1) in
+        let on : slice_get (slots_in_words words n) (64 * j + b) ≡ Some true = slot_shown words n (64 * j + b) true (omega arith) (rw (row, column) low.1) in
         absurd (omega (arith, counted_set (slots_in_words words n) (64 * j + b) true false on)))
   ]
 

@@ -13,6 +13,6 @@ returns-clause-loads c = λ from to one done ends opened image before after ther
     loaded_again c.an_image_is_read_back.ensures from to one done ends opened image before after there begin two had done2 ends2
 
 pub returns-clause-further : goal.returns-clause-further
-returns-clause-further c = λ from to one done ends opened image before after there begin two had done2 ends2 k ones items replies told last end further run run2.
+returns-clause-further c = λ from to one done ends opened image before after there begin two had done2 ends2 k ones items replies stated last end further run run2.
     further_replies c.an_image_is_read_back.ensures from to one done ends opened image before after there begin two had done2 ends2
-    c.equal_objects_get_equal_replies.ensures k ones items replies told last end further run run2
+    c.equal_objects_get_equal_replies.ensures k ones items replies stated last end further run run2

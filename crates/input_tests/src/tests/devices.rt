@@ -31,7 +31,7 @@ fn takes<K: Sink>(rt: &impl Abort, sink: &mut K, wanted: &[(&[u8], Result<usize,
 }
 
 #[test]
-fn a_source_fails_and_is_cut_as_told(rt: HostRuntime) -> Result<(), Fail> {
+fn a_source_fails_and_is_cut_as_planned(rt: HostRuntime) -> Result<(), Fail> {
     let alloc = rt.alloc();
     let cuts = Vec::from_slice(alloc, &[1, 0])?;
     let source = MemSource::new(
@@ -98,7 +98,7 @@ fn sinks_take_what_they_have_room_for(rt: HostRuntime) -> Result<(), Fail> {
 }
 
 #[test]
-fn a_sink_fails_and_is_cut_as_told(rt: HostRuntime) -> Result<(), Fail> {
+fn a_sink_fails_and_is_cut_as_planned(rt: HostRuntime) -> Result<(), Fail> {
     let alloc = rt.alloc();
     let (cuts, fails) = (Vec::from_slice(alloc, &[1])?, Vec::from_slice(alloc, &[1])?);
     let mut sink = MemSink::new(alloc, 9, cuts, fails).expect(&rt, "room for nine");

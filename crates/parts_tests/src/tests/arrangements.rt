@@ -412,7 +412,7 @@ fn an_object_that_moves_leaves_its_page(rt: HostRuntime) -> Result<(), Fail> {
     for number in [3, 4, 7] {
         plain.move_to(number, 128);
     }
-    let standing = [0, 1, 2].map(|page| plain.standing_on(page));
+    let standing = [0, 1, 2].map(|page| plain.count_on(page));
     assert!(rt; plain.count() == 3 && standing == [1, 0, 2]);
     Ok(())
 }

@@ -1,11 +1,11 @@
-use Rattle.quota_laws.proofs.Worked.{admitted_in_error, beyond_quota, no_reply, one_over, quotas_in_excess, read_of_another, refused_in_vain, refused_whole, silent}
+use Rattle.quota_laws.proofs.Worked.{admitted_in_error, beyond_quota, no_reply, one_over, quotas_in_excess, read_of_another, refused_wrongly, quota_refused_wrongly, silent}
 use Rattle.quota_laws.proofs.wrong_task_replies_fall_short.Goals as goal
 
 pub returns-clause-refused : goal.returns-clause-refused
-returns-clause-refused c = refused_whole
+returns-clause-refused c = quota_refused_wrongly
 
 pub returns-clause-room : goal.returns-clause-room
-returns-clause-room c = refused_in_vain
+returns-clause-room c = refused_wrongly
 
 pub returns-clause-silent : goal.returns-clause-silent
 returns-clause-silent c = silent

@@ -7,7 +7,7 @@ use Rattle.quota_heap.specs.Layout.{tables_of}
 use Rattle.quota_heap.specs.declared.shared_pages.SharedPages.{SharedPages}
 use Rattle.quota_heap.specs.declared.task.Task.{Task}
 use Rattle.quota_heap.proofs.Facts.{tables_ok}
-use Rattle.quota_heap.proofs.Filler.{filler_account, filler_apart, filler_source, filler_told}
+use Rattle.quota_heap.proofs.Filler.{filler_account, filler_apart, filler_source, filler_shown}
 use Rattle.quota_heap.proofs.FreedObject.{class_listed, it_inside, live_some, some_not_full}
 use Rattle.quota_heap.proofs.ObjectFacts.{pool_few}
 use Rattle.quota_heap.proofs.shared_pages.SharedPages.free_and_fill.Goals as goal
@@ -52,10 +52,10 @@ pub overflow_sub-other : goal.overflow_sub-other
 overflow_sub-other c =
     let new = tables_of c.take_filler-from.new.self c.take_filler-from.new.task in
     let r = ap (λ (g : SharedPages). get_or g.region c.take_filler-from.result 0 % 2 ^ 32) c.take_filler-from.ensures.rest in
-    let told = filler_told c.requires.shared_pages c.requires.kept c.requires.object new c.take_filler-from.ensures.tables c.take_filler-from.result c.requires.moves
+    let shown = filler_shown c.requires.shared_pages c.requires.kept c.requires.object new c.take_filler-from.ensures.tables c.take_filler-from.result c.requires.moves
     c.take_filler-from.ensures.filled c.requires.sixteen c.unpack-header.result.handle.0
     (c.unpack-header.ensures.number ∙ ap (λ w. w % 2 ^ 32) c.read.ensures.value ∙ r) in
-    told.above
+    shown.above
 
 pub shift-requires-clause-source : goal.shift-requires-clause-source
 shift-requires-clause-source c =
@@ -83,13 +83,13 @@ pub rebind-requires : goal.rebind-requires
 rebind-requires c =
     let new = tables_of c.take_filler-from.new.self c.take_filler-from.new.task in
     let r = ap (λ (g : SharedPages). get_or g.region c.take_filler-from.result 0 % 2 ^ 32) c.take_filler-from.ensures.rest in
-    let told = filler_told c.requires.shared_pages c.requires.kept c.requires.object new c.take_filler-from.ensures.tables c.take_filler-from.result c.requires.moves
+    let shown = filler_shown c.requires.shared_pages c.requires.kept c.requires.object new c.take_filler-from.ensures.tables c.take_filler-from.result c.requires.moves
     c.take_filler-from.ensures.filled c.requires.sixteen c.unpack-header.result.handle.0
     (c.unpack-header.ensures.number ∙ ap (λ w. w % 2 ^ 32) c.read.ensures.value ∙ r) in
     record {
       live = ap (λ (p : Proxies). is_some (get p.places (c.unpack-header.result.handle.0 - c.args.t * 65536)))
           (c.release.ensures.places ∙ ap (λ (x : Task). without_place x.proxies c.args.h.0) c.take_filler-from.ensures.task)
-          ∙ ap is_some told.still;
+          ∙ ap is_some shown.still;
     }
 
 pub overflow_sub-task-2 : goal.overflow_sub-task-2
@@ -104,7 +104,7 @@ returns-clause-fills c =
     let rest = c.take_filler-from.ensures.rest in let s = c.take_filler-from.ensures.task in
     let new = tables_of c.take_filler-from.new.self c.take_filler-from.new.task in
     let r = ap (λ (g : SharedPages). get_or g.region c.take_filler-from.result 0 % 2 ^ 32) rest in
-    let told = filler_told c.requires.shared_pages c.requires.kept c.requires.object new c.take_filler-from.ensures.tables c.take_filler-from.result c.requires.moves
+    let shown = filler_shown c.requires.shared_pages c.requires.kept c.requires.object new c.take_filler-from.ensures.tables c.take_filler-from.result c.requires.moves
     c.take_filler-from.ensures.filled c.requires.sixteen c.unpack-header.result.handle.0
     (c.unpack-header.ensures.number ∙ ap (λ w. w % 2 ^ 32) c.read.ensures.value ∙ r) in
     let a = filler_account c.requires.shared_pages c.requires.kept c.requires.object new c.take_filler-from.ensures.tables c.take_filler-from.result c.requires.moves
@@ -125,7 +125,7 @@ returns-clause-fills c =
       };
       from = c.take_filler-from.result;
       filled = c.take_filler-from.ensures.filled;
-      there = told.there;
+      there = shown.there;
       proxies = c.rebind.ensures.places
           ∙ ap (λ p. with_place p (c.unpack-header.result.handle.0 - c.args.t * 65536) c.args.x.place)
           (c.release.ensures.places ∙ ap (λ (x : Task). without_place x.proxies c.args.h.0) s);

@@ -1,6 +1,6 @@
 use Rattle.std.proofs.Common.{arith, ◌/◌, ◌<◌}
 use Rattle.std.proofs.lemmas.List.{get_or_read}
-use Rattle.slot_bitmap.proofs.Slots.{slot_told, length-slots_of}
+use Rattle.slot_bitmap.proofs.Slots.{slot_shown, length-slots_of}
 use Rattle.slot_bitmap.proofs.slot_map.SlotMap.is_used.Goals as goal
 
 pub returns-clause-value : goal.returns-clause-value
@@ -9,4 +9,4 @@ returns-clause-value c = rw (← c.self.view_is) (
     let few = c.self.invariant.few in
     let inside : c.args.i / 64 < 64 = omega arith in
     let read = get_or_read c.self.inside.words _ _ (omega (arith, c.self.invariant.count, inside)) c.get.ensures.value 0 in
-    slot_told c.self.inside.words c.self.inside.slots c.args.i c.has_bit.result within (rw read at c.has_bit.ensures))
+    slot_shown c.self.inside.words c.self.inside.slots c.args.i c.has_bit.result within (rw read at c.has_bit.ensures))

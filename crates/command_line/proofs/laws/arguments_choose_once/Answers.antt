@@ -1,5 +1,5 @@
 use Rattle.command_line.proofs.ReadAlike.{one_choice}
-use Rattle.command_line.proofs.laws.words_choose_once.Goals as goal
+use Rattle.command_line.proofs.laws.arguments_choose_once.Goals as goal
 
 pub returns : goal.returns
 returns c = one_choice

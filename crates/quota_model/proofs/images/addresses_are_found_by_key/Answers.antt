@@ -1,5 +1,5 @@
 use Rattle.quota_model.proofs.JoinedPlaces.{get_joined, part_joined}
-use Rattle.quota_model.proofs.images.addresses_stand_by_their_keys.Goals as goal
+use Rattle.quota_model.proofs.images.addresses_are_found_by_key.Goals as goal
 
 pub returns-clause-found : goal.returns-clause-found
 returns-clause-found c = λ all task h are lt. get_joined all are task h lt

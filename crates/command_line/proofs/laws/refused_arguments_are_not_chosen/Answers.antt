@@ -1,5 +1,5 @@
 use Rattle.command_line.proofs.ReadAlike.{chosen_are_accepted, not_accepted}
-use Rattle.command_line.proofs.laws.refused_words_are_not_chosen.Goals as goal
+use Rattle.command_line.proofs.laws.refused_arguments_are_not_chosen.Goals as goal
 
 pub returns : goal.returns
 returns c = record {

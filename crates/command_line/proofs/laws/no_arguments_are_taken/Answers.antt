@@ -1,5 +1,5 @@
 use Rattle.command_line.proofs.KnownWords.{no_words}
-use Rattle.command_line.proofs.laws.no_words_are_taken.Goals as goal
+use Rattle.command_line.proofs.laws.no_arguments_are_taken.Goals as goal
 
 pub returns : goal.returns
 returns c = no_words
