@@ -4,9 +4,9 @@ top=${top:?}
 program=$top/crates/cf_tool/out/cf_tool
 # Three lines, written once the program is proved and built: the sums of its sources and of itself, and the kit.
 proof=$top/crates/cf_tool/out/proof
-# What ./prove takes from scratch on four processors, by estimate (docs/PROGRESS.md).
+# What ./prove takes from scratch on four idle processors, as measured.
 # shellcheck disable=SC2034
-minutes=30
+minutes=17
 
 # The lines of crates.txt for the crates that the tool uses, its own last. crates.txt lists a crate above those that use it.
 tool_crates() {
