@@ -1,4 +1,4 @@
--- What a borrow of the whole words of an object leaves.
+-- For `payload_mut` and `lend`: the heap after a borrow of the whole words of an object.
 use Rattle.std.proofs.Common.{◌≡◌, ℕ, ◌+◌, ◌-◌, ◌*◌, ◌/◌, ◌%◌, ◌^◌, ◌<◌, ◌≤◌, List, ◌++◌, length, get_or, take, drop, Option, Some, None, arith, sym, ◌∙◌, ap}
 use Rattle.std.proofs.Common.{refl, subst, lit<, inl, inr}
 use Rattle.std.proofs.lemmas.Bool.{cases_lt, false≢true}
@@ -65,7 +65,7 @@ run_overwritten old ws first n inside =
     few : {j : ℕ} → n ≤ j → length (take n (drop first old)) ≤ j
     few le = (let l = length-take n (drop first old) in omega arith)
 
--- what a borrow of the whole words of an object leaves
+-- the heap after a borrow of the whole words of an object: it is valid, and its state is `lent_back`
 module _ (h : OpenHeap) (k : IsValid (seen Moving h)) (q a : ℕ) (some : get h.proxies.places q ≡ Some a) (ws : List ℕ) where
   abbrev was : List ℕ
   was = bytes_at h.region a
@@ -115,14 +115,14 @@ module _ (h : OpenHeap) (k : IsValid (seen Moving h)) (q a : ℕ) (some : get h.
           let put : Placed → Held = λ x. insert (held_in (seen Moving h)) q (record x { bytes = written x.bytes 0 patch }) in
           w.whole ∙ ap (λ (x : Placed). record (state_at Moving h) { held = put x; words = left.region }) same
 
-  -- the same of the heap with the payload
+  -- as above, for `with_payload_at`
   payload_kept : IsValid (seen Moving (with_payload_at h a ws))
   payload_kept = subst (λ (x : OpenHeap). IsValid (seen Moving x)) (left_is many refl) left_kept
 
   payload_state : state_at Moving (with_payload_at h a ws) ≡ lent_back (state_at Moving h) q ws
   payload_state = ap (state_at Moving) (sym (left_is many refl)) ∙ left_state
 
--- the same if there may be no such object
+-- as above, if there may be no such object
 of_kept : (h : OpenHeap) → IsValid (seen Moving h) → (q : ℕ) (p : Option ℕ) → get h.proxies.places q ≡ p → (ws : List ℕ)
     → IsValid (seen Moving (with_payload_of h p ws))
 of_kept h k q None e ws = k

@@ -1,4 +1,4 @@
--- Words of objects that are borrowed.
+-- For `payload` and `find_words`: the words that are borrowed are the whole words of the object.
 use Rattle.std.proofs.Common.{◌≡◌, ℕ, suc, ◌+◌, ◌*◌, ◌/◌, ◌^◌, ◌<◌, ◌≤◌, Bool, List, length, get_or, take, drop, Option, Some, None, arith, sym, refl, subst}
 use Rattle.std.proofs.Common.{◌∙◌, ap}
 use Rattle.std.proofs.lemmas.Grind.{same_number_lists}
@@ -79,7 +79,7 @@ found_bound h (Some p) ws s t u long a b =
     let x = a.kept in let y = a.bound in let z = b.kept in let w = b.bound in
     record { kept = omega arith; bound = omega arith }
 
--- the same of what was found
+-- as above, for what `find_words` returned
 module _ (h : OpenHeap) (k : IsValid (seen Moving h)) (q : ℕ) (r : Bool × ℕ × ℕ) (found : r ≡ words_found h (get h.proxies.places q)) (ws : List ℕ) where
   pub value_lent : ws ≡ take r.2 (drop r.1 h.region) → words_lent r.0 ws ≡ payload_of (state_at Moving h) q
   value_lent =

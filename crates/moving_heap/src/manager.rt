@@ -1,4 +1,4 @@
-//! The heap that a caller holds: closed, or open.
+//! The manager: the trait `Manager` over a heap that is closed or open.
 ghost use Rattle.std.specs.Prelude.{◌≡◌, ◌+◌, ◌^◌, ◌≤◌, ℕ, ◌<◌, List, IfErr, IfOk, IsSome, IsTrue, OnErr, OnOk, Result, if◌then◌else◌, is_some, length, slice_get, option_copied, option_map};
 ghost use Rattle.std.specs.FinMap as map;
 ghost use Rattle.page_model.specs.Held.{Placed};
@@ -32,7 +32,7 @@ use std::marker::Model;
 use step_ledger::Steps;
 use virtual_words::Direct;
 
-/// The moving manager.
+/// The moving manager: the allocator with which it opens, and the heap while it is open.
 #[derive(Drop)]
 pub struct MovingHeap {
     alloc: Global,
@@ -55,7 +55,7 @@ impl Model for MovingHeap {
 }
 
 impl MovingHeap {
-    /// A closed manager, which takes no memory.
+    /// Returns a closed manager, which has allocated nothing.
     pub fn closed(alloc: Global) -> MovingHeap
         ensures { result ≡ closed_state Moving }
     {
@@ -250,7 +250,7 @@ impl Manager for MovingHeap {
 }
 
 impl MovingHeap {
-    /// The pages of class c.
+    /// The number of pages with slots of class c.
     pub fn pages_of(&self, c: u32) -> u32
         requires open { IsTrue self.now.is_open }
         requires class { c < classes_in self.now.kind self.now }
@@ -259,7 +259,7 @@ impl MovingHeap {
         self.open().pages_of::<Direct>(c)
     }
 
-    /// The pages of class c that are partly full.
+    /// The number of partly full pages of class c.
     pub fn not_full(&self, c: u32) -> u32
         requires open { IsTrue self.now.is_open }
         requires class { c < classes_in self.now.kind self.now }
@@ -268,7 +268,7 @@ impl MovingHeap {
         self.open().not_full::<Direct>(c)
     }
 
-    /// The pages that are free.
+    /// The number of free pages.
     pub fn free_pages(&self) -> u32
         requires { IsTrue self.now.is_open }
         ensures { result ≡ free_pages (paging_in self.now) self.now.held }
@@ -276,7 +276,8 @@ impl MovingHeap {
         self.open().free_pages::<Direct>()
     }
 
-    /// What a malloc of `bytes` bytes would return now: its refusal, or `Ok` if no refusal has a cause.
+    /// Returns what a malloc of `bytes` bytes would return now, without the handle: `Ok`, or its refusal.
+    /// Changes nothing.
     pub fn has_room(&self, bytes: u32, steps: &mut Steps) -> Result<(), Refusal>
         requires { IsTrue self.now.is_open }
         ensures ok { IfOk result (λ u. (e : Refusal) → ¬ IsRefusedBy self.now bytes e) }
@@ -304,8 +305,8 @@ impl MovingHeap {
     }
 
     /// Lends the whole words of an object without a copy, eight bytes to a word, the least significant
-    /// first; none if the handle is not live. `read` reaches the bytes after the last whole word. At most
-    /// a step for each word, and two.
+    /// first; none if the handle is not live. The bytes after the last whole word are not lent: use
+    /// `read`. Costs at most two steps, and one for each word.
     pub fn payload(&self, h: Handle, steps: &mut Steps) -> Option<&[u64]>
         requires { IsTrue self.now.is_open }
         ensures value { option_copied result ≡ payload_of self.now h.0 }
@@ -314,8 +315,8 @@ impl MovingHeap {
         payload(self.open(), h, steps)
     }
 
-    /// Lends the words that `payload` lends, for writing; none if the handle is not live. Afterwards the
-    /// object has the bytes that were written there, and all else stays.
+    /// Lends the words that `payload` lends, for writing; none if the handle is not live. After the borrow
+    /// the object has the words that were written, and all else is unchanged.
     pub fn payload_mut(&mut self, h: Handle, steps: &mut Steps) -> Option<&mut [u64]>
         requires { IsTrue self.old.is_open }
         ensures* writes_back { sem 𝓛 (LendsPayloadIf self.entry h.0 result) }
@@ -327,8 +328,9 @@ impl MovingHeap {
         if lent.0 { Some(lent.1) } else { None }
     }
 
-    /// The same words, and whether the handle is live; no words if it is not. A caller that proves what
-    /// the heap is after the borrow calls this one: the checker does not follow words inside an `Option`.
+    /// Lends the words that `payload_mut` lends, after a flag that is true if the handle is live; no words
+    /// if it is not. For callers that prove what the heap is after the borrow: the checker does not follow
+    /// a borrow inside an `Option`.
     pub fn lend(&mut self, h: Handle, steps: &mut Steps) -> (bool, &mut [u64])
         requires { IsTrue self.old.is_open }
         ensures* writes_back { sem 𝓛 (LendsPayload self.entry h.0 result.1) }
@@ -339,7 +341,7 @@ impl MovingHeap {
         words_in(&mut self.inner, h, steps)
     }
 
-    /// The open heap.
+    /// Borrows the open heap, for its figures and for calls that change nothing.
     fn open(&self) -> &OpenHeap
         requires { IsTrue self.now.is_open }
         ensures kept { Holds Moving result.now }

@@ -1,4 +1,4 @@
-//! The whole words of an object, borrowed without a copy.
+//! Borrows the whole words of an object without a copy.
 ghost use Rattle.std.specs.Prelude.{◌≡◌, ◌+◌, ◌≤◌, IsSome, Some, length, take, drop, option_copied};
 ghost use Rattle.std.specs.Borrow.{sem};
 ghost use Rattle.std.specs.FinMap as map;
@@ -13,7 +13,7 @@ use paged_heap::OpenHeap;
 use step_ledger::Steps;
 use word_bytes::Header;
 
-/// The whole words of an object; none if the handle is not live.
+/// Lends the whole words of an object for reading; none if the handle is not live.
 pub(crate) fn payload<'a>(heap: &'a OpenHeap, h: Handle, steps: &mut Steps) -> Option<&'a [u64]>
     requires kept { Holds Moving heap.now }
     ensures value { option_copied result ≡ payload_of (state_at Moving heap.now) h.0 }
@@ -26,7 +26,8 @@ pub(crate) fn payload<'a>(heap: &'a OpenHeap, h: Handle, steps: &mut Steps) -> O
     Some(heap.region.payload(place + 1, count, steps))
 }
 
-/// The whole words of an object, for writing, and whether the handle is live; no words if it is not.
+/// Lends the whole words of an object for writing, after a flag that is true if the handle is live; no
+/// words if it is not.
 fn payload_mut<'a>(heap: &'a mut OpenHeap, h: Handle, steps: &mut Steps) -> (bool, &'a mut [u64])
     requires kept { Holds Moving heap.old }
     ensures* writes_back { sem 𝓛 (LendsPayloadOf heap.entry h.0 result.1) }
@@ -37,7 +38,8 @@ fn payload_mut<'a>(heap: &'a mut OpenHeap, h: Handle, steps: &mut Steps) -> (boo
     (live, run_of(heap, first, count, steps))
 }
 
-/// Whether the handle is live, and the start and number of the whole words of its object.
+/// Returns whether the handle is live, the first of the whole words of its object, and their number;
+/// both are 0 if it is not live.
 fn find_words(heap: &OpenHeap, h: Handle, steps: &mut Steps) -> (bool, u32, u32)
     requires kept { Holds Moving heap.now }
     ensures found { result ≡ words_found heap.now (map.get heap.now.proxies.places h.0) }
@@ -53,7 +55,7 @@ fn find_words(heap: &OpenHeap, h: Handle, steps: &mut Steps) -> (bool, u32, u32)
     }
 }
 
-/// A run of words of the region, for writing.
+/// Lends `count` words of the region from word `first` on, for writing.
 fn run_of<'a>(heap: &'a mut OpenHeap, first: u32, count: u32, steps: &mut Steps) -> &'a mut [u64]
     requires within { first + count ≤ length heap.old.region }
     ensures* writes_back { sem 𝓛 (LendsRun heap.entry first count result) }
@@ -64,7 +66,7 @@ fn run_of<'a>(heap: &'a mut OpenHeap, first: u32, count: u32, steps: &mut Steps)
     heap.region.payload_mut(first, count, steps)
 }
 
-/// The whole words of an object of an open heap, for writing, and whether the handle is live.
+/// Does what `payload_mut` does, for the heap of a manager that is open.
 pub(crate) fn words_in<'a>(
     inner: &'a mut Option<OpenHeap>,
     h: Handle,

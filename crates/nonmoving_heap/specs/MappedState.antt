@@ -1,4 +1,4 @@
--- What contracts see of the non-moving manager: what they see of every manager, and the physical words of its region.
+-- The state of the non-moving manager in contracts: the one of every manager, and the physical words of its region.
 use Rattle.std.specs.Prelude.{◌≡◌, ◌≢◌, ℕ, ◌+◌, ◌*◌, ◌/◌, ◌<◌, List, [], Option, Some, None, length, slice_index, refl}
 use Rattle.std.specs.Coded.{Coded, code_by, coded×, coded_ℕ, coded_list}
 use Rattle.std.specs.FinMap.{get}
@@ -16,17 +16,17 @@ pub record MappedState : Type 0 where
   -- the physical words
   pub physical : List ℕ
 
--- the two, as a pair
+-- the state as a pair, which the trait `Model` needs
 abbrev pub mapped_code : Coded MappedState
 mapped_code = code_by (HeapState × List ℕ) (coded× state_code (coded_list coded_ℕ)) (λ s. (s.state, s.physical))
     (λ q. record { state = q.0; physical = q.1 }) (λ _. refl)
 
--- the words of the region of an open heap
+-- the words of the region of an open heap; none while it is closed
 abbrev pub region_in : Option OpenHeap → List ℕ
 region_in None = []
 region_in (Some h) = h.region
 
--- a heap that may be closed
+-- the state of a heap that may be closed
 abbrev pub mapped_in : Option OpenHeap → MappedState
 mapped_in o = record { state = state_in NonMoving o; physical = region_in o }
 
@@ -34,13 +34,14 @@ mapped_in o = record { state = state_in NonMoving o; physical = region_in o }
 abbrev pub IsMappedByItsTable : MappedState → Type 0
 IsMappedByItsTable s = IsPhysical s.state.frames s.state.words s.physical
 
--- No physical word changes in a block of an object but h that is live before and after.
+-- In the blocks of each object other than h that is live before and after a call, no physical word changes.
 abbrev pub OthersStayInPlace : MappedState → ℕ → MappedState → Type 0
 OthersStayInPlace old h new = (q : ℕ) (x y : Placed) → q ≢ h → get old.state.held q ≡ Some x → get new.state.held q ≡ Some y → (i j : ℕ)
     → i < slot_for (paging_in old.state) (length x.bytes) / 4 → j < 4
     → slice_index new.physical (4 * block_of old.state.frames x.place i + j) ≡ slice_index old.physical (4 * block_of old.state.frames x.place i + j)
 
--- the steps of looking a block up: the proxy; of a live number the header and the class; and the entry, if the slot has that block
+-- the steps of `block`: 1 for the proxy; if the number is live, 2 for the header and 1 for the class; and 1 for the table's entry, if the slot has
+-- that block
 abbrev pub block_steps : Option Placed → Option ℕ → ℕ
 block_steps None block = 1
 block_steps (Some x) None = 4

@@ -1,4 +1,4 @@
-//! The heap that a caller holds: closed, or open.
+//! The manager: the trait `Manager` over a heap that is closed or open.
 ghost use Rattle.std.specs.Prelude.{◌≡◌, ◌+◌, ◌^◌, ◌<◌, ◌≤◌, [], IfErr, IfOk, IsSome, IsTrue, OnErr, OnOk, Result, if◌then◌else◌, is_some, length, slice_get, option_map};
 ghost use Rattle.std.specs.FinMap as map;
 ghost use Rattle.page_model.specs.Held.{Placed};
@@ -31,8 +31,8 @@ use std::marker::Model;
 use step_ledger::Steps;
 use virtual_words::Mapped;
 
-/// The non-moving manager. Contracts see what they see of every manager, and the physical words of the
-/// region.
+/// The non-moving manager: the allocator with which it opens, and the heap while it is open. Its state
+/// in contracts is the one of every manager, and the physical words of the region.
 #[derive(Drop)]
 pub struct NonMovingHeap {
     alloc: Global,
@@ -55,7 +55,7 @@ impl Model for NonMovingHeap {
 }
 
 impl NonMovingHeap {
-    /// A closed manager, which takes no memory.
+    /// Returns a closed manager, which has allocated nothing.
     pub fn closed(alloc: Global) -> NonMovingHeap
         ensures state { result.state ≡ closed_state NonMoving }
         ensures physical { result.physical ≡ [] }
@@ -252,7 +252,7 @@ impl Manager for NonMovingHeap {
 }
 
 impl NonMovingHeap {
-    /// The pages of class c.
+    /// The number of pages with slots of class c.
     pub fn pages_of(&self, c: u32) -> u32
         requires open { IsTrue self.now.state.is_open }
         requires class { c < classes_in self.now.state.kind self.now.state }
@@ -261,7 +261,7 @@ impl NonMovingHeap {
         self.open().pages_of::<Mapped>(c)
     }
 
-    /// The pages of class c that are partly full.
+    /// The number of partly full pages of class c.
     pub fn not_full(&self, c: u32) -> u32
         requires open { IsTrue self.now.state.is_open }
         requires class { c < classes_in self.now.state.kind self.now.state }
@@ -270,7 +270,7 @@ impl NonMovingHeap {
         self.open().not_full::<Mapped>(c)
     }
 
-    /// The pages that are free.
+    /// The number of free pages.
     pub fn free_pages(&self) -> u32
         requires { IsTrue self.now.state.is_open }
         ensures { result ≡ free_pages (paging_in self.now.state) self.now.state.held }
@@ -278,7 +278,8 @@ impl NonMovingHeap {
         self.open().free_pages::<Mapped>()
     }
 
-    /// What a malloc of `bytes` bytes would return now: its refusal, or `Ok` if no refusal has a cause.
+    /// Returns what a malloc of `bytes` bytes would return now, without the handle: `Ok`, or its refusal.
+    /// Changes nothing.
     pub fn has_room(&self, bytes: u32, steps: &mut Steps) -> Result<(), Refusal>
         requires { IsTrue self.now.state.is_open }
         ensures ok { IfOk result (λ u. (e : Refusal) → ¬ IsRefusedBy self.now.state bytes e) }
@@ -305,8 +306,8 @@ impl NonMovingHeap {
         }
     }
 
-    /// What every call keeps: word `4 * F(v) + j` of the region is the virtual word `4 * v + j`, where F is
-    /// the block table. The call does nothing.
+    /// For its contract, which holds between any two calls: word `4 * F(v) + j` of the region is the
+    /// virtual word `4 * v + j`, where F is the block table. The call does nothing.
     pub fn physical_words_are_mapped(&self)
         requires { IsTrue self.now.state.is_open }
         ensures kind { self.now.state.kind ≡ NonMoving }
@@ -315,7 +316,7 @@ impl NonMovingHeap {
         let _open = self.open();
     }
 
-    /// The open heap.
+    /// Borrows the open heap, for its figures and for calls that change nothing.
     fn open(&self) -> &OpenHeap
         requires { IsTrue self.now.state.is_open }
         ensures kept { Holds NonMoving result.now }
@@ -329,7 +330,8 @@ impl NonMovingHeap {
     }
 }
 
-/// An open heap without objects, with a table where each block is at its own place.
+/// Opens a heap without objects, with a block table that maps each block to itself. Fails if out of
+/// memory.
 fn empty_heap(alloc: Global, s: &Settings) -> Result<OpenHeap, OutOfMemory>
     ensures kept { IfOk result (λ h. Holds NonMoving h) }
     ensures empty { IfOk result (λ h. IsEmptyHeap NonMoving s.now (state_at NonMoving h)) }
@@ -338,8 +340,8 @@ fn empty_heap(alloc: Global, s: &Settings) -> Result<OpenHeap, OutOfMemory>
     OpenHeap::new::<Mapped>(alloc, s, Layout::Blocks, Some(blocks))
 }
 
-/// The physical block of block i of the object's slot; none if the handle is not live, or the slot has
-/// no block i.
+/// Looks up the physical block of block i of the object's slot; none if the handle is not live, or the
+/// slot has no block i.
 fn block_of(heap: &OpenHeap, h: Handle, i: u32, steps: &mut Steps) -> Option<u32>
     requires { Holds NonMoving heap.now }
     ensures value { result ≡ block_in NonMoving (state_at NonMoving heap.now) h.0 i }
@@ -350,10 +352,10 @@ fn block_of(heap: &OpenHeap, h: Handle, i: u32, steps: &mut Steps) -> Option<u32
         return None;
     };
     let length = heap.length_at::<Mapped>(place, steps);
-    let Some(c) = heap.classes.class_of(length, steps) else {
+    let Some(c) = heap.tables.classes.class_of(length, steps) else {
         unreachable!();
     };
-    if i < heap.classes.slot_words(c) / 4 {
+    if i < heap.tables.classes.slot_words(c) / 4 {
         match &heap.blocks {
             Some(table) => Some(table.block(place / 4 + i, steps)),
             None => unreachable!(),

@@ -23,7 +23,7 @@ use Rattle.page_slots.specs.Take.{FillsPage, TakesOnOpenPage, TakesOnFreePage, s
 use Rattle.page_slots.proofs.Pages.{placed_in, listed_page, listed_class, of_list}
 use Rattle.page_slots.proofs.TablesAfterTake.{front_listed, pool_front}
 
--- the search for a free slot finds one if there is one; the same for a used slot
+-- the search for a free slot finds one if there is one, and so does the search for a used slot
 pub finds_free : (xs : List Bool) → used_in xs < length xs → None ≡ position (λ used. not used) xs → ⊥
 finds_free xs some none = false≢true (ap is_some none ∙ some_free xs some)
 
@@ -76,29 +76,30 @@ module _ (k : ClassTable) (t : Tables) (a : AreTables k t) where
     pub front_used_slot : HasUsedSlot t.maps page
     front_used_slot = record { within = front_inside; some = front_placed.fills.0 }
 
-    module _ (d : List Bool) where
-      same_map : get_or t.maps page d ≡ get_or t.maps page []
-      same_map = get_or_default t.maps page d [] front_inside
+    pub front_slot : (slot : ℕ) (b : Bool) → slice_get (slots_on t page) slot ≡ Some b → slot < slots_in k c
+    front_slot slot b is = (let lt = slice_get_within (slots_on t page) slot b is in let l = front_placed.slots in omega arith)
 
-      pub front_long : length (get_or t.maps page d) ≡ slots_in k c
+    -- its slots, as they are read
+    module _ (slots : List Bool) (read : slots ≡ get_or t.maps page slots) where
+      same_map : slots ≡ slots_on t page
+      same_map = read ∙ get_or_default t.maps page slots [] front_inside
+
+      pub front_long : length slots ≡ slots_in k c
       front_long = ap length same_map ∙ front_placed.slots
 
-      pub front_room : used_in (get_or t.maps page d) < length (get_or t.maps page d)
+      pub front_room : used_in slots < length slots
       front_room = (let e = ap used_in same_map in let l = front_long in let f = front_placed.fills in let few = f.1 in omega arith)
 
-      pub front_some_used : 0 < used_in (get_or t.maps page d)
+      pub front_some_used : 0 < used_in slots
       front_some_used = (let e = ap used_in same_map in let f = front_placed.fills in let some = f.0 in omega arith)
 
-      pub front_slot : (slot : ℕ) (b : Bool) → slice_get (get_or t.maps page d) slot ≡ Some b → slot < slots_in k c
-      front_slot slot b is = (let lt = slice_get_within (get_or t.maps page d) slot b is in let l = front_long in omega arith)
-
-      pub front_reads : (slot : ℕ) (b : Bool) → slice_get (get_or t.maps page d) slot ≡ Some b → slice_get (slots_on t page) slot ≡ Some b
+      pub front_reads : (slot : ℕ) (b : Bool) → slice_get slots slot ≡ Some b → slice_get (slots_on t page) slot ≡ Some b
       front_reads slot b is = sym (ap (λ xs. slice_get xs slot) same_map) ∙ is
 
-      -- its least free slot is taken
-      pub took_open : (slot : ℕ) (map : List Bool) (lists : PageLists) → position (λ used. not used) (get_or t.maps page d) ≡ Some slot
-          → slice_get (get_or t.maps page d) slot ≡ Some false
-          → map ≡ set (get_or t.maps page d) slot true → (used_in map ≡ length map → FillsPage t.lists c page lists)
+      -- its lowest free slot is taken
+      pub took_open : (slot : ℕ) (map : List Bool) (lists : PageLists) → position (λ used. not used) slots ≡ Some slot
+          → slice_get slots slot ≡ Some false
+          → map ≡ set slots slot true → (used_in map ≡ length map → FillsPage t.lists c page lists)
           → (used_in map ≢ length map → lists ≡ t.lists)
           → TakesOnOpenPage t c page slot (tables (set t.maps page map) lists t.pool)
       took_open slot map lists least free is filled not_filled =
@@ -126,8 +127,8 @@ module _ (k : ClassTable) (t : Tables) (a : AreTables k t) where
     pub pool_unlisted : IsUnlisted t.lists page
     pool_unlisted = ((pool_front k t a page pool f).1).unlisted
 
-    pub pool_unused : (d : List Bool) → used_in (get_or t.maps page d) ≡ 0
-    pool_unused d = ap used_in (get_or_default t.maps page d [] pool_inside) ∙ ((pool_front k t a page pool f).1).unused
+    pub pool_unused : (slots : List Bool) → slots ≡ get_or t.maps page slots → used_in slots ≡ 0
+    pool_unused slots read = ap used_in (read ∙ get_or_default t.maps page slots [] pool_inside) ∙ ((pool_front k t a page pool f).1).unused
 
     -- its first slot is taken
     pub took_free : (c n : ℕ) (map fresh : List Bool) (lists : PageLists) → pages_in t.lists c NotFull ≡ [] → n ≡ slots_in k c
@@ -157,34 +158,35 @@ module _ (k : ClassTable) (t : Tables) (a : AreTables k t) where
     of_taken = (of_list k t a c page of).1.taken
 
     -- it is in the list that its slots determine
-    pub of_listed : (w : Which) (d : List Bool) → (used_in (get_or t.maps page d) ≡ length (get_or t.maps page d) → w ≡ Full)
-        → (used_in (get_or t.maps page d) ≢ length (get_or t.maps page d) → w ≡ NotFull)
+    pub of_listed : (w : Which) (slots : List Bool) → slots ≡ get_or t.maps page slots → (used_in slots ≡ length slots → w ≡ Full)
+        → (used_in slots ≢ length slots → w ≡ NotFull)
         → Contains (pages_in t.lists c w) page
-    of_listed w d full not_full = go (of_list k t a c page of).0 (of_list k t a c page of).1
+    of_listed w slots read full not_full = go (of_list k t a c page of).0 (of_list k t a c page of).1
       where
-        same : get_or t.maps page d ≡ get_or t.maps page []
-        same = get_or_default t.maps page d [] (page_inside page of_page)
+        same : slots ≡ slots_on t page
+        same = read ∙ get_or_default t.maps page slots [] (page_inside page of_page)
 
         go : (v : Which) → IsPageOf k t page c v → Contains (pages_in t.lists c w) page
         go Full p = (
-            let e : used_in (get_or t.maps page d) ≡ length (get_or t.maps page d) = ap used_in same ∙ p.fills ∙ sym p.slots ∙ sym (ap length same) in
+            let e : used_in slots ≡ length slots = ap used_in same ∙ p.fills ∙ sym p.slots ∙ sym (ap length same) in
             subst (λ v. Contains (pages_in t.lists c v) page) (sym (full e)) p.listed)
         go NotFull p = (
-            let ne : used_in (get_or t.maps page d) ≢ length (get_or t.maps page d) = (λ e. (
+            let ne : used_in slots ≢ length slots = (λ e. (
             let u = ap used_in same in let l = ap length same in let s = p.slots in let f = p.fills in let few = f.1 in omega arith)) in
             subst (λ v. Contains (pages_in t.lists c v) page) (sym (not_full ne)) p.listed)
 
 -- the steps of taking a slot on a partly full page
-module _ (k : ClassTable) (t : Tables) (a : AreTables k t) (c page : ℕ) (front : Some page ≡ slice_get (pages_in t.lists c NotFull) 0) (d : List Bool) where
-  filled_test : (slot : ℕ) (map : List Bool) → slice_get (get_or t.maps page d) slot ≡ Some false → map ≡ set (get_or t.maps page d) slot true
+module _ (k : ClassTable) (t : Tables) (a : AreTables k t) (c page : ℕ) (front : Some page ≡ slice_get (pages_in t.lists c NotFull) 0)
+    (slots : List Bool) (read : slots ≡ get_or t.maps page slots) where
+  filled_test : (slot : ℕ) (map : List Bool) → slice_get slots slot ≡ Some false → map ≡ set slots slot true
       → nat_eq (used_in map) (length map) ≡ nat_eq (used_in (slots_on t page) + 1) (slots_in k c)
   filled_test slot map free is =
-      let same = same_map k t a c page front d in
-      let used : used_in map ≡ used_in (slots_on t page) + 1 = ap used_in is ∙ count-set (get_or t.maps page d) slot free ∙ ap (λ xs. used_in xs + 1) same in
-      let long : length map ≡ slots_in k c = ap length is ∙ length-set (get_or t.maps page d) slot true ∙ front_long k t a c page front d in
+      let same = same_map k t a c page front slots read in
+      let used : used_in map ≡ used_in (slots_on t page) + 1 = ap used_in is ∙ count-set slots slot free ∙ ap (λ xs. used_in xs + 1) same in
+      let long : length map ≡ slots_in k c = ap length is ∙ length-set slots slot true ∙ front_long k t a c page front slots read in
       λ i. nat_eq (used i) (long i)
 
-  pub took_open_steps : (slot : ℕ) (map : List Bool) → slice_get (get_or t.maps page d) slot ≡ Some false → map ≡ set (get_or t.maps page d) slot true
+  pub took_open_steps : (slot : ℕ) (map : List Bool) → slice_get slots slot ≡ Some false → map ≡ set slots slot true
       → (old first second new : ℕ) → RoseBy old first 1 → RoseBy first second 3 → RoseBy second new (if nat_eq (used_in map) (length map) then 9 else 1)
       → RoseBy old new (steps_to_take k t c)
   took_open_steps slot map free is old first second new x y z =
@@ -199,10 +201,10 @@ module _ (k : ClassTable) (t : Tables) (a : AreTables k t) (c page : ℕ) (front
       by_test false four w = rose_both old second new 4 1 four w
 
 -- A slot of a page becomes free: the number of slots that are still used.
-pub used_still : (maps : List (List Bool)) (page slot count : ℕ) (d map : List Bool) → page < length maps
-    → slice_get (get_or maps page []) slot ≡ Some true → map ≡ set (get_or maps page d) slot false → count ≡ used_in map → count + 1 ≡ used_in (get_or maps page [])
-used_still maps page slot count d map inside used wrote many =
-    let same = get_or_default maps page d [] inside in
+pub used_still : (maps : List (List Bool)) (page slot count : ℕ) (slots map : List Bool) → page < length maps → slots ≡ get_or maps page slots
+    → slice_get (get_or maps page []) slot ≡ Some true → map ≡ set slots slot false → count ≡ used_in map → count + 1 ≡ used_in (get_or maps page [])
+used_still maps page slot count slots map inside read used wrote many =
+    let same = read ∙ get_or_default maps page slots [] inside in
     let n = count-unset (get_or maps page []) slot used in
     let w : used_in map ≡ used_in (set (get_or maps page []) slot false) = ap used_in (wrote ∙ ap (λ xs. set xs slot false) same) in
     omega arith
@@ -224,7 +226,7 @@ module _ (maps : List (List Bool)) (page count : ℕ) (few : count + 1 ≡ used_
       by_list Full third = rose_both a c d 4 8 (rose_both a b c 3 1 first second) third
       by_list NotFull third = rose_both a c d 4 0 (rose_both a b c 3 1 first second) third
 
--- the same with the step that finds the page's list
+-- the steps of freeing it, with the step that finds the page's list
 pub dropped_steps : (xs map : List Bool) (which : Which) (a b c : ℕ) → map ≡ xs → (used_in map ≡ length map → which ≡ Full)
     → (used_in map ≢ length map → which ≡ NotFull) → RoseBy a b 1 → RoseBy b c (steps_to_vacate which (used_in xs))
     → RoseBy a c (drop_steps (used_in xs) (length xs))

@@ -357,14 +357,14 @@ module _ {p : Paging} {m : Held} {t : Tables} (serve : ServePart p t) (o : Occup
         by_table ∙ sym by_order)
   ]
 
-  -- the same for freeing a slot
+  -- the steps of freeing a slot, by the tables and by the order
   pub drop_same : (page : ℕ) → IsOf t c page → table_drop t page ≡ order_drop p m c page
   drop_same page of =
       let counts : objects_on p m c page ≡ used_in (slots_on t page) = o.counted c page of in
       let long : length (slots_on t page) ≡ slots_of p c = (of_list (class_table p) t serve.tables c page of).1.slots in
       ap (λ n. drop_steps n (length (slots_on t page))) (sym counts) ∙ ap (drop_steps (objects_on p m c page)) long
 
-  -- the same for freeing the slot of the object that moves
+  -- the steps of freeing the slot of the object that moves, by the tables and by the order
   pub fill_same : (page : ℕ) → slice_get (pages_in t.lists c NotFull) 0 ≡ Some page
       → table_fill t c ≡ order_fill p m (order_of (classes p) t spare) c
   fill_same page front =

@@ -60,7 +60,7 @@ module _ (k : ClassTable) (old : Tables) (a : AreTables k old) (c page slot : �
   long : length (slots_on new page) ≡ slots_in k c
   long = ap length after ∙ length-set (slots_on old page) slot false ∙ was.slots
 
-  -- the same, from the lists and the pool
+  -- what stays of the other pages' lists and of the pool, and the page afterwards
   record Left : Type 0 where
     free : (g : ℕ) → g ≢ page → is_in_pool new.pool.free g ≡ is_in_pool old.pool.free g
     comes : (g d : ℕ) (w : Which) → g ≢ page → Contains (pages_in old.lists d w) g → Contains (pages_in new.lists d w) g

@@ -97,7 +97,7 @@ module _ (k : ClassTable) (old : Tables) (a : AreTables k old) (c page : ℕ) (n
     pool_same : (g : ℕ) → is_in_pool new.pool.free g ≡ is_in_pool old.pool.free g
     pool_same g = ap (λ (p : Pool). is_in_pool p.free g) t.pool
 
-    -- the same, from the lists, whether the page is filled or not
+    -- what stays of the other pages' lists, and the page afterwards, whether it is filled or not
     record Listed : Type 0 where
       comes : (g d : ℕ) (v : Which) → g ≢ page → Contains (pages_in old.lists d v) g → Contains (pages_in new.lists d v) g
       stays : (g d : ℕ) (v : Which) → g ≢ page → Contains (pages_in new.lists d v) g → Contains (pages_in old.lists d v) g

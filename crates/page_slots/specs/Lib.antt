@@ -1,4 +1,5 @@
 pub mod Tables
+pub mod PageTables
 pub mod Take
 pub mod Release
 pub mod Occupying

@@ -1,4 +1,4 @@
--- The order in which tables give out pages.
+-- The order in which tables use pages.
 use Rattle.std.specs.Prelude.{ℕ, List, map}
 use Rattle.std.specs.List.{range_with_len}
 use Rattle.class_lists.specs.declared.Which.TheVariants.{NotFull}

@@ -27,7 +27,7 @@ pub record Vacates (old : Tables) (c page slot : ℕ) (new : Tables) : Type 0 wh
   pub still : used_in (slots_on new page) ≢ 0 → which ≡ NotFull → new.lists ≡ old.lists
   pub kept : used_in (slots_on new page) ≢ 0 → new.pool ≡ old.pool
 
--- the object at address a moves into a freed slot of class c: its slot is the least used one of the first partly full page of the class
+-- the object at address a moves into a freed slot of class c: its slot is the lowest used one of the first partly full page of the class
 pub record IsFiller (k : ClassTable) (maps : List (List Bool)) (lists : PageLists) (c a : ℕ) : Type 0 where
   pub page : ℕ
   pub slot : ℕ
@@ -60,7 +60,7 @@ pub record MovesObject (slots : List Bool) (not_full bound : ℕ) : Type 0 where
 abbrev pub steps_to_drop : Tables → ℕ → ℕ
 steps_to_drop t page = drop_steps (used_in (slots_on t page)) (length (slots_on t page))
 
--- the same without the step that finds the page's list
+-- the steps of freeing a slot of a page in this list with `used` used slots, without the step that finds the list
 abbrev pub steps_to_vacate : Which → ℕ → ℕ
 steps_to_vacate which used = if nat_eq used 1 then 9 else elim which [ Full ↦ 12 | NotFull ↦ 4 ]
 

@@ -1,4 +1,4 @@
--- The tables of pages: which slots of which pages are used.
+-- The tables of pages, which show the used slots of each page.
 use Rattle.std.specs.Prelude.{◌≡◌, ℕ, Bool, true, false, ◌+◌, ◌*◌, ◌/◌, ◌%◌, ◌^◌, ◌<◌, ◌⊎◌, List, [], ◌∷◌, length, Some, count_by, slice_get, slice_index}
 use Rattle.std.specs.Prelude.{slice_index_or}
 use Rattle.std.specs.List.{Contains}
@@ -32,7 +32,7 @@ used_in all = count_by (λ used. used) all
 abbrev pub slots_in : ClassTable → ℕ → ℕ
 slots_in k c = slots k.page_words k.sizes c
 
--- the address of a slot of class c
+-- the address of slot number `slot` of class c on a page
 abbrev pub address_in : ClassTable → ℕ → ℕ → ℕ → ℕ
 address_in k c page slot = page * k.page_words + slot * slice_index k.sizes c
 
@@ -40,7 +40,7 @@ address_in k c page slot = page * k.page_words + slot * slice_index k.sizes c
 abbrev pub page_at : ClassTable → ℕ → ℕ
 page_at k a = a / k.page_words
 
--- the slot of class c at an address, counted on its page
+-- the number, on its page, of the slot of class c at an address
 abbrev pub slot_at : ClassTable → ℕ → ℕ → ℕ
 slot_at k c a = a % k.page_words / slice_index k.sizes c
 
@@ -53,7 +53,7 @@ pub record IsUsed (t : Tables) (c page slot : ℕ) : Type 0 where
   pub of : IsOf t c page
   pub used : slice_get (slots_on t page) slot ≡ Some true
 
--- how many of n slots are used on a page of this list
+-- a page of this list may have `used` of its n slots used: all, or some but not all
 abbrev pub HasUsed : Which → ℕ → ℕ → Type 0
 HasUsed Full used n = used ≡ n
 HasUsed NotFull used n = (0 < used) × (used < n)
@@ -64,7 +64,7 @@ pub record IsFreePage (t : Tables) (page : ℕ) : Type 0 where
   pub unlisted : IsUnlisted t.lists page
   pub unused : used_in (slots_on t page) ≡ 0
 
--- the page is in this list of class c, has the class's slots, and has the number of used ones that the list asks for
+-- the page is in this list of class c, has the slots of the class, and has all of them used, or some but not all, as in `HasUsed`
 pub record IsPageOf (k : ClassTable) (t : Tables) (page c : ℕ) (which : Which) : Type 0 where
   pub taken : is_in_pool t.pool.free page ≡ false
   pub listed : Contains (pages_in t.lists c which) page

@@ -14,7 +14,7 @@ pub record FillsPage (old : PageLists) (c page : ℕ) (new : PageLists) : Type 0
   pub leaves : LeavesList old c NotFull page between
   pub joins : JoinsList between c Full page new
 
--- takes the least free slot of the first partly full page of class c
+-- a call takes the lowest free slot of the first partly full page of class c
 pub record TakesOnOpenPage (old : Tables) (c page slot : ℕ) (new : Tables) : Type 0 where
   pub front : slice_get (pages_in old.lists c NotFull) 0 ≡ Some page
   pub least : position (λ used. not used) (slots_on old page) ≡ Some slot
@@ -24,7 +24,7 @@ pub record TakesOnOpenPage (old : Tables) (c page slot : ℕ) (new : Tables) : T
   pub filled : used_in (slots_on new page) ≡ length (slots_on new page) → FillsPage old.lists c page new.lists
   pub not_filled : used_in (slots_on new page) ≢ length (slots_on new page) → new.lists ≡ old.lists
 
--- class c has no partly full page: takes the first slot of the first page of the pool
+-- class c has no partly full page, and a call takes the first slot of the first page of the pool
 pub record TakesOnFreePage (k : ClassTable) (old : Tables) (c page : ℕ) (new : Tables) : Type 0 where
   pub none : pages_in old.lists c NotFull ≡ []
   pub front : TakesFront old.pool (Some page) new.pool
@@ -32,14 +32,14 @@ pub record TakesOnFreePage (k : ClassTable) (old : Tables) (c page : ℕ) (new :
   pub filled : slots_in k c ≡ 1 → JoinsList old.lists c Full page new.lists
   pub not_filled : slots_in k c ≢ 1 → JoinsList old.lists c NotFull page new.lists
 
--- takes a free slot of class c; its address is a
+-- a call takes a free slot of class c, at address a
 pub record TakesAt (k : ClassTable) (old : Tables) (c a : ℕ) (new : Tables) : Type 0 where
   pub page : ℕ
   pub slot : ℕ
   pub address : a ≡ address_in k c page slot
   pub taken : TakesOnOpenPage old c page slot new ⊎ ((slot ≡ 0) × TakesOnFreePage k old c page new)
 
--- takes a slot of class c; or there is none: no page of the class is partly full, and no page is free
+-- a call takes a slot of class c; or there is none, since no page of the class is partly full and no page is free, and nothing changes
 abbrev pub TakesSlot : ClassTable → Tables → ℕ → Option ℕ → Tables → Type 0
 TakesSlot k old c None new = (pages_in old.lists c NotFull ≡ []) × (old.pool.free ≡ []) × (new ≡ old)
 TakesSlot k old c (Some a) new = TakesAt k old c a new

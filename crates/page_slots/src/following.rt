@@ -1,4 +1,5 @@
-//! The tables give out slots in their order.
+//! Laws of the order in which the tables use slots (`order_of`). The functions do nothing; each
+//! contract is a law.
 ghost use Rattle.std.specs.Prelude.{ℕ, ◌≡◌, ◌+◌, ◌<◌, List, None, Some, length, nat_eq, slice_get};
 ghost use Rattle.std.specs.List.{Contains, IsDistinct};
 ghost use Rattle.std.specs.FinMap.{get, len};
@@ -14,7 +15,7 @@ ghost use Rattle.page_slots.specs.Take.{TakesAt, steps_to_take};
 ghost use Rattle.class_lists.specs.declared.Which.TheVariants.{NotFull};
 ghost use Rattle.class_lists.specs.PageLists.{pages_in};
 
-/// The slot that is taken is the next one in the order of the tables.
+/// The slot that the tables take is the next one in their order.
 pub fn the_next_slot_is_taken()
     ensures { (p : Paging) (m : Held) (old new : Tables) (c a : ℕ) (spare : List ℕ)
         → IsPaging p → ServePart p old → Occupies p m old → AreTables (class_table p) new → c < classes p
@@ -38,7 +39,8 @@ pub fn the_filler_is_next_to_move()
         → IsNextToMove p m (order_of (classes p) t spare) c y }
 {}
 
-/// The steps of each call are those given by the order and the numbers of objects on the pages.
+/// The steps of each call, computed from the tables, are those that the model computes from the
+/// order and the numbers of objects on the pages.
 pub fn steps_follow_the_order()
     ensures take { (p : Paging) (m : Held) (old new : Tables) (c a : ℕ) (spare : List ℕ)
         → ServePart p old → Occupies p m old → c < classes p → TakesAt (class_table p) old c a new

@@ -1,9 +1,10 @@
-//! Which slots of which pages are used, in the tables that every heap with pages uses: a map of the
+//! The tables that every heap with pages uses, which show the used slots of each page: a map of the
 //! slots of each page, lists of the pages of each class, and a pool of free pages. The rules are
 //! those of Compact-fit (2008) for slots alone; this crate knows no objects.
 #![tactic(auto)]
 
 mod following;
+mod page_tables;
 mod place;
 mod release;
 mod take;
@@ -12,5 +13,4 @@ pub use following::{
     a_freed_slot_follows_the_order, steps_follow_the_order, the_filler_is_next_to_move,
     the_next_slot_is_taken, the_order_is_of_the_arrangement,
 };
-pub use release::{drop_slot, fill_slot, filler, must_move};
-pub use take::take_slot;
+pub use page_tables::PageTables;

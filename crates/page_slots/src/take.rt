@@ -3,49 +3,73 @@ ghost use Rattle.std.specs.Prelude.{◌≡◌, ◌≢◌, ◌<◌, [], if◌then
 ghost use Rattle.std.specs.List.{Contains, position};
 ghost use Rattle.step_ledger.specs.Counting.{RoseAtMost, RoseBy};
 ghost use Rattle.class_lists.specs.PageLists.{AreApart, IsUnlisted, pages_in};
-ghost use Rattle.page_slots.specs.Tables.{AreTables, JoinsList, KeepsForeign, tables, used_in};
+ghost use Rattle.page_slots.specs.PageTables.{tables_with};
+ghost use Rattle.page_slots.specs.Tables.{AreTables, JoinsList, KeepsForeign, used_in};
 ghost use Rattle.page_slots.specs.Take.{FillsPage, TakesSlot, steps_to_take};
 
+use crate::page_tables::PageTables;
 use crate::place::address_of;
 use class_lists::{ClassLists, Which};
-use page_pool::PagePool;
-use size_classes::Classes;
 use slot_bitmap::SlotMap;
 use step_ledger::Steps;
 
-/// Takes a free slot of class c and returns its address: the least free slot of the first partly
-/// full page of the class, else the first slot of the first page of the pool. Returns none if the
-/// class has no partly full page and no page is free; then nothing changes.
-#[inline(always)]
-pub fn take_slot(
-    classes: &Classes,
-    maps: &mut [SlotMap],
-    lists: &mut ClassLists,
-    pool: &mut PagePool,
-    c: u32,
-    steps: &mut Steps,
-) -> Option<u32>
-    requires tables { AreTables classes.now (tables maps.old lists.old pool.old) }
-    requires class { c < length classes.now.sizes }
-    ensures taken { TakesSlot classes.now (tables maps.old lists.old pool.old) c result
-        (tables maps.new lists.new pool.new) }
-    ensures others { KeepsForeign (tables maps.old lists.old pool.old) (tables maps.new lists.new pool.new) }
-    ensures kept { AreTables classes.now (tables maps.new lists.new pool.new) }
-    ensures steps { RoseBy steps.old steps.new (steps_to_take classes.now (tables maps.old lists.old pool.old) c) }
-    ensures bound { RoseAtMost steps.old steps.new 13 }
-{
-    match lists.front(c, Which::NotFull, steps) {
-        Some(page) => {
-            let map = &mut maps[page as usize];
-            let slot = take_least(map, steps);
-            leave_if_filled(map, lists, c, page, steps);
-            Some(address_of(classes, c, page, slot))
+impl PageTables {
+    /// Takes a free slot of class c and returns its address: the lowest free slot of the first partly
+    /// full page of the class, else the first slot of the first page of the pool. Returns none if the
+    /// class has no partly full page and no page is free; then nothing changes.
+    #[inline(always)]
+    pub fn take_slot(&mut self, lists: &mut ClassLists, c: u32, steps: &mut Steps) -> Option<u32>
+        requires tables { AreTables self.old.classes (tables_with self.old lists.old) }
+        requires class { c < length self.old.classes.sizes }
+        ensures taken { TakesSlot self.old.classes (tables_with self.old lists.old) c result
+            (tables_with self.new lists.new) }
+        ensures others { KeepsForeign (tables_with self.old lists.old) (tables_with self.new lists.new) }
+        ensures classes { self.new.classes ≡ self.old.classes }
+        ensures kept { AreTables self.old.classes (tables_with self.new lists.new) }
+        ensures steps { RoseBy steps.old steps.new (steps_to_take self.old.classes (tables_with self.old lists.old) c) }
+        ensures bound { RoseAtMost steps.old steps.new 13 }
+    {
+        match lists.front(c, Which::NotFull, steps) {
+            Some(page) => {
+                let map = &mut self.maps[page as usize];
+                let slot = take_least(map, steps);
+                leave_if_filled(map, lists, c, page, steps);
+                Some(address_of(&self.classes, c, page, slot))
+            }
+            None => self.take_on_free_page(lists, c, steps),
         }
-        None => take_on_free_page(classes, maps, lists, pool, c, steps),
+    }
+
+    /// Takes the first slot of the first page of the pool, which becomes a page of class c. Returns
+    /// none if no page is free.
+    #[inline(always)]
+    fn take_on_free_page(
+        &mut self,
+        lists: &mut ClassLists,
+        c: u32,
+        steps: &mut Steps,
+    ) -> Option<u32>
+        requires tables { AreTables self.old.classes (tables_with self.old lists.old) }
+        requires class { c < length self.old.classes.sizes }
+        requires none { pages_in lists.old c Which.NotFull ≡ [] }
+        ensures taken { TakesSlot self.old.classes (tables_with self.old lists.old) c result
+            (tables_with self.new lists.new) }
+        ensures others { KeepsForeign (tables_with self.old lists.old) (tables_with self.new lists.new) }
+        ensures classes { self.new.classes ≡ self.old.classes }
+        ensures kept { AreTables self.old.classes (tables_with self.new lists.new) }
+        ensures steps { RoseBy steps.old steps.new (if is_some result then 10 else 1) }
+    {
+        let page = self.pool.take(steps)?;
+        let slots = self.classes.slots(c);
+        let map = &mut self.maps[page as usize];
+        map.renew(slots, steps);
+        map.set(0, steps);
+        join_with_one(lists, c, page, slots, steps);
+        Some(address_of(&self.classes, c, page, 0))
     }
 }
 
-/// Takes the least free slot of a page.
+/// Takes the lowest free slot of a page.
 #[inline(always)]
 fn take_least(map: &mut SlotMap, steps: &mut Steps) -> u32
     requires { used_in map.old < length map.old }
@@ -60,7 +84,8 @@ fn take_least(map: &mut SlotMap, steps: &mut Steps) -> u32
     slot
 }
 
-/// Moves a page of class c with these slots to the full pages if it is full now.
+/// Moves a page of class c with this map from the partly full pages to the full ones, if all its
+/// slots are used.
 #[inline(always)]
 fn leave_if_filled(map: &SlotMap, lists: &mut ClassLists, c: u32, page: u32, steps: &mut Steps)
     requires class { c < lists.old.classes }
@@ -77,35 +102,8 @@ fn leave_if_filled(map: &SlotMap, lists: &mut ClassLists, c: u32, page: u32, ste
     }
 }
 
-/// Takes the first slot of the first page of the pool, which becomes a page of class c.
-#[inline(always)]
-fn take_on_free_page(
-    classes: &Classes,
-    maps: &mut [SlotMap],
-    lists: &mut ClassLists,
-    pool: &mut PagePool,
-    c: u32,
-    steps: &mut Steps,
-) -> Option<u32>
-    requires tables { AreTables classes.now (tables maps.old lists.old pool.old) }
-    requires class { c < length classes.now.sizes }
-    requires none { pages_in lists.old c Which.NotFull ≡ [] }
-    ensures taken { TakesSlot classes.now (tables maps.old lists.old pool.old) c result
-        (tables maps.new lists.new pool.new) }
-    ensures others { KeepsForeign (tables maps.old lists.old pool.old) (tables maps.new lists.new pool.new) }
-    ensures kept { AreTables classes.now (tables maps.new lists.new pool.new) }
-    ensures steps { RoseBy steps.old steps.new (if is_some result then 10 else 1) }
-{
-    let page = pool.take(steps)?;
-    let slots = classes.slots(c);
-    let map = &mut maps[page as usize];
-    map.renew(slots, steps);
-    map.set(0, steps);
-    join_with_one(lists, c, page, slots, steps);
-    Some(address_of(classes, c, page, 0))
-}
-
-/// Adds a page of class c with `slots` slots, one of them used, to its list.
+/// Adds a page of class c with `slots` slots, one of them used, to the full pages if it has no
+/// other slot, else to the partly full ones.
 #[inline(always)]
 fn join_with_one(lists: &mut ClassLists, c: u32, page: u32, slots: u32, steps: &mut Steps)
     requires class { c < lists.old.classes }

@@ -1,4 +1,4 @@
--- Another bound for a class, while no object is live.
+-- For `set_bound` and `class_with`: the heap stays valid with another bound of a class, while no object is live.
 use Rattle.std.proofs.Common.{◌≡◌, ◌≢◌, ℕ, ◌<◌, ◌≤◌, length, set, get_or, Some, None, arith, refl, sym, ◌∙◌, ap, subst, inl, inr}
 use Rattle.std.specs.Prelude.{◌⊎◌, nat_eq, position}
 use Rattle.std.proofs.lemmas.Bool.{cases_eq}

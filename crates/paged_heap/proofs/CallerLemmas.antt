@@ -1,4 +1,4 @@
--- What a manager may cite: what follows from an open heap's invariant. Declares nothing.
+-- The lemmas that the managers' proofs cite: what follows from an open heap's invariant. Declares nothing itself.
 pub use Rattle.paged_heap.proofs.LayoutFacts.{no_place, order_of_value, order_promised, rules, rules_in, rules_of}
 pub use Rattle.paged_heap.proofs.ByKind.{in_region}
 pub use Rattle.paged_heap.proofs.Preserved.{has_place}

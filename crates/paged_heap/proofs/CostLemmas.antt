@@ -1,4 +1,4 @@
--- The exact steps of the parts of a call, by the order.
+-- For the clauses `cost` of `malloc_inner` and `free_inner`: the exact steps of a call's parts, as the order determines them.
 use Rattle.std.proofs.Common.{◌≡◌, ℕ, ◌+◌, ◌<◌, length, get_or, Option, None, Some, Ok, arith, sym, ◌∙◌, ap, subst}
 use Rattle.std.specs.Prelude.{slice_get}
 use Rattle.cf_base.specs.Classes.{class_of}
@@ -31,7 +31,7 @@ use Rattle.paged_heap.proofs.LayoutFacts.{as_many, table_is}
 use Rattle.paged_heap.proofs.WholeBlocks.{whole_slot}
 
 module _ (h : Heap) (k : IsValid h) where
-  -- the slot of class c that is taken
+  -- the steps of taking a slot of class c, by the tables and by the order
   pub takes_by : (c a : ℕ) (new : Tables) → c < classes (paging_at h) → TakesAt h.classes (tables_in h) c a new
       → steps_to_take h.classes (tables_in h) c ≡ Order.steps_to_take (paging_at h) (held_in h) (order_in h) c
   takes_by c a new class t =
@@ -39,7 +39,7 @@ module _ (h : Heap) (k : IsValid h) where
       ∙ steps_same k.serve.part k.occupied class h.proxies.free a new (subst (λ t. TakesAt t (tables_in h) c a new) (sym (table_is h k)) t)
       ∙ ap (λ s. Order.steps_to_take (paging_at h) (held_in h) (order_of s (tables_in h) h.proxies.free) c) (sym (as_many h k))
 
-  -- a malloc
+  -- the steps of a malloc's parts sum to its exact cost
   pub malloc_sum : (bytes c : ℕ) → Some c ≡ class_of h.classes.sizes bytes → (q : Handle) (a : ℕ) (new : Tables) → TakesAt h.classes (tables_in h) c a new
       → (s t u v : ℕ) → RoseBy s t 1 → RoseBy t u (steps_to_take h.classes (tables_in h) c) → RoseBy u v (2 + word_steps h.kind)
       → RoseBy s v (malloc_cost (state_of h) (order_in h) bytes (Ok q))
@@ -50,13 +50,13 @@ module _ (h : Heap) (k : IsValid h) where
       rose_by s v _ _ (omega arith) (rose_both s u v _ _ (rose_both s t u _ _ x y) z)
 
 module _ {h : Heap} (k : IsValid h) {q a size c : ℕ} (o : IsObjectAt h q a size c) where
-  -- the slot that becomes free
+  -- the steps of freeing the object's slot, by the tables and by the order
   pub drops_by : steps_to_drop (tables_in h) (page_at h.classes a) ≡ Order.steps_to_drop (paging_at h) (held_in h) (class_at (paging_at h) (it k o)) (page_of (paging_at h) a)
   drops_by = drop_same k.serve.part k.occupied o.in_range h.proxies.free (page_at h.classes a) (it_used k o).of
       ∙ ap (λ d. Order.steps_to_drop (paging_at h) (held_in h) d (page_at h.classes a)) (sym (it_class k o))
       ∙ ap (Order.steps_to_drop (paging_at h) (held_in h) (class_at (paging_at h) (it k o))) (sym (page_same k o))
 
-  -- and that of the object that moves
+  -- the steps of freeing the slot of the object that moves, by the tables and by the order
   pub fills_by : (page : ℕ) → slice_get (pages_in h.lists c NotFull) 0 ≡ Some page
       → steps_to_fill (tables_in h) c ≡ Order.steps_to_fill (paging_at h) (held_in h) (order_in h) (class_at (paging_at h) (it k o))
   fills_by page front = fill_same k.serve.part k.occupied o.in_range h.proxies.free page front
@@ -80,7 +80,7 @@ module _ {h : Heap} (k : IsValid h) {q a size c : ℕ} (o : IsObjectAt h q a siz
       let e = fills_by f.page f.front in
       rose_by s w _ _ (omega arith) (rose_both s v w _ _ (rose_both s u v _ _ (rose_both s t u _ _ r1 r2) r3) r4)
 
-  -- a free
+  -- the steps of a free's parts sum to its exact cost
   pub free_sum : (freed : Freed) (s t u v w z : ℕ) → RoseBy s t 1 → RoseBy t u (word_steps h.kind) → RoseBy u v 1 → RoseBy v w 1
       → RoseBy w z (2 + leaving_cost (state_of h) (order_in h) (it k o) freed.moved) → RoseBy s z (free_cost (state_of h) (order_in h) q (Ok freed))
   free_sum freed s t u v w z r1 r2 r3 r4 r5 =

@@ -1,4 +1,4 @@
--- How large the counts of an open heap may be, and the class of a request.
+-- The largest values of an open heap's counts, so that they don't overflow; and the class of a request.
 use Rattle.std.proofs.Common.{◌≡◌, ℕ, ◌*◌, ◌<◌, ◌≤◌, length, get_or, Option, Some, None, arith, refl, sym, ◌∙◌, ap, subst, inl, inr}
 use Rattle.std.specs.Prelude.{nat_eq, option_map}
 use Rattle.std.proofs.lemmas.Bool.{cases_lt}
@@ -68,7 +68,7 @@ module _ (h : Heap) (k : IsValid h) where
   pub taken_room : h.taken ≤ 131072 * 65536
   taken_room = (let e = k.taken_all in let l = taken_few (paging_at h) (paging_ok h k) (held_in h) k.sound page_small in let f = len_few in omega arith)
 
-  -- a request that has a class fits, and it is that of the model
+  -- if `class_of` finds a class, the request fits a page, and the class is the model's
   pub class_is : (bytes c : ℕ) → Some c ≡ class_of h.classes.sizes bytes → (need bytes ≤ h.settings.page_words) × (class_for (paging_at h) bytes ≡ c)
       × (c < classes (paging_at h))
   class_is bytes c e =

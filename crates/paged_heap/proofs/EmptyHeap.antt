@@ -1,25 +1,24 @@
--- An open heap without objects.
-use Rattle.std.proofs.Common.{◌≡◌, ℕ, Bool, false, ◌*◌, ◌<◌, ◌≤◌, inl, inr, List, [], length, take, replicate, get_or, arith, sym, ◌∙◌, ap, subst}
+-- For `empty`: an open heap that was just put together is valid, and its state is an empty heap.
+use Rattle.std.proofs.Common.{◌≡◌, ℕ, false, ◌*◌, ◌<◌, ◌≤◌, [], length, take, replicate, get_or, arith, sym, ◌∙◌, ap, subst}
 use Rattle.std.specs.List.{range_with_len}
-use Rattle.std.proofs.lemmas.Bool.{cases_lt}
-use Rattle.std.proofs.lemmas.List.{get_or-replicate, get_or_past, length-replicate, take-replicate}
+use Rattle.std.proofs.lemmas.List.{get_or-replicate, length-replicate, take-replicate}
 use Rattle.std.specs.FinMap.{empty}
 use Rattle.cf_base.specs.Classes.{sizes}
-use Rattle.cf_base.proofs.CallerLemmas.{are_sizes, page_size}
+use Rattle.cf_base.proofs.CallerLemmas.{are_sizes}
 use Rattle.page_model.specs.Held.{objects}
 use Rattle.page_model.specs.Bytes.{held_at}
 use Rattle.page_model.specs.Arrangement.{IsSound, live}
 use Rattle.page_model.specs.Image.{IsSlotImage, slot_for}
 use Rattle.page_model.specs.Figures.{asked_bytes, taken_bytes}
 use Rattle.page_model.proofs.CallerLemmas.{sound_empty, image_empty, no_objects, none_asked, none_live, none_taken, nothing_held}
-use Rattle.size_classes.specs.Table.{ClassTable, IsClassTable, table_of}
+use Rattle.size_classes.specs.Table.{ClassTable, table_of}
 use Rattle.class_lists.specs.PageLists.{empty_lists}
 use Rattle.page_pool.specs.Pool.{Pool}
 use Rattle.proxy_table.specs.Proxies.{Proxies, AreBelowLimit, no_proxies}
-use Rattle.page_slots.specs.Tables.{AreTables, NoneForeign, tables, used_in}
-use Rattle.page_slots.specs.Occupying.{Occupies, Serve, class_table}
+use Rattle.page_slots.specs.Tables.{tables}
+use Rattle.page_slots.specs.Occupying.{Occupies, Serve}
 use Rattle.page_slots.specs.Orders.{open_lists}
-use Rattle.page_slots.proofs.CallerLemmas.{first_occupied, first_tables, first_whole, open_empty}
+use Rattle.page_slots.proofs.CallerLemmas.{first_occupied, first_table, new_serve, open_empty}
 use Rattle.cf_base.specs.Settings.{profile_of}
 use Rattle.page_model.specs.Order.{first_order}
 use Rattle.cf_model.specs.State.{layout_of, paging_in}
@@ -29,7 +28,7 @@ use Rattle.paged_heap.specs.Heap.{Heap}
 use Rattle.paged_heap.proofs.ByKind.{opening_bounds_are, opening_order_is, opening_tiling_is, opening_words, paged_of}
 use Rattle.paged_heap.specs.Layout.{IsFramed, IsValid, held_in, order_in, paging_at, state_of, tables_in}
 
--- what an opened heap is made of
+-- the parts of a heap that was just opened
 pub record IsFirst (h : Heap) : Type 0 where
   pub table : h.classes ≡ table_of h.settings.page_words (layout_of h.kind)
   pub bounds : h.bounds ≡ replicate 128 h.settings.k
@@ -64,35 +63,10 @@ module _ (h : Heap) (f : IsFirst h) where
   few = (are_sizes h.settings.page_words (layout_of h.kind) h.settings.page_size).few
 
   serve : Serve (paging_at h) (tables_in h)
-  serve = record {
-    part = record { tables = shown; pages = ap (λ (q : Pool). q.pages) f.pool };
-    whole = subst NoneForeign (sym tables_are) (first_whole (length h.classes.sizes) h.settings.pages h.maps);
-  }
-    where
-      unused : (page : ℕ) → used_in (get_or h.maps page []) ≡ 0
-      unused page = ap (λ (maps : List (List Bool)). used_in (get_or maps page [])) f.maps ∙ elim (cases_lt page h.settings.pages) [
-        | inl lt ↦ ap used_in (get_or-replicate h.settings.pages page (replicate 1 false) [] lt)
-        | inr past ↦ ap used_in (get_or_past (replicate h.settings.pages (replicate 1 false)) page []
-            (let e = length-replicate h.settings.pages (replicate 1 false) in omega arith))
-      ]
-
-      shown : AreTables (class_table (paging_at h)) (tables_in h)
-      shown =
-          let small = h.settings.small_region in
-          let t : IsClassTable h.settings.page_words (sizes h.settings.page_words (layout_of h.kind)) =
-          record {
-            are_sizes = are_sizes h.settings.page_words (layout_of h.kind) h.settings.page_size;
-            small = (page_size h.settings.page_words h.settings.page_size).small;
-          } in
-          let long : length h.maps ≡ h.settings.pages = ap length f.maps ∙ length-replicate h.settings.pages (replicate 1 false) in
-          let all = first_tables (length h.classes.sizes) h.settings.pages (class_table (paging_at h)) h.maps t (omega arith) long unused many in
-          let l = subst (λ l. AreTables (class_table (paging_at h))
-          (tables h.maps l (record { pages = h.settings.pages; free = range_with_len 0 h.settings.pages }))) (sym f.lists) all in
-          subst (λ q. AreTables (class_table (paging_at h)) (tables h.maps h.lists q)) (sym f.pool) l
-
-      tables_are : tables_in h ≡ tables h.maps (empty_lists (length h.classes.sizes) h.settings.pages)
-          (record { pages = h.settings.pages; free = range_with_len 0 h.settings.pages })
-      tables_are = ap (λ l. tables h.maps l h.pool) f.lists ∙ ap (tables h.maps (empty_lists (length h.classes.sizes) h.settings.pages)) f.pool
+  serve =
+      let small = h.settings.small_region in
+      new_serve (paging_at h) (length h.classes.sizes) h.maps h.lists h.pool (first_table h.settings.page_words (layout_of h.kind) h.settings.page_size)
+      (omega arith) many f.maps f.lists f.pool
 
   bound : (c : ℕ) → c < 128 → get_or h.bounds c 0 ≡ h.settings.k
   bound c lt = ap (λ b. get_or b c 0) f.bounds ∙ get_or-replicate 128 c h.settings.k 0 lt
@@ -128,7 +102,7 @@ module _ (h : Heap) (f : IsFirst h) where
     taken_all = f.taken ∙ sym (ap (taken_bytes (paging_at h)) none_of ∙ none_taken (paging_at h));
   }
 
-  -- pages and numbers come in rising order
+  -- the order lists pages and numbers in rising order
   order_first : order_in h ≡ first_order (paging_in (empty_heap h.kind (profile_of h.settings) [])) h.settings.proxies
   order_first =
       let lists : open_lists (length h.classes.sizes) h.lists ≡ replicate (length (sizes h.settings.page_words (layout_of h.kind))) [] =

@@ -1,4 +1,4 @@
--- The numbers of the reports.
+-- For `figures` and `totals`: each number that the code returns is the model's.
 use Rattle.std.proofs.Common.{◌≡◌, ℕ, ◌+◌, ◌*◌, ◌≤◌, length, arith, refl, sym, ◌∙◌}
 use Rattle.std.specs.Prelude.{if◌then◌else◌, nat_eq}
 use Rattle.std.specs.FinMap.{len}
@@ -15,7 +15,7 @@ use Rattle.paged_heap.specs.Heap.{Heap}
 use Rattle.paged_heap.specs.Layout.{IsValid, held_in, paging_at, tables_in}
 use Rattle.paged_heap.proofs.LayoutFacts.{held_len, paging_ok}
 
--- all figures at once
+-- all totals at once
 pub totals_same : (p : Paging) (m : Held) (l a t h u f g : ℕ) → l ≡ len (objects m) → a ≡ asked_bytes (objects m) → t ≡ taken_bytes p (objects m)
     → h ≡ 8 * p.page_words * used_pages p m → u ≡ used_pages p m → f ≡ free_pages p m
     → g ≡ (if nat_eq (free_pages p m) 0 then 0 else p.page_words)

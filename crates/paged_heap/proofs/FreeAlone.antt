@@ -1,4 +1,4 @@
--- A free that moves no other object.
+-- For `free_alone`: a free that moves no other object.
 use Rattle.std.proofs.Common.{◌≡◌, ℕ, ◌-◌, ◌*◌, length, get_or, set, None, sym, ◌∙◌, ap, subst}
 use Rattle.std.specs.FinMap.{remove}
 use Rattle.page_model.specs.Bytes.{bytes_at}
@@ -28,7 +28,7 @@ module _ {h : Heap} (k : IsValid h) {q a size c : ℕ} (o : IsObjectAt h q a siz
     (counted : g ≡ record e { live = set e.live c (get_or e.live c 0 - 1); asked = e.asked - size; taken = e.taken - 8 * get_or e.classes.sizes c 0 })
     (freed : Vacates (tables_in g) c (page_at g.classes a) (slot_at g.classes c a) (tables_in n)) (tables : AreTables g.classes (tables_in n))
     (dropped : n ≡ record g { maps = n.maps; lists = n.lists; pool = n.pool }) where
-  -- all but the tables, by the heap that was
+  -- all parts of the heap but the tables, in terms of the heap before
   from_erased : g ≡ record h {
     proxies = without_place h.proxies q;
     words = e.words;

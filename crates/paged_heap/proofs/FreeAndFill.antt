@@ -1,4 +1,4 @@
--- A free that moves another object to the freed slot.
+-- For `free_and_fill`: a free that moves another object to the freed slot.
 use Rattle.std.proofs.Common.{◌≡◌, ◌≢◌, ℕ, ◌+◌, ◌-◌, ◌*◌, ◌/◌, ◌%◌, ◌^◌, ◌<◌, ◌≤◌, ◌∷◌, List, length, get_or, set, Some, arith, sym, ◌∙◌, ap, subst, inl, inr}
 use Rattle.std.specs.Prelude.{◌⊎◌, IsSome, is_some}
 use Rattle.std.specs.FinMap.{get, insert, remove}
@@ -89,7 +89,7 @@ module _ {h : Heap} {q a size c b : ℕ} {new : Tables} (f : Fills h q a size c 
   pub mover : Moves (paging_at h) (held_in h) (it k o) (Some r)
   mover = (due, (y, there, may))
 
-  -- its words are in the region
+  -- the words of the other object's slot are in the region
   pub source_in : b + words ≤ length h.words
   source_in = (
       let l = object_inside (paging_at h) (held_in h) k.sound r y there in
@@ -109,7 +109,7 @@ module _ {h : Heap} {q a size c b : ℕ} {new : Tables} (f : Fills h q a size c 
       let e = same_slot in let f = it_slot k o in let p = at in
       elim d [ inl l ↦ inl (omega arith) | inr l ↦ inr (omega arith) ]
 
-  -- its header holds its number
+  -- the other object's header holds its number
   pub number_shown : get_or h.words b 0 % 2 ^ 32 ≡ r
   number_shown =
       let small = number_small h k r y there in
@@ -117,7 +117,7 @@ module _ {h : Heap} {q a size c b : ℕ} {new : Tables} (f : Fills h q a size c 
       let t = header_shown (held_in h) h.words r y (own_words (paging_at h) (paging_ok h k) (held_in h) k.sound h.words k.image) there (omega arith) in
       ap (λ i. get_or h.words i 0 % 2 ^ 32) (sym at) ∙ t.0
 
-  -- it is still live after the free
+  -- the other object is still live after the free
   pub live_still : get (remove h.proxies.places q) r ≡ Some y.place
   live_still = get_remove_other h.proxies.places q r is_other ∙ place_known h k r y there
 
@@ -216,7 +216,7 @@ module _ {h : Heap} {q a size c b : ℕ} {new : Tables} (f : Fills h q a size c 
       taken = released.taken - 8 * get_or released.classes.sizes c 0;
     }
 
-  -- the same with the number read from the header
+  -- as above, with the number of the other object read from its header
   pub leaves_of : {t g : Heap} {w i word : ℕ} {proxies : Proxies} → t ≡ record h { maps = t.maps; lists = t.lists; pool = t.pool }
       → word ≡ get_or t.words b 0 → i ≡ word % 2 ^ 32
       → w ≡ words → proxies ≡ without_place t.proxies q

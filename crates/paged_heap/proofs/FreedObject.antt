@@ -1,4 +1,4 @@
--- A freed object, and what a free leaves.
+-- For both kinds of a free: the freed object, and the objects and counts after the free.
 use Rattle.std.proofs.Common.{◌≡◌, ℕ, ◌+◌, ◌-◌, ◌*◌, ◌<◌, ◌≤◌, ◌∷◌, length, get_or, set, Option, Some, arith, sym, ◌∙◌, ap, subst}
 use Rattle.std.specs.Prelude.{nat_eq}
 use Rattle.std.proofs.lemmas.List.{length-set}
@@ -134,7 +134,7 @@ module _ {h : Heap} (k : IsValid h) {q a size c : ℕ} (o : IsObjectAt h q a siz
     objects_are : objects rest_held ≡ remove (objects (held_in h)) q
     objects_are = free_objects (paging_at h) (paging_ok h k) (held_in h) k.sound q it it_found moved mv
 
-    -- the counts of what is left
+    -- the counts of the objects that are left
     pub record Counts : Type 0 where
       pub live : n.live ≡ set h.live c (get_or h.live c 0 - 1)
       pub asked : n.asked ≡ h.asked - size

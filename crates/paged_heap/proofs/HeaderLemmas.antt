@@ -27,7 +27,7 @@ module _ (h : Heap) (k : IsValid h) (q a : ℕ) (some : get h.proxies.places q �
   long : length (bytes_at h.words a) ≡ size
   long = bytes_long h.words a ∙ sym shown
 
-  -- it has a class
+  -- the object's length has a class
   pub has_class : None ≡ class_of h.classes.sizes size → ⊥
   has_class none =
       let lt = (k.sound.slots q (record { place = a; bytes = bytes_at h.words a }) (held h k q a some)).class in
@@ -39,13 +39,13 @@ module _ (h : Heap) (k : IsValid h) (q a : ℕ) (some : get h.proxies.places q �
   pub object_at : (c : ℕ) → Some c ≡ class_of h.classes.sizes size → IsObjectAt h q a size c
   object_at c found = (let is = class_is h k size c found in record { known = some; long = long; class = is.1; in_range = is.2 })
 
--- its page is one of the tables'
+-- the tables have the object's page
 pub page_there : {h : Heap} (k : IsValid h) {q a size c : ℕ} (o : IsObjectAt h q a size c) → page_at h.classes a < length h.maps
 page_there {h} k {q} o =
     let lt = found_page (paging_ok h k) k.serve.part k.occupied q (it_found k o) in
     subst (λ g. g < length h.maps) (page_same k o) lt
 
--- the cost of a free
+-- what a free does (`IsFreeStep`) does not depend on the cost that is stored after it
 pub free_with_cost : (o : Heap) (q : ℕ) (r : Result Freed NotLive) (h : Heap) (cost : ℕ) → IsFreeStep (state_of o) q r (state_of h)
     → IsFreeStep (state_of o) q r (state_of (record h { cost = cost }))
 free_with_cost o q (Ok freed) h cost g = record {
@@ -61,7 +61,7 @@ free_with_cost o q (Ok freed) h cost g = record {
 }
 free_with_cost o q (Err e) h cost (cause, same) = (cause, ap (λ (t : HeapState). record t { cost = cost }) same)
 
--- a free takes few steps
+-- the most steps of a free are below 2^62
 pub few_free : (h : Heap) (k : IsValid h) (q : ℕ) (r : Result Freed NotLive) (s : HeapState) → IsFreeStep (state_of h) q r s → free_bound r < 2 ^ 62
 few_free h k q (Ok freed) s g =
     let fits = slot_fits (paging_at h) (paging_ok h k) (class_at (paging_at h) g.object) (k.sound.slots q g.object g.found).class in

@@ -12,6 +12,8 @@ use Rattle.page_model.specs.Order.{IsOrderOf}
 use Rattle.page_model.specs.Paging.{IsPaging, classes}
 use Rattle.page_model.proofs.CallerLemmas.{held_at_is, held_at_bytes, own_words, paged}
 use Rattle.size_classes.specs.Table.{ClassTable, IsClassTable}
+use Rattle.class_lists.specs.PageLists.{PageLists}
+use Rattle.page_slots.specs.declared.page_tables.PageTables.{PageTables}
 use Rattle.page_slots.specs.Tables.{AreTables}
 use Rattle.page_slots.specs.Occupying.{class_table}
 use Rattle.page_slots.specs.Orders.{order_of}
@@ -25,6 +27,15 @@ use Rattle.paged_heap.specs.Layout.{IsValid, IsValidIn, held_in, order_in, pagin
 use Rattle.paged_heap.proofs.ByKind.{paged_of, rules_by}
 use Rattle.cf_lemmas.proofs.MapValues.{get-map_values}
 use Rattle.cf_lemmas.proofs.Values.{len-map_values}
+
+-- the heap with other tables
+abbrev pub with_tables : OpenHeap → PageTables → PageLists → OpenHeap
+with_tables h t lists = record h { tables = t; lists = lists }
+
+-- if they have the same classes, nothing else changes
+pub retabled : (kind : Kind) (h : OpenHeap) (t : PageTables) (lists : PageLists) → t.classes ≡ h.tables.classes
+    → seen kind (with_tables h t lists) ≡ record (seen kind h) { maps = t.maps.items; lists = lists; pool = t.pool }
+retabled kind h t lists same = ap (λ k. record (seen kind h) { classes = k; maps = t.maps.items; lists = lists; pool = t.pool }) same
 
 module _ (h : Heap) (k : IsValid h) where
   -- the classes are those of the paging
@@ -73,7 +84,7 @@ module _ (h : Heap) (k : IsValid h) where
     | inr past ↦ (let l = bounds_many in let e = get_or_past (take (length h.classes.sizes) h.bounds) c 0 (omega arith) in omega arith)
   ]
 
-  -- a number that is held has its address in the proxies
+  -- the address of a live object is the one in its proxy
   pub place_known : (q : ℕ) (x : Placed) → get (held_in h) q ≡ Some x → get h.proxies.places q ≡ Some x.place
   place_known q x e = (held_at_is h.words h.proxies.places q x e).0
 
@@ -83,16 +94,16 @@ module _ (h : Heap) (k : IsValid h) where
   pub held_len : len (held_in h) ≡ len h.proxies.places
   held_len = len-map_values (λ a. record { place = a; bytes = bytes_at h.words a }) h.proxies.places
 
-  -- it is of a kind with pages
+  -- the heap's kind is one with pages
   pub paged_kind : IsPaged h.kind
   paged_kind = paged_of h.kind h k.framed
 
-  -- a number without an address is not held
+  -- a number without a proxy address is not live
   pub no_place : (q : ℕ) → get h.proxies.places q ≡ None → get (held_in h) q ≡ None
   no_place q e = get-map_values (λ a. record { place = a; bytes = bytes_at h.words a }) h.proxies.places q
       ∙ ap (option_map (λ a. record { place = a; bytes = bytes_at h.words a })) e
 
-  -- the order of its tables is one of its objects
+  -- the order in the heap's tables is an order of its objects
   order_ok : IsOrderOf (paging_at h) (held_in h) h.settings.proxies (order_in h)
   order_ok =
       let many = k.numbers in
@@ -135,7 +146,7 @@ pub rules_in : (kind : Kind) (o : Option OpenHeap) → IsValidIn kind o → IsTr
 rules_in kind None k open_now = absurd (false≢true open_now)
 rules_in kind (Some h) k open_now = rules (seen kind h) k.kept
 
--- the same in the terms of the value
+-- as above, for the value s that contracts show
 pub rules_of : (kind : Kind) (o : Option OpenHeap) → IsValidIn kind o → (s : HeapState) → state_in kind o ≡ s → IsTrue s.is_open → KeepsRules s
 rules_of kind None k s is open_now = absurd (false≢true (ap (λ (t : HeapState). t.is_open) is ∙ open_now))
 rules_of kind (Some h) k s is open_now = subst KeepsRules is (rules (seen kind h) k.kept)
@@ -145,6 +156,6 @@ pub order_promised : (kind : Kind) (o : Option OpenHeap) → IsSome (state_in ki
 order_promised kind None = refl
 order_promised kind (Some h) = refl
 
--- the same in the terms of the value
+-- as above, for the value s that contracts show
 pub order_of_value : (kind : Kind) (o : Option OpenHeap) (s : HeapState) → state_in kind o ≡ s → IsSome s.order
 order_of_value kind o s is = subst (λ (t : HeapState). IsSome t.order) is (order_promised kind o)

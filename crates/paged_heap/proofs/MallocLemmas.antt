@@ -1,4 +1,4 @@
--- The parts of a malloc, put together.
+-- For `malloc_inner` and `has_room`: the parts of a malloc, put together.
 use Rattle.std.proofs.Common.{◌≡◌, ◌≢◌, ℕ, ◌+◌, ◌*◌, ◌<◌, ◌≤◌, List, [], ◌∷◌, true, length, get_or, set, None, Some, Result, Ok, Err, arith, refl, sym, ◌∙◌, ap, subst, inl, inr}
 use Rattle.std.proofs.lemmas.Bool.{cases_lt}
 use Rattle.std.specs.FinMap.{get, len}
@@ -50,7 +50,7 @@ module _ (h : Heap) (k : IsValid h) (c : ℕ) where
       refused_lacks_room (paging_ok h k) k.serve.part k.occupied k.serve.whole c (tables_in h)
       (empty_of (pages_in h.lists c NotFull) (omega arith), empty_of h.pool.free (omega arith), refl)
 
-  -- and with one of them there is
+  -- with one of them there is room
   pub slot_is_room : HasSlot h.lists h.pool c → LacksRoom (paging_at h) (held_in h) c → ⊥
   slot_is_room some l = elim (cases_lt 0 (length (pages_in h.lists c NotFull))) [
     | inl lt ↦ (let e = not_full_is h k c in let z = l.full in absurd (omega arith))
@@ -149,11 +149,11 @@ module _ (h : Heap) (k : IsValid h) (bytes c : ℕ) (found : Some c ≡ class_of
           → b ≡ record h { maps = t.maps; lists = t.lists; pool = t.pool; proxies = with_place t.proxies q a; words = set t.words a (header_word q bytes) }
       eb' t b q a eb et = eb ∙ ap (λ (x : Heap). record x { proxies = with_place t.proxies q a; words = set t.words a (header_word q bytes) }) et
 
--- in the same heap only the cost may differ
+-- a heap that equals h has the state of h, but for the cost at most
 pub same_state : (h t : Heap) → t ≡ h → ChangesCost (state_of h) (state_of t)
 same_state h t e = ap state_of e ∙ ap (λ x. record (state_of h) { cost = x }) (sym (ap (λ (x : Heap). x.cost) e))
 
--- the cost of a malloc
+-- what a malloc does (`IsMallocStep`) does not depend on the cost that is stored after it
 pub malloc_with_cost : (o : Heap) → IsPaged o.kind → (bytes : ℕ) (r : Result Handle Refusal) (h : Heap) (cost : ℕ)
     → IsMallocStep (state_of o) bytes r (state_of h) → IsMallocStep (state_of o) bytes r (state_of (record h { cost = cost }))
 malloc_with_cost o p bytes (Ok q) h cost g = record {
@@ -167,7 +167,7 @@ malloc_with_cost o p bytes (Ok q) h cost g = record {
 }
 malloc_with_cost o p bytes (Err e) h cost (cause, same) = (cause, ap (λ (t : HeapState). record t { cost = cost }) same)
 
--- what each malloc returns if nothing refuses it, and if there is a cause
+-- every malloc returns `Ok` if no refusal has a cause; below, it returns the refusal that has one
 pub all_given : (s : HeapState) (bytes : ℕ) → ((e : Refusal) → IsRefusedBy s bytes e → ⊥) → (answer : Result Handle Refusal) (new : HeapState)
     → IsMallocStep s bytes answer new → Ok tt ≡ without_handle answer
 all_given s bytes none (Ok q) new step = refl

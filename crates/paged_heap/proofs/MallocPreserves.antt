@@ -1,4 +1,4 @@
--- A malloc: a new object in a free slot.
+-- For `malloc_inner`: the heap stays valid with a new object in a free slot.
 use Rattle.std.proofs.Common.{◌≡◌, ℕ, ◌+◌, ◌*◌, ◌^◌, ◌<◌, ◌≤◌, ◌∷◌, length, get_or, set, replicate, Option, Some, None, arith, refl, sym, ◌∙◌, ap, subst}
 use Rattle.std.specs.Prelude.{IfSome, nat_eq, option_map}
 use Rattle.std.proofs.lemmas.List.{length-set, length-replicate}

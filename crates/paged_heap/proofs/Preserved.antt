@@ -1,4 +1,4 @@
--- An open heap whose objects, words, tables, proxies and counts changed together keeps what it keeps.
+-- For all calls: an open heap stays valid if its objects, words, tables, proxies and counts change together.
 use Rattle.std.proofs.Common.{◌≡◌, ℕ, ◌<◌, length, get_or, Some, arith, sym, ◌∙◌, ap, subst}
 use Rattle.std.specs.FinMap.{get}
 use Rattle.std.specs.Prelude.{option_map}
@@ -91,7 +91,7 @@ framed_same NonMoving h cost f = record { count = f.count; permuted = f.permuted
 framed_same Tlsf h cost f = absurd f
 framed_same HalfFit h cost f = absurd f
 
--- another cost
+-- the heap stays valid with another `cost`
 pub cost_kept : (h : Heap) (cost : ℕ) → IsValid h → IsValid (record h { cost = cost })
 cost_kept h cost k = record {
   framed = framed_same h.kind h cost k.framed;
@@ -119,7 +119,7 @@ module _ (h : Heap) (k : IsValid h) where
   pub places_are : h.proxies.places ≡ places (held_in h)
   places_are = sym (places-held_at h.words h.proxies.places)
 
-  -- what has an address is held there
+  -- a number with a proxy address is live, at that address
   pub has_place : (q a : ℕ) → get h.proxies.places q ≡ Some a → get (held_in h) q ≡ Some (record { place = a; bytes = bytes_at h.words a })
   has_place q a e = get-map_values (λ a. record { place = a; bytes = bytes_at h.words a }) h.proxies.places q
       ∙ ap (option_map (λ a. record { place = a; bytes = bytes_at h.words a })) e

@@ -1,4 +1,4 @@
--- The object at an address, and the parts of objects that are read.
+-- For `find` and `read`: the object at an address, and the bytes that are read.
 use Rattle.std.proofs.Common.{◌≡◌, ℕ, ◌+◌, ◌/◌, ◌%◌, ◌^◌, ◌<◌, ◌≤◌, List, length, get_or, take, drop, Some, arith, sym, ◌∙◌, ap}
 use Rattle.std.specs.Prelude.{option_map}
 use Rattle.std.proofs.lemmas.Grind.{same_number_lists}
@@ -31,7 +31,7 @@ module _ (h : Heap) (k : IsValid h) (q a : ℕ) (some : get h.proxies.places q �
   pub held : get (held_in h) q ≡ Some (record { place = a; bytes = bytes })
   held = has_place h k q a some
 
-  -- its slot is in the region, and holds its bytes
+  -- the object's slot is in the region, and holds its bytes
   pub slot_there : a + slot_for (paging_at h) (length bytes) ≤ length h.words
   slot_there = (let l = object_inside (paging_at h) (held_in h) k.sound q (record { place = a; bytes = bytes }) held in let long = k.words_long in omega arith)
 

@@ -1,4 +1,4 @@
--- An object with its new length in another class: the heap before its old slot is free, and the heap after the resize.
+-- For `resize_to_class`: the heap before the old slot is freed, with the object in both slots, and the heap after the resize.
 use Rattle.std.proofs.Common.{◌≡◌, ◌≢◌, ℕ, ◌+◌, ◌-◌, ◌<◌, ◌≤◌, List, ◌∷◌, length, get_or, set, Option, Some, None, arith, refl, sym, ◌∙◌, ap, subst, inr}
 use Rattle.std.specs.Prelude.{if◌then◌else◌, nat_eq, not}
 use Rattle.std.specs.List.{filter}
@@ -64,7 +64,7 @@ module _ {h : Heap} (k : IsValid h) {x : Change} (is : IsChange h x) {b : ℕ} {
   pub new_free : IsFreePlace (paging_at h) (held_in h) (length new.bytes) b
   new_free = subst (λ m. IsFreePlace (paging_at h) (held_in h) m b) (sym (length-resized object.bytes x.bytes)) place_free
 
-  -- both are held, the new one under a number that no object has
+  -- both copies of the object are in one map; the new one has a number that no object has
   abbrev pub spare : ℕ
   spare = h.settings.proxies
 
@@ -91,7 +91,7 @@ module _ {h : Heap} (k : IsValid h) {x : Change} (is : IsChange h x) {b : ℕ} {
       taken_occupied (paging_ok h k) k.serve.part k.occupied (of_table k is en.taken en.tables) is.in_range (at_table k is en.taken en.tables)
       spare new unused refl new_class
 
-  -- the class of the old one has its objects as before
+  -- the object's old class has as many objects on each page as before
   same_on : (g : ℕ) → objects_on (paging_at h) both (class_at (paging_at h) object) g ≡ objects_on (paging_at h) (held_in h) (class_at (paging_at h) object) g
   same_on g = objects_on-elsewhere (paging_at h) (held_in h) spare new unused (class_at (paging_at h) object) g
       (inr (λ e. is.other (sym new_class ∙ e ∙ object_class)))
@@ -179,7 +179,7 @@ module _ {h : Heap} (k : IsValid h) {x : Change} (is : IsChange h x) {b : ℕ} {
       (object_word x.handle.0 new.bytes) (slots_apart k is place_free)
       (arrived k is place_free en.words) (untouched k is place_free en.words)
 
-  -- by the other object that moves
+  -- after the resize, with the other object that moves, if one does
   module _ (moved : Option ℕ) (mv : Moves (paging_at h) both object moved) where
     abbrev pub asked : Request
     asked = record { number = x.handle.0; length = x.bytes }

@@ -1,4 +1,4 @@
--- A change of class that moves no other object.
+-- For `resize_class_alone`: a change of class that moves no other object.
 use Rattle.std.proofs.Common.{◌≡◌, ℕ, length, None, sym, ◌∙◌, ap, subst}
 use Rattle.std.specs.FinMap.{insert, remove}
 use Rattle.cf_lemmas.proofs.Maps.{get_inserted, get_remove_other, get_removed}

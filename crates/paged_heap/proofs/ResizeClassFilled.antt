@@ -1,4 +1,4 @@
--- A change of class that moves another object to the old slot.
+-- For `resize_class_and_fill`: a change of class that moves another object to the old slot.
 use Rattle.std.proofs.Common.{◌≡◌, ◌≢◌, ℕ, ◌+◌, ◌/◌, ◌%◌, ◌^◌, ◌<◌, ◌≤◌, List, length, get_or, Some, None, arith, sym, ◌∙◌, ap, subst, inl, inr}
 use Rattle.std.specs.Prelude.{◌⊎◌, IsSome, is_some}
 use Rattle.std.proofs.lemmas.Bool.{cases_eq}
@@ -124,7 +124,7 @@ module _ {h : Heap} {x : Change} {b : ℕ} {n : Heap} {f : ℕ} {t : Tables} (fs
   pub mover : Moves (paging_at h) (both k is en) (object k is en) (Some r)
   mover = (due, (y, there, may))
 
-  -- it was live before
+  -- the filler is the object that must move in the arrangement before the resize, too
   before : Moves (paging_at h) (held_in h) (object k is en) (Some r)
   before = moves_before k is en (Some r) mover
 
@@ -159,7 +159,7 @@ module _ {h : Heap} {x : Change} {b : ℕ} {n : Heap} {f : ℕ} {t : Tables} (fs
   same_slot : words ≡ slot_for (paging_at h) (length stood.bytes)
   same_slot = it_slot k is.object ∙ sym (ap (slot_words (paging_at h)) may_before.class)
 
-  -- its words are in the region, and apart from the others
+  -- the words of the filler's slot are in the region, and apart from those of the old slot
   pub source_in : f + words ≤ length n.words
   source_in = (
       let l = object_inside (paging_at h) (held_in h) k.sound r stood stood_there in
@@ -195,7 +195,7 @@ module _ {h : Heap} {x : Change} {b : ℕ} {n : Heap} {f : ℕ} {t : Tables} (fs
       let least = (paging_ok h k).sized.least (class_at (paging_at h) (object k is en)) (k.sound.slots x.handle.0 (object k is en) (found k is en)).class in
       omega arith)
 
-  -- its header holds its number
+  -- the filler's header holds its number
   pub number_shown : get_or n.words f 0 % 2 ^ 32 ≡ r
   number_shown =
       let small = number_small h k r stood stood_there in
@@ -207,7 +207,7 @@ module _ {h : Heap} {x : Change} {b : ℕ} {n : Heap} {f : ℕ} {t : Tables} (fs
       let t = header_shown (held_in h) h.words r stood (own_words (paging_at h) (paging_ok h k) (held_in h) k.sound h.words k.image) stood_there (omega arith) in
       ap (λ w. w % 2 ^ 32) u ∙ ap (λ i. get_or h.words i 0 % 2 ^ 32) (sym stood_at) ∙ t.0
 
-  -- it is live
+  -- the filler is live
   pub live_still : IsSome (get n.proxies.places r)
   live_still = ap is_some (ap (λ (p : Proxies). get p.places r) en.proxies ∙ get_insert_other h.proxies.places x.handle.0 b r is_other
       ∙ place_known h k r stood stood_there)

@@ -1,4 +1,4 @@
--- The exact steps of a resize, by the order.
+-- For the clauses `cost` of a resize: its exact steps, as the order determines them.
 use Rattle.std.proofs.Common.{◌≡◌, ℕ, ◌+◌, ◌*◌, ◌^◌, ◌<◌, List, true, false, length, Option, None, Some, Result, Ok, Err, arith, sym, ◌∙◌, ap, subst}
 use Rattle.std.specs.Prelude.{IfErr, if◌then◌else◌, nat_eq, slice_get}
 use Rattle.cf_base.specs.declared.answers.Handle.{Handle}
@@ -76,7 +76,7 @@ module _ {h : Heap} (k : IsValid h) {x : Change} (is : IsChange h x) where
         let e = drops_by k is.object in
         rose_by s v _ _ (omega arith) (rose_both s u v _ _ (rose_both s t u _ _ r1 r2) r3)
 
-    -- or another object moves there
+    -- or another object moves to the old slot
     pub left_filled : (words : ℕ) → words ≡ old_words h x → (y : Handle) (a : ℕ) (new : Tables) → FillsFrom n.classes (tables_in n) x.class a new
         → (s t u v w : ℕ) → RoseBy s t (entering_cost h x) → RoseBy t u (steps_to_fill (tables_in n) x.class) → RoseBy u v (word_steps h.kind)
         → RoseBy v w (slot_steps h.kind words + 1) → RoseBy s w (entering_cost h x + leaving_cost (state_of h) (order_in h) (it k is.object) (Some y))

@@ -1,4 +1,4 @@
--- The slot of its new class that an object takes.
+-- For `enter_class`: an object takes a slot of its new class, or no slot is free.
 use Rattle.std.proofs.Common.{◌≡◌, ℕ, ◌+◌, ◌-◌, ◌*◌, ◌/◌, ◌≤◌, length, get_or, set, Option, Some, None, Err, arith, refl, sym, ◌∙◌, ap, subst, inl, inr}
 use Rattle.std.proofs.lemmas.List.{get_or-set_other}
 use Rattle.proxy_table.specs.Proxies.{AreBelowLimit, with_place}
@@ -31,7 +31,7 @@ use Rattle.paged_heap.proofs.FreedObject.{it, it_class, it_found, it_slot}
 use Rattle.paged_heap.proofs.ReadLemmas.{holds}
 use Rattle.paged_heap.proofs.MallocLemmas.{same_state}
 
--- the number of proxies is no object's
+-- no object has the number of proxies as its own number
 pub none_spare : (h : Heap) → IsValid h → get (held_in h) h.settings.proxies ≡ None
 none_spare h k = go (get (held_in h) h.settings.proxies) refl
   where
@@ -77,11 +77,11 @@ module _ {h : Heap} (k : IsValid h) {x : Change} (is : IsChange h x) where
     pub apart_there : IsDisjoint x.place (old_words h x) b (1 + (x.bytes + 7) / 8)
     apart_there = (let r = new_holds in elim slots_apart [ inl l ↦ inr (omega arith) | inr l ↦ inl (omega arith) ])
 
--- if no slot was taken, the heap is as it was
+-- if no slot was taken, the whole heap is unchanged
 pub unchanged : (h : Heap) (x : Change) (n : Heap) → FindsNoRoom h x n → n ≡ h
 unchanged h x n none = none.rest ∙ ap (λ (t : Tables). record h { maps = t.maps; lists = t.lists; pool = t.pool }) none.tables
 
--- if no slot was taken, nothing has changed
+-- if no slot was taken, the resize is refused with `Space`, and the heap stays valid
 module _ (h : Heap) (k : IsValid h) (x : Change) (is : IsChange h x) (n : Heap) (none : FindsNoRoom h x n) where
   pub refused : IsResizeStep (state_of h) (record { number = x.handle.0; length = x.bytes }) (Err resize.Space) (state_of n)
   refused = (
@@ -101,7 +101,7 @@ pub words_apart : (a b s z w : ℕ) → IsDisjoint b z a s → 1 + w ≤ s → 1
 words_apart a b s z w (inl l) p q = inr (omega arith)
 words_apart a b s z w (inr l) p q = inl (omega arith)
 
--- a slot is taken, the object brought there, counted out of its old class and into its new one
+-- the parts of `enter_class`, put together: a slot is taken, the object is copied there, and the counts of both classes change
 pub entered : (h : Heap) (x : Change) → IsChange h x → (b : ℕ) (t c o n : Heap) → TakesAt h.classes (tables_in h) x.to b (tables_in t)
     → AreTables h.classes (tables_in t)
     → t ≡ record h { maps = t.maps; lists = t.lists; pool = t.pool }

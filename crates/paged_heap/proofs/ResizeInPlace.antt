@@ -1,4 +1,4 @@
--- An object that gets another length in its slot.
+-- For `resize_in_place` and `zero_tail`: an object gets another length in its slot.
 use Rattle.std.proofs.Common.{◌≡◌, ◌≢◌, ℕ, zero, suc, ◌+◌, ◌-◌, ◌*◌, ◌/◌, ◌%◌, ◌^◌, ◌<◌, ◌≤◌, List, length, get_or, set, take, drop, replicate, None, arith}
 use Rattle.std.proofs.Common.{sym, ◌∙◌, ap, subst, inl, inr}
 use Rattle.std.proofs.lemmas.Bool.{cases_eq, cases_lt}
@@ -292,7 +292,7 @@ module _ (h t n : Heap) (k : IsValid h) (q a m c : ℕ) (o : IsObjectAt h q a m 
     changes = λ other. absurd (other (same ∙ sym (it_class k o)));
   }
 
--- its slot has the words of its bytes
+-- an object's slot has at least the words of its bytes
 module _ {h : Heap} (k : IsValid h) {q a m c : ℕ} (o : IsObjectAt h q a m c) where
   pub holds_bytes : 1 + (m + 7) / 8 ≤ get_or h.classes.sizes c 0
   holds_bytes = (let r = holds h k q a o.known in let e = it_slot k o in let l = o.long in omega arith)

@@ -1,4 +1,4 @@
--- The parts of a resize, put together.
+-- For `resize_inner`: the parts of a resize, put together.
 use Rattle.std.proofs.Common.{◌≡◌, ◌≢◌, ℕ, ◌+◌, ◌/◌, ◌<◌, ◌≤◌, length, get_or, Some, None, Result, Ok, Err, arith, sym, ◌∙◌, ap, subst, inl, inr}
 use Rattle.std.specs.Prelude.{IfErr}
 use Rattle.cf_base.specs.declared.answers.ResizeFault.TheVariants as resize
@@ -37,7 +37,7 @@ use Rattle.paged_heap.proofs.ResizeInPlace.{holds_bytes}
 use Rattle.paged_heap.proofs.StepLemmas.{copy_few, sizes_differ, stay_most}
 use Rattle.paged_heap.proofs.WholeBlocks.{whole_size, whole_slot}
 
--- what has no class is too long for a page
+-- a length without a class is larger than a page
 pub passes_page : (h : Heap) (k : IsValid h) (q a n : ℕ) → get h.proxies.places q ≡ Some a → None ≡ class_of h.classes.sizes n
     → PassesPage (state_of h) (record { number = q; length = n })
 passes_page h k q a n some none = record {
@@ -73,7 +73,7 @@ stayed_steps h k {q} {a} {size} {c} o n done slot same s t u v w z r1 r2 r3 r4 r
     let all : RoseAtMost s z (stay_steps h.kind n done.slot_words) = record { kept = omega arith; bound = omega arith } in
     rw (eq_yes _ _ (sym same)) all
 
--- and to another class
+-- the steps of a resize to another class
 pub changed_steps : (h : Heap) (k : IsValid h) {x : Change} (is : IsChange h x) (r : Result Resized ResizeFault) (m : Heap)
     → IsResizeStep (state_of h) (record { number = x.handle.0; length = x.bytes }) r (state_of m) → IfErr r (λ e. e ≡ resize.Space)
     → (s t u v w z : ℕ) → RoseBy s t 1 → RoseBy t u 1 → RoseBy u v (word_steps h.kind) → RoseBy v w 1

@@ -1,5 +1,5 @@
--- Steps, added up.
-use Rattle.std.proofs.Common.{◌≡◌, ◌≢◌, ℕ, ◌+◌, ◌-◌, ◌*◌, ◌/◌, ◌%◌, ◌^◌, ◌<◌, ◌≤◌, List, get_or, Ok, arith, refl, sym, ◌∙◌, ap, subst, inl, inr}
+-- For the clauses `steps` and `bound`: sums of the steps of a call's parts.
+use Rattle.std.proofs.Common.{◌≡◌, ◌≢◌, ℕ, ◌+◌, ◌-◌, ◌*◌, ◌/◌, ◌%◌, ◌<◌, ◌≤◌, List, get_or, Ok, arith, refl, sym, ◌∙◌, ap, subst, inl, inr}
 use Rattle.std.specs.Prelude.{if◌then◌else◌, length, min, nat_lt}
 use Rattle.std.proofs.lemmas.Bool.{cases_lt}
 use Rattle.cf_base.specs.Rising.{AreSizes}
@@ -8,15 +8,14 @@ use Rattle.cf_base.specs.declared.kind.Kind.TheVariants.{Moving, NonMoving, Tlsf
 use Rattle.cf_lemmas.proofs.Tests.{eq_no, lt_no, lt_yes}
 use Rattle.cf_model.specs.Costs.{words_touched}
 use Rattle.page_model.specs.Order.{word_steps}
-use Rattle.step_ledger.proofs.CallerLemmas.{rose_both}
-use Rattle.step_ledger.specs.Counting.{RoseAtMost, RoseBy}
-use Rattle.virtual_words.proofs.Paying.{rose_none}
+use Rattle.step_ledger.proofs.CallerLemmas.{rose_both, rose_none}
+use Rattle.step_ledger.specs.Counting.{RoseBy}
 use Rattle.virtual_words.specs.Words.{IsWhole, copy_steps, run_steps, slot_steps}
 use Rattle.word_bytes.specs.Overwriting.{words_with}
 use Rattle.paged_heap.specs.Costs.{access_steps, stay_steps}
 use Rattle.cf_model.specs.ExactCosts.{tail_steps}
 
--- no word, and one
+-- the steps of a run of no word, and of one word
 pub run_none : (kind : Kind) (i : ℕ) → run_steps kind i 0 ≡ 0
 run_none Moving i = refl
 run_none NonMoving i = omega arith
@@ -29,7 +28,7 @@ run_one NonMoving i = omega arith
 run_one Tlsf i = refl
 run_one HalfFit i = refl
 
--- from a slot on
+-- a run inside a slot costs the same wherever the slot begins
 pub run_along : (kind : Kind) (a i j n : ℕ) → IsWhole kind a → j ≡ a + i → run_steps kind j n ≡ run_steps kind i n
 run_along Moving a i j n w e = refl
 run_along NonMoving a i j n w e = omega arith
@@ -49,14 +48,14 @@ run_more NonMoving i m n le = omega arith
 run_more Tlsf i m n le = le
 run_more HalfFit i m n le = le
 
--- the words that stay take fewer than the smaller slot
+-- copying the kept words of an object costs fewer steps than moving a slot of the smaller size
 pub copy_few : (kind : Kind) (n s t : ℕ) → IsWhole kind s → IsWhole kind t → n + 1 ≤ s → n + 1 ≤ t → copy_steps kind 1 n + 1 ≤ slot_steps kind (min s t)
 copy_few Moving n s t a b le less = omega arith
 copy_few NonMoving n s t a b le less = omega arith
 copy_few Tlsf n s t a b le less = omega arith
 copy_few HalfFit n s t a b le less = omega arith
 
--- the words that a read or a write touches, from the slot on
+-- the steps of a read or a write are those of finding the object and of a run inside its slot
 pub touched_steps : (kind : Kind) (a from count : ℕ) → IsWhole kind a → count ≢ 0
     → 1 + word_steps kind + run_steps kind (a + 1 + from / 8) (words_with (from % 8) count) ≡ access_steps kind from count (Ok tt)
 touched_steps kind a from count w some =
@@ -72,7 +71,7 @@ empty_steps kind from count none =
     add_none : (n : ℕ) → n + 0 ≡ n
     add_none n = omega arith
 
--- the words of a tail that is cut
+-- the steps of `zero_tail` are those of its first word and of the words after it
 pub tail_rose : (kind : Kind) (place keep bytes : ℕ) → keep < bytes → (a b d first one next rest : ℕ) → one ≡ 1 → next ≡ place + 2 + keep / 8
     → rest ≡ (bytes + 7) / 8 - keep / 8 - 1 → RoseBy a b (run_steps kind first one) → RoseBy b d (run_steps kind next rest)
     → RoseBy a d (tail_steps kind place keep bytes)
@@ -89,7 +88,7 @@ pub tail_along : (kind : Kind) (a n m : ℕ) → IsWhole kind a → tail_steps k
 tail_along kind a n m w =
     ap (λ r. if nat_lt n m then word_steps kind + r else 0) (run_along kind a (0 + 2 + n / 8) (a + 2 + n / 8) ((m + 7) / 8 - n / 8 - 1) w (omega arith))
 
--- at most one word is cut of those that went to another slot
+-- after a copy to another slot, `zero_tail` writes at most one word
 pub tail_few : (kind : Kind) (place keep n : ℕ) → (8 * n + 7) / 8 - keep / 8 ≤ 1 → tail_steps kind place keep (8 * n) ≤ word_steps kind
 tail_few kind place keep n few = elim (cases_lt keep (8 * n)) [
   | inl less ↦ (
@@ -102,7 +101,7 @@ tail_few kind place keep n few = elim (cases_lt keep (8 * n)) [
   | inr le ↦ (let is : tail_steps kind place keep (8 * n) ≡ 0 = rw (lt_no keep (8 * n) le) refl in omega arith)
 ]
 
--- in its slot
+-- the most steps of a resize in its slot
 pub stay_most : (kind : Kind) (place keep bytes s : ℕ) → IsWhole kind place → 1 + (bytes + 7) / 8 ≤ s
     → 3 + 2 * word_steps kind + tail_steps kind place keep bytes ≤ stay_steps kind keep s
 stay_most kind place keep bytes s w holds = elim (cases_lt keep bytes) [
@@ -124,11 +123,4 @@ sizes_differ words sizes s c d in_c in_d ne e = elim (cases_lt c d) [
     | inl less ↦ (let lt = s.rising d c less in_c in omega arith)
     | inr ge ↦ ne (omega arith)
   ]
-]
-
--- a count that doesn't saturate
-pub rose_is : (old new n most : ℕ) → old ≤ 2 ^ 63 → most < 2 ^ 62 → RoseBy old new n → RoseAtMost old new most → new ≡ old + n
-rose_is old new n most small few by at = elim (cases_lt (old + n) (2 ^ 64)) [
-  | inl fits ↦ by.exact fits
-  | inr past ↦ absurd (let e = by.capped (omega arith) past in let l = at.bound in omega arith)
 ]

@@ -1,4 +1,4 @@
--- What taking a slot of one class leaves of another.
+-- For a resize to another class: taking a slot of one class leaves the pages, lists and step counts of another class unchanged.
 use Rattle.std.proofs.Common.{◌≡◌, ◌≢◌, ℕ, ◌<◌, List, [], ◌∷◌, length, refl, sym, ◌∙◌, ap, subst, inl, inr}
 use Rattle.std.specs.List.{Contains}
 use Rattle.std.proofs.lemmas.Bool.{cases_eq}
@@ -28,11 +28,11 @@ module _ (k : ClassTable) (old new : Tables) (a : AreTables k old) (kept : AreTa
         | inr (free, _, _) ↦ free_of_none old d t.page free there
       ]
 
-  -- its pages have their slots
+  -- the used slots of the other class's pages are unchanged
   pub slots_keep : (page : ℕ) → IsOf old d page → slots_on new page ≡ slots_on old page
   slots_keep page of = (gains.others page (other page of)).slots
 
-  -- and its lists their pages
+  -- the page lists of the other class are unchanged
   pub lists_keep : (which : Which) → pages_in new.lists d which ≡ pages_in old.lists d which
   lists_keep which = elim t.taken [
     | inl on ↦ elim (cases_eq (used_in (slots_on new t.page)) (length (slots_on new t.page))) [
@@ -45,7 +45,7 @@ module _ (k : ClassTable) (old new : Tables) (a : AreTables k old) (kept : AreTa
     ]
   ]
 
-  -- so the steps of freeing one of its slots are the same
+  -- the steps of freeing or filling a slot of the other class are unchanged
   pub drop_keeps : (page : ℕ) → IsOf old d page → steps_to_drop new page ≡ steps_to_drop old page
   drop_keeps page of = ap (λ slots. drop_steps (used_in slots) (length slots)) (slots_keep page of)
 

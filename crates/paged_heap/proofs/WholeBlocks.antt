@@ -1,4 +1,4 @@
--- If there are blocks, each slot begins and ends with one.
+-- With a block table, each slot begins and ends at the border of a block.
 use Rattle.std.proofs.Common.{◌≡◌, ℕ, List, length, Some}
 use Rattle.std.specs.Prelude.{IsTrue, take}
 use Rattle.std.specs.FinMap.{get}

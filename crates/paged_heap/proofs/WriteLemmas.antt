@@ -1,10 +1,10 @@
--- Bytes that are written into an object.
+-- For `write` and `resize_in_place`: the heap stays valid when an object gets other bytes in its slot.
 use Rattle.std.proofs.Common.{◌≡◌, ℕ, suc, ◌+◌, ◌-◌, ◌*◌, ◌/◌, ◌%◌, ◌<◌, ◌≤◌, List, [], ◌∷◌, length, get_or, Some, arith, refl, sym, ◌∙◌, ap, subst, inl, inr}
 use Rattle.std.specs.Prelude.{nat_eq}
 use Rattle.std.proofs.lemmas.Bool.{cases_lt}
 use Rattle.std.specs.FinMap.{get, insert, remove}
 use Rattle.cf_lemmas.proofs.Maps.{get_removed}
-use Rattle.cf_lemmas.proofs.MapValues.{get-map_values, map_values-insert}
+use Rattle.cf_lemmas.proofs.MapValues.{map_values-insert}
 use Rattle.cf_lemmas.proofs.Sums.{insert_again}
 use Rattle.cf_lemmas.proofs.Ranges.{one}
 use Rattle.page_model.specs.Held.{Held, Objects, Placed, objects, places}
@@ -13,7 +13,7 @@ use Rattle.page_model.specs.Paging.{Paging, class_for, slot_words}
 use Rattle.page_model.specs.Arrangement.{IsSound, live}
 use Rattle.page_model.specs.Figures.{asked_bytes, taken_bytes}
 use Rattle.page_model.specs.Image.{IsSlotImage, Rewrites, object_word, slot_for}
-use Rattle.page_model.proofs.CallerLemmas.{asked_added, asked_taken, live_added, live_taken, taken_added, taken_taken, sound_exchanged, inserted_there, bytes_held}
+use Rattle.page_model.proofs.CallerLemmas.{asked_added, asked_taken, live_added, live_taken, taken_added, taken_taken, sound_exchanged, inserted_there, bytes_held, rewritten_places}
 use Rattle.page_model.proofs.CallerLemmas.{bytes_at-AreBytes}
 use Rattle.page_model.proofs.CallerLemmas.{byte_of_object, image_after_bytes, length-written, object_word_small, storable_added, word_by_bytes}
 use Rattle.page_model.proofs.CallerLemmas.{written_are_bytes}
@@ -33,7 +33,7 @@ use Rattle.paged_heap.proofs.LayoutFacts.{paged_kind, paging_ok}
 use Rattle.paged_heap.proofs.Preserved.{Becomes, becomes_kept, becomes_state, places_are, rest_from, stored}
 use Rattle.paged_heap.proofs.ReadLemmas.{bytes_few, holds, lies_place}
 
--- one object's bytes instead of others
+-- the counts after the bytes v of object q are replaced by u
 module _ (p : Paging) (o : Objects) (q : ℕ) (v u : List ℕ) (some : get o q ≡ Some v) where
   pub live_changed : (c : ℕ) → live p (insert o q u) c + one (nat_eq (class_for p (length v)) c) ≡ live p o c + one (nat_eq (class_for p (length u)) c)
   live_changed c =
@@ -71,11 +71,6 @@ module _ (h n : Heap) (k : IsValid h) (q a : ℕ) (some : get (held_in h) q ≡ 
   objects_are : objects changed ≡ insert (objects (held_in h)) q u
   objects_are = map_values-insert (λ (x : Placed). x.bytes) (held_in h) q (record { place = a; bytes = u })
 
-  same_places : places changed ≡ places (held_in h)
-  same_places =
-      map_values-insert (λ (x : Placed). x.place) (held_in h) q (record { place = a; bytes = u })
-      ∙ inserted_there (places (held_in h)) q a (get-map_values (λ (x : Placed). x.place) (held_in h) q ∙ rw some refl)
-
   still_sound : IsSound (paging_at h) changed
   still_sound = subst (IsSound (paging_at h)) (insert_again (held_in h) q (record { place = a; bytes = u }))
       (sound_exchanged (paging_at h) (held_in h) q (record { place = a; bytes = bytes_at h.words a }) some q u (get_removed (held_in h) q) class k.sound)
@@ -85,7 +80,8 @@ module _ (h n : Heap) (k : IsValid h) (q a : ℕ) (some : get (held_in h) q ≡ 
     rest = rest_from h n (ap (λ (x : Heap). x.kind) rest) (ap (λ (x : Heap). x.settings) rest) (ap (λ (x : Heap). x.classes) rest)
         (ap (λ (x : Heap). x.bounds) rest);
     framed = framed_kept h.kind h n (ap (λ (x : Heap). x.frames) rest) long k.framed;
-    places = ap (λ (x : Heap). x.proxies.places) rest ∙ places_are h k ∙ sym same_places;
+    places = ap (λ (x : Heap). x.proxies.places) rest ∙ places_are h k
+        ∙ sym (rewritten_places (held_in h) q (record { place = a; bytes = bytes_at h.words a }) (record { place = a; bytes = u }) some refl);
     storable = storable_added (held_in h) q (record { place = a; bytes = u }) (stored h k) (stored h k q _ some).0 are;
     long = long;
     image = image;

@@ -1,4 +1,4 @@
--- What each call chooses, by the order of the tables before and after it. No public clause cites this module.
+-- The numbers, slots and moved objects of each call are those that the order lists next. No public clause cites this module.
 use Rattle.std.specs.Prelude.{ℕ, IfOk, IfSome, Result}
 use Rattle.cf_base.specs.declared.answers.Freed.{Freed}
 use Rattle.cf_base.specs.declared.answers.Handle.{Handle}
@@ -11,16 +11,16 @@ use Rattle.cf_model.specs.Steps.{number_of}
 use Rattle.paged_heap.specs.Heap.{Heap}
 use Rattle.paged_heap.specs.Layout.{held_in, order_in, paging_at, state_of}
 
--- a malloc uses the next number, and takes the next slot
+-- a malloc uses the number and the slot that the order lists next
 abbrev pub MallocChooses : Heap → ℕ → Result Handle Refusal → Heap → Type 0
 MallocChooses old bytes answer new = IfOk answer (λ q. IfSome (place_of (state_of new) q.0)
     (λ a. MallocFollows (paging_at old) (held_in old) (record { number = q.0; length = bytes }) a (order_in old) (order_in new)))
 
--- a free moves the next object to move, if it moves one; the freed number is the next to be used
+-- a free moves the object that the order lists next, if it moves one; the next malloc uses the freed number
 abbrev pub FreeChooses : Heap → ℕ → Freed → Heap → Type 0
 FreeChooses old q freed new = FreeFollows (paging_at old) (held_in old) q (number_of freed.moved) (order_in old) (order_in new)
 
--- a resize to another class takes the next slot there, then frees the old one; within the class it changes nothing
+-- a resize to another class takes the next slot of that class, then frees the old slot; a resize within the class leaves the order unchanged
 abbrev pub ResizeChooses : Heap → Request → Resized → Heap → Type 0
 ResizeChooses old asked done new =
     ResizeFollows (paging_at old) (held_in old) asked (record { held = held_in new; moved = number_of done.moved }) (order_in old) (order_in new)

@@ -1,4 +1,4 @@
--- An object that is freed. No public clause cites this module.
+-- What a free knows of its object, and what moving another object to the freed slot does. No public clause cites this module.
 use Rattle.std.specs.Prelude.{◌≡◌, ℕ, ◌/◌, ◌<◌, Some, length, slice_index}
 use Rattle.std.specs.FinMap.{get}
 use Rattle.page_model.specs.Bytes.{bytes_at}
@@ -20,15 +20,15 @@ pub record IsObjectAt (h : Heap) (q place bytes c : ℕ) : Type 0 where
   pub class : class_for (paging_at h) bytes ≡ c
   pub in_range : c < classes (paging_at h)
 
--- what its header and its words show of the object at an address
+-- the object at an address, with the bytes that its header and its words hold
 abbrev pub placed_at : Heap → ℕ → Placed
 placed_at h a = record { place = a; bytes = bytes_at h.words a }
 
--- a free at the address moves an object of class c
+-- a free of the object of class c at this address must move another object to its slot
 abbrev pub IsMoving : Heap → ℕ → ℕ → Type 0
 IsMoving h place c = MovesObject (slots_on (tables_in h) (page_at h.classes place)) (length (pages_in h.lists c NotFull)) (slice_index h.bounds c)
 
--- the slot of n words at b moves to a: its words are there, or its blocks are exchanged with those at a
+-- the slot of n words at b moves to a: objects see its words at a; with a block table, its blocks are exchanged with those at a
 pub record MovesSlot (old new : Heap) (b a n : ℕ) : Type 0 where
   pub long : length new.words ≡ length old.words
   pub words : MovesWords old.words new.words (record { from = b; count = n }) a

@@ -1,4 +1,4 @@
--- What contracts see of an open heap, and what it keeps.
+-- The state that contracts show of an open heap, and the heap's invariant.
 use Rattle.std.specs.Prelude.{◌≡◌, ℕ, ◌*◌, ◌≤◌, ◌<◌, [], true, Option, Some, None, length, take, slice_index}
 use Rattle.cf_base.specs.Settings.{profile_of}
 use Rattle.cf_base.specs.declared.kind.Kind.{Kind}
@@ -21,19 +21,19 @@ use Rattle.virtual_words.specs.Words.{AreLaid}
 use Rattle.paged_heap.specs.declared.open_heap.OpenHeap.{OpenHeap}
 use Rattle.paged_heap.specs.Heap.{Heap, seen}
 
--- the objects, by the words at their addresses
+-- the live objects by number; the words at each address hold the object's length and bytes
 abbrev pub held_in : Heap → Held
 held_in h = held_at h.words h.proxies.places
 
--- which slots of which pages are used
+-- the heap's tables of used slots, page lists and free pages
 abbrev pub tables_in : Heap → Tables
 tables_in h = tables h.maps h.lists h.pool
 
--- the order of its tables: the pages and numbers that come next
+-- the order: what the tables and the spare numbers list next
 abbrev pub order_in : Heap → Order
 order_in h = order_of (length h.classes.sizes) (tables_in h) h.proxies.free
 
--- an open heap, as callers of a manager see it
+-- the state of an open heap in the model of all managers
 abbrev pub state_of : Heap → HeapState
 state_of h = record {
   kind = h.kind;
@@ -48,16 +48,16 @@ state_of h = record {
   cost = h.cost;
 }
 
--- its pages and classes
+-- the heap's page size, number of pages, slot sizes and bounds
 abbrev pub paging_at : Heap → Paging
 paging_at h = paging_in (state_of h)
 
--- a table of blocks maps each block of four words once
+-- the block table is a permutation: it maps each block of four words once
 pub record AreMapped (h : Heap) : Type 0 where
   pub count : 4 * length h.frames ≡ length h.words
   pub permuted : IsPermuted h.frames
 
--- a heap has a table of blocks exactly if it does not move words
+-- the non-moving kind has a block table, and the moving kind none; kinds with blocks have no such heap
 abbrev pub IsFramed : Kind → Heap → Type 0
 IsFramed Moving h = h.frames ≡ []
 IsFramed NonMoving h = AreMapped h
@@ -84,16 +84,16 @@ pub record IsValid (h : Heap) : Type 0 where
   pub asked_all : h.asked ≡ asked_bytes (objects (held_in h))
   pub taken_all : h.taken ≡ taken_bytes (paging_at h) (objects (held_in h))
 
--- the same of a heap in memory, whose region holds the words as this kind lays them
+-- the invariant of an open heap in memory: its region holds the words as this kind lays them, and the heap is valid
 pub record Holds (kind : Kind) (h : OpenHeap) : Type 0 where
   pub laid : AreLaid kind h.blocks h.region
   pub kept : IsValid (seen kind h)
 
--- what callers see of it
+-- the model's state of an open heap in memory
 abbrev pub state_at : Kind → OpenHeap → HeapState
 state_at kind h = state_of (seen kind h)
 
--- a heap that may be closed
+-- the model's state of a heap that may be closed
 abbrev pub state_in : Kind → Option OpenHeap → HeapState
 state_in kind None = closed_state kind
 state_in kind (Some h) = state_at kind h

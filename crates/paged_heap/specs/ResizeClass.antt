@@ -1,4 +1,4 @@
--- A resize to another class. No public clause cites this module.
+-- A resize to a length of another class. No public clause cites this module.
 use Rattle.std.specs.Prelude.{◌≡◌, ◌≢◌, ℕ, ◌+◌, ◌-◌, ◌*◌, ◌/◌, ◌≤◌, ◌<◌, min, max, length, List, Option, Some, None, Result, Ok, Err, slice_index, slice_set}
 use Rattle.cf_base.specs.Classes.{need}
 use Rattle.cf_base.specs.declared.answers.Resized.{Resized}
@@ -19,7 +19,7 @@ use Rattle.paged_heap.specs.ZeroTail.{Cuts}
 use Rattle.paged_heap.specs.Free.{IsObjectAt, placed_at}
 use Rattle.paged_heap.specs.Layout.{held_in, order_in, paging_at, state_of, tables_in}
 
--- the object is live, and its new length is of another class
+-- x describes a resize of a live object whose new length has another class
 pub record IsChange (h : Heap) (x : Change) : Type 0 where
   pub object : IsObjectAt h x.handle.0 x.place x.length x.class
   pub fits : need x.bytes ≤ h.settings.page_words
@@ -27,15 +27,15 @@ pub record IsChange (h : Heap) (x : Change) : Type 0 where
   pub in_range : x.to < classes (paging_at h)
   pub other : x.to ≢ x.class
 
--- the words of a slot of the class that the object has
+-- the words of a slot of the object's old class
 abbrev pub old_words : Heap → Change → ℕ
 old_words h x = slice_index h.classes.sizes x.class
 
--- the words of the bytes that both lengths have
+-- the number of words that hold the bytes that both lengths have
 abbrev pub kept_words : Change → ℕ
 kept_words x = (min x.length x.bytes + 7) / 8
 
--- The kept words are copied to the slot at b and cut at the new length, and the header is before them.
+-- The kept words are copied to the slot at b, the bytes from the new length on are cleared, and the header is written before them.
 pub record Carries (old new : List ℕ) (x : Change) (b : ℕ) : Type 0 where
   pub moved : List ℕ
   pub moves : MovesWords old moved (record { from = x.place + 1; count = kept_words x }) (b + 1)
@@ -45,7 +45,7 @@ pub record Carries (old new : List ℕ) (x : Change) (b : ℕ) : Type 0 where
   pub as_long : 8 * kept_words x ≤ x.bytes → cut ≡ moved
   pub whole : new ≡ slice_set cut b (header_word x.handle.0 x.bytes)
 
--- the object is at b, in a slot of its new class, and its old slot is not free yet
+-- the state between the copy and the freeing of the old slot: the object is at b, in a slot of its new class, and its old slot is still used
 pub record EntersAt (h : Heap) (x : Change) (b : ℕ) (n : Heap) : Type 0 where
   pub settings : n.settings ≡ h.settings
   pub classes : n.classes ≡ h.classes
@@ -62,31 +62,32 @@ pub record EntersAt (h : Heap) (x : Change) (b : ℕ) (n : Heap) : Type 0 where
   pub asked : n.asked ≡ h.asked - x.length + x.bytes
   pub all_taken : n.taken ≡ h.taken - 8 * old_words h x + 8 * slice_index h.classes.sizes x.to
 
--- no slot of its new class is free, and nothing has changed
+-- no slot of the object's new class is free, and nothing has changed
 pub record FindsNoRoom (h : Heap) (x : Change) (n : Heap) : Type 0 where
   pub lacking : LacksRoom (paging_at h) (held_in h) x.to
   pub tables : tables_in n ≡ tables_in h
   pub rest : n ≡ record h { maps = n.maps; lists = n.lists; pool = n.pool }
 
--- the object enters its new class, or no slot is free
+-- what `enter_class` does: it copies the object to the slot at b, or finds no free slot
 abbrev pub Enters : Heap → Change → Option ℕ → Heap → Type 0
 Enters h x None n = FindsNoRoom h x n
 Enters h x (Some b) n = EntersAt h x b n
 
--- the most steps of a change of class
+-- the most steps of a change of class, by the kind and the slot sizes
 abbrev pub changing_steps : Kind → Heap → Change → Result Resized ResizeFault → ℕ
 changing_steps kind h x (Ok done) = 27 + 3 * word_steps kind + copy_steps kind 1 (kept_words x) + slot_steps kind (old_words h x)
 changing_steps kind h x (Err e) = 0
 
--- its exact steps: the slot that is next, and copying the object there
+-- the exact steps of `enter_class`: taking the slot that the order lists next, and copying the object there
 abbrev pub entering_cost : Heap → Change → ℕ
 entering_cost h x = steps_to_take (paging_at h) (held_in h) (order_in h) x.to + carrying_cost h.kind x.length x.bytes
 
+-- the exact steps of a change of class: those of `enter_class`, and those of freeing or filling the old slot; none if refused
 abbrev pub changing_cost : Heap → Change → Result Resized ResizeFault → ℕ
 changing_cost h x (Ok done) = entering_cost h x + leaving_cost (state_of h) (order_in h) (placed_at h x.place) done.moved
 changing_cost h x (Err e) = 0
 
--- at most, by the larger slot
+-- the most steps of a change of class of either kind, by the words of the larger slot
 abbrev pub changing_bound : Result Resized ResizeFault → ℕ
 changing_bound (Ok done) = 120 + 3 * max done.old_slot_words done.slot_words
 changing_bound (Err e) = 80

@@ -1,4 +1,4 @@
-//! The figures of an open heap.
+//! Shows the figures of an open heap.
 ghost use Rattle.std.specs.Prelude.{◌≡◌, ◌*◌, ◌<◌, ◌≤◌, if◌then◌else◌, nat_eq, nat_lt, Some, None};
 ghost use Rattle.page_model.specs.Arrangement.{home_pages, not_full_pages, free_pages};
 ghost use Rattle.page_model.specs.Figures.{figures_of, totals_of};
@@ -18,10 +18,10 @@ impl OpenHeap {
         ensures value { result ≡ classes (paging_at (seen A.kind self.now)) }
         ensures few { result ≤ 67 }
     {
-        self.classes.len()
+        self.tables.classes.len()
     }
 
-    /// The pages of class c.
+    /// The number of pages with slots of class c.
     pub fn pages_of<A: Mapping>(&self, c: u32) -> u32
         requires kept { Holds A.kind self.now }
         requires class { c < classes (paging_at (seen A.kind self.now)) }
@@ -30,7 +30,7 @@ impl OpenHeap {
         self.lists.len(c, Which::Full) + self.lists.len(c, Which::NotFull)
     }
 
-    /// The pages of class c that are partly full.
+    /// The number of partly full pages of class c.
     pub fn not_full<A: Mapping>(&self, c: u32) -> u32
         requires kept { Holds A.kind self.now }
         requires class { c < classes (paging_at (seen A.kind self.now)) }
@@ -39,13 +39,13 @@ impl OpenHeap {
         self.lists.len(c, Which::NotFull)
     }
 
-    /// The pages that are free.
+    /// The number of free pages.
     pub fn free_pages<A: Mapping>(&self) -> u32
         requires { Holds A.kind self.now }
         ensures value { result ≡ free_pages (paging_at (seen A.kind self.now)) (held_in (seen A.kind self.now)) }
         ensures few { result ≤ self.now.settings.pages }
     {
-        self.pool.left()
+        self.tables.pool.left()
     }
 
     /// The figures of class c; none if there is no such class.
@@ -61,15 +61,15 @@ impl OpenHeap {
         }
     }
 
-    /// The figures of class c.
+    /// The figures of class c, which is one of the heap's.
     fn figures_of<A: Mapping>(&self, c: u32) -> Figures
         requires kept { Holds A.kind self.now }
         requires class { c < classes (paging_at (seen A.kind self.now)) }
         ensures { result ≡ figures_of (paging_at (seen A.kind self.now)) (held_in (seen A.kind self.now)) c }
     {
         Figures {
-            slot_words: self.classes.slot_words(c),
-            slots: self.classes.slots(c),
+            slot_words: self.tables.classes.slot_words(c),
+            slots: self.tables.classes.slots(c),
             live: self.live[c as usize],
             pages: self.pages_of::<A>(c),
             not_full: self.not_full::<A>(c),
@@ -103,7 +103,7 @@ impl OpenHeap {
         8 * u64::from(self.settings.page_words) * u64::from(pages)
     }
 
-    /// The words of a page if `free` pages are free; 0 if none is.
+    /// The words of the largest free block, which is a page: 0 if `free`, the number of free pages, is 0.
     fn largest(&self, free: u32) -> u32
         ensures { result ≡ if nat_eq free 0 then 0 else self.now.settings.page_words }
     {

@@ -6,10 +6,6 @@ ghost use Rattle.page_model.specs.Image.{Clears, IsDisjoint};
 ghost use Rattle.page_model.specs.Order.{word_steps};
 ghost use Rattle.cf_model.specs.Costs.{free_bound};
 ghost use Rattle.cf_model.specs.Steps.{FreesObject, IsFreeStep};
-ghost use Rattle.class_lists.specs.PageLists.{pages_in};
-ghost use Rattle.class_lists.specs.declared.Which.TheVariants.{NotFull};
-ghost use Rattle.page_slots.specs.Release.{FillsFrom, Vacates, steps_to_drop, steps_to_fill};
-ghost use Rattle.page_slots.specs.Tables.{AreTables, IsUsed, page_at, slot_at, tables};
 ghost use Rattle.proxy_table.specs.Proxies.{AreBelowLimit, with_place, without_place};
 ghost use Rattle.virtual_words.specs.Words.{AreLaid, IsWhole, run_bound, run_steps, slot_steps};
 ghost use Rattle.paged_heap.specs.Costs.{free_steps};
@@ -22,14 +18,14 @@ ghost use Rattle.paged_heap.specs.Layout.{Holds, order_in, state_at};
 
 use crate::open_heap::OpenHeap;
 use cf_base::{Freed, Handle, NotLive};
-use page_slots::{drop_slot, fill_slot, must_move};
 use step_ledger::Steps;
 use virtual_words::Mapping;
 use word_bytes::Header;
 
 impl OpenHeap {
-    /// Frees an object. If another one moves to its slot, it is the next to move. The freed number is the
-    /// next to be used. Notes the cost, which the order and the result determine.
+    /// Frees an object; fails if the handle is not live. If too many pages of its class would then be
+    /// partly full, the object that the order lists next moves to the freed slot. The next malloc uses
+    /// the freed number. Sets `cost` to the steps of this call, which the order and the result determine.
     pub fn free<A: Mapping>(&mut self, h: Handle, steps: &mut Steps) -> Result<Freed, NotLive>
         requires kept { Holds A.kind self.old }
         requires room { steps.old ≤ 2 ^ 63 }
@@ -46,7 +42,7 @@ impl OpenHeap {
         result
     }
 
-    /// Frees an object.
+    /// Does what `free` does, but leaves `cost` unchanged.
     fn free_inner<A: Mapping>(&mut self, h: Handle, steps: &mut Steps) -> Result<Freed, NotLive>
         requires { Holds A.kind self.old }
         ensures step { IsFreeStep (state_at A.kind self.old) h.0 result (state_at A.kind self.new) }
@@ -60,26 +56,18 @@ impl OpenHeap {
             return Err(NotLive);
         };
         let length = self.length_at::<A>(place, steps);
-        let Some(c) = self.classes.class_of(length, steps) else {
+        let Some(c) = self.tables.classes.class_of(length, steps) else {
             unreachable!();
         };
         let bound = self.bounds[c as usize];
-        if must_move(
-            &self.classes,
-            &self.maps,
-            &self.lists,
-            c,
-            place,
-            bound,
-            steps,
-        ) {
+        if self.tables.must_move(&self.lists, c, place, bound, steps) {
             Ok(self.free_and_fill::<A>(h, place, length, c, steps))
         } else {
             Ok(self.free_alone::<A>(h, place, length, c, steps))
         }
     }
 
-    /// Frees an object, and moves no other.
+    /// Frees an object of class c with `length` bytes at `place`, and moves no other object.
     fn free_alone<A: Mapping>(
         &mut self,
         h: Handle,
@@ -99,17 +87,17 @@ impl OpenHeap {
         ensures cost { RoseBy steps.old steps.new
             (2 + leaving_cost (state_at A.kind self.old) (order_in (seen A.kind self.old)) (placed_at (seen A.kind self.old) place) result.moved) }
     {
-        let slot_words = self.classes.slot_words(c);
+        let slot_words = self.tables.classes.slot_words(c);
         self.erase::<A>(h, place, slot_words, steps);
         self.count_out(c, length);
-        self.release_slot(c, place, steps);
+        self.tables.drop_slot(&mut self.lists, c, place, steps);
         Freed {
             slot_words,
             moved: None,
         }
     }
 
-    /// Frees an object, and moves another one to its slot.
+    /// Frees an object of class c with `length` bytes at `place`, and moves another object to its slot.
     fn free_and_fill<A: Mapping>(
         &mut self,
         h: Handle,
@@ -129,8 +117,8 @@ impl OpenHeap {
         ensures cost { RoseBy steps.old steps.new
             (2 + leaving_cost (state_at A.kind self.old) (order_in (seen A.kind self.old)) (placed_at (seen A.kind self.old) place) result.moved) }
     {
-        let slot_words = self.classes.slot_words(c);
-        let from = self.take_filler(c, steps);
+        let slot_words = self.tables.classes.slot_words(c);
+        let from = self.tables.fill_slot(&mut self.lists, c, steps);
         let other = Header::unpack(A::read(&self.region, &self.blocks, from, steps)).handle;
         self.proxies.release(h, steps);
         self.count_out(c, length);
@@ -161,7 +149,8 @@ impl OpenHeap {
         A::clear(&mut self.region, &self.blocks, place, slot_words, steps);
     }
 
-    /// Moves the object in a slot of `slot_words` words to another slot.
+    /// Moves object h from the slot at `from` to the slot at `to`, both of `slot_words` words, and points
+    /// its proxy there.
     pub(crate) fn move_to<A: Mapping>(
         &mut self,
         h: Handle,
@@ -201,66 +190,22 @@ impl OpenHeap {
         self.proxies.rebind(h, to, steps);
     }
 
-    /// Takes an object of `bytes` bytes out of the counts of class c.
+    /// Subtracts an object of `bytes` bytes from the live objects of class c, and from the bytes asked and
+    /// taken.
     pub(crate) fn count_out(&mut self, c: u32, bytes: u32)
-        requires class { c < length self.old.classes.sizes }
+        requires class { c < length self.old.tables.classes.sizes }
         requires listed { c < length self.old.live }
         requires live { 1 ≤ slice_index self.old.live c }
         requires asked { bytes ≤ self.old.asked }
-        requires taken { 8 * slice_index self.old.classes.sizes c ≤ self.old.taken }
+        requires taken { 8 * slice_index self.old.tables.classes.sizes c ≤ self.old.taken }
         ensures { self.new ≡ record self.old {
           live = slice_set self.old.live c (slice_index self.old.live c - 1);
           asked = self.old.asked - bytes;
-          taken = self.old.taken - 8 * slice_index self.old.classes.sizes c;
+          taken = self.old.taken - 8 * slice_index self.old.tables.classes.sizes c;
         } }
     {
         self.live[c as usize] -= 1;
         self.asked -= u64::from(bytes);
-        self.taken -= 8 * u64::from(self.classes.slot_words(c));
-    }
-
-    /// Frees the used slot of class c at an address.
-    pub(crate) fn release_slot(&mut self, c: u32, place: u32, steps: &mut Steps)
-        requires tables { AreTables self.old.classes (tables self.old.maps.items self.old.lists self.old.pool) }
-        requires used { IsUsed (tables self.old.maps.items self.old.lists self.old.pool) c (page_at self.old.classes place) (slot_at self.old.classes c place) }
-        ensures freed { Vacates (tables self.old.maps.items self.old.lists self.old.pool) c (page_at self.old.classes place)
-            (slot_at self.old.classes c place) (tables self.new.maps.items self.new.lists self.new.pool) }
-        ensures tables { AreTables self.old.classes (tables self.new.maps.items self.new.lists self.new.pool) }
-        ensures rest { self.new ≡ record self.old { maps = self.new.maps; lists = self.new.lists; pool = self.new.pool } }
-        ensures steps { RoseBy steps.old steps.new
-            (steps_to_drop (tables self.old.maps.items self.old.lists self.old.pool) (page_at self.old.classes place)) }
-        ensures bound { RoseAtMost steps.old steps.new 13 }
-    {
-        drop_slot(
-            &self.classes,
-            &mut self.maps,
-            &mut self.lists,
-            &mut self.pool,
-            c,
-            place,
-            steps,
-        );
-    }
-
-    /// Returns the address of the object of class c that fills a freed slot, and frees its own slot.
-    pub(crate) fn take_filler(&mut self, c: u32, steps: &mut Steps) -> u32
-        requires tables { AreTables self.old.classes (tables self.old.maps.items self.old.lists self.old.pool) }
-        requires class { c < length self.old.classes.sizes }
-        requires some { 1 ≤ length (pages_in self.old.lists c NotFull) }
-        ensures filled { FillsFrom self.old.classes (tables self.old.maps.items self.old.lists self.old.pool) c result
-            (tables self.new.maps.items self.new.lists self.new.pool) }
-        ensures tables { AreTables self.old.classes (tables self.new.maps.items self.new.lists self.new.pool) }
-        ensures rest { self.new ≡ record self.old { maps = self.new.maps; lists = self.new.lists; pool = self.new.pool } }
-        ensures steps { RoseBy steps.old steps.new (steps_to_fill (tables self.old.maps.items self.old.lists self.old.pool) c) }
-        ensures bound { RoseAtMost steps.old steps.new 12 }
-    {
-        fill_slot(
-            &self.classes,
-            &mut self.maps,
-            &mut self.lists,
-            &mut self.pool,
-            c,
-            steps,
-        )
+        self.taken -= 8 * u64::from(self.tables.classes.slot_words(c));
     }
 }

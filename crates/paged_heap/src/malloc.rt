@@ -1,4 +1,4 @@
-//! Makes an object.
+//! Makes objects.
 ghost use Rattle.std.specs.Prelude.{◌≡◌, ◌≢◌, ◌+◌, ◌*◌, ◌^◌, ◌<◌, ◌≤◌, ◌∷◌, IfErr, IfOk, IsFalse, IsTrue, None, Result, Some, length, slice_index, slice_set};
 ghost use Rattle.std.specs.FinMap as map;
 ghost use Rattle.step_ledger.specs.Counting.{RoseAtMost, RoseBy};
@@ -10,8 +10,6 @@ ghost use Rattle.page_model.specs.Image.{header_word};
 ghost use Rattle.page_model.specs.Order.{word_steps};
 ghost use Rattle.cf_model.specs.State.{HeapState};
 ghost use Rattle.cf_model.specs.Steps.{IsMallocStep, IsRefusedBy};
-ghost use Rattle.page_slots.specs.Tables.{AreTables, tables};
-ghost use Rattle.page_slots.specs.Take.{TakesAt, steps_to_take};
 ghost use Rattle.proxy_table.specs.Proxies.{AreBelowLimit, with_place};
 ghost use Rattle.virtual_words.specs.Words.{AreLaid};
 ghost use Rattle.paged_heap.specs.Costs.{malloc_steps};
@@ -25,14 +23,14 @@ ghost use Rattle.paged_heap.specs.Room.{HasSlot, without_handle};
 use crate::open_heap::OpenHeap;
 use cf_base::{Handle, Refusal};
 use class_lists::Which;
-use page_slots::take_slot;
 use step_ledger::Steps;
 use virtual_words::Mapping;
 use word_bytes::Header;
 
 impl OpenHeap {
-    /// Adds an object of `bytes` bytes, all zero, under the next number and in the next slot of its class.
-    /// Notes the cost, which the order and the result determine.
+    /// Makes an object of `bytes` bytes, all zero, with the number and in the slot of its class that the
+    /// order lists next. Refused, with the objects unchanged, if it is larger than a page, or no number or
+    /// no slot is free. Sets `cost` to the steps of this call, which the order and the result determine.
     pub fn malloc<A: Mapping>(&mut self, bytes: u32, steps: &mut Steps) -> Result<Handle, Refusal>
         requires kept { Holds A.kind self.old }
         requires room { steps.old ≤ 2 ^ 63 }
@@ -49,7 +47,7 @@ impl OpenHeap {
         result
     }
 
-    /// Adds an object of `bytes` bytes, all zero.
+    /// Does what `malloc` does, but leaves `cost` unchanged.
     fn malloc_inner<A: Mapping>(&mut self, bytes: u32, steps: &mut Steps) -> Result<Handle, Refusal>
         requires { Holds A.kind self.old }
         ensures step { IsMallocStep (state_at A.kind self.old) bytes result (state_at A.kind self.new) }
@@ -60,7 +58,9 @@ impl OpenHeap {
         ensures cost { RoseBy steps.old steps.new (malloc_cost (state_at A.kind self.old) (order_in (seen A.kind self.old)) bytes result) }
     {
         let c = self.class_with_room::<A>(bytes, steps)?;
-        let place = self.take_slot(c, steps);
+        let Some(place) = self.tables.take_slot(&mut self.lists, c, steps) else {
+            unreachable!();
+        };
         let handle = self.bind::<A>(place, bytes, steps);
         self.count_in(c, bytes);
         Ok(handle)
@@ -81,17 +81,17 @@ impl OpenHeap {
         }
     }
 
-    /// The class of an object of `bytes` bytes, for which there is a number and a slot; else why a malloc is
-    /// refused.
+    /// Returns the class of an object of `bytes` bytes, if a number and a slot of this class are free.
+    /// Else fails with the refusal that a malloc returns.
     fn class_with_room<A: Mapping>(&self, bytes: u32, steps: &mut Steps) -> Result<u32, Refusal>
         requires { Holds A.kind self.now }
-        ensures class { IfOk result (λ c. Some c ≡ class_of self.now.classes.sizes bytes) }
+        ensures class { IfOk result (λ c. Some c ≡ class_of self.now.tables.classes.sizes bytes) }
         ensures few { IfOk result (λ c. map.len self.now.proxies.places ≢ self.now.settings.proxies) }
-        ensures slot { IfOk result (λ c. HasSlot self.now.lists self.now.pool c) }
+        ensures slot { IfOk result (λ c. HasSlot self.now.lists self.now.tables.pool c) }
         ensures cause { IfErr result (λ e. IsRefusedBy (state_at A.kind self.now) bytes e) }
         ensures steps { RoseBy steps.old steps.new 1 }
     {
-        let Some(c) = self.classes.class_of(bytes, steps) else {
+        let Some(c) = self.tables.classes.class_of(bytes, steps) else {
             return Err(Refusal::Size);
         };
         if self.proxies.live() == self.settings.proxies {
@@ -104,44 +104,18 @@ impl OpenHeap {
         }
     }
 
-    /// Whether class c has a free slot, on a partly full page or on a free one, by two counts.
+    /// Returns whether class c has a free slot, on a partly full page or on a free one, by the numbers of
+    /// such pages.
     pub(crate) fn has_slot(&self, c: u32) -> bool
         requires { c < self.now.lists.classes }
-        ensures some { IsTrue result → HasSlot self.now.lists self.now.pool c }
-        ensures none { IsFalse result → length (pages_in self.now.lists c Which.NotFull) + length self.now.pool.free ≡ 0 }
+        ensures some { IsTrue result → HasSlot self.now.lists self.now.tables.pool c }
+        ensures none { IsFalse result → length (pages_in self.now.lists c Which.NotFull) + length self.now.tables.pool.free ≡ 0 }
     {
-        self.lists.len(c, Which::NotFull) > 0 || self.pool.left() > 0
+        self.lists.len(c, Which::NotFull) > 0 || self.tables.pool.left() > 0
     }
 
-    /// Takes a free slot of class c.
-    #[inline(always)]
-    pub(crate) fn take_slot(&mut self, c: u32, steps: &mut Steps) -> u32
-        requires tables { AreTables self.old.classes (tables self.old.maps.items self.old.lists self.old.pool) }
-        requires class { c < length self.old.classes.sizes }
-        requires slot { HasSlot self.old.lists self.old.pool c }
-        ensures taken { TakesAt self.old.classes (tables self.old.maps.items self.old.lists self.old.pool) c result
-            (tables self.new.maps.items self.new.lists self.new.pool) }
-        ensures tables { AreTables self.old.classes (tables self.new.maps.items self.new.lists self.new.pool) }
-        ensures rest { self.new ≡ record self.old { maps = self.new.maps; lists = self.new.lists; pool = self.new.pool } }
-        ensures steps { RoseBy steps.old steps.new
-            (steps_to_take self.old.classes (tables self.old.maps.items self.old.lists self.old.pool) c) }
-        ensures bound { RoseAtMost steps.old steps.new 13 }
-    {
-        let taken = take_slot(
-            &self.classes,
-            &mut self.maps,
-            &mut self.lists,
-            &mut self.pool,
-            c,
-            steps,
-        );
-        match taken {
-            Some(place) => place,
-            None => unreachable!(),
-        }
-    }
-
-    /// Gives an object of `bytes` zeros at an address its number and its header.
+    /// Binds the next free number to an address, writes the header of an object of `bytes` bytes there,
+    /// and returns the number.
     fn bind<A: Mapping>(&mut self, place: u32, bytes: u32, steps: &mut Steps) -> Handle
         requires laid { AreLaid A.kind self.old.blocks self.old.region }
         requires some { map.len self.old.proxies.places ≢ self.old.proxies.limit }
@@ -169,9 +143,9 @@ impl OpenHeap {
         handle
     }
 
-    /// Counts an object of `bytes` bytes in class c.
+    /// Adds an object of `bytes` bytes to the live objects of class c, and to the bytes asked and taken.
     pub(crate) fn count_in(&mut self, c: u32, bytes: u32)
-        requires class { c < length self.old.classes.sizes }
+        requires class { c < length self.old.tables.classes.sizes }
         requires listed { c < length self.old.live }
         requires live { slice_index self.old.live c ≤ 65536 }
         requires asked { self.old.asked ≤ 131072 * 65536 }
@@ -179,11 +153,11 @@ impl OpenHeap {
         ensures { self.new ≡ record self.old {
           live = slice_set self.old.live c (slice_index self.old.live c + 1);
           asked = self.old.asked + bytes;
-          taken = self.old.taken + 8 * slice_index self.old.classes.sizes c;
+          taken = self.old.taken + 8 * slice_index self.old.tables.classes.sizes c;
         } }
     {
         self.live[c as usize] += 1;
         self.asked += u64::from(bytes);
-        self.taken += 8 * u64::from(self.classes.slot_words(c));
+        self.taken += 8 * u64::from(self.tables.classes.slot_words(c));
     }
 }

@@ -1,4 +1,4 @@
-//! An object gets another length.
+//! Resizes an object.
 ghost use Rattle.std.specs.Prelude.{◌≡◌, ◌+◌, ◌-◌, ◌*◌, ◌/◌, ◌^◌, ◌<◌, ◌≤◌, IfOk, length, slice_index};
 ghost use Rattle.step_ledger.specs.Counting.{RoseAtMost, RoseBy};
 ghost use Rattle.page_model.specs.Order.{word_steps};
@@ -24,8 +24,10 @@ use virtual_words::Mapping;
 use word_bytes::Header;
 
 impl OpenHeap {
-    /// Gives an object another length. In another class it takes the next slot, and leaves the old one as
-    /// a free does. Notes the cost, which the order and the result determine.
+    /// Changes an object's length to `bytes` bytes; added bytes are zeros. If its class changes, it moves
+    /// to the next slot of the new class, and its old slot is freed as `free` does. Fails if the handle is
+    /// not live, the length is larger than a page, or the new class has no free slot. Sets `cost` to the
+    /// steps of this call, which the order and the result determine.
     pub fn resize<A: Mapping>(
         &mut self,
         h: Handle,
@@ -47,7 +49,7 @@ impl OpenHeap {
         result
     }
 
-    /// Resizes an object, in its slot if the class stays the same.
+    /// Does what `resize` does, but leaves `cost` unchanged.
     fn resize_inner<A: Mapping>(
         &mut self,
         h: Handle,
@@ -66,11 +68,11 @@ impl OpenHeap {
         let Some(place) = self.proxies.lookup(h, steps) else {
             return Err(ResizeFault::Unknown);
         };
-        let Some(to) = self.classes.class_of(bytes, steps) else {
+        let Some(to) = self.tables.classes.class_of(bytes, steps) else {
             return Err(ResizeFault::Size);
         };
         let length = self.length_at::<A>(place, steps);
-        let Some(class) = self.classes.class_of(length, steps) else {
+        let Some(class) = self.tables.classes.class_of(length, steps) else {
             unreachable!();
         };
         if to == class {
@@ -87,7 +89,7 @@ impl OpenHeap {
         self.resize_to_class::<A>(change, steps)
     }
 
-    /// Resizes an object of class c within that class: it stays in its slot.
+    /// Resizes an object of class c from `length` to `bytes` bytes, also of class c: it stays in its slot.
     pub(crate) fn resize_in_place<A: Mapping>(
         &mut self,
         h: Handle,
@@ -104,12 +106,12 @@ impl OpenHeap {
         ensures step { ResizesObject (state_at A.kind self.old) (record { number = h.0; length = bytes }) result (state_at A.kind self.new) }
         ensures kept { Holds A.kind self.new }
         ensures choice { ResizeChooses (seen A.kind self.old) (record { number = h.0; length = bytes }) result (seen A.kind self.new) }
-        ensures slot { result.slot_words ≡ slice_index self.old.classes.sizes c }
+        ensures slot { result.slot_words ≡ slice_index self.old.tables.classes.sizes c }
         ensures old_slot { result.old_slot_words ≡ result.slot_words }
         ensures bound { RoseAtMost steps.old steps.new (10 + 2 * result.slot_words) }
         ensures steps { RoseBy steps.old steps.new (tail_steps A.kind place bytes length + word_steps A.kind) }
     {
-        let slot_words = self.classes.slot_words(c);
+        let slot_words = self.tables.classes.slot_words(c);
         self.zero_tail::<A>(place, bytes, length, steps);
         let header = Header {
             handle: h,
@@ -124,7 +126,7 @@ impl OpenHeap {
         }
     }
 
-    /// Clears the bytes from `keep` on, of the `bytes` bytes after a header.
+    /// Clears bytes `keep` to `bytes` - 1 after the header at `place`; nothing if `keep` is `bytes` or more.
     pub(crate) fn zero_tail<A: Mapping>(
         &mut self,
         place: u32,

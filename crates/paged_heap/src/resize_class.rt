@@ -1,4 +1,4 @@
-//! Resizes an object to another class.
+//! Resizes an object to a length of another class.
 ghost use Rattle.std.specs.Prelude.{◌≡◌, ◌+◌, ◌-◌, ◌*◌, ◌/◌, ◌^◌, ◌<◌, ◌≤◌, IfErr, IfOk, IsNone, IsSome, length};
 ghost use Rattle.std.specs.FinMap as map;
 ghost use Rattle.step_ledger.specs.Counting.{RoseAtMost, RoseBy};
@@ -16,7 +16,6 @@ ghost use Rattle.cf_model.specs.ExactCosts.{tail_steps};
 
 use crate::open_heap::OpenHeap;
 use cf_base::{Handle, ResizeFault, Resized};
-use page_slots::must_move;
 use step_ledger::Steps;
 use virtual_words::Mapping;
 use word_bytes::Header;
@@ -34,7 +33,7 @@ pub(crate) struct Change {
 }
 
 impl Change {
-    /// The words of the bytes that the resize keeps.
+    /// The number of words that hold the bytes that the resize keeps.
     fn words(self) -> u32
         ensures { result ≡ kept_words self }
     {
@@ -43,7 +42,8 @@ impl Change {
 }
 
 impl OpenHeap {
-    /// Resizes an object to another class: it takes a slot there, and its old slot is freed.
+    /// Moves an object to a slot of its new class and frees its old slot. Fails with `Space`, with the
+    /// objects unchanged, if the new class has no free slot.
     pub(crate) fn resize_to_class<A: Mapping>(
         &mut self,
         x: Change,
@@ -60,22 +60,17 @@ impl OpenHeap {
         ensures cost { RoseBy steps.old steps.new (1 + changing_cost (seen A.kind self.old) x result) }
     {
         let bound = self.bounds[x.class as usize];
-        if must_move(
-            &self.classes,
-            &self.maps,
-            &self.lists,
-            x.class,
-            x.place,
-            bound,
-            steps,
-        ) {
+        if self
+            .tables
+            .must_move(&self.lists, x.class, x.place, bound, steps)
+        {
             self.resize_class_and_fill::<A>(x, steps)
         } else {
             self.resize_class_alone::<A>(x, steps)
         }
     }
 
-    /// Moves an object to another class, and no other one.
+    /// Does what `resize_to_class` does, if no other object must move to the old slot.
     fn resize_class_alone<A: Mapping>(
         &mut self,
         x: Change,
@@ -92,13 +87,14 @@ impl OpenHeap {
         ensures steps { RoseAtMost steps.old steps.new (changing_steps A.kind (seen A.kind self.old) x result) }
         ensures cost { RoseBy steps.old steps.new (changing_cost (seen A.kind self.old) x result) }
     {
-        let old_slot_words = self.classes.slot_words(x.class);
-        let slot_words = self.classes.slot_words(x.to);
+        let old_slot_words = self.tables.classes.slot_words(x.class);
+        let slot_words = self.tables.classes.slot_words(x.to);
         let Some(_to) = self.enter_class::<A>(x, steps) else {
             return Err(ResizeFault::Space);
         };
         self.wipe::<A>(x.place, old_slot_words, steps);
-        self.release_slot(x.class, x.place, steps);
+        self.tables
+            .drop_slot(&mut self.lists, x.class, x.place, steps);
         Ok(Resized {
             old_slot_words,
             slot_words,
@@ -106,7 +102,7 @@ impl OpenHeap {
         })
     }
 
-    /// Moves an object to another class, and another one to its old slot.
+    /// Does what `resize_to_class` does, and moves another object of the old class to the old slot.
     fn resize_class_and_fill<A: Mapping>(
         &mut self,
         x: Change,
@@ -123,12 +119,12 @@ impl OpenHeap {
         ensures steps { RoseAtMost steps.old steps.new (changing_steps A.kind (seen A.kind self.old) x result) }
         ensures cost { RoseBy steps.old steps.new (changing_cost (seen A.kind self.old) x result) }
     {
-        let old_slot_words = self.classes.slot_words(x.class);
-        let slot_words = self.classes.slot_words(x.to);
+        let old_slot_words = self.tables.classes.slot_words(x.class);
+        let slot_words = self.tables.classes.slot_words(x.to);
         let Some(_to) = self.enter_class::<A>(x, steps) else {
             return Err(ResizeFault::Space);
         };
-        let from = self.take_filler(x.class, steps);
+        let from = self.tables.fill_slot(&mut self.lists, x.class, steps);
         let other = Header::unpack(A::read(&self.region, &self.blocks, from, steps)).handle;
         self.move_to::<A>(other, from, x.place, old_slot_words, steps);
         Ok(Resized {
@@ -138,7 +134,8 @@ impl OpenHeap {
         })
     }
 
-    /// Takes a slot of the new class and copies the object there. None if no slot is free.
+    /// Takes a slot of the new class, copies the object there, and returns the address. None if no slot of
+    /// this class is free.
     fn enter_class<A: Mapping>(&mut self, x: Change, steps: &mut Steps) -> Option<u32>
         requires kept { Holds A.kind self.old }
         requires change { IsChange (seen A.kind self.old) x }
@@ -152,14 +149,16 @@ impl OpenHeap {
         if !self.has_slot(x.to) {
             return None;
         }
-        let to = self.take_slot(x.to, steps);
+        let Some(to) = self.tables.take_slot(&mut self.lists, x.to, steps) else {
+            unreachable!();
+        };
         self.copy_to_slot::<A>(x, to, steps);
         self.count_out(x.class, x.length);
         self.count_in(x.to, x.bytes);
         Some(to)
     }
 
-    /// Copies an object with its new length to another slot, whose words are zeros. The caller clears
+    /// Copies an object with its new length to the slot at `to`, whose words are zeros. The caller clears
     /// or fills its old slot.
     fn copy_to_slot<A: Mapping>(&mut self, x: Change, to: u32, steps: &mut Steps)
         requires laid { AreLaid A.kind self.old.blocks self.old.region }

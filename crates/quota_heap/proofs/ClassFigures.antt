@@ -1,4 +1,4 @@
--- The figures of a class of a task.
+-- For `figures`: the numbers of a class of a task that the code returns are the model's.
 use Rattle.std.proofs.Common.{◌≡◌, ℕ, ◌+◌, ◌<◌, ◌≤◌, length, get_or, arith, refl, sym, ◌∙◌, ap}
 use Rattle.cf_base.specs.declared.answers.Figures.{Figures}
 use Rattle.class_lists.specs.PageLists.{pages_in}
@@ -27,7 +27,7 @@ module _ (g : SharedPages) (k : ArePages g) (t : ℕ) (x : Task) (i : IsTask g t
   pub class_in : c < x.lists.classes
   class_in = (let e = i.serve.tables.classes in omega arith)
 
-  pub class_listed : c < length g.classes.sizes
+  pub class_listed : c < length g.tables.classes.sizes
   class_listed = (let e = as_many g k in omega arith)
 
   pub class_few : c < 128
@@ -40,7 +40,7 @@ module _ (g : SharedPages) (k : ArePages g) (t : ℕ) (x : Task) (i : IsTask g t
       let few = g.settings.few_pages in
       omega arith)
 
-  pub figures_are : (w s l p n : ℕ) → w ≡ get_or g.classes.sizes c 0 → s ≡ slots g.classes.page_words g.classes.sizes c → l ≡ get_or x.live c 0
+  pub figures_are : (w s l p n : ℕ) → w ≡ get_or g.tables.classes.sizes c 0 → s ≡ slots g.tables.classes.page_words g.tables.classes.sizes c → l ≡ get_or x.live c 0
       → p ≡ length (pages_in x.lists c Full) + length (pages_in x.lists c NotFull) → n ≡ length (pages_in x.lists c NotFull)
       → ◌≡◌ {A = Figures} (record { slot_words = w; slots = s; live = l; pages = p; not_full = n }) (figures_of (paging_at g) (held_of g x) c)
   figures_are w s l p n ew es el ep en = figures_same (paging_at g) (held_of g x) c w s l p n
@@ -50,7 +50,7 @@ module _ (g : SharedPages) (k : ArePages g) (t : ℕ) (x : Task) (i : IsTask g t
       (ep ∙ sym (home_pages_are (paging_at g) (paging_ok g) (held_of g x) (tables_of g x) i.serve i.occupied c))
       (en ∙ sym (not_full_pages_are (paging_at g) (paging_ok g) (held_of g x) (tables_of g x) i.serve i.occupied c))
 
--- the same as callers see it
+-- as above, in terms of the state that contracts show
 pub figures_seen : (h : OpenTasks) (k : IsValid h) (t : ℕ) (x : Task) (at : IsTaskIn h t x) (c : ℕ) (f : Figures)
     → f ≡ figures_of (paging_at h.shared_pages) (held_of h.shared_pages x) c → f ≡ figures_of (paging_at h.shared_pages) (held_by (state_of h) t) c
 figures_seen h k t x at c f e = e ∙ ap (λ m. figures_of (paging_at h.shared_pages) m c) (sym (part_is h k t x at))

@@ -1,4 +1,4 @@
--- What is known of the shared pages and of one task on them.
+-- What follows from the invariants of the shared pages and of one task on them.
 use Rattle.std.proofs.Common.{◌≡◌, ℕ, ◌+◌, ◌/◌, ◌<◌, ◌≤◌, length, get_or, Some, None, arith, sym, ◌∙◌, ap, subst, inl, inr}
 use Rattle.std.specs.Prelude.{option_map}
 use Rattle.std.proofs.lemmas.Bool.{cases_lt}
@@ -8,7 +8,7 @@ use Rattle.cf_base.specs.Settings.{profile_of}
 use Rattle.cf_base.specs.declared.kind.Layout.TheVariants.{Words}
 use Rattle.cf_lemmas.proofs.MapValues.{get-map_values}
 use Rattle.cf_lemmas.proofs.Values.{len-map_values}
-use Rattle.page_model.specs.Arrangement.{live, used_pages}
+use Rattle.page_model.specs.Arrangement.{used_pages}
 use Rattle.page_model.specs.Bytes.{bytes_at}
 use Rattle.page_model.specs.Held.{Placed}
 use Rattle.page_model.specs.Image.{slot_for}
@@ -31,23 +31,23 @@ module _ (g : SharedPages) where
   at_one = tasks_at_one (profile_of g.settings)
 
   module _ (k : ArePages g) where
-    pub table_is : class_table (paging_at g) ≡ g.classes
+    pub table_is : class_table (paging_at g) ≡ g.tables.classes
     table_is = sym k.table
 
-    pub sizes_are : g.classes.sizes ≡ sizes g.settings.page_words Words
+    pub sizes_are : g.tables.classes.sizes ≡ sizes g.settings.page_words Words
     sizes_are = ap (λ (t : ClassTable). t.sizes) k.table
 
-    pub page_is : g.classes.page_words ≡ g.settings.page_words
+    pub page_is : g.tables.classes.page_words ≡ g.settings.page_words
     page_is = ap (λ (t : ClassTable). t.page_words) k.table
 
-    pub as_many : length g.classes.sizes ≡ classes (paging_at g)
+    pub as_many : length g.tables.classes.sizes ≡ classes (paging_at g)
     as_many = ap (λ (t : ClassTable). length t.sizes) k.table
 
-    pub size_is : (c : ℕ) → get_or g.classes.sizes c 0 ≡ slot_words (paging_at g) c
+    pub size_is : (c : ℕ) → get_or g.tables.classes.sizes c 0 ≡ slot_words (paging_at g) c
     size_is c = ap (λ xs. get_or xs c 0) sizes_are
 
     -- a request that has a class fits, and it is that of the model
-    pub class_is : (bytes c : ℕ) → Some c ≡ class_of g.classes.sizes bytes → (need bytes ≤ g.settings.page_words) × (class_for (paging_at g) bytes ≡ c)
+    pub class_is : (bytes c : ℕ) → Some c ≡ class_of g.tables.classes.sizes bytes → (need bytes ≤ g.settings.page_words) × (class_for (paging_at g) bytes ≡ c)
         × (c < classes (paging_at g))
     class_is bytes c e =
         let e' : Some c ≡ class_of (paging_at g).sizes bytes = subst (λ xs. Some c ≡ class_of xs bytes) sizes_are e in
@@ -61,10 +61,10 @@ module _ (g : SharedPages) where
         ]
 
 module _ (g : SharedPages) (k : ArePages g) (t : ℕ) (x : Task) (i : IsTask g t x) where
-  pub tables_ok : AreTables g.classes (tables_of g x)
+  pub tables_ok : AreTables g.tables.classes (tables_of g x)
   tables_ok = subst (λ c. AreTables c (tables_of g x)) (table_is g k) i.serve.tables
 
-  pub table_ok : IsClassTable g.classes.page_words g.classes.sizes
+  pub table_ok : IsClassTable g.tables.classes.page_words g.tables.classes.sizes
   table_ok = subst (λ (c : ClassTable). IsClassTable c.page_words c.sizes) (table_is g k) i.serve.tables.table
 
   pub few_classes : classes (paging_at g) ≤ 67

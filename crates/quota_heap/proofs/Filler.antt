@@ -1,4 +1,4 @@
--- The object that is found to fill a freed slot.
+-- For `free_and_fill`: the object that is found to fill a freed slot.
 use Rattle.std.proofs.Common.{◌≡◌, ℕ, ◌+◌, ◌-◌, ◌*◌, ◌%◌, ◌^◌, ◌<◌, ◌≤◌, length, get_or, Some, arith, sym, ◌∙◌, ap, subst}
 use Rattle.std.specs.FinMap.{get, remove}
 use Rattle.cf_lemmas.proofs.Maps.{get_remove_other}
@@ -20,14 +20,14 @@ pub record IsFiller (g : SharedPages) (x : Task) (t q b w : ℕ) : Type 0 where
   pub still : get (remove x.proxies.places q) (w - t * 65536) ≡ Some b
 
 module _ {g : SharedPages} (k : ArePages g) {t : ℕ} {x : Task} (i : IsTask g t x) {q a size c : ℕ} (o : IsObjectAt g x q a size c) (new : Tables)
-    (tables : AreTables g.classes new) (b : ℕ) (moves : IsMoving g x a c) (f : FillsFrom g.classes (tables_of g x) c b new) where
-  pub filler_account : length new.pool.free ≤ x.pages + length g.pool.free
+    (tables : AreTables g.tables.classes new) (b : ℕ) (moves : IsMoving g x a c) (f : FillsFrom g.tables.classes (tables_of g x) c b new) where
+  pub filler_account : length new.pool.free ≤ x.pages + length g.tables.pool.free
   filler_account = (let y = other k i o new tables b moves f in filled_account k i o new tables b moves f y.0 y.1 y.2 y.3)
 
-  pub filler_source : b + get_or g.classes.sizes c 0 ≤ length g.region
+  pub filler_source : b + get_or g.tables.classes.sizes c 0 ≤ length g.region
   filler_source = (let y = other k i o new tables b moves f in source_in k i o new tables b moves f y.0 y.1 y.2 y.3)
 
-  pub filler_apart : (n : ℕ) → n ≡ get_or g.classes.sizes c 0 → IsDisjoint b n a n
+  pub filler_apart : (n : ℕ) → n ≡ get_or g.tables.classes.sizes c 0 → IsDisjoint b n a n
   filler_apart n is = (
       let y = other k i o new tables b moves f in
       subst (λ m. IsDisjoint b m a m) (sym is) (slots_apart k i o new tables b moves f y.0 y.1 y.2 y.3))

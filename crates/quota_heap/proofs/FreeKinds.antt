@@ -1,4 +1,4 @@
--- The two kinds of a free: one that moves no other object, and one that does.
+-- For `free_alone` and `free_and_fill`: the heap is valid after a free that moves no other object, and after one that does.
 use Rattle.std.proofs.Common.{◌≡◌, ◌≢◌, ℕ, ◌+◌, ◌%◌, ◌^◌, ◌<◌, ◌≤◌, List, length, get_or, set, Option, Some, None, arith, refl, sym, ◌∙◌, ap, subst, inl, inr}
 use Rattle.std.specs.Prelude.{◌⊎◌, option_map}
 use Rattle.std.proofs.lemmas.List.{get_or-set_same, length-set, set-set}
@@ -39,13 +39,13 @@ use Rattle.quota_heap.proofs.PagesAfter.{used_after}
 use Rattle.quota_heap.proofs.Preserved.{Becomes, places_are}
 use Rattle.quota_heap.proofs.Tasks.{length_map, map_set, numbers, part_is, places_here}
 
--- the slot of the object is free: what is known of the shared pages and the task alone
+-- after the object's slot is freed: facts of the shared pages and of the task alone
 module _ {g : SharedPages} (k : ArePages g) {t : ℕ} {x : Task} (i : IsTask g t x) {q a size c : ℕ} (o : IsObjectAt g x q a size c) (new : Tables)
-    (tables : AreTables g.classes new) where
+    (tables : AreTables g.tables.classes new) where
   of_table : AreTables (class_table (paging_at g)) new
   of_table = subst (λ s. AreTables s new) (sym (table_is g k)) tables
 
-  module _ (v : Vacates (tables_of g x) c (page_at g.classes a) (slot_at g.classes c a) new) where
+  module _ (v : Vacates (tables_of g x) c (page_at g.tables.classes a) (slot_at g.tables.classes c a) new) where
     pub vacated_serves : ServePart (paging_at g) new
     vacated_serves = vacated_part (paging_ok g) i.serve i.occupied of_table i.sound q (it_found k i o) v (it_class k i o) (page_same k i o) (slot_same k i o)
 
@@ -54,14 +54,14 @@ module _ {g : SharedPages} (k : ArePages g) {t : ℕ} {x : Task} (i : IsTask g t
         (slot_same k i o)
 
     -- the pool has no more than its pages before and those of the task
-    pub vacated_account : length new.pool.free ≤ x.pages + length g.pool.free
+    pub vacated_account : length new.pool.free ≤ x.pages + length g.tables.pool.free
     vacated_account =
         let e = used_after g k t x i c o.in_range (remove (held_of g x) q) new vacated_serves vacated_occupies
-        (vacate_accounts g.classes (tables_of g x) (tables_ok g k t x i) c new (page_at g.classes a) (slot_at g.classes c a) v) in
+        (vacate_accounts g.tables.classes (tables_of g x) (tables_ok g k t x i) c new (page_at g.tables.classes a) (slot_at g.tables.classes c a) v) in
         omega arith
 
-  -- or that of another object, which fills it
-  module _ (b : ℕ) (moves : IsMoving g x a c) (f : FillsFrom g.classes (tables_of g x) c b new) where
+  -- after the slot of another object, which fills the freed one, is freed
+  module _ (b : ℕ) (moves : IsMoving g x a c) (f : FillsFrom g.tables.classes (tables_of g x) c b new) where
     pub due : MustMove (paging_at g) (held_of g x) (it k i o)
     due = must k i o moves
 
@@ -79,7 +79,7 @@ module _ {g : SharedPages} (k : ArePages g) {t : ℕ} {x : Task} (i : IsTask g t
       pub is_other : r ≢ q
       is_other = mover_is_other (paging_at g) (paging_ok g) (held_of g x) i.sound q (it k i o) (it_found k i o) r y there due may
 
-      pub same_slot : get_or g.classes.sizes c 0 ≡ slot_for (paging_at g) (length y.bytes)
+      pub same_slot : get_or g.tables.classes.sizes c 0 ≡ slot_for (paging_at g) (length y.bytes)
       same_slot = it_slot k i o ∙ sym (ap (slot_words (paging_at g)) may.class)
 
       pub filled_serves : ServePart (paging_at g) new
@@ -88,14 +88,14 @@ module _ {g : SharedPages} (k : ArePages g) {t : ℕ} {x : Task} (i : IsTask g t
       pub filled_occupies : Occupies (paging_at g) (without (held_of g x) q a (Some r)) new
       filled_occupies = filled_occupied (paging_ok g) i.serve i.occupied of_table q (it_found k i o) fills i.sound r there at due
 
-      pub filled_account : length new.pool.free ≤ x.pages + length g.pool.free
+      pub filled_account : length new.pool.free ≤ x.pages + length g.tables.pool.free
       filled_account =
           let e = used_after g k t x i c o.in_range (without (held_of g x) q a (Some r)) new filled_serves filled_occupies
-          (fill_accounts g.classes (tables_of g x) (tables_ok g k t x i) c new b f) in
+          (fill_accounts g.tables.classes (tables_of g x) (tables_ok g k t x i) c new b f) in
           omega arith
 
-      -- its words are in the region, and apart from those of the freed slot
-      pub source_in : b + get_or g.classes.sizes c 0 ≤ length g.region
+      -- the words of the filler's slot are in the region, and apart from those of the freed slot
+      pub source_in : b + get_or g.tables.classes.sizes c 0 ≤ length g.region
       source_in = (
           let s = slot_there g k t x i r y.place (place_known g k t x i r y there) in
           let l = ap length (bytes_are y) in
@@ -111,13 +111,13 @@ module _ {g : SharedPages} (k : ArePages g) {t : ℕ} {x : Task} (i : IsTask g t
               let is : ◌≡◌ {A = Placed} (record { place = y.place; bytes = bytes_at g.region y.place }) y = cc in
               ap (λ (w : Placed). w.bytes) is
 
-      pub slots_apart : (b + get_or g.classes.sizes c 0 ≤ a) ⊎ (a + get_or g.classes.sizes c 0 ≤ b)
+      pub slots_apart : (b + get_or g.tables.classes.sizes c 0 ≤ a) ⊎ (a + get_or g.tables.classes.sizes c 0 ≤ b)
       slots_apart =
           let d = sound_apart_from (paging_at g) (held_of g x) i.sound r y there q (it k i o) (it_found k i o) (λ e. is_other (sym e)) in
           let e = same_slot in let f = it_slot k i o in let p = at in
           elim d [ inl l ↦ inl (omega arith) | inr l ↦ inr (omega arith) ]
 
-      -- its header holds its number
+      -- the filler's header holds its number
       pub number_shown : t < 16 → (get_or g.region b 0 % 2 ^ 32 ≡ key_of t r)
       number_shown lt =
           let e = i.headed r y there in
@@ -159,13 +159,13 @@ module _ (h n : OpenTasks) (k : IsValid h) (t : ℕ) (x x' : Task) (at : IsTaskI
       (vacated_serves k.shared_pages i o (tables_of n.shared_pages x') go.rest.tables go.vacated)
       (vacated_occupies k.shared_pages i o (tables_of n.shared_pages x') go.rest.tables go.vacated)
       (ap (λ (p : Proxies). p.limit) go.proxies)
-      (vacate_accounts h.shared_pages.classes (tables_of h.shared_pages x) (tables_ok h.shared_pages k.shared_pages t x i) c (tables_of n.shared_pages x') (page_at h.shared_pages.classes a)
-      (slot_at h.shared_pages.classes c a) go.vacated)
+      (vacate_accounts h.shared_pages.tables.classes (tables_of h.shared_pages x) (tables_ok h.shared_pages k.shared_pages t x i) c (tables_of n.shared_pages x') (page_at h.shared_pages.tables.classes a)
+      (slot_at h.shared_pages.tables.classes c a) go.vacated)
 
   pub alone_kept : IsValid n
   alone_kept = goes_kept h n k t x x' at tasks granted q a size c o None stays becomes
 
-  pub alone_freed : (freed : Freed) → freed.slot_words ≡ get_or h.shared_pages.classes.sizes c 0 → number_of freed.moved ≡ None
+  pub alone_freed : (freed : Freed) → freed.slot_words ≡ get_or h.shared_pages.tables.classes.sizes c 0 → number_of freed.moved ≡ None
       → FreesOfTask (state_of h) t q freed (state_of n)
   alone_freed freed words is = goes_freed h n k t x x' at tasks granted q a size c o None stays becomes freed words is
 
@@ -242,23 +242,23 @@ module _ (h n : OpenTasks) (k : IsValid h) (t : ℕ) (x x' : Task) (at : IsTaskI
       (filled_serves k.shared_pages i' o new fi.rest.tables fi.from moves fi.filled r y there refl)
       (filled_occupies k.shared_pages i' o new fi.rest.tables fi.from moves fi.filled r y there refl)
       (ap (λ (p : Proxies). p.limit) fi.proxies)
-      (fill_accounts h.shared_pages.classes (tables_of h.shared_pages x) (tables_ok h.shared_pages k.shared_pages t x i') c new fi.from fi.filled)
+      (fill_accounts h.shared_pages.tables.classes (tables_of h.shared_pages x) (tables_ok h.shared_pages k.shared_pages t x i') c new fi.from fi.filled)
 
   pub filled_kept : IsValid n
   filled_kept = goes_kept h n k t x x' at tasks granted q a size c o (Some r) mover becomes'
 
-  pub filled_freed : (freed : Freed) → freed.slot_words ≡ get_or h.shared_pages.classes.sizes c 0 → number_of freed.moved ≡ Some r
+  pub filled_freed : (freed : Freed) → freed.slot_words ≡ get_or h.shared_pages.tables.classes.sizes c 0 → number_of freed.moved ≡ Some r
       → FreesOfTask (state_of h) t q freed (state_of n)
   filled_freed freed words is = goes_freed h n k t x x' at tasks granted q a size c o (Some r) mover becomes' freed words is
 
--- a free, by what moved
+-- both kinds of a free in one statement, by the object that moved, if one did
 module _ (h n : OpenTasks) (k : IsValid h) (t : ℕ) (x x' : Task) (at : IsTaskIn h t x) (tasks : n.tasks.items ≡ set h.tasks.items t x')
     (granted : n.granted ≡ h.granted) (q a size c : ℕ) (o : IsObjectAt h.shared_pages x q a size c) where
   pub removed_kept : (moved : Option ℕ) → IsRemoved h.shared_pages x q a c moved n.shared_pages x' → IsValid n
   removed_kept None (still, go) = alone_kept h n k t x x' at tasks granted q a size c o still go
   removed_kept (Some r) (moves, fi) = filled_kept h n k t x x' at tasks granted q a size c r o moves fi
 
-  pub removed_freed : (moved : Option ℕ) → IsRemoved h.shared_pages x q a c moved n.shared_pages x' → (freed : Freed) → freed.slot_words ≡ get_or h.shared_pages.classes.sizes c 0
+  pub removed_freed : (moved : Option ℕ) → IsRemoved h.shared_pages x q a c moved n.shared_pages x' → (freed : Freed) → freed.slot_words ≡ get_or h.shared_pages.tables.classes.sizes c 0
       → number_of freed.moved ≡ moved → FreesOfTask (state_of h) t q freed (state_of n)
   removed_freed None (still, go) freed words is = alone_freed h n k t x x' at tasks granted q a size c o still go freed words is
   removed_freed (Some r) (moves, fi) freed words is = filled_freed h n k t x x' at tasks granted q a size c r o moves fi freed words is

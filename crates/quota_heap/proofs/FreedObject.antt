@@ -1,4 +1,4 @@
--- A freed object of a task: what is known of it, and what is left.
+-- For `free_inner`: the freed object of a task, and the task's objects after the free.
 use Rattle.std.proofs.Common.{◌≡◌, ℕ, ◌+◌, ◌-◌, ◌<◌, ◌≤◌, length, get_or, set, Option, Some, arith, refl, sym, ◌∙◌, ap, subst}
 use Rattle.std.specs.Prelude.{nat_eq, option_map}
 use Rattle.std.proofs.lemmas.List.{length-set}
@@ -50,16 +50,16 @@ module _ {g : SharedPages} (k : ArePages g) {t : ℕ} {x : Task} (i : IsTask g t
   pub it_class : class_at (paging_at g) it ≡ c
   it_class = ap (class_for (paging_at g)) o.long ∙ o.class
 
-  pub it_slot : get_or g.classes.sizes c 0 ≡ slot_for (paging_at g) (length (bytes_at g.region a))
+  pub it_slot : get_or g.tables.classes.sizes c 0 ≡ slot_for (paging_at g) (length (bytes_at g.region a))
   it_slot = size_is g k c ∙ ap (slot_words (paging_at g)) (sym it_class)
 
-  pub it_inside : a + get_or g.classes.sizes c 0 ≤ length g.region
+  pub it_inside : a + get_or g.tables.classes.sizes c 0 ≤ length g.region
   it_inside = (let s = slot_there g k t x i q a o.known in let e = it_slot in omega arith)
 
   pub it_bytes : get (objects_of g x) q ≡ Some (bytes_at g.region a)
   it_bytes = bytes_held (held_of g x) q it it_found
 
-  pub class_listed : c < length g.classes.sizes
+  pub class_listed : c < length g.tables.classes.sizes
   class_listed = (let lt = o.in_range in let e = as_many g k in omega arith)
 
   pub class_live : c < length x.live
@@ -72,23 +72,23 @@ module _ {g : SharedPages} (k : ArePages g) {t : ℕ} {x : Task} (i : IsTask g t
       let y : one (nat_eq (class_for (paging_at g) (length (bytes_at g.region a))) c) ≡ 1 = ap one (eq_yes _ _ it_class) in
       omega arith
 
-  pub page_same : page_of (paging_at g) a ≡ page_at g.classes a
+  pub page_same : page_of (paging_at g) a ≡ page_at g.tables.classes a
   page_same = ap (λ (s : ClassTable). page_at s a) (table_is g k)
 
-  pub slot_same : slot_at (class_table (paging_at g)) c a ≡ slot_at g.classes c a
+  pub slot_same : slot_at (class_table (paging_at g)) c a ≡ slot_at g.tables.classes c a
   slot_same = ap (λ (s : ClassTable). slot_at s c a) (table_is g k)
 
-  pub it_used : IsUsed (tables_of g x) c (page_at g.classes a) (slot_at g.classes c a)
+  pub it_used : IsUsed (tables_of g x) c (page_at g.tables.classes a) (slot_at g.tables.classes c a)
   it_used =
       let u = i.occupied.stands q it it_found in
       let v : IsUsed (tables_of g x) c (page_of (paging_at g) a) (slot_at (class_table (paging_at g)) c a) =
       subst (λ d. IsUsed (tables_of g x) d (page_of (paging_at g) a) (slot_at (class_table (paging_at g)) d a)) it_class u in
       subst (λ (s : ClassTable). IsUsed (tables_of g x) c (page_at s a) (slot_at s c a)) (table_is g k) v
 
-  pub page_there : page_at g.classes a < length g.maps.items
+  pub page_there : page_at g.tables.classes a < length g.tables.maps.items
   page_there =
       let lt = found_page (paging_ok g) i.serve i.occupied q it_found in
-      subst (λ p. p < length g.maps.items) page_same lt
+      subst (λ p. p < length g.tables.maps.items) page_same lt
 
   along : (p p' d d' b b' : ℕ) → p ≡ p' → d ≡ d' → b ≡ b' → MovesObject (slots_on (tables_of g x) p) (length (pages_in x.lists d NotFull)) b
       → MovesObject (slots_on (tables_of g x) p') (length (pages_in x.lists d' NotFull)) b'
@@ -191,7 +191,7 @@ module _ (h n : OpenTasks) (k : IsValid h) (t : ℕ) (x x' : Task) (at : IsTaskI
     pub goes_kept : IsValid n
     goes_kept = becomes_kept h n k t x x' after b
 
-    pub goes_freed : (freed : Freed) → freed.slot_words ≡ get_or h.shared_pages.classes.sizes c 0 → number_of freed.moved ≡ moved
+    pub goes_freed : (freed : Freed) → freed.slot_words ≡ get_or h.shared_pages.tables.classes.sizes c 0 → number_of freed.moved ≡ moved
         → FreesOfTask (state_of h) t q freed (state_of n)
     goes_freed freed words is =
         let whole = becomes_state h n k t x x' after b in

@@ -1,4 +1,4 @@
--- A malloc of a task.
+-- For `malloc_inner`: the heap is valid after a malloc of a task.
 use Rattle.std.proofs.Common.{◌≡◌, ◌≢◌, ℕ, ◌+◌, ◌<◌, ◌≤◌, length, get_or, set, replicate, Some, None, arith, refl, sym, ◌∙◌, ap, subst, inl, inr}
 use Rattle.std.specs.Prelude.{nat_eq}
 use Rattle.std.proofs.lemmas.Bool.{cases_eq}
@@ -51,7 +51,7 @@ use Rattle.quota_heap.specs.Steps.{with_held}
 
 -- A slot of class c of the task is taken: what is known of the shared pages and the task alone.
 module _ (g : SharedPages) (k : ArePages g) (t : ℕ) (x : Task) (i : IsTask g t x) (c : ℕ) (lt : c < classes (paging_at g)) (a : ℕ) (new : Tables)
-    (taken : TakesAt g.classes (tables_of g x) c a new) (tables : AreTables g.classes new) where
+    (taken : TakesAt g.tables.classes (tables_of g x) c a new) (tables : AreTables g.tables.classes new) where
   abbrev at_table : TakesAt (class_table (paging_at g)) (tables_of g x) c a new
   at_table = subst (λ s. TakesAt s (tables_of g x) c a new) (sym (table_is g k)) taken
 
@@ -78,11 +78,11 @@ module _ (g : SharedPages) (k : ArePages g) (t : ℕ) (x : Task) (i : IsTask g t
       omega arith
 
   -- the pool has no more than its pages before and those of the task
-  pub taken_account : (q n : ℕ) → get x.proxies.places q ≡ None → class_for (paging_at g) n ≡ c → length new.pool.free ≤ x.pages + length g.pool.free
+  pub taken_account : (q n : ℕ) → get x.proxies.places q ≡ None → class_for (paging_at g) n ≡ c → length new.pool.free ≤ x.pages + length g.tables.pool.free
   taken_account q n unused class =
       let e = used_after g k t x i c lt (insert (held_of g x) q (zeros_at a n)) new taken_serves
       (taken_occupies q (zeros_at a n) (no_place g k t x i q unused) refl (class_of_zeros (paging_at g) a n c class))
-      (take_accounts g.classes (tables_of g x) (tables_ok g k t x i) c new a taken) in
+      (take_accounts g.tables.classes (tables_of g x) (tables_ok g k t x i) c new a taken) in
       omega arith
 
 module _ (h n : OpenTasks) (k : IsValid h) (t : ℕ) (x x' : Task) (at : IsTaskIn h t x) (tasks : n.tasks.items ≡ set h.tasks.items t x')
@@ -127,7 +127,7 @@ module _ (h n : OpenTasks) (k : IsValid h) (t : ℕ) (x x' : Task) (at : IsTaskI
       let now = co.rest.elsewhere.still (page_of (paging_at h.shared_pages) co.place) e in
       elim listed [ inl f ↦ now.unlisted c Full f | inr f ↦ now.unlisted c NotFull f ]
 
-  -- so only the task has objects there
+  -- no other task has objects on this page
   own_page : (key : ℕ) (y : Placed) → get (held_in h) key ≡ Some y → page_of (paging_at h.shared_pages) y.place ≡ page_of (paging_at h.shared_pages) co.place
       → task_of key ≡ t
   own_page key y found page = elim (cases_eq (task_of key) t) [
@@ -225,7 +225,7 @@ module _ (h n : OpenTasks) (k : IsValid h) (t : ℕ) (x x' : Task) (at : IsTaskI
     pages = pages_after h.shared_pages k.shared_pages t x i c lt (part_of after t) (tables_of n.shared_pages x')
         (taken_serves h.shared_pages k.shared_pages t x i c lt co.place (tables_of n.shared_pages x') co.taken co.rest.tables)
         (subst (λ m. Occupies (paging_at h.shared_pages) m (tables_of n.shared_pages x')) (sym own_part) occupied_own)
-        (take_accounts h.shared_pages.classes (tables_of h.shared_pages x) (tables_ok h.shared_pages k.shared_pages t x i) c (tables_of n.shared_pages x')
+        (take_accounts h.shared_pages.tables.classes (tables_of h.shared_pages x) (tables_ok h.shared_pages k.shared_pages t x i) c (tables_of n.shared_pages x')
         co.place co.taken)
         (shared_after.sound t) x'.pages co.rest.account;
   }

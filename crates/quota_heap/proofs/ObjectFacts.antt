@@ -13,9 +13,9 @@ use Rattle.quota_heap.specs.declared.task.Task.{Task}
 use Rattle.quota_heap.proofs.Facts.{class_is, class_there, paging_ok, sizes_are}
 
 module _ (g : SharedPages) (k : ArePages g) (t : ℕ) (x : Task) (i : IsTask g t x) where
-  pub pool_few : length g.pool.free ≤ 4096
+  pub pool_few : length g.tables.pool.free ≤ 4096
   pool_few = (
-      let w = free_within g.pool.pages g.pool.free i.serve.tables.pool in
+      let w = free_within g.tables.pool.pages g.tables.pool.free i.serve.tables.pool in
       let p = i.serve.pages in let few = g.settings.few_pages in
       omega arith)
 
@@ -23,13 +23,13 @@ module _ (g : SharedPages) (k : ArePages g) (t : ℕ) (x : Task) (i : IsTask g t
     long : length (bytes_at g.region a) ≡ size
     long = bytes_long g.region a ∙ sym shown
 
-    -- it has a class
-    pub has_class : None ≡ class_of g.classes.sizes size → ⊥
+    -- the object's length has a class
+    pub has_class : None ≡ class_of g.tables.classes.sizes size → ⊥
     has_class none =
         let known = class_known (paging_at g) (paging_ok g) (length (bytes_at g.region a)) (class_there g k t x i q a some) in
         let z : None ≡ Some (class_for (paging_at g) (length (bytes_at g.region a))) = none ∙ ap (λ xs. class_of xs size) (sizes_are g k)
         ∙ ap (class_of (paging_at g).sizes) (sym long) ∙ known in
         absurd (let w : None ≡ Some (class_for (paging_at g) (length (bytes_at g.region a))) = z in cc)
 
-    pub object_at : (c : ℕ) → Some c ≡ class_of g.classes.sizes size → IsObjectAt g x q a size c
+    pub object_at : (c : ℕ) → Some c ≡ class_of g.tables.classes.sizes size → IsObjectAt g x q a size c
     object_at c found = (let is = class_is g k size c found in record { known = some; long = long; class = is.1; in_range = is.2 })

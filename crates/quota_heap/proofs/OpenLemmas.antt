@@ -1,10 +1,9 @@
--- An open heap without objects.
-use Rattle.std.proofs.Common.{◌≡◌, ℕ, zero, suc, Bool, false, ◌+◌, ◌*◌, ◌^◌, ◌<◌, List, [], ◌∷◌, length, get_or, map, replicate, Some, None, arith, refl}
-use Rattle.std.proofs.Common.{sym, ◌∙◌, ap, subst, inl, inr}
+-- For `new`: a heap that was just opened is valid.
+use Rattle.std.proofs.Common.{◌≡◌, ℕ, zero, suc, ◌+◌, ◌*◌, ◌<◌, ◌∷◌, length, get_or, map, replicate, Some, None, arith, refl}
+use Rattle.std.proofs.Common.{sym, ◌∙◌, ap, subst}
 use Rattle.std.specs.Prelude.{slice_get, sum, sum_by}
 use Rattle.std.specs.List.{Contains, range_with_len}
-use Rattle.std.proofs.lemmas.Bool.{cases_lt}
-use Rattle.std.proofs.lemmas.List.{get_or-replicate, get_or_past, length-replicate}
+use Rattle.std.proofs.lemmas.List.{get_or-replicate, length-replicate}
 use Rattle.std.proofs.lemmas.List.Sums.{sum_by-cons}
 use Rattle.std.specs.Ordering.{nat_cmp}
 use Rattle.std.specs.FinMap.{empty, get, get-empty}
@@ -22,9 +21,9 @@ use Rattle.page_model.specs.Held.{objects}
 use Rattle.page_model.specs.Image.{IsSlotImage, slot_for}
 use Rattle.page_model.proofs.CallerLemmas.{image_empty, sound_empty, nothing_held, no_objects, none_live}
 use Rattle.page_pool.specs.Pool.{Pool}
-use Rattle.page_slots.specs.Occupying.{Occupies, class_table}
-use Rattle.page_slots.specs.Tables.{AreTables, tables, used_in}
-use Rattle.page_slots.proofs.CallerLemmas.{first_occupied, first_table, first_tables, no_pages}
+use Rattle.page_slots.specs.Occupying.{Occupies, ServePart}
+use Rattle.page_slots.specs.PageTables.{AreFirst, tables_with}
+use Rattle.page_slots.proofs.CallerLemmas.{first_occupied, first_table, new_serve, no_pages}
 use Rattle.proxy_table.specs.Proxies.{AreBelowLimit, no_proxies}
 use Rattle.quota_model.specs.Joined.{AreNumbers, joined, places_at}
 use Rattle.quota_model.proofs.CallerLemmas.{get_by_key}
@@ -75,21 +74,18 @@ none_joined n = equal_maps _ _ (λ key. get_by_key (replicate n empty) (none_num
     none_at (suc n) zero = refl
     none_at (suc n) (suc t) = none_at n t
 
-module _ (s : Settings) (h : OpenTasks) (f : AreFirstPages s h.shared_pages) (n : ℕ) (many : n ≡ length h.shared_pages.classes.sizes)
+module _ (s : Settings) (h : OpenTasks) (f : AreFirstPages s h.shared_pages) (n : ℕ) (many : n ≡ length h.shared_pages.tables.classes.sizes)
     (tasks : h.tasks.items ≡ replicate 16 (first_task n s.pages s.proxies)) (none : h.granted ≡ 0)
     (handles : AreBelowLimit (no_proxies s.proxies)) where
   first : Task
   first = first_task n s.pages s.proxies
-
-  page_is : h.shared_pages.settings.page_words ≡ s.page_words
-  page_is = ap (λ (t : Settings). t.page_words) f.settings
 
   pages_is : h.shared_pages.settings.pages ≡ s.pages
   pages_is = ap (λ (t : Settings). t.pages) f.settings
 
   shared_pages : ArePages h.shared_pages
   shared_pages = record {
-    table = f.classes ∙ ap (λ (t : Settings). table_of t.page_words Words) (sym f.settings);
+    table = f.tables.classes ∙ ap (λ (t : Settings). table_of t.page_words Words) (sym f.settings);
     words_long = ap length f.region ∙ length-replicate {A = ℕ} (s.pages * s.page_words) 0 ∙ ap (λ (t : Settings). t.pages * t.page_words) (sym f.settings);
   }
 
@@ -99,22 +95,15 @@ module _ (s : Settings) (h : OpenTasks) (f : AreFirstPages s h.shared_pages) (n 
   first_is : (t : ℕ) (x : Task) → IsTaskIn h t x → first_task n s.pages s.proxies ≡ x
   first_is t x e = replicated 16 (first_task n s.pages s.proxies) t x (sym (ap (λ ts. slice_get ts t) tasks) ∙ e)
 
-  unused : (page : ℕ) → used_in (get_or h.shared_pages.maps.items page []) ≡ 0
-  unused page = ap (λ (maps : List (List Bool)). used_in (get_or maps page [])) f.maps ∙ elim (cases_lt page s.pages) [
-    | inl lt ↦ ap used_in (get_or-replicate s.pages page (replicate 1 false) [] lt)
-    | inr past ↦ ap used_in (get_or_past (replicate s.pages (replicate 1 false)) page []
-        (let e = length-replicate s.pages (replicate 1 false) in omega arith))
-  ]
-
-  shown : AreTables (class_table (paging_at h.shared_pages)) (tables h.shared_pages.maps.items (empty_lists n s.pages) h.shared_pages.pool)
+  -- the tables are those of pages that are all free
+  shown : ServePart (paging_at h.shared_pages) (tables_with h.shared_pages.tables (empty_lists n s.pages))
   shown =
-      let small = s.small_region in
+      let first : AreFirst h.shared_pages.settings Words h.shared_pages.tables =
+      subst (λ t. AreFirst t Words h.shared_pages.tables) (sym f.settings) f.tables in
       let t = first_table h.shared_pages.settings.page_words Words h.shared_pages.settings.page_size in
-      let long : length h.shared_pages.maps.items ≡ s.pages = ap length f.maps ∙ length-replicate s.pages (replicate 1 false) in
-      let p = page_is in
-      let sm : s.pages * h.shared_pages.settings.page_words < 2 ^ 32 = subst (λ w. s.pages * w < 2 ^ 32) (sym p) (omega arith) in
-      let all = first_tables n s.pages (class_table (paging_at h.shared_pages)) h.shared_pages.maps.items t sm long unused many_classes in
-      subst (λ q. AreTables (class_table (paging_at h.shared_pages)) (tables h.shared_pages.maps.items (empty_lists n s.pages) q)) (sym f.pool) all
+      let small = h.shared_pages.settings.small_region in
+      (new_serve (paging_at h.shared_pages) n h.shared_pages.tables.maps.items (empty_lists n s.pages) h.shared_pages.tables.pool t (omega arith) many_classes
+      first.maps (ap (empty_lists n) (sym pages_is)) first.pool).part
 
   held_none : held_of h.shared_pages (first_task n s.pages s.proxies) ≡ empty
   held_none = nothing_held h.shared_pages.region
@@ -122,9 +111,9 @@ module _ (s : Settings) (h : OpenTasks) (f : AreFirstPages s h.shared_pages) (n 
   first_kept : (t : ℕ) → IsTask h.shared_pages t (first_task n s.pages s.proxies)
   first_kept t = record {
     sound = subst (IsSound (paging_at h.shared_pages)) (sym held_none) (sound_empty (paging_at h.shared_pages));
-    serve = record { tables = shown; pages = ap (λ (q : Pool). q.pages) f.pool ∙ sym pages_is };
-    occupied = subst (λ m. Occupies (paging_at h.shared_pages) m (tables h.shared_pages.maps.items (empty_lists n s.pages) h.shared_pages.pool)) (sym held_none)
-        (first_occupied n s.pages (paging_at h.shared_pages) h.shared_pages.maps.items h.shared_pages.pool);
+    serve = shown;
+    occupied = subst (λ m. Occupies (paging_at h.shared_pages) m (tables_with h.shared_pages.tables (empty_lists n s.pages))) (sym held_none)
+        (first_occupied n s.pages (paging_at h.shared_pages) h.shared_pages.tables.maps.items h.shared_pages.tables.pool);
     headed = λ q y e. absurd (
         let z : Some y ≡ None = sym e ∙ ap (λ m. get m q) held_none ∙ get-empty nat_cmp q in cc);
     numbers = sym (ap (λ (t : Settings). t.proxies) f.settings);
@@ -175,7 +164,7 @@ module _ (s : Settings) (h : OpenTasks) (f : AreFirstPages s h.shared_pages) (n 
     accounted = (
         let a = ap pages_of tasks in
         let b = sum_of_zeros (λ (x : Task). x.pages) 16 (first_task n s.pages s.proxies) refl in
-        let c = ap (λ (q : Pool). length q.free) f.pool in
+        let c = ap (λ (q : Pool). length q.free) f.tables.pool in
         let d = range_long 0 s.pages in
         let e = pages_is in
         omega arith);

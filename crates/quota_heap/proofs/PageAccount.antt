@@ -19,11 +19,11 @@ use Rattle.page_slots.specs.Take.{TakesAt, TakesOnFreePage, TakesOnOpenPage}
 use Rattle.page_slots.proofs.CallerLemmas.{home_pages_are, front_listed}
 use Rattle.cf_lemmas.proofs.Ranges.{sum_changed}
 
--- the pages of a class, partly full or full
+-- the number of pages of a class, partly full or full
 abbrev paged : PageLists → ℕ → ℕ
 paged l c = length (pages_in l c Full) + length (pages_in l c NotFull)
 
--- the lists of the other classes stay
+-- the other classes have as many pages as before
 abbrev KeepsClasses : PageLists → PageLists → ℕ → Type 0
 KeepsClasses old new c = (d : ℕ) → d ≢ c → paged new d ≡ paged old d
 
@@ -65,7 +65,7 @@ leaves_paged old c NotFull page new apart there l =
       λ d ne. (let x = ap length (l.others d Full (inl ne)) in let y = ap length (l.others d NotFull (inl ne)) in omega arith),
     )
 
--- a page moves from the pool to the class, and back
+-- pages move only between the pool and class c, so the sum of both is unchanged
 pub record Accounts (old new : Tables) (c : ℕ) : Type 0 where
   pub here : paged new.lists c + length new.pool.free ≡ paged old.lists c + length old.pool.free
   pub others : (d : ℕ) → d ≢ c → paged new.lists d ≡ paged old.lists d
@@ -136,7 +136,7 @@ module _ (k : ClassTable) (old : Tables) (a : AreTables k old) (c : ℕ) (new : 
   pub fill_accounts : (at : ℕ) → FillsFrom k old c at new → Accounts old new c
   fill_accounts at f = vacate_accounts f.page f.slot f.vacates
 
--- the same for the pages that the task uses
+-- the sum of the pages that the task uses and those of the pool is unchanged
 pub used_accounts : (p : Paging) → IsPaging p → (m m' : Held) (old new : Tables) → ServePart p old → Occupies p m old → ServePart p new → Occupies p m' new
     → (c : ℕ) → c < classes p → Accounts old new c → used_pages p m' + length new.pool.free ≡ used_pages p m + length old.pool.free
 unfolding used_pages

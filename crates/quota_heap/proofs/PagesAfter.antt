@@ -1,4 +1,4 @@
--- The pages of a task after a call, by what the pool gave or got.
+-- For the count `pages` of a task: it changes by the number of pages that leave or enter the pool.
 use Rattle.std.proofs.Common.{◌≡◌, ℕ, ◌+◌, ◌<◌, length, arith}
 use Rattle.page_model.specs.Arrangement.{IsSound, pages_needed, used_pages}
 use Rattle.page_model.specs.Held.{Held, objects}
@@ -15,14 +15,14 @@ use Rattle.quota_heap.proofs.PageAccount.{Accounts, used_accounts}
 module _ (g : SharedPages) (k : ArePages g) (t : ℕ) (x : Task) (i : IsTask g t x) (c : ℕ) (lt : c < classes (paging_at g)) (m : Held) (new : Tables)
     (serve : ServePart (paging_at g) new) (occupied : Occupies (paging_at g) m new) (a : Accounts (tables_of g x) new c) where
   -- the pages of the task and those of the pool sum to the same as before
-  pub used_after : used_pages (paging_at g) m + length new.pool.free ≡ x.pages + length g.pool.free
+  pub used_after : used_pages (paging_at g) m + length new.pool.free ≡ x.pages + length g.tables.pool.free
   used_after =
       let e = used_accounts (paging_at g) (paging_ok g) (held_of g x) m (tables_of g x) new i.serve i.occupied serve occupied c lt a in
       let f = used_is g k t x i in
       omega arith
 
   -- a number of pages with that sum is what the task's objects need
-  pub pages_after : IsSound (paging_at g) m → (pages : ℕ) → pages + length new.pool.free ≡ x.pages + length g.pool.free
+  pub pages_after : IsSound (paging_at g) m → (pages : ℕ) → pages + length new.pool.free ≡ x.pages + length g.tables.pool.free
       → pages ≡ pages_needed (paging_at g) (objects m)
   pages_after s pages account =
       let e = used_after in

@@ -1,7 +1,7 @@
--- Parts of a task's objects that are read or written.
+-- For `find`, `read` and `write`: the bytes of a task's object that are read or written.
 use Rattle.std.proofs.Common.{◌≡◌, ℕ, suc, ◌+◌, ◌-◌, ◌*◌, ◌/◌, ◌%◌, ◌^◌, ◌<◌, ◌≤◌, List, [], ◌∷◌, length, get_or, set, take, drop, Some, None, Result}
 use Rattle.std.proofs.Common.{Ok, Err, arith, refl, sym, ◌∙◌, ap, subst, inl, inr}
-use Rattle.std.specs.Prelude.{IfNone, IfSome, Option, option_map}
+use Rattle.std.specs.Prelude.{IfNone, IfSome, Option}
 use Rattle.std.proofs.lemmas.Bool.{cases_lt}
 use Rattle.std.proofs.lemmas.Grind.{same_number_lists}
 use Rattle.std.proofs.lemmas.List.{get_or-drop, get_or-take, length-drop, length-take, set-get_or}
@@ -10,13 +10,12 @@ use Rattle.std.specs.FinMap.{get, insert}
 use Rattle.cf_base.specs.Settings.{profile_of}
 use Rattle.cf_base.specs.declared.answers.AccessFault.{AccessFault}
 use Rattle.cf_base.specs.declared.answers.AccessFault.TheVariants.{Unknown, Range}
-use Rattle.cf_lemmas.proofs.MapValues.{get-map_values, map_values-insert}
 use Rattle.page_model.specs.Arrangement.{live, pages_needed}
 use Rattle.page_model.specs.Bytes.{AreBytes, byte_of, bytes_at, written}
 use Rattle.page_model.specs.Held.{Held, Placed, objects, places}
 use Rattle.page_model.specs.Image.{IsSlotImage, Rewrites, object_word, slot_for}
 use Rattle.page_model.specs.Paging.{class_for}
-use Rattle.page_model.proofs.CallerLemmas.{byte_is, byte_of_object, bytes_at-AreBytes, inserted_there, length-written, object_word_small, storable_added}
+use Rattle.page_model.proofs.CallerLemmas.{byte_is, byte_of_object, bytes_at-AreBytes, inserted_there, length-written, object_word_small, rewritten_places, storable_added}
 use Rattle.page_model.proofs.CallerLemmas.{word_by_bytes, written_are_bytes, written_before, written_behind, written_inside, written_nothing}
 use Rattle.page_slots.specs.Occupying.{Occupies}
 use Rattle.page_slots.proofs.CallerLemmas.{rewritten_occupied}
@@ -254,12 +253,6 @@ module _ (h : OpenTasks) (k : IsValid h) (t : ℕ) (x : Task) (at : IsTaskIn h t
   tasks_same : h.tasks.items ≡ set h.tasks.items t x
   tasks_same = sym (ap (set h.tasks.items t) (sym (get_or_from_slice_get h.tasks.items t x x at)) ∙ set-get_or h.tasks.items t x)
 
-  same_places : places changed ≡ places (held_in h)
-  same_places =
-      map_values-insert (λ (y : Placed). y.place) (held_in h) key (record { place = a; bytes = new })
-      ∙ inserted_there (places (held_in h)) key a
-      (get-map_values (λ (y : Placed). y.place) (held_in h) key ∙ ap (option_map (λ (y : Placed). y.place)) whole_found)
-
   becomes : Becomes h left t x x changed
   becomes = record {
     at = at;
@@ -274,7 +267,8 @@ module _ (h : OpenTasks) (k : IsValid h) (t : ℕ) (x : Task) (at : IsTaskIn h t
       handles = own.handles;
       account = refl;
     };
-    places = ap (λ ts. joined (places_of ts)) (sym tasks_same) ∙ places_are h k ∙ sym same_places;
+    places = ap (λ ts. joined (places_of ts)) (sym tasks_same) ∙ places_are h k
+        ∙ sym (rewritten_places (held_in h) key it (record { place = a; bytes = new }) whole_found refl);
     storable = storable_added (held_in h) key (record { place = a; bytes = new }) (stored h k) key_few are;
     long = w.long;
     image = image;

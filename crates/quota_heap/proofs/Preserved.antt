@@ -6,6 +6,7 @@ use Rattle.std.proofs.lemmas.List.{length-set}
 use Rattle.std.proofs.lemmas.Option.{slice_get_within}
 use Rattle.std.specs.FinMap.{empty, get}
 use Rattle.cf_base.specs.Settings.{profile_of}
+use Rattle.cf_base.specs.declared.settings.Settings.{Settings}
 use Rattle.page_model.specs.Arrangement.{IsSound, live, pages_needed}
 use Rattle.page_model.specs.Bytes.{AreStorable, held_at}
 use Rattle.page_model.specs.Held.{Held, Placed, objects, places}
@@ -19,6 +20,7 @@ use Rattle.quota_model.specs.Joined.{AreNumbers, joined}
 use Rattle.quota_model.proofs.CallerLemmas.{own_image, numbers_set, part_joined}
 use Rattle.quota_model.specs.Parts.{key_of, part_of}
 use Rattle.quota_model.specs.Shared.{AreQuotas, IsShared}
+use Rattle.size_classes.specs.Table.{ClassTable}
 use Rattle.quota_model.proofs.CallerLemmas.{found_whole}
 use Rattle.quota_heap.specs.Calls.{KeepsRest}
 use Rattle.quota_heap.specs.Layout.{IsTask, IsTaskIn, IsValid, held_in, held_of, pages_of, paging_at, places_of, quotas_of, state_of, tables_of}
@@ -29,7 +31,7 @@ use Rattle.quota_heap.proofs.Facts.{paging_ok, table_is}
 use Rattle.quota_heap.proofs.Sums.{sum_set}
 use Rattle.quota_heap.proofs.Tasks.{length_map, map_set, map_set_same, mapped_here, numbers, part_is, set_here, set_there}
 
--- In n the tasks have the objects m: only task t, which was x and is x', has others than in h.
+-- In n the tasks have the objects m. Only task t differs from h: it was x and is x'.
 pub record Becomes (h n : OpenTasks) (t : ℕ) (x x' : Task) (m : Held) : Type 0 where
   pub at : IsTaskIn h t x
   pub tasks : n.tasks.items ≡ set h.tasks.items t x'
@@ -49,17 +51,19 @@ pub record Becomes (h n : OpenTasks) (t : ℕ) (x x' : Task) (m : Held) : Type 0
   pub counted : (c : ℕ) → c < classes (paging_at h.shared_pages) → get_or x'.live c 0 ≡ live (paging_at h.shared_pages) (objects (part_of m t)) c
   pub pages : x'.pages ≡ pages_needed (paging_at h.shared_pages) (objects (part_of m t))
 
--- n; what no call changes is as in h
-abbrev pub with_rest : OpenTasks → OpenTasks → OpenTasks
-with_rest h n = record n { shared_pages = record n.shared_pages { settings = h.shared_pages.settings; classes = h.shared_pages.classes } }
+-- n with these settings and classes in place of its own
+abbrev pub with_rest : OpenTasks → Settings → ClassTable → OpenTasks
+with_rest n s classes = record n {
+  shared_pages = record n.shared_pages { settings = s; tables = record n.shared_pages.tables { classes = classes } };
+}
 
 module _ (h n : OpenTasks) (k : IsValid h) (t : ℕ) (x x' : Task) (m : Held) (b : Becomes h n t x x' m) where
+  -- n with the settings and classes of h, which no call changes
   abbrev w : OpenTasks
-  w = with_rest h n
+  w = with_rest n h.shared_pages.settings h.shared_pages.tables.classes
 
   same : n ≡ w
-  same = ap (λ s. record n { shared_pages = record n.shared_pages { settings = s } }) b.rest.settings
-      ∙ ap (λ c. record n { shared_pages = record n.shared_pages { settings = h.shared_pages.settings; classes = c } }) b.rest.classes
+  same = ap (λ s. with_rest n s n.shared_pages.tables.classes) b.rest.settings ∙ ap (with_rest n h.shared_pages.settings) b.rest.classes
 
   lt : t < length h.tasks.items
   lt = slice_get_within h.tasks.items t x b.at
@@ -123,20 +127,20 @@ module _ (h n : OpenTasks) (k : IsValid h) (t : ℕ) (x x' : Task) (m : Held) (b
       }
 
   -- the tables of the changed task, in the terms of the classes
-  new_tables : AreTables h.shared_pages.classes (tables_of n.shared_pages x')
+  new_tables : AreTables h.shared_pages.tables.classes (tables_of n.shared_pages x')
   new_tables = b.rest.tables
 
-  pages_same : n.shared_pages.pool.pages ≡ h.shared_pages.pool.pages
+  pages_same : n.shared_pages.tables.pool.pages ≡ h.shared_pages.tables.pool.pages
   pages_same = b.serve.pages ∙ sym (k.task t x b.at).serve.pages
 
-  abbrev old_tables_of : (u : ℕ) (y : Task) → IsTaskIn h u y → AreTables h.shared_pages.classes (tables_of h.shared_pages y)
+  abbrev old_tables_of : (u : ℕ) (y : Task) → IsTaskIn h u y → AreTables h.shared_pages.tables.classes (tables_of h.shared_pages y)
   old_tables_of u y e = subst (λ c. AreTables c (tables_of h.shared_pages y)) (table_is h.shared_pages k.shared_pages) (k.task u y e).serve.tables
 
-  other_tables : (u : ℕ) (y : Task) → u ≢ t → IsTaskIn h u y → AreTables h.shared_pages.classes (tables_of n.shared_pages y)
-  other_tables u y ne e = others_tables h.shared_pages.classes (tables_of h.shared_pages x) (tables_of n.shared_pages x') new_tables pages_same b.rest.elsewhere y.lists
+  other_tables : (u : ℕ) (y : Task) → u ≢ t → IsTaskIn h u y → AreTables h.shared_pages.tables.classes (tables_of n.shared_pages y)
+  other_tables u y ne e = others_tables h.shared_pages.tables.classes (tables_of h.shared_pages x) (tables_of n.shared_pages x') new_tables pages_same b.rest.elsewhere y.lists
       (k.others t u x y b.at e ne) (old_tables_of u y e)
 
-  -- another task
+  -- a task other than the changed one keeps its invariant
   other_task : (u : ℕ) (y : Task) → u ≢ t → IsTaskIn w u y → IsTask w.shared_pages u y
   other_task u y ne e =
       let f = other_in u y ne e in
@@ -148,7 +152,7 @@ module _ (h n : OpenTasks) (k : IsValid h) (t : ℕ) (x x' : Task) (m : Held) (b
           pages = pages_same ∙ was.serve.pages;
         };
         occupied = subst (λ a. Occupies (paging_at h.shared_pages) a (tables_of n.shared_pages y)) (sym eq)
-            (others_occupied h.shared_pages.classes (tables_of h.shared_pages x) (tables_of n.shared_pages x') new_tables pages_same b.rest.elsewhere y.lists
+            (others_occupied h.shared_pages.tables.classes (tables_of h.shared_pages x) (tables_of n.shared_pages x') new_tables pages_same b.rest.elsewhere y.lists
             (k.others t u x y b.at f ne) (old_tables_of u y f) (paging_at h.shared_pages) (held_of h.shared_pages y) was.occupied);
         headed = headed u y e;
         numbers = was.numbers;
@@ -160,7 +164,7 @@ module _ (h n : OpenTasks) (k : IsValid h) (t : ℕ) (x x' : Task) (m : Held) (b
 
   -- no page is used by two tasks
   from_own : (u : ℕ) (y : Task) → u ≢ t → IsTaskIn h u y → AreOthers (tables_of n.shared_pages x') y.lists
-  from_own u y ne e = others_elsewhere h.shared_pages.classes (tables_of h.shared_pages x) (tables_of n.shared_pages x') new_tables pages_same b.rest.elsewhere y.lists
+  from_own u y ne e = others_elsewhere h.shared_pages.tables.classes (tables_of h.shared_pages x) (tables_of n.shared_pages x') new_tables pages_same b.rest.elsewhere y.lists
       (k.others t u x y b.at e ne) (old_tables_of u y e)
 
   apart : (u v : ℕ) (y z : Task) → IsTaskIn w u y → IsTaskIn w v z → v ≢ u → AreOthers (tables_of n.shared_pages y) z.lists
@@ -173,7 +177,7 @@ module _ (h n : OpenTasks) (k : IsValid h) (t : ℕ) (x x' : Task) (m : Held) (b
       | inl is ↦ (
           let z_is : x' ≡ z = own_is z (subst (λ i. IsTaskIn w i z) is f) in
           subst (λ (s : Task). AreOthers (tables_of n.shared_pages y) s.lists) z_is
-          (mine_elsewhere h.shared_pages.classes (tables_of n.shared_pages x') new_tables y.lists (from_own u y u_ne (other_in u y u_ne e))))
+          (mine_elsewhere h.shared_pages.tables.classes (tables_of n.shared_pages x') new_tables y.lists (from_own u y u_ne (other_in u y u_ne e))))
       | inr v_ne ↦ λ c page which there. record {
         taken = (from_own v z v_ne (other_in v z v_ne f) c page which there).taken;
         unlisted = (k.others u v y z (other_in u y u_ne e) (other_in v z v_ne f) ne c page which there).unlisted;

@@ -1,4 +1,4 @@
--- Why a malloc is refused, and that there is a slot if it isn't.
+-- For `refusal`: the cause of each refusal of a malloc, and the free slot if it isn't refused.
 use Rattle.std.proofs.Common.{◌≡◌, ◌≢◌, ℕ, Bool, true, false, cond, ◌+◌, ◌-◌, ◌<◌, ◌≤◌, List, [], ◌∷◌, length, Option, Some, None, arith, refl}
 use Rattle.std.proofs.Common.{sym, ◌∙◌, ap, subst}
 use Rattle.std.proofs.Common.{inl, inr}
@@ -108,7 +108,7 @@ module _ (h : OpenTasks) (k : IsValid h) (t : ℕ) (x : Task) (at : IsTaskIn h t
     has_proxy none all = absurd (let z : None ≡ Some Proxy = none ∙ proxy_refused all in cc)
 
     -- a page is left if no page of the class is partly full
-    pub has_room : None ≡ reason n → pages_in x.lists c NotFull ≡ [] → h.shared_pages.pool.free ≡ [] → ⊥
+    pub has_room : None ≡ reason n → pages_in x.lists c NotFull ≡ [] → h.shared_pages.tables.pool.free ≡ [] → ⊥
     has_room none no_part empty = elim (cases_lt x.pages x.quota) [
       | inr le ↦ absurd (let z : None ≡ Some Space = none ∙ space_refused (has_proxy none) (ap length no_part) le in cc)
       | inl less ↦ absurd (

@@ -15,7 +15,7 @@ use Rattle.quota_heap.specs.declared.task.Task.{Task}
 use Rattle.quota_heap.proofs.Facts.{number_small}
 use Rattle.quota_heap.proofs.Sums.{sum_has}
 
--- one element of a list, after a function of each
+-- element i of a mapped list is the function's value at element i
 pub mapped_here : {X Y : Type 0} (f : X → Y) (xs : List X) (i : ℕ) (x : X) (d : Y) → slice_get xs i ≡ Some x → get_or (map f xs) i d ≡ f x
 mapped_here f [] i x d e = absurd (let z : Some x ≡ slice_get [] i = sym e in cc)
 mapped_here f (y ∷ xs) zero x d e = (let z : Some y ≡ Some x = e in let is : y ≡ x = cc in ap f is)
@@ -26,7 +26,7 @@ mapped_past f [] i d e = refl
 mapped_past f (y ∷ xs) zero d e = absurd (let z : Some y ≡ None = e in cc)
 mapped_past f (y ∷ xs) (suc i) d e = mapped_past f xs i d e
 
--- another element instead of one
+-- element i after it was set is the new one; below, the others are unchanged
 pub set_here : {X : Type 0} (xs : List X) (i : ℕ) (y : X) → i < length xs → slice_get (set xs i y) i ≡ Some y
 set_here [] i y lt = absurd (omega arith)
 set_here (x ∷ xs) zero y lt = refl
@@ -39,7 +39,7 @@ set_there (x ∷ xs) zero (suc j) y ne = refl
 set_there (x ∷ xs) (suc i) zero y ne = refl
 set_there (x ∷ xs) (suc i) (suc j) y ne = set_there xs i j y (λ e. ne (ap suc e))
 
--- another element with the same value of a function
+-- setting an element to one with the same value of f leaves the mapped list unchanged
 pub map_set_same : {X Y : Type 0} (f : X → Y) (xs : List X) (i : ℕ) (x y : X) → slice_get xs i ≡ Some x → f y ≡ f x → map f (set xs i y) ≡ map f xs
 map_set_same f [] i x y e same = refl
 map_set_same f (w ∷ xs) zero x y e same = (let z : Some w ≡ Some x = e in let is : w ≡ x = cc in ap (λ v. v ∷ map f xs) (same ∙ sym (ap f is)))
@@ -80,7 +80,7 @@ module _ (h : OpenTasks) (k : IsValid h) where
   pub quota_here : (t : ℕ) (x : Task) → IsTaskIn h t x → get_or (quotas_of h.tasks.items) t 0 ≡ x.quota
   quota_here t x at = mapped_here (λ (y : Task). y.quota) h.tasks.items t x 0 at
 
-  -- what holds of the task that was read holds of the task
+  -- a property of the task that the code read is one of task t of the heap
   pub of_task : (t : ℕ) → t < 16 → (x : Task) → x ≡ get_or h.tasks.items t x → (P : Task → Type 0) → P x → (y : Task) → IsTaskIn h t y → P y
   of_task t lt x is P p y e =
       let a = task_there t lt x is in
@@ -88,7 +88,7 @@ module _ (h : OpenTasks) (k : IsValid h) where
       let same : x ≡ y = cc in
       subst P same p
 
-  -- each of the sixteen is there
+  -- each number below 16 has a task
   pub a_task : (t : ℕ) → t < 16 → (x : Task) × IsTaskIn h t x
   a_task t lt = elim (slice_get_cases h.tasks.items t).1 [
     | inl (x, _, e, _) ↦ (x, e)

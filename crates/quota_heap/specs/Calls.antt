@@ -20,21 +20,21 @@ use Rattle.quota_heap.specs.declared.shared_pages.SharedPages.{SharedPages}
 use Rattle.quota_heap.specs.declared.open_tasks.OpenTasks.{OpenTasks}
 use Rattle.quota_heap.specs.declared.task.Task.{Task}
 
--- what no call of a task changes
+-- what a malloc and a free leave unchanged: settings, classes, quota, tables of foreign pages, and the sum of the task's pages and the free ones
 pub record KeepsRest (g : SharedPages) (x : Task) (g' : SharedPages) (x' : Task) : Type 0 where
   pub settings : g'.settings ≡ g.settings
-  pub classes : g'.classes ≡ g.classes
+  pub classes : g'.tables.classes ≡ g.tables.classes
   pub quota : x'.quota ≡ x.quota
-  pub tables : AreTables g.classes (tables_of g' x')
+  pub tables : AreTables g.tables.classes (tables_of g' x')
   pub elsewhere : KeepsForeign (tables_of g x) (tables_of g' x')
   pub handles : AreBelowLimit x'.proxies
-  pub account : x'.pages + length g'.pool.free ≡ x.pages + length g.pool.free
+  pub account : x'.pages + length g'.tables.pool.free ≡ x.pages + length g.tables.pool.free
 
--- an object of `bytes` bytes is added at a free slot of class c, under number q
+-- what `malloc_inner` does: it adds an object of `bytes` bytes in a free slot of class c, under number q
 pub record IsAdded (g : SharedPages) (x : Task) (t c bytes q : ℕ) (g' : SharedPages) (x' : Task) : Type 0 where
   pub rest : KeepsRest g x g' x'
   pub place : ℕ
-  pub taken : TakesAt g.classes (tables_of g x) c place (tables_of g' x')
+  pub taken : TakesAt g.tables.classes (tables_of g x) c place (tables_of g' x')
   pub unused : get x.proxies.places q ≡ None
   pub below : q < x.proxies.limit
   pub proxies : x'.proxies ≡ with_place x.proxies q place
@@ -48,57 +48,57 @@ pub record IsObjectAt (g : SharedPages) (x : Task) (q place bytes c : ℕ) : Typ
   pub class : class_for (paging_at g) bytes ≡ c
   pub in_range : c < classes (paging_at g)
 
--- a free at the address moves an object of class c
+-- a free of the object of class c at this address must move another object to its slot
 abbrev pub IsMoving : SharedPages → Task → ℕ → ℕ → Type 0
-IsMoving g x place c = MovesObject (slots_on (tables_of g x) (page_at g.classes place)) (length (pages_in x.lists c NotFull)) 1
+IsMoving g x place c = MovesObject (slots_on (tables_of g x) (page_at g.tables.classes place)) (length (pages_in x.lists c NotFull)) 1
 
--- the object of number q, which had this address, is removed, and its slot of class c is free
+-- what `free_alone` does: it removes object q at this address, and frees and clears its slot of class c
 pub record Goes (g : SharedPages) (x : Task) (q place c : ℕ) (g' : SharedPages) (x' : Task) : Type 0 where
   pub rest : KeepsRest g x g' x'
-  pub vacated : Vacates (tables_of g x) c (page_at g.classes place) (slot_at g.classes c place) (tables_of g' x')
+  pub vacated : Vacates (tables_of g x) c (page_at g.tables.classes place) (slot_at g.tables.classes c place) (tables_of g' x')
   pub proxies : x'.proxies ≡ without_place x.proxies q
-  pub words : Clears g.region g'.region (record { from = place; count = slice_index g.classes.sizes c })
+  pub words : Clears g.region g'.region (record { from = place; count = slice_index g.tables.classes.sizes c })
   pub words_long : length g'.region ≡ length g.region
   pub live : x'.live ≡ slice_set x.live c (slice_index x.live c - 1)
 
--- the object of number q is removed, and that of number r, which had the address `from`, fills its slot; its own slot is free
+-- what `free_and_fill` does: it removes object q, moves object r from the address `from` to the freed slot, and frees the slot of r
 pub record Fills (g : SharedPages) (x : Task) (q place c r : ℕ) (g' : SharedPages) (x' : Task) : Type 0 where
   pub rest : KeepsRest g x g' x'
   pub from : ℕ
-  pub filled : FillsFrom g.classes (tables_of g x) c from (tables_of g' x')
+  pub filled : FillsFrom g.tables.classes (tables_of g x) c from (tables_of g' x')
   pub there : get x.proxies.places r ≡ Some from
   pub proxies : x'.proxies ≡ with_place (without_place x.proxies q) r place
-  pub words : MovesWords g.region g'.region (record { from = from; count = slice_index g.classes.sizes c }) place
+  pub words : MovesWords g.region g'.region (record { from = from; count = slice_index g.tables.classes.sizes c }) place
   pub words_long : length g'.region ≡ length g.region
   pub live : x'.live ≡ slice_set x.live c (slice_index x.live c - 1)
 
--- the object has this address, and the part lies within it
+-- object `part.number` has this address, and `count` bytes from byte `part.from` on
 pub record Lies (g : SharedPages) (x : Task) (part : Part) (count place : ℕ) : Type 0 where
   pub found : get x.proxies.places part.number ≡ Some place
   pub within : part.from + count ≤ length (bytes_at g.region place)
 
--- the part passes the end of the object at its address
+-- object `part.number` is live, but has fewer than `count` bytes from byte `part.from` on
 pub record Passes (g : SharedPages) (x : Task) (part : Part) (count : ℕ) : Type 0 where
   pub place : ℕ
   pub found : get x.proxies.places part.number ≡ Some place
   pub past : length (bytes_at g.region place) < part.from + count
 
--- why a part has no address
+-- the cause of each fault of `find`
 abbrev pub IsMissing : SharedPages → Task → Part → ℕ → AccessFault → Type 0
 IsMissing g x part count Unknown = get x.proxies.places part.number ≡ None
 IsMissing g x part count Range = Passes g x part count
 
--- the address of a part, or why there is none
+-- what `find` returns: the address of the object, or the fault
 abbrev pub IsFound : SharedPages → Task → Part → ℕ → Result ℕ AccessFault → Type 0
 IsFound g x part count (Ok place) = Lies g x part count place
 IsFound g x part count (Err e) = IsMissing g x part count e
 
--- the object is removed; another one has moved into its slot if the slot had to be filled, else none
+-- what `free_inner` does: it removes object q, and moves object r to the freed slot exactly if the slot must be filled
 abbrev pub IsRemoved : SharedPages → Task → ℕ → ℕ → ℕ → Option ℕ → SharedPages → Task → Type 0
 IsRemoved g x q place c None g' x' = (IsMoving g x place c → ⊥) × Goes g x q place c g' x'
 IsRemoved g x q place c (Some r) g' x' = IsMoving g x place c × Fills g x q place c r g' x'
 
--- the address of a part of an object of task t of a heap, or why there is none
+-- as `IsFound`, for task t of an open heap
 abbrev pub IsFoundIn : OpenTasks → ℕ → Part → ℕ → Result ℕ AccessFault → Type 0
 IsFoundIn h t part count (Ok place) = (x : Task) → slice_get h.tasks.items t ≡ Some x → Lies h.shared_pages x part count place
 IsFoundIn h t part count (Err e) = IsFault (state_of h) t part count e

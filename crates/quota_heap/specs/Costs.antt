@@ -8,7 +8,7 @@ use Rattle.cf_base.specs.declared.answers.NotLive.{NotLive}
 use Rattle.cf_base.specs.declared.answers.Refusal.{Refusal}
 use Rattle.cf_model.specs.Costs.{words_touched}
 
--- a malloc that fills its page: the class (1), the slot and its page's lists (13), the proxy (2) and the header (1)
+-- a malloc whose object makes its page full: the class (1), the slot and its page's lists (13), the proxy (2) and the header (1)
 abbrev pub most_of_malloc : ℕ
 most_of_malloc = 17
 
@@ -20,26 +20,27 @@ most_of_free slot_words = 20 + slot_words
 abbrev pub most_of_access : ℕ → ℕ → ℕ
 most_of_access from count = 2 + words_touched from count
 
--- a refused malloc reads the class alone
+-- a malloc by its result; a refused one reads the class alone
 abbrev pub malloc_steps : Result Handle Refusal → ℕ
 malloc_steps (Ok h) = most_of_malloc
 malloc_steps (Err e) = 1
 
--- a refused free reads the proxy alone
+-- a free by its result; a refused one reads the proxy alone
 abbrev pub free_steps : Result Freed NotLive → ℕ
 free_steps (Ok freed) = most_of_free freed.slot_words
 free_steps (Err e) = 1
 
--- a refused read or write reads the proxy, and the header if there is an object
+-- a refused read or write reads the proxy and, if the handle is live, the header
 abbrev pub fault_steps : AccessFault → ℕ
 fault_steps Unknown = 1
 fault_steps Range = 2
 
+-- a read or a write by its result
 abbrev pub access_steps : Result Unit AccessFault → ℕ → ℕ → ℕ
 access_steps (Ok done) from count = most_of_access from count
 access_steps (Err e) from count = fault_steps e
 
--- a read of a word, if there is one
+-- a peek: 1 step for the word, 0 past the region's end
 abbrev pub peek_steps : Option ℕ → ℕ
 peek_steps None = 0
 peek_steps (Some word) = 1

@@ -1,6 +1,5 @@
--- What an open heap of tasks is made of, and what it keeps. No public clause cites this module.
-use Rattle.std.specs.Prelude.{◌≡◌, ◌≢◌, ℕ, ◌+◌, ◌*◌, ◌<◌, List, true, false, Option, Some, None, length, map, replicate, slice_get, slice_index, sum, sum_by}
-use Rattle.std.specs.List.{range_with_len}
+-- The state of an open heap of tasks, by its parts, and its invariant. No public clause cites this module.
+use Rattle.std.specs.Prelude.{◌≡◌, ◌≢◌, ℕ, ◌+◌, ◌*◌, ◌<◌, List, true, Option, Some, None, length, map, replicate, slice_get, slice_index, sum, sum_by}
 use Rattle.std.specs.Ordering.{nat_cmp}
 use Rattle.std.specs.FinMap.{FinMap, get}
 use Rattle.cf_base.specs.Settings.{profile_of}
@@ -13,7 +12,8 @@ use Rattle.page_model.specs.Held.{Held, Objects, Placed, objects}
 use Rattle.page_model.specs.Image.{IsSlotImage, header_word}
 use Rattle.page_model.specs.Paging.{Paging, classes}
 use Rattle.page_slots.specs.Occupying.{Occupies, ServePart}
-use Rattle.page_slots.specs.Tables.{AreOthers, Tables, tables}
+use Rattle.page_slots.specs.PageTables.{AreFirst, tables_with}
+use Rattle.page_slots.specs.Tables.{AreOthers, Tables}
 use Rattle.proxy_table.specs.Proxies.{AreBelowLimit, no_proxies}
 use Rattle.quota_model.specs.Joined.{joined}
 use Rattle.quota_model.specs.Parts.{key_of}
@@ -29,23 +29,25 @@ use Rattle.quota_heap.specs.declared.task.Task.{Task}
 abbrev pub paging_at : SharedPages → Paging
 paging_at g = task_paging (profile_of g.settings)
 
--- which slots of a task's pages are used
+-- the tables that one task sees: used slots, its own page lists, and the free pages
 abbrev pub tables_of : SharedPages → Task → Tables
-tables_of g x = tables g.maps.items x.lists g.pool
+tables_of g x = tables_with g.tables x.lists
 
--- a task's objects, by the words at their addresses
+-- a task's live objects by number; the words at each address hold the length and the bytes
 abbrev pub held_of : SharedPages → Task → Held
 held_of g x = held_at g.region x.proxies.places
 
+-- a task's live objects by number, by their bytes alone
 abbrev pub objects_of : SharedPages → Task → Objects
 objects_of g x = objects (held_of g x)
 
--- the classes are those of the pages, and the region has their words
+-- the class table is that of the page size, and the region has the words of all pages
 pub record ArePages (g : SharedPages) : Type 0 where
-  pub table : g.classes ≡ table_of g.settings.page_words Words
+  pub table : g.tables.classes ≡ table_of g.settings.page_words Words
   pub words_long : length g.region ≡ g.settings.pages * g.settings.page_words
 
--- What holds of task t: its objects are a sound arrangement, and its tables hold it; each object has its header; its numbers and counts are theirs.
+-- The invariant of task t: its objects are a sound arrangement; its tables hold the slots that they use; the header of each holds the object's key and
+-- length; the task's proxies and counts are those of its objects.
 pub record IsTask (g : SharedPages) (t : ℕ) (x : Task) : Type 0 where
   pub sound : IsSound (paging_at g) (held_of g x)
   pub serve : ServePart (paging_at g) (tables_of g x)
@@ -57,18 +59,19 @@ pub record IsTask (g : SharedPages) (t : ℕ) (x : Task) : Type 0 where
   pub counted : (c : ℕ) → c < classes (paging_at g) → slice_index x.live c ≡ live (paging_at g) (objects_of g x) c
   pub pages : x.pages ≡ pages_needed (paging_at g) (objects_of g x)
 
--- one of the tasks of a heap
+-- x is task t of a heap
 abbrev pub IsTaskIn : OpenTasks → ℕ → Task → Type 0
 IsTaskIn h t x = slice_get h.tasks.items t ≡ Some x
 
--- the addresses and the quotas by task
+-- the addresses by number of each task in turn
 abbrev pub places_of : List Task → List (FinMap nat_cmp ℕ)
 places_of tasks = map (λ (x : Task). x.proxies.places) tasks
 
+-- the quota in pages of each task in turn
 abbrev pub quotas_of : List Task → List ℕ
 quotas_of tasks = map (λ (x : Task). x.quota) tasks
 
--- the pages that all tasks use
+-- the number of pages that all tasks together use
 abbrev pub pages_of : List Task → ℕ
 pages_of tasks = sum_by (λ (x : Task). x.pages) tasks
 
@@ -76,7 +79,7 @@ pages_of tasks = sum_by (λ (x : Task). x.pages) tasks
 abbrev pub held_in : OpenTasks → Held
 held_in h = held_at h.shared_pages.region (joined (places_of h.tasks.items))
 
--- an open heap as callers see it
+-- the state of an open heap in contracts
 abbrev pub state_of : OpenTasks → QuotaState
 state_of h = record {
   is_open = true;
@@ -86,8 +89,8 @@ state_of h = record {
   words = h.shared_pages.region;
 }
 
--- What an open heap of sixteen tasks keeps: each task as above, no page used by two tasks, all together the arrangement and the words of one heap, and no
--- page lost: the free pages and those that tasks use are all pages.
+-- The invariant of an open heap of sixteen tasks: each task keeps its own invariant; no page is used by two tasks; the words are the image of all tasks'
+-- objects; the quotas are valid; and each page is free or used by a task.
 pub record IsValid (h : OpenTasks) : Type 0 where
   pub shared_pages : ArePages h.shared_pages
   pub many : length h.tasks.items ≡ 16
@@ -97,27 +100,25 @@ pub record IsValid (h : OpenTasks) : Type 0 where
   pub image : IsSlotImage (paging_at h.shared_pages) (held_in h) h.shared_pages.region
   pub quotas : AreQuotas (profile_of h.shared_pages.settings) (quotas_of h.tasks.items) (held_in h)
   pub granted : h.granted ≡ sum (quotas_of h.tasks.items)
-  pub accounted : length h.shared_pages.pool.free + pages_of h.tasks.items ≡ h.shared_pages.settings.pages
+  pub accounted : length h.shared_pages.tables.pool.free + pages_of h.tasks.items ≡ h.shared_pages.settings.pages
 
--- a heap that may be closed
+-- the state of a heap that may be closed
 abbrev pub state_in : Option OpenTasks → QuotaState
 state_in None = closed_state
 state_in (Some h) = state_of h
 
--- what it keeps while it is open
+-- the invariant of a heap that may be closed
 abbrev pub IsValidIn : Option OpenTasks → Type 0
 IsValidIn None = Unit {0}
 IsValidIn (Some h) = IsValid h
 
--- all pages are free and all words are 0
+-- the shared pages of a heap that was just opened: all pages are free and all words are 0
 pub record AreFirstPages (s : Settings) (g : SharedPages) : Type 0 where
   pub settings : g.settings ≡ s
-  pub classes : g.classes ≡ table_of s.page_words Words
+  pub tables : AreFirst s Words g.tables
   pub region : g.region ≡ replicate (s.pages * s.page_words) 0
-  pub maps : g.maps.items ≡ replicate s.pages (replicate 1 false)
-  pub pool : g.pool ≡ record { pages = s.pages; free = range_with_len 0 s.pages }
 
--- a task without objects and without a quota
+-- a task without objects, whose quota is 0
 abbrev pub first_task : ℕ → ℕ → ℕ → Task
 first_task classes pages proxies = record {
   quota = 0;

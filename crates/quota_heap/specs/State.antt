@@ -1,4 +1,4 @@
--- All that contracts see of a heap that tasks share.
+-- The state of a heap of tasks that contracts show.
 use Rattle.std.specs.Prelude.{◌≡◌, ℕ, ◌≤◌, Bool, true, false, List, [], IsTrue, length, replicate, slice_index, refl}
 use Rattle.std.specs.FinMap as map
 use Rattle.std.specs.Coded.{Coded, code_by, coded×, coded_ℕ, coded_list, coded_bool}
@@ -19,26 +19,27 @@ pub record QuotaState : Type 0 where
   pub held : Held
   pub words : List ℕ
 
--- a heap that was never open
+-- the state of a closed heap
 abbrev pub closed_state : QuotaState
 closed_state = record { is_open = false; profile = no_profile; quotas = []; held = map.empty; words = [] }
 
--- a heap that was opened: no task has an object or a quota, and all words are 0
+-- the state of a heap that was just opened: no task has an object, all quotas are 0, and all words are 0
 abbrev pub empty_state : Profile → QuotaState
 empty_state p = record { is_open = true; profile = p; quotas = replicate 16 0; held = map.empty; words = replicate (region_words p) 0 }
 
--- the objects of a task, with their addresses, and by their bytes alone
+-- the objects of a task, with their addresses
 abbrev pub held_by : QuotaState → ℕ → Held
 held_by s task = part_of s.held task
 
+-- the objects of a task, by their bytes alone
 abbrev pub objects_by : QuotaState → ℕ → Objects
 objects_by s task = objects (held_by s task)
 
--- the pages of a task's quota
+-- a task's quota in pages
 abbrev pub quota_of : QuotaState → ℕ → ℕ
 quota_of s task = slice_index s.quotas task
 
--- What every call keeps of an open heap: the tasks are apart and within their quotas, and the words are those of all objects.
+-- The rules of an open heap: no page has objects of two tasks, each task is within its quota, and the words are the image of all objects.
 pub record KeepsTasks (s : QuotaState) : Type 0 where
   pub opened : IsTrue s.is_open
   pub page_size : IsTrue (is_page_size s.profile.page_words)
@@ -49,7 +50,7 @@ pub record KeepsTasks (s : QuotaState) : Type 0 where
   pub image : IsImage s.held s.words
   pub slots : IsSlotImage (task_paging s.profile) s.held s.words
 
--- the parts of a state, as nested pairs
+-- the state as nested pairs, which the trait `Model` needs
 abbrev pub state_code : Coded QuotaState
 state_code =
     code_by (Bool × (Profile × (List ℕ × (Held × List ℕ))))

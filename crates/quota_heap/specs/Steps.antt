@@ -1,4 +1,4 @@
--- What each call does to a heap that tasks share.
+-- What each call does to the state of a heap of tasks.
 use Rattle.std.specs.Prelude.{◌≡◌, ℕ, ◌+◌, ◌<◌, ◌≤◌, List, Option, Some, None, Result, Ok, Err, length, take, drop, if◌then◌else◌, nat_lt, slice_set}
 use Rattle.std.specs.FinMap.{get, insert}
 use Rattle.cf_base.specs.declared.answers.AccessFault.{AccessFault}
@@ -21,17 +21,17 @@ use Rattle.quota_model.specs.Shared.{PlacesForTask, RemovesForTask}
 use Rattle.quota_model.specs.declared.answers.QuotaFault.{QuotaFault}
 use Rattle.quota_heap.specs.State.{QuotaState, held_by, objects_by, quota_of}
 
--- the same heap, with other objects and their words
+-- the state s with the objects m and these words
 abbrev pub with_held : QuotaState → Held → List ℕ → QuotaState
 with_held s m words = record s { held = m; words = words }
 
--- the quota of a task is n pages, if the quotas and the task's own pages allow it; else nothing changes
+-- setting a quota to n pages: it is set if it has no refusal; else the call fails with the refusal and changes nothing
 abbrev pub IsQuotaStep : QuotaState → ℕ → ℕ → Result Unit QuotaFault → QuotaState → Type 0
 IsQuotaStep old task n (Ok done) new = (quota_refusal old.profile old.quotas task n (objects_by old task) ≡ None)
     × (new ≡ record old { quotas = slice_set old.quotas task n })
 IsQuotaStep old task n (Err e) new = (quota_refusal old.profile old.quotas task n (objects_by old task) ≡ Some e) × (new ≡ old)
 
--- a task gets an object that it asked for
+-- a malloc of a task that is not refused adds an object of zeros
 pub record GivesTask (old : QuotaState) (task : ℕ) (asked : Request) (new : QuotaState) : Type 0 where
   pub granted : malloc_refusal old.profile (quota_of old task) (objects_by old task) asked.length ≡ None
   pub placed : PlacesForTask old.profile old.held task asked new.held
@@ -42,18 +42,18 @@ abbrev pub IsMallocStep : QuotaState → ℕ → ℕ → Result Handle Refusal �
 IsMallocStep old task n (Ok h) new = GivesTask old task (record { number = h.0; length = n }) new
 IsMallocStep old task n (Err e) new = (malloc_refusal old.profile (quota_of old task) (objects_by old task) n ≡ Some e) × (new ≡ old)
 
--- a free of an object of a task
+-- a free of a live object of a task removes it, and moves another object of the task if it must
 pub record FreesOfTask (old : QuotaState) (task h : ℕ) (freed : Freed) (new : QuotaState) : Type 0 where
   pub removed : RemovesForTask old.profile old.held task h (number_of freed.moved) new.held
   pub slot : freed.slot_words ≡ slot_for (task_paging old.profile) (length (removed.freed).bytes)
   pub whole : new ≡ with_held old new.held new.words
 
--- a free removes an object of the task, or there is none and nothing changes
+-- a free removes the task's object h; if h is not live, it fails and changes nothing
 abbrev pub IsFreeStep : QuotaState → ℕ → ℕ → Result Freed NotLive → QuotaState → Type 0
 IsFreeStep old task h (Ok freed) new = FreesOfTask old task h freed new
 IsFreeStep old task h (Err e) new = (get (held_by old task) h ≡ None) × (new ≡ old)
 
--- the part passes the end of the task's object
+-- the task's object `part.number` is live, but has fewer than `count` bytes from byte `part.from` on
 pub record PassesEnd (s : QuotaState) (task : ℕ) (part : Part) (count : ℕ) : Type 0 where
   pub object : Placed
   pub found : get (held_by s task) part.number ≡ Some object
@@ -64,7 +64,7 @@ abbrev pub IsFault : QuotaState → ℕ → Part → ℕ → AccessFault → Typ
 IsFault s task part count Unknown = get (held_by s task) part.number ≡ None
 IsFault s task part count Range = PassesEnd s task part count
 
--- bytes are written over a part of a task's object
+-- a write that is not refused changes these bytes of the task's object
 pub record WritesForTask (old : QuotaState) (task : ℕ) (part : Part) (bytes : List ℕ) (new : QuotaState) : Type 0 where
   pub object : Placed
   pub found : get (held_by old task) part.number ≡ Some object
@@ -72,21 +72,23 @@ pub record WritesForTask (old : QuotaState) (task : ℕ) (part : Part) (bytes : 
   pub whole : new ≡ with_held old
       (insert old.held (key_of task part.number) (record { place = object.place; bytes = written object.bytes part.from bytes })) new.words
 
+-- a write changes bytes of the task's object, or fails and changes nothing
 abbrev pub IsWriteStep : QuotaState → ℕ → Part → List ℕ → Result Unit AccessFault → QuotaState → Type 0
 IsWriteStep old task part bytes (Ok done) new = WritesForTask old task part bytes new
 IsWriteStep old task part bytes (Err e) new = IsFault old task part (length bytes) e × (new ≡ old)
 
--- the bytes of a part of a task's object
+-- a read that is not refused returns `count` bytes of the task's object `part.number` from byte `part.from` on
 pub record ReadsOfTask (s : QuotaState) (task : ℕ) (part : Part) (count : ℕ) (out : List ℕ) : Type 0 where
   pub object : Placed
   pub found : get (held_by s task) part.number ≡ Some object
   pub within : part.from + count ≤ length object.bytes
   pub value : out ≡ take count (drop part.from object.bytes)
 
+-- a read fills the caller's bytes, or fails and leaves them unchanged
 abbrev pub IsReadAnswer : QuotaState → ℕ → Part → List ℕ → Result Unit AccessFault → List ℕ → Type 0
 IsReadAnswer s task part old (Ok done) out = ReadsOfTask s task part (length old) out
 IsReadAnswer s task part old (Err e) out = IsFault s task part (length old) e × (out ≡ old)
 
--- the figures of a task's class
+-- the figures of class c of a task; none if there is no such class
 abbrev pub figures_by : QuotaState → ℕ → ℕ → Option Figures
 figures_by s task c = if nat_lt c (classes (task_paging s.profile)) then Some (figures_of (task_paging s.profile) (held_by s task) c) else None

@@ -1,4 +1,4 @@
-//! The heap that a caller holds: closed, or open.
+//! The heap of sixteen tasks, closed or open, with its public calls.
 ghost use Rattle.std.specs.Prelude.{◌≡◌, ◌+◌, ◌^◌, ◌<◌, ◌≤◌, IsTrue, IfErr, IfOk, false, length, slice_get, sum};
 ghost use Rattle.step_ledger.specs.Counting.{RoseAtMost};
 ghost use Rattle.cf_base.specs.Settings.{profile_of};
@@ -39,15 +39,16 @@ impl Model for QuotaHeap {
 }
 
 impl QuotaHeap {
-    /// A closed heap, which takes no memory.
+    /// Returns a closed heap, which has allocated nothing.
     pub fn closed(alloc: Global) -> QuotaHeap
         ensures { result ≡ closed_state }
     {
         QuotaHeap { alloc, inner: None }
     }
 
-    /// Opens the heap: no task has an object, all quotas are 0, and each task has the number of proxies
-    /// in the settings. Fails if out of memory; the heap is closed then.
+    /// Opens the heap with these settings; an open heap is closed before. No task has an object, all
+    /// quotas are 0, and each task has as its own the number of proxies in the settings. Fails if out of
+    /// memory; the heap is closed then.
     pub fn open_heap(&mut self, s: &Settings) -> Result<(), OutOfMemory>
         ensures opened { IfOk result (λ done. self.new ≡ empty_state (profile_of s.now)) }
         ensures kept { IfOk result (λ done. KeepsTasks self.new) }
@@ -58,7 +59,8 @@ impl QuotaHeap {
         Ok(())
     }
 
-    /// Whether the heap is open. An open heap keeps its tasks apart and within their quotas.
+    /// Returns whether the heap is open. In an open heap no page has objects of two tasks, and each task
+    /// is within its quota.
     pub fn is_open(&self) -> bool
         ensures value { result ≡ self.now.is_open }
         ensures rules { IsTrue result → KeepsTasks self.now }
@@ -66,7 +68,7 @@ impl QuotaHeap {
         self.inner.is_some()
     }
 
-    /// The pages of a task's quota.
+    /// A task's quota in pages.
     pub fn quota(&self, task: u32) -> u32
         requires opened { IsTrue self.now.is_open }
         requires sixteen { task < 16 }
@@ -78,7 +80,7 @@ impl QuotaHeap {
         }
     }
 
-    /// The pages that hold objects of a task, which are no more than its quota.
+    /// The number of pages that hold objects of a task; it is at most the quota.
     pub fn pages(&self, task: u32) -> u32
         requires opened { IsTrue self.now.is_open }
         requires sixteen { task < 16 }
@@ -92,7 +94,7 @@ impl QuotaHeap {
         }
     }
 
-    /// The pages of the region that are in no task's quota.
+    /// The number of the region's pages that are in no task's quota.
     pub fn unassigned(&self) -> u32
         requires opened { IsTrue self.now.is_open }
         ensures { result + sum self.now.quotas ≡ self.now.profile.pages }
@@ -103,8 +105,8 @@ impl QuotaHeap {
         }
     }
 
-    /// Sets the quota of a task to `pages` pages. Fails with `Sum` if the quotas would add up to more
-    /// pages than there are, else with `Used` if the task uses more.
+    /// Sets the quota of a task to `pages` pages. Fails, with nothing changed, with `Sum` if the quotas of
+    /// all tasks would sum to more pages than the region has, else with `Used` if the task uses more.
     pub fn set_quota(&mut self, task: u32, pages: u32) -> Result<(), QuotaFault>
         requires opened { IsTrue self.old.is_open }
         requires sixteen { task < 16 }
@@ -117,9 +119,9 @@ impl QuotaHeap {
         }
     }
 
-    /// Adds an object of `bytes` bytes, all zero, to those of a task. Fails with `Size` if it is larger
-    /// than a page, else with `Proxy` if the task's proxies are all in use, else with `Space` if the
-    /// task's objects with this one need more pages than its quota.
+    /// Makes an object of `bytes` bytes, all zero, for a task. Fails, with nothing changed, with `Size` if
+    /// it is larger than a page, else with `Proxy` if the task's proxies are all in use, else with `Space`
+    /// if the task's objects with this one need more pages than its quota.
     pub fn malloc(&mut self, task: u32, bytes: u32, steps: &mut Steps) -> Result<Handle, Refusal>
         requires opened { IsTrue self.old.is_open }
         requires sixteen { task < 16 }
@@ -135,7 +137,8 @@ impl QuotaHeap {
         }
     }
 
-    /// Frees an object of a task; another one of the task may move into its slot.
+    /// Frees an object of a task; another object of the task may move to its slot. Fails, with nothing
+    /// changed, if the handle is not live in this task.
     pub fn free(&mut self, task: u32, h: Handle, steps: &mut Steps) -> Result<Freed, NotLive>
         requires opened { IsTrue self.old.is_open }
         requires sixteen { task < 16 }
@@ -151,8 +154,9 @@ impl QuotaHeap {
         }
     }
 
-    /// Writes bytes into an object of a task from byte `at` on. Fails with `Unknown` if the task has no
-    /// such object, else with `Range` if they would pass its end.
+    /// Writes `bytes` into an object of a task from byte `at` on. Fails, with nothing changed, with
+    /// `Unknown` if the handle is not live in this task, else with `Range` if the bytes pass the object's
+    /// end.
     pub fn write(
         &mut self,
         task: u32,
@@ -175,8 +179,8 @@ impl QuotaHeap {
         }
     }
 
-    /// Fills `out` with the bytes of an object of a task from byte `at` on. Fails as a write does, and
-    /// then leaves `out` as it was.
+    /// Fills `out` with the bytes of an object of a task from byte `at` on. Fails as `write` does; `out` is
+    /// unchanged then.
     pub fn read(
         &self,
         task: u32,
@@ -210,7 +214,7 @@ impl QuotaHeap {
         }
     }
 
-    /// A word of the region; none past its end.
+    /// Reads a word of the region; none past its end.
     pub fn peek(&self, word: u32, steps: &mut Steps) -> Option<u64>
         requires opened { IsTrue self.now.is_open }
         requires room { steps.old ≤ 2 ^ 63 }

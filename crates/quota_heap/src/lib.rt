@@ -1,6 +1,6 @@
-//! Sixteen tasks on one region, each with objects, numbers, size classes and a quota of pages of its
-//! own, by the rules of Compact-fit (2008): an object that a free moves is one of the same task, and
-//! no page has objects of two.
+//! A moving heap for sixteen tasks on one region, by the rules of Compact-fit (2008). Each task has its
+//! own objects, numbers, page lists and quota of pages. A free moves only objects of its own task, and
+//! no page has objects of two tasks.
 #![tactic(auto)]
 
 mod free;

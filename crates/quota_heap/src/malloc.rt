@@ -1,4 +1,4 @@
-//! A malloc.
+//! Makes an object of a task.
 ghost use Rattle.std.specs.Prelude.{◌≡◌, ◌≢◌, ◌+◌, ◌<◌, ◌≤◌, [], length};
 ghost use Rattle.std.specs.FinMap.{get, len};
 ghost use Rattle.step_ledger.specs.Counting.{RoseAtMost};
@@ -11,12 +11,12 @@ ghost use Rattle.quota_heap.specs.Layout.{ArePages, IsTask, paging_at};
 use crate::shared_pages::SharedPages;
 use crate::task::Task;
 use cf_base::Handle;
-use page_slots::take_slot;
 use step_ledger::Steps;
 use word_bytes::Header;
 
 impl SharedPages {
-    /// Gives task t an object of `bytes` zeros in class c. A slot and a number for it must be free.
+    /// Makes an object of `bytes` zeros, of class c, for task t. The task must have a free number, and the
+    /// class a free slot.
     pub(crate) fn malloc_inner(
         &mut self,
         task: &mut Task,
@@ -31,23 +31,16 @@ impl SharedPages {
         requires class { class_for (paging_at self.old) bytes ≡ c }
         requires in_range { c < classes (paging_at self.old) }
         requires some { len task.old.proxies.places ≢ task.old.proxies.limit }
-        requires room { pages_in task.old.lists c NotFull ≡ [] → self.old.pool.free ≡ [] → ⊥ }
+        requires room { pages_in task.old.lists c NotFull ≡ [] → self.old.tables.pool.free ≡ [] → ⊥ }
         requires few { task.old.pages ≤ 4096 }
         ensures comes { IsAdded self.old task.old t c bytes result.0 self.new task.new }
         ensures bound { RoseAtMost steps.old steps.new 16 }
     {
-        let left = self.pool.left();
-        let Some(place) = take_slot(
-            &self.classes,
-            &mut self.maps,
-            &mut task.lists,
-            &mut self.pool,
-            c,
-            steps,
-        ) else {
+        let left = self.tables.pool.left();
+        let Some(place) = self.tables.take_slot(&mut task.lists, c, steps) else {
             unreachable!();
         };
-        task.pages = task.pages + left - self.pool.left();
+        task.pages = task.pages + left - self.tables.pool.left();
         let Some(number) = task.proxies.bind(place, steps) else {
             unreachable!();
         };

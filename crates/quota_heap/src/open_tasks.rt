@@ -25,7 +25,7 @@ use std::alloc::Global;
 use step_ledger::Steps;
 use word_bytes::{read_run, words_with, write_run};
 
-/// The tasks, what they share, and the pages of all quotas.
+/// The tasks, the pages that they share, and in `granted` the sum of their quotas in pages.
 #[derive(Drop)]
 pub(crate) struct OpenTasks {
     pub(crate) shared_pages: SharedPages,
@@ -34,13 +34,14 @@ pub(crate) struct OpenTasks {
 }
 
 impl OpenTasks {
-    /// Sixteen tasks without objects and quotas. It alone takes memory.
+    /// Opens a heap of sixteen tasks without objects, whose quotas are 0. Of the functions here it alone
+    /// allocates; fails if out of memory.
     pub(crate) fn new(alloc: Global, s: &Settings) -> Result<OpenTasks, OutOfMemory>
         ensures kept { IfOk result IsValid }
         ensures empty { IfOk result (λ h. state_of h ≡ empty_state (profile_of s.now)) }
     {
         let shared_pages = SharedPages::new(alloc, s)?;
-        let tasks = first_tasks(alloc, shared_pages.classes.len(), s.pages, s.proxies)?;
+        let tasks = first_tasks(alloc, shared_pages.tables.classes.len(), s.pages, s.proxies)?;
         Ok(OpenTasks {
             shared_pages,
             tasks,
@@ -48,7 +49,7 @@ impl OpenTasks {
         })
     }
 
-    /// The pages of a task's quota.
+    /// A task's quota in pages.
     pub(crate) fn quota(&self, t: u32) -> u32
         requires kept { IsValid self.now }
         requires sixteen { t < 16 }
@@ -58,7 +59,8 @@ impl OpenTasks {
         task.quota
     }
 
-    /// Sets the quota of a task to `pages` pages.
+    /// Sets the quota of a task to `pages` pages. Fails, with nothing changed, if the quotas would sum to
+    /// more pages than the region has, else if the task uses more pages.
     pub(crate) fn set_quota(&mut self, t: u32, pages: u32) -> Result<(), QuotaFault>
         requires kept { IsValid self.old }
         requires sixteen { t < 16 }
@@ -76,7 +78,7 @@ impl OpenTasks {
         Ok(())
     }
 
-    /// The pages that a task uses.
+    /// The number of pages that a task uses.
     pub(crate) fn pages(&self, t: u32) -> u32
         requires kept { IsValid self.now }
         requires sixteen { t < 16 }
@@ -86,7 +88,7 @@ impl OpenTasks {
         task.pages
     }
 
-    /// The pages that are in no task's quota.
+    /// The number of pages that are in no task's quota.
     pub(crate) fn unassigned(&self) -> u32
         requires kept { IsValid self.now }
         ensures { result + sum (state_of self.now).quotas ≡ self.now.shared_pages.settings.pages }
@@ -94,7 +96,7 @@ impl OpenTasks {
         self.shared_pages.settings.pages - self.granted
     }
 
-    /// Sets the quota of a task; with it all quotas sum to `granted`.
+    /// Sets the quota of a task to `pages` pages, and the sum of all quotas to `granted`.
     fn grant(&mut self, t: u32, pages: u32, granted: u32)
         requires kept { IsValid self.old }
         requires sixteen { t < 16 }
@@ -108,7 +110,8 @@ impl OpenTasks {
         self.granted = granted;
     }
 
-    /// Adds an object of `bytes` bytes, all zero, to those of a task.
+    /// Makes an object of `bytes` bytes, all zero, for a task. Refused, with nothing changed, if it is
+    /// larger than a page, the task's proxies are all in use, or the quota is too small.
     pub(crate) fn malloc(
         &mut self,
         t: u32,
@@ -122,7 +125,7 @@ impl OpenTasks {
         ensures bound { RoseAtMost steps.old steps.new 64 }
         ensures steps { RoseAtMost steps.old steps.new (malloc_steps result) }
     {
-        let Some(c) = self.shared_pages.classes.class_of(bytes, steps) else {
+        let Some(c) = self.shared_pages.tables.classes.class_of(bytes, steps) else {
             return Err(Refusal::Size);
         };
         if let Some(refusal) = self.refusal(t, c) {
@@ -132,7 +135,7 @@ impl OpenTasks {
         Ok(self.shared_pages.malloc_inner(task, t, c, bytes, steps))
     }
 
-    /// Why a malloc of class c by the task is refused; none if it isn't.
+    /// Returns the refusal of a malloc of class c by the task; none if it isn't refused.
     fn refusal(&self, t: u32, c: u32) -> Option<Refusal>
         requires kept { IsValid self.now }
         requires sixteen { t < 16 }
@@ -150,7 +153,7 @@ impl OpenTasks {
         None
     }
 
-    /// Frees an object of a task.
+    /// Frees an object of a task; fails, with nothing changed, if the handle is not live in this task.
     pub(crate) fn free(&mut self, t: u32, h: Handle, steps: &mut Steps) -> Result<Freed, NotLive>
         requires kept { IsValid self.old }
         requires sixteen { t < 16 }
@@ -166,7 +169,7 @@ impl OpenTasks {
         Ok(self.shared_pages.free_inner(owner, t, h, x, steps))
     }
 
-    /// The object of a task under this number; none if it isn't live.
+    /// Looks up an object of a task by its handle; none if the handle is not live in this task.
     fn object(&self, t: u32, h: Handle, steps: &mut Steps) -> Option<Found>
         requires kept { IsValid self.now }
         requires sixteen { t < 16 }
@@ -180,7 +183,8 @@ impl OpenTasks {
         self.shared_pages.object(task, h, steps)
     }
 
-    /// The address of an object of a task, if `count` bytes from `at` on lie within the object.
+    /// Returns the address of an object of a task. Fails if the handle is not live in this task, or if the
+    /// object has fewer than `count` bytes from byte `at` on.
     fn find(
         &self,
         t: u32,
@@ -199,7 +203,8 @@ impl OpenTasks {
         self.shared_pages.find(task, h, at, count, steps)
     }
 
-    /// Writes bytes into an object of a task from byte `at` on.
+    /// Writes `bytes` into an object of a task from byte `at` on. Fails, with nothing changed, as `find`
+    /// does.
     pub(crate) fn write(
         &mut self,
         t: u32,
@@ -227,7 +232,8 @@ impl OpenTasks {
         Ok(())
     }
 
-    /// Fills `out` with the bytes of an object of a task from byte `at` on.
+    /// Fills `out` with the bytes of an object of a task from byte `at` on. Fails as `find` does; `out` is
+    /// unchanged then.
     pub(crate) fn read(
         &self,
         t: u32,
@@ -260,14 +266,14 @@ impl OpenTasks {
         requires sixteen { t < 16 }
         ensures { result ≡ figures_by (state_of self.now) t c }
     {
-        if c < self.shared_pages.classes.len() {
+        if c < self.shared_pages.tables.classes.len() {
             Some(self.figures_of(t, c))
         } else {
             None
         }
     }
 
-    /// The figures of an existing class.
+    /// The figures of class c of a task, where c is one of the heap's classes.
     fn figures_of(&self, t: u32, c: u32) -> Figures
         requires kept { IsValid self.now }
         requires sixteen { t < 16 }
@@ -277,15 +283,15 @@ impl OpenTasks {
         let task = &self.tasks[t as usize];
         let not_full = task.lists.len(c, Which::NotFull);
         Figures {
-            slot_words: self.shared_pages.classes.slot_words(c),
-            slots: self.shared_pages.classes.slots(c),
+            slot_words: self.shared_pages.tables.classes.slot_words(c),
+            slots: self.shared_pages.tables.classes.slots(c),
             live: task.live[c as usize],
             pages: task.lists.len(c, Which::Full) + not_full,
             not_full,
         }
     }
 
-    /// A word of the region; none past its end.
+    /// Reads a word of the region; none past its end.
     pub(crate) fn peek(&self, word: u32, steps: &mut Steps) -> Option<u64>
         ensures value { result ≡ slice_get self.now.shared_pages.region word }
         ensures bound { RoseAtMost steps.old steps.new 1 }

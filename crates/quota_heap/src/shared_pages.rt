@@ -1,4 +1,4 @@
-//! What the tasks share.
+//! The pages that the tasks share.
 ghost use Rattle.std.specs.Prelude.{◌≡◌, ℕ, ◌*◌, ◌+◌, ◌<◌, ◌≤◌, false, length, replicate, slice_get, slice_index, None, IfErr, IfNone, IfOk, IfSome};
 ghost use Rattle.std.specs.List.{range_with_len};
 ghost use Rattle.std.specs.FinMap.{get};
@@ -10,25 +10,21 @@ ghost use Rattle.quota_heap.specs.Layout.{AreFirstPages, ArePages, IsTask};
 
 use crate::task::Task;
 use cf_base::{AccessFault, Handle, Layout, OutOfMemory, Settings};
-use page_pool::PagePool;
+use page_slots::PageTables;
 use region::Region;
-use size_classes::Classes;
-use slot_bitmap::{SlotMap, free_maps};
 use std::alloc::Global;
 use step_ledger::Steps;
 use word_bytes::Header;
 
-/// The region of all tasks, the bitmap of each of its pages, and the pages that no task uses.
+/// The region of all tasks and the tables of its pages. Pages that no task uses are in the pool.
 #[derive(Drop)]
 pub(crate) struct SharedPages {
     pub(crate) settings: Settings,
-    pub(crate) classes: Classes,
     pub(crate) region: Region,
-    pub(crate) maps: Vec<SlotMap>,
-    pub(crate) pool: PagePool,
+    pub(crate) tables: PageTables,
 }
 
-/// An object of a task: the first word of its slot, its bytes, and its class.
+/// An object of a task: the first word of its slot, its length in bytes, and its class.
 #[derive(Clone, Copy)]
 pub(crate) struct Found {
     pub(crate) place: u32,
@@ -37,24 +33,18 @@ pub(crate) struct Found {
 }
 
 impl SharedPages {
-    /// Pages that are all free. Only this call takes memory.
+    /// Allocates the region and the tables; all pages are free. Fails if out of memory.
     pub(crate) fn new(alloc: Global, s: &Settings) -> Result<SharedPages, OutOfMemory>
         ensures { IfOk result (λ g. AreFirstPages s.now g) }
     {
-        let classes = Classes::new(alloc, s.page_words, Layout::Words)?;
-        let region = Region::new(alloc, s.pages * s.page_words)?;
-        let maps = free_maps(alloc, s.pages)?;
-        let pool = PagePool::new(alloc, s.pages)?;
         Ok(SharedPages {
             settings: *s,
-            classes,
-            region,
-            maps,
-            pool,
+            region: Region::new(alloc, s.pages * s.page_words)?,
+            tables: PageTables::new(alloc, s, Layout::Words)?,
         })
     }
 
-    /// The object of a task under this number; none if it isn't live.
+    /// Looks up an object of a task by its handle; none if the handle is not live in this task.
     pub(crate) fn object(&self, task: &Task, h: Handle, steps: &mut Steps) -> Option<Found>
         requires shared_pages { ArePages self.now }
         requires kept { (t : ℕ) × IsTask self.now t task.now }
@@ -67,7 +57,7 @@ impl SharedPages {
             return None;
         };
         let length = Header::unpack(self.region.read(place, steps)).length;
-        let Some(class) = self.classes.class_of(length, steps) else {
+        let Some(class) = self.tables.classes.class_of(length, steps) else {
             unreachable!();
         };
         Some(Found {
@@ -77,7 +67,8 @@ impl SharedPages {
         })
     }
 
-    /// The address of an object of a task, if `count` bytes from `at` on lie within the object.
+    /// Returns the address of an object of a task. Fails if the handle is not live in this task, or if the
+    /// object has fewer than `count` bytes from byte `at` on.
     pub(crate) fn find(
         &self,
         task: &Task,
@@ -103,7 +94,7 @@ impl SharedPages {
     }
 }
 
-/// The words of a slot become zeros.
+/// Clears the words of a slot.
 pub(crate) fn wipe(region: &mut Region, place: u32, slot_words: u32, steps: &mut Steps)
     requires within { place + slot_words ≤ length region.old }
     ensures words { Clears region.old region.new (record { from = place; count = slot_words }) }
@@ -113,7 +104,7 @@ pub(crate) fn wipe(region: &mut Region, place: u32, slot_words: u32, steps: &mut
     region.clear(place, slot_words, steps);
 }
 
-/// Moves the words of a slot to another one, and leaves zeros.
+/// Moves the words of the slot at `from` to the slot at `to`, and leaves zeros behind.
 pub(crate) fn shift(region: &mut Region, from: u32, to: u32, slot_words: u32, steps: &mut Steps)
     requires source { from + slot_words ≤ length region.old }
     requires target { to + slot_words ≤ length region.old }

@@ -1,4 +1,4 @@
-//! What a task has of its own.
+//! The tables and counts that each task has as its own.
 ghost use Rattle.std.specs.Prelude.{◌≡◌, IfOk, replicate};
 ghost use Rattle.proxy_table.specs.Proxies.{AreBelowLimit, no_proxies};
 ghost use Rattle.quota_heap.specs.Layout.{first_task};
@@ -8,14 +8,14 @@ use class_lists::ClassLists;
 use proxy_table::ProxyTable;
 use std::alloc::Global;
 
-/// How many tasks there are.
+/// The number of tasks.
 pub(crate) const TASKS: u32 = 16;
 
-/// No task has more size classes.
+/// The length of the array by class. No heap has more size classes.
 pub(crate) const CLASSES: usize = 128;
 
-/// A task: its quota and the pages that it uses, how many objects of each class are live, and its
-/// pages and numbers.
+/// A task: its quota in pages, the number of pages that it uses, the number of live objects of each
+/// class, and the tables of its pages and of its numbers.
 #[derive(Drop)]
 pub(crate) struct Task {
     pub(crate) quota: u32,
@@ -26,7 +26,7 @@ pub(crate) struct Task {
 }
 
 impl Task {
-    /// A task without objects and without a quota.
+    /// Makes a task without objects, whose quota is 0. Fails if out of memory.
     pub(crate) fn new(
         alloc: Global,
         classes: u32,
@@ -48,7 +48,7 @@ impl Task {
     }
 }
 
-/// Sixteen tasks without objects and without quotas.
+/// Makes sixteen tasks without objects, whose quotas are 0. Fails if out of memory.
 pub(crate) fn first_tasks(
     alloc: Global,
     classes: u32,

@@ -1,4 +1,4 @@
--- What upper crates may cite: the addresses of an object's words, and what they hold after a write.
-pub use Rattle.slice_words.proofs.TwoPieces.{word_high, word_low}
+-- The lemmas that other crates' proofs cite: the addresses of an object's words, and the words after a write.
+pub use Rattle.slice_words.proofs.TwoParts.{word_high, word_low}
 pub use Rattle.slice_words.proofs.ObjectBytes.{byte_by_halves, object_rewritten, word_by_halves}
 pub use Rattle.slice_words.proofs.Moves.{part_apart}

@@ -1,5 +1,5 @@
 pub mod Moves
-pub mod OnePiece
-pub mod TwoPieces
+pub mod OnePart
+pub mod TwoParts
 pub mod ObjectBytes
 pub mod CallerLemmas

@@ -1,4 +1,4 @@
--- Parts of two slots.
+-- For `move_next`: the words to move and their new places don't overlap.
 use Rattle.std.proofs.Common.{ℕ, ◌+◌, ◌≤◌, arith, inl, inr}
 use Rattle.page_model.specs.Image.{IsDisjoint}
 

@@ -1,4 +1,4 @@
--- The words of an object after bytes were written over some of its own.
+-- For `written_bytes_are_those_of_the_object`: the words of an object after a write.
 use Rattle.std.proofs.Common.{◌≡◌, ℕ, suc, ◌+◌, ◌-◌, ◌*◌, ◌/◌, ◌%◌, ◌^◌, ◌<◌, ◌≤◌, List, [], ◌∷◌, length, get_or, arith, sym, ◌∙◌, ap, subst, inl, inr}
 use Rattle.std.specs.Prelude.{if◌then◌else◌}
 use Rattle.std.proofs.lemmas.Bool.{cases_eq, cases_lt}
@@ -17,22 +17,22 @@ use Rattle.slice_model.proofs.CallerLemmas.{word_done, word_left, word_of_other}
 use Rattle.slice_words.specs.Halves.{byte_in, halves_of, place_of_word, together}
 use Rattle.slice_words.specs.Writes.{IsTouched, WritesBytes, byte_by}
 use Rattle.slice_words.specs.declared.halves.Halves.{Halves}
-use Rattle.slice_words.proofs.TwoPieces.{word_high, word_low}
+use Rattle.slice_words.proofs.TwoParts.{word_high, word_low}
 
--- the halves of an object at a that is carried
-abbrev carried_halves : JobSlot → ℕ → Halves
-carried_halves k a = record { to = a; from = k.address; done = k.done }
+-- the halves of an object that moves to a
+abbrev moved_halves : JobSlot → ℕ → Halves
+moved_halves k a = record { to = a; from = k.address; done = k.done }
 
 -- beside every job the halves hold each word
 pub word_by_halves : (j : Job) (h : ℕ) (x : Placed) (i : ℕ) → place_of_word (halves_of j h x.place) i ≡ word_at j h x i
 word_by_halves Idle h x i = word_high (together x.place) i (omega arith)
 word_by_halves (Clear k) h x i = word_high (together x.place) i (omega arith)
 word_by_halves (Move q k) h x i = elim (cases_eq q h) [
-  | inr ne ↦ ap (λ b. place_of_word (if b then carried_halves k x.place else together x.place) i) (eq_no q h ne) ∙ word_high (together x.place) i (omega arith)
+  | inr ne ↦ ap (λ b. place_of_word (if b then moved_halves k x.place else together x.place) i) (eq_no q h ne) ∙ word_high (together x.place) i (omega arith)
       ∙ sym (word_of_other q h k x i ne)
-  | inl is ↦ ap (λ b. place_of_word (if b then carried_halves k x.place else together x.place) i) (eq_yes q h is) ∙ elim (cases_lt i k.done) [
-    | inl lt ↦ word_low (carried_halves k x.place) i lt ∙ sym (ap (λ r. word_at (Move r k) h x i) is ∙ word_done h k x i lt)
-    | inr le ↦ word_high (carried_halves k x.place) i le ∙ sym (ap (λ r. word_at (Move r k) h x i) is ∙ word_left h k x i le)
+  | inl is ↦ ap (λ b. place_of_word (if b then moved_halves k x.place else together x.place) i) (eq_yes q h is) ∙ elim (cases_lt i k.done) [
+    | inl lt ↦ word_low (moved_halves k x.place) i lt ∙ sym (ap (λ r. word_at (Move r k) h x i) is ∙ word_done h k x i lt)
+    | inr le ↦ word_high (moved_halves k x.place) i le ∙ sym (ap (λ r. word_at (Move r k) h x i) is ∙ word_left h k x i le)
   ]
 ]
 

@@ -12,19 +12,19 @@ place_of_word s i = if nat_le s.done i then s.from + i else s.to + i
 abbrev pub byte_in : Halves → List ℕ → ℕ → ℕ
 byte_in s words k = byte_of (k % 8) (slice_index words (place_of_word s (1 + k / 8)))
 
--- how many of the `count` bytes of the object from byte `at` on lie in the first half, whose first word is the header
+-- the number of bytes, of the object's `count` bytes from byte `at` on, that lie in the first half, whose first word is the header
 abbrev pub first_bytes : Halves → ℕ → ℕ → ℕ
 first_bytes s at count = min (8 * (s.done - 1) - at) count
 
--- of the object's first n words no two in different halves have one address
+-- no two of the object's first n words that are in different halves have one address
 abbrev pub AreApart : Halves → ℕ → Type 0
 AreApart s n = (i k : ℕ) → i < s.done → s.done ≤ k → k < n → s.to + i ≢ s.from + k
 
--- an object that isn't in motion
+-- the halves of an object at address a that isn't in motion: all words are at its address
 abbrev pub together : ℕ → Halves
 together a = record { to = a; from = a; done = 0 }
 
--- the halves of object h, of that address, beside a job
+-- the halves of object h at address a, while this job is pending
 abbrev pub halves_of : Job → ℕ → ℕ → Halves
 halves_of Idle h a = together a
 halves_of (Clear k) h a = together a

@@ -1,15 +1,15 @@
-//! An object whose words lie in two halves.
+//! Reads and writes an object whose words lie in two halves.
 ghost use Rattle.std.specs.Prelude.{◌≡◌, ℕ, ◌+◌, ◌-◌, ◌*◌, ◌/◌, ◌^◌, ◌<◌, ◌≤◌, length, min, slice_index};
 ghost use Rattle.cf_model.specs.Costs.{words_touched};
 ghost use Rattle.step_ledger.specs.Counting.{RoseAtMost, RoseBy};
 ghost use Rattle.slice_words.specs.Halves.{AreApart, byte_in, first_bytes, place_of_word};
 ghost use Rattle.slice_words.specs.Writes.{WritesBytes};
 
-use crate::pieces::{read_piece, write_piece};
+use crate::parts::{read_part, write_part};
 use region::Region;
 use step_ledger::Steps;
 
-/// The bytes of a word.
+/// The number of bytes of a word.
 const CELL: usize = 8;
 
 /// The addresses of the words of an object, its header among them: word i is at `to + i`, its new
@@ -22,7 +22,7 @@ pub struct Halves {
     pub done: u32,
 }
 
-/// Word `i` of the object, for one step.
+/// Reads word `i` of the object, for one step.
 pub fn read_word(region: &Region, s: Halves, i: u32, steps: &mut Steps) -> u64
     requires small { length region.now < 2 ^ 32 }
     requires to { s.to + i < length region.now }
@@ -34,7 +34,7 @@ pub fn read_word(region: &Region, s: Halves, i: u32, steps: &mut Steps) -> u64
     region.read(start + i, steps)
 }
 
-/// How many of `count` bytes of the object from byte `at` on lie in its first half.
+/// The number of bytes, of the object's `count` bytes from byte `at` on, that lie in its first half.
 fn first_bytes(s: Halves, at: u32, count: usize) -> usize
     ensures { result ≡ first_bytes s at count }
 {
@@ -43,7 +43,8 @@ fn first_bytes(s: Halves, at: u32, count: usize) -> usize
         .min(count)
 }
 
-/// Copies the bytes of the object from byte `at` on, each from its half.
+/// Fills `out` with the bytes of the object from byte `at` on, each from its half. Costs at most one
+/// step for each word that holds one of them.
 pub fn read_halves(region: &Region, s: Halves, at: u32, out: &mut [u8], steps: &mut Steps)
     requires small { length region.now < 2 ^ 32 }
     requires short { at + length out.old < 2 ^ 32 }
@@ -54,11 +55,12 @@ pub fn read_halves(region: &Region, s: Halves, at: u32, out: &mut [u8], steps: &
 {
     let first = first_bytes(s, at, out.len());
     let (low, high) = out.split_at_mut(first);
-    read_piece(region, s.to, at, low, steps);
-    read_piece(region, s.from, at + first as u32, high, steps);
+    read_part(region, s.to, at, low, steps);
+    read_part(region, s.from, at + first as u32, high, steps);
 }
 
-/// Writes the bytes over those of the object from byte `at` on, each in its half.
+/// Writes `bytes` over those of the object from byte `at` on, each in its half. Costs at most one step
+/// for each word that holds one of them.
 pub fn write_halves(region: &mut Region, s: Halves, at: u32, bytes: &[u8], steps: &mut Steps)
     requires small { length region.old < 2 ^ 32 }
     requires short { at + length bytes.now < 2 ^ 32 }
@@ -71,6 +73,6 @@ pub fn write_halves(region: &mut Region, s: Halves, at: u32, bytes: &[u8], steps
 {
     let first = first_bytes(s, at, bytes.len());
     let (low, high) = bytes.split_at(first);
-    write_piece(region, s.to, at, low, steps);
-    write_piece(region, s.from, at + first as u32, high, steps);
+    write_part(region, s.to, at, low, steps);
+    write_part(region, s.from, at + first as u32, high, steps);
 }

@@ -1,4 +1,4 @@
-//! The next words of a pending job.
+//! Clears or moves the next words of a pending job.
 ghost use Rattle.std.specs.Prelude.{◌≡◌, ◌+◌, ◌-◌, ◌^◌, ◌<◌, ◌≤◌, length, min};
 ghost use Rattle.page_model.specs.Image.{Clears, IsDisjoint, MovesWords};
 ghost use Rattle.step_ledger.specs.Counting.{RoseBy};
@@ -7,8 +7,8 @@ use region::Region;
 use slice_model::JobSlot;
 use step_ledger::Steps;
 
-/// The number of words that a slice does of a job, with `done` of `size` words done: a quantum, or those
-/// that are left.
+/// The number of words that the next slice of a job does, if `done` of its `size` words are done: a
+/// quantum, or the words left if they are fewer.
 pub fn words_of_slice(size: u32, done: u32, quantum: u32) -> u32
     requires { done ≤ size }
     ensures { result ≡ min quantum (size - done) }
@@ -16,7 +16,7 @@ pub fn words_of_slice(size: u32, done: u32, quantum: u32) -> u32
     quantum.min(size - done)
 }
 
-/// The next `n` words of the job's slot become 0, for a step each.
+/// Clears the next `n` words of the job's slot, for one step each.
 pub fn clear_next(region: &mut Region, k: JobSlot, n: u32, steps: &mut Steps)
     requires small { length region.old < 2 ^ 32 }
     requires within { k.address + k.done + n ≤ length region.old }
@@ -27,9 +27,9 @@ pub fn clear_next(region: &mut Region, k: JobSlot, n: u32, steps: &mut Steps)
     region.clear(k.address + k.done, n, steps);
 }
 
-/// Moves the next `n` words of the job's slot to their new place, from word `to` on, and leaves
-/// zeros behind, for a step each.
-pub fn carry_next(region: &mut Region, k: JobSlot, to: u32, n: u32, steps: &mut Steps)
+/// Moves the next `n` words of the job's slot to the slot at `to`, and leaves zeros behind, for one
+/// step each.
+pub fn move_next(region: &mut Region, k: JobSlot, to: u32, n: u32, steps: &mut Steps)
     requires small { length region.old < 2 ^ 32 }
     requires source { k.address + k.done + n ≤ length region.old }
     requires target { to + k.done + n ≤ length region.old }

@@ -1,4 +1,4 @@
-//! What the halves of an object are beside a pending job.
+//! Laws on the halves of an object while a job is pending.
 ghost use Rattle.std.specs.Prelude.{ℕ, ◌≡◌, ◌+◌, ◌/◌, ◌%◌, ◌^◌, ◌<◌, ◌≤◌, List, length, slice_index};
 ghost use Rattle.page_model.specs.Bytes.{AreBytes, written};
 ghost use Rattle.page_model.specs.Held.{Placed};
@@ -8,14 +8,15 @@ ghost use Rattle.slice_model.specs.Words.{RewritesObject, byte_read, word_at};
 ghost use Rattle.slice_words.specs.Halves.{byte_in, halves_of, place_of_word};
 ghost use Rattle.slice_words.specs.Writes.{WritesBytes};
 
-/// Beside every job the halves of an object hold each of its words, so its bytes are read there.
+/// With every job, `Halves` has the address of each of an object's words in the model; so the bytes in
+/// its halves are those that the model reads.
 pub fn halves_are_where_the_words_stand()
     ensures words { (j : Job) (h : ℕ) (x : Placed) (i : ℕ) → place_of_word (halves_of j h x.place) i ≡ word_at j h x i }
     ensures bytes { (j : Job) (h : ℕ) (x : Placed) (words : List ℕ) (k : ℕ) → byte_in (halves_of j h x.place) words k ≡ byte_read j words h x k }
 {}
 
-/// Bytes that are written over those of an object make its words, wherever they lie, those of the
-/// object with these bytes.
+/// After bytes are written over those of an object in its halves, its words, each at its present
+/// address, are those of the object with these bytes.
 pub fn written_bytes_are_those_of_the_object()
     ensures { (j : Job) (h : ℕ) (x : Placed) (old new : List ℕ) (at : ℕ) (bytes : List ℕ)
         → h < 2 ^ 32 → length x.bytes < 2 ^ 32 → AreBytes x.bytes → AreBytes bytes → at + length bytes ≤ length x.bytes

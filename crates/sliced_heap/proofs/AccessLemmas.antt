@@ -1,4 +1,4 @@
--- Parts of objects that are read or written, by the halves in which their words lie.
+-- For `find`, `read` and `write`: an object's bytes in the halves in which its words lie.
 use Rattle.std.proofs.Common.{◌≡◌, ℕ, ◌+◌, ◌/◌, ◌%◌, ◌^◌, ◌<◌, ◌≤◌, List, length, get_or, Some, None, arith, refl, sym, ◌∙◌, ap, subst, inl, inr}
 use Rattle.std.specs.Prelude.{option_map}
 use Rattle.std.proofs.lemmas.Bool.{cases_eq}

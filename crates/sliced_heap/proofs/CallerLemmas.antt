@@ -1,4 +1,4 @@
--- What other crates' proofs may cite: an open heap keeps its plan.
+-- The lemma that other crates' proofs cite: the plan is unchanged by a call that leaves the settings and the quantum unchanged (`StaysOpen`).
 use Rattle.std.proofs.Common.{◌≡◌, ℕ, ap₂}
 use Rattle.cf_base.specs.Settings.{Profile}
 use Rattle.cf_base.specs.declared.kind.Layout.TheVariants.{Words}
@@ -6,7 +6,7 @@ use Rattle.page_model.specs.Paging.{first_bounds, paging_of}
 use Rattle.slice_model.specs.State.{Plan}
 use Rattle.sliced_heap.specs.Shown.{SlicedState, StaysOpen, plan_in}
 
--- the plan by the settings and the quantum
+-- the plan, as a function of the settings and the quantum
 abbrev plan_by : Profile → ℕ → Plan
 plan_by p n = record { paging = paging_of p Words (first_bounds p Words); proxies = p.proxies; quantum = n }
 

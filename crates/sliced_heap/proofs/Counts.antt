@@ -1,4 +1,4 @@
--- The pages that the objects need by arithmetic, with one object more or less.
+-- For `count_in` and `count_out`: the pages that the objects need by arithmetic, with one object more or less.
 use Rattle.std.proofs.Common.{◌≡◌, ℕ, ◌+◌, ◌-◌, ◌*◌, ◌/◌, ◌%◌, ◌<◌, List, Some, None, length}
 use Rattle.std.proofs.Common.{arith, refl, sym, ◌∙◌, ap, inl, inr}
 use Rattle.std.specs.Prelude.{nat_eq}
@@ -39,7 +39,7 @@ ceil_more n m pos =
     ]
 
 module _ (p : Paging) (ok : IsPaging p) (o : Objects) (n : ℕ) (lt : class_for p n < classes p) where
-  -- with one more object a page more is needed, or none
+  -- one more object needs one more page, or none
   pub needed_more : pages_needed_with p o n ≡ pages_needed p o + opens (slots_of p (class_for p n)) (live p o (class_for p n))
   unfolding pages_needed pages_needed_with
   needed_more =

@@ -1,4 +1,4 @@
--- A job ends: its slot is free.
+-- For `end`: a job ends, and its slot becomes free or the next job fills it.
 use Rattle.std.proofs.Common.{◌≡◌, ◌≢◌, ℕ, ◌+◌, ◌-◌, ◌<◌, length, get_or, Some, None, arith, refl, sym, ◌∙◌, ap, subst, inl, inr}
 use Rattle.std.specs.FinMap.{insert}
 use Rattle.page_model.specs.Arrangement.{not_full_pages}
@@ -35,7 +35,7 @@ filled_ends h k g at n f =
     subst (λ o. MustMove (paging_at h) o (placeholder (paging_at h) g)) (all_are h k g at) f.must in
     inr (record { two = two h k g at must; object = f.object; beside = f.beside; carries = f.carries })
 
--- it is the next object to move, and no slot becomes free
+-- the next job moves the object that the order lists next, and no slot becomes free
 pub filled_follows : (h : Heap) (k : IsValid h) (g : JobSlot) → h.job ≡ Clear g → (n : Heap) → IsFilled h g n
     → EndFollows (plan_of h) (state_of h).held g n.job (order_in h) (order_in n)
 filled_follows h k g at n f =
@@ -58,7 +58,7 @@ module _ (h : Heap) (k : IsValid h) (g : JobSlot) (at : h.job ≡ Clear g) where
       subst (λ (t : ClassTable). IsUsed (tables_in h) g.class (page_at t g.address) (slot_at t g.class g.address)) (table_is h k)
       (subst (λ c. IsUsed (tables_in h) c (page_of (paging_at h) g.address) (slot_at (class_table (paging_at h)) c g.address)) (stand_class h k g at) u)
 
-  -- it becomes free
+  -- the slot becomes free in the tables
   module _ (stays : ¬ MustMove (paging_at h) (occupied (plan_of h) (state_of h)) (placeholder (paging_at h) g))
       (zeros : (i : ℕ) → i < slot_words (paging_at h) g.class → get_or h.words (g.address + i) 0 ≡ 0) (n : Heap)
       (rest : n ≡ record h { maps = n.maps; lists = n.lists; pool = n.pool; job = Idle })
@@ -142,7 +142,7 @@ module _ (h : Heap) (k : IsValid h) (g : JobSlot) (at : h.job ≡ Clear g) where
     pub idle_ends : Ends (paging_at h) (state_of h).held g (state_of n)
     idle_ends = subst (Ends (paging_at h) m g) (sym (becomes_state h n k s becomes)) ends_idle
 
--- the same for a heap that equals h
+-- as above, for a heap t that equals h
 pub idle_at : (h : Heap) (k : IsValid h) (g : JobSlot) → h.job ≡ Clear g → ¬ MustMove (paging_at h) (occupied (plan_of h) (state_of h))
     (placeholder (paging_at h) g)
     → ((i : ℕ) → i < slot_words (paging_at h) g.class → get_or h.words (g.address + i) 0 ≡ 0) → (t n : Heap) → t ≡ h

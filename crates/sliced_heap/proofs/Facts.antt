@@ -9,11 +9,14 @@ use Rattle.page_model.specs.Bytes.{AreBytes, bytes_at}
 use Rattle.page_model.specs.Held.{Placed, places}
 use Rattle.page_model.specs.Paging.{IsPaging, AreOne, classes}
 use Rattle.page_model.proofs.CallerLemmas.{first_ones, first_paged, held_at_bytes, places-held_at}
+use Rattle.class_lists.specs.PageLists.{PageLists}
+use Rattle.page_slots.specs.declared.page_tables.PageTables.{PageTables}
 use Rattle.page_slots.specs.Tables.{AreTables}
 use Rattle.page_slots.specs.Occupying.{class_table}
 use Rattle.size_classes.specs.Table.{ClassTable, IsClassTable}
 use Rattle.slice_model.specs.State.{IsPlan}
-use Rattle.sliced_heap.specs.Heap.{Heap}
+use Rattle.sliced_heap.specs.declared.open_heap.OpenHeap.{OpenHeap}
+use Rattle.sliced_heap.specs.Heap.{Heap, seen}
 use Rattle.sliced_heap.specs.Layout.{IsValid, completed, paging_at, plan_of, profile_at, state_of, tables_in}
 
 module _ (h : Heap) (k : IsValid h) where
@@ -73,3 +76,11 @@ module _ (h : Heap) (k : IsValid h) where
 
   pub held_bytes : (q : ℕ) (x : Placed) → get (state_of h).held q ≡ Some x → AreBytes x.bytes
   held_bytes q x there = held_at_bytes (completed (paging_at h) h.job h.proxies.places h.words) h.proxies.places q x there
+
+-- an open heap with other tables; if they have the same classes, nothing else changes
+abbrev pub seen_with : OpenHeap → PageTables → PageLists → Heap
+seen_with h t lists = seen (record h { tables = t; lists = lists })
+
+pub only_tables : (h : OpenHeap) (t : PageTables) (lists : PageLists) → t.classes ≡ h.tables.classes
+    → seen_with h t lists ≡ record (seen h) { maps = t.maps.items; lists = lists; pool = t.pool }
+only_tables h t lists same = ap (λ k. record (seen h) { classes = k; maps = t.maps.items; lists = lists; pool = t.pool }) same

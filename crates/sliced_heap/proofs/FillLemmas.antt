@@ -1,4 +1,4 @@
--- A slot that is to be cleared is filled: an object of another partly full page gets its address.
+-- For `fill` and `move_to`: an object of another partly full page gets the address of a slot that was to be cleared.
 use Rattle.std.proofs.Common.{◌≡◌, ◌≢◌, ℕ, ◌+◌, ◌-◌, ◌*◌, ◌/◌, ◌%◌, ◌^◌, ◌<◌, ◌≤◌, [], length, get_or, replicate, Option, Some, None, arith, refl, sym, ◌∙◌, ap}
 use Rattle.std.proofs.Common.{subst, inl, inr}
 use Rattle.std.specs.Prelude.{◌↔◌, IsSome, slice_index_or}
@@ -61,8 +61,8 @@ module _ (plan : Plan) (ok : IsPlan plan) (m : Held) (k : JobSlot) (kept : IsKep
       ends = inr (record { two = two; object = q; beside = b; carries = record { object = y; found = there; whole = refl } });
     })
 
-    pub kept_carried : IsKept plan (record { held = insert m q (record { place = k.address; bytes = y.bytes }); job = Move q (fresh_slot y.place k.class) })
-    kept_carried = kept_slice plan ok (record { held = m; job = Clear last }) new at_last chain
+    pub kept_filled : IsKept plan (record { held = insert m q (record { place = k.address; bytes = y.bytes }); job = Move q (fresh_slot y.place k.class) })
+    kept_filled = kept_slice plan ok (record { held = m; job = Clear last }) new at_last chain
 
     pub same_objects : objects (insert m q (record { place = k.address; bytes = y.bytes })) ≡ objects m
     same_objects = objects_sliced plan (record { held = m; job = Clear last }) new chain
@@ -114,7 +114,7 @@ module _ (h : Heap) (k : IsValid h) (g : JobSlot) (at : h.job ≡ Clear g) where
   pub class_listed : g.class < h.lists.classes
   class_listed = (let lt = found_class (paging_ok h k) k.serve.part occupied_clear h.settings.proxies stand_there in rw stand_class at lt)
 
-  -- and what follows from it
+  -- the test holds if and only if the slot must be filled (`MustMove`)
   pub must_is : MovesObject (slice_index_or h.maps (page_at h.classes g.address) []) (length (pages_in h.lists g.class NotFull)) 1
       ↔ MustMove (paging_at h) (insert (state_of h).held h.settings.proxies (placeholder (paging_at h) g)) (placeholder (paging_at h) g)
   must_is =
@@ -176,7 +176,7 @@ module _ (h : Heap) (k : IsValid h) (g : JobSlot) (at : h.job ≡ Clear g) where
             ap (λ (z : Placed). page_of (paging_at h) z.place) (sym same) ∙ ap (λ (z : JobSlot). page_of (paging_at h) z.address) (sym i)))
       ]
 
-      -- its page isn't full
+      -- the filler's page isn't full
       pub page_partly : steps_to_drop (tables_in h) (page_at h.classes a) ≤ 10
       page_partly =
           let u = (occupied_clear.stands q y found.2).of in
@@ -187,7 +187,7 @@ module _ (h : Heap) (k : IsValid h) (g : JobSlot) (at : h.job ≡ Clear g) where
           ap (λ (t : ClassTable). a / t.page_words) k.table ∙ ap (page_of (paging_at h)) (sym found.3) in
           rw at_place (omega arith)
 
-      -- its header is in the region, and has its number, which is live
+      -- the filler's header is in the region, and has the filler's number, which is live
       pub from_within : a < length h.words
       from_within = (let i = inside h k q y y_there in let o = holds h k q y y_there in let e : y.place ≡ a = found.3 in omega arith)
 
@@ -209,7 +209,7 @@ module _ (h : Heap) (k : IsValid h) (g : JobSlot) (at : h.job ≡ Clear g) where
             omega arith);
       }
 
-      -- it gets the slot's address, and is to be carried there
+      -- the filler gets the slot's address, and moving it there is the job
       module _ (fresh : g.done ≡ 0) (n : Heap) (handles : AreBelowLimit n.proxies) (free : n.proxies.free ≡ h.proxies.free) (whole : n ≡ record h {
         proxies = with_place h.proxies (get_or h.words a 0 % 2 ^ 32) g.address;
         job = Move (get_or h.words a 0 % 2 ^ 32) (fresh_slot a g.class);
@@ -222,7 +222,7 @@ module _ (h : Heap) (k : IsValid h) (g : JobSlot) (at : h.job ≡ Clear g) where
         s = record { held = insert m q (record { place = g.address; bytes = y.bytes }); job = Move q (fresh_slot y.place g.class) }
 
         kept : IsKept (plan_of h) s
-        kept = kept_carried (plan_of h) (plan_ok h k) m g kept_clear q y y_there two lies_beside
+        kept = kept_filled (plan_of h) (plan_ok h k) m g kept_clear q y y_there two lies_beside
 
         objects_same : objects s.held ≡ objects m
         objects_same = same_objects (plan_of h) (plan_ok h k) m g kept_clear q y y_there two lies_beside
@@ -272,10 +272,10 @@ module _ (h : Heap) (k : IsValid h) (g : JobSlot) (at : h.job ≡ Clear g) where
           within = (let now = ap (λ (z : Heap). z.needed) rest in let w = k.within in omega arith);
         }
 
-        pub carried_valid : IsValid n
-        carried_valid = becomes_valid h n k s becomes
+        pub filled_valid : IsValid n
+        filled_valid = becomes_valid h n k s becomes
 
-        -- it is the next to move
+        -- the filler is the object that the order lists next
         is_next : IsNextToMove (paging_at h) (occupied (plan_of h) (state_of h)) (order_in h) g.class y
         is_next = subst (λ o. IsNextToMove (paging_at h) o (order_in h) g.class y) (sym all_are)
             (filler_next (paging_ok h k) k.serve.part occupied_clear class_in h.proxies.free f' y found.3)
@@ -297,8 +297,8 @@ module _ (h : Heap) (k : IsValid h) (g : JobSlot) (at : h.job ≡ Clear g) where
           order = order_same;
         }
 
-        pub carried_partly : (f : JobSlot) → job_slot n.job ≡ Some f → IsPartlyFull n f
-        carried_partly f slot =
+        pub filled_partly : (f : JobSlot) → job_slot n.job ≡ Some f → IsPartlyFull n f
+        filled_partly f slot =
             let e : Some (fresh_slot a g.class) ≡ Some f = sym (ap (λ (z : Heap). job_slot z.job) whole) ∙ slot in
             let is : fresh_slot a g.class ≡ f = cc in
             let there : steps_to_drop (tables_in n) (page_at n.classes a) ≤ 10 =

@@ -1,4 +1,4 @@
--- An object that is found by its number, while no job is pending.
+-- For `forget`: the object that is found by its number, while no job is pending.
 use Rattle.std.proofs.Common.{◌≡◌, ℕ, ◌+◌, ◌/◌, ◌^◌, ◌<◌, length, get_or, Some, None, arith, sym, ◌∙◌, ap}
 use Rattle.std.specs.FinMap.{get}
 use Rattle.cf_base.specs.Classes.{class_of}
@@ -24,7 +24,7 @@ module _ (h : Heap) (k : IsValid h) (idle : h.job ≡ Idle) (q a : ℕ) (known :
   head_at : a ≡ word_at h.job q w.0 0
   head_at = sym w.2 ∙ (let e : w.0.place ≡ w.0.place + 0 = omega arith in e) ∙ sym (ap (λ j. word_at j q w.0 0) idle)
 
-  -- its header holds its length
+  -- the object's header holds its length
   module _ (size : ℕ) (shown : size ≡ get_or h.words a 0 / 2 ^ 32) where
     pub length_shown : size ≡ length (found h k q a known).0.bytes
     length_shown = shown ∙ head_length h k q w.0 w.1 a head_at

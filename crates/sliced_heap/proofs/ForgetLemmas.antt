@@ -1,4 +1,4 @@
--- An object is freed, and its slot is to be cleared.
+-- For `forget`: an object is removed, and clearing its slot is the job.
 use Rattle.std.proofs.Common.{◌≡◌, ℕ, ◌+◌, ◌-◌, ◌*◌, ◌<◌, ◌≤◌, length, get_or, set, replicate, Some, arith, refl, sym, ◌∙◌, ap, subst}
 use Rattle.std.specs.Prelude.{nat_eq}
 use Rattle.std.proofs.lemmas.List.{length-set}
@@ -29,7 +29,7 @@ use Rattle.sliced_heap.proofs.Headers.{in_class}
 use Rattle.sliced_heap.proofs.Places.{stood_in}
 use Rattle.sliced_heap.proofs.Preserved.{Becomes, becomes_plan, becomes_state, becomes_valid}
 
--- the rules of the model stay
+-- removing an object and making clearing its slot the job keeps the rules of the model
 pub kept_vacant : (plan : Plan) → IsPlan plan → (m : Held) → IsKept plan (record { held = m; job = Idle }) → (q : ℕ) (x : Placed) → get m q ≡ Some x
     → IsKept plan (record { held = remove m q; job = Clear (fresh_slot x.place (class_at plan.paging x)) })
 kept_vacant plan ok m kept q x there =
@@ -165,7 +165,7 @@ module _ (h : Heap) (k : IsValid h) (idle : h.job ≡ Idle) (q : ℕ) (x : Place
       order = ap order_in g.rest;
     }
 
--- the same by the address and the class that the code has
+-- as above, with the address and the class as the code computes them
 pub forgets_at : (h : Heap) (k : IsValid h) → h.job ≡ Idle → (q : ℕ) (x : Placed) → get (state_of h).held q ≡ Some x → (a c : ℕ) → x.place ≡ a
     → class_at (paging_at h) x ≡ c → (n : Heap) → IsFreed h n q a c → Forgets h q (fresh_slot a c) n × IsValid n
 forgets_at h k idle q x there a c at is n =

@@ -1,4 +1,4 @@
--- A free in whole: the object is removed, its slot is filled if it must be, and a slice follows.
+-- For `free_live`: the object is removed, its slot is filled if it must be, and a slice is done.
 use Rattle.std.proofs.Common.{◌≡◌, ◌≢◌, ℕ, ◌*◌, ◌-◌, ◌<◌, ◌∷◌, replicate, Bool, true, false, Some, None, arith, sym, ◌∙◌, ap, subst, inl, inr}
 use Rattle.std.proofs.lemmas.Bool.{cases_eq}
 use Rattle.std.specs.FinMap.{get, insert, remove}
@@ -152,7 +152,7 @@ module _ (h : Heap) (k : IsValid h) (idle : h.job ≡ Idle) (q : ℕ) (x : Place
         (subst (λ o. IsNextToMove (paging_at h) o (order_in a) c v.beside.object) occupied_is
         (subst (λ p. IsNextToMove p (occupied (plan_of a) (state_of a)) (order_in a) c v.beside.object) pages_are v.next)))
 
-    -- and the slice
+    -- the slice of the free
     module _ (b : Heap) (s : SlicesInOrder (plan_of b) (working_of b) (working_of n) (order_in b) (order_in n)) where
       slice_now : plan_of b ≡ plan_of h → b.words ≡ h.words → order_in b ≡ record (order_in h) { spare = q ∷ (order_in h).spare }
           → SlicesInOrder (plan_of h) (record { state = state_of b; words = h.words }) (working_of n) (record (order_in h) { spare = q ∷ (order_in h).spare })
@@ -211,7 +211,7 @@ module _ (h : Heap) (k : IsValid h) (idle : h.job ≡ Idle) (q : ℕ) (x : Place
       frees true v = filled_frees v
       frees false v = vacant_frees v
 
--- the same from the clauses of the parts of a free
+-- as above, from the clauses of `forget`, `fill` and `slice`
 pub frees_from : (h : Heap) (k : IsValid h) → h.job ≡ Idle → (q : ℕ) (g : JobSlot) (a b n : Heap) → Forgets h q g a → IsValid a → (filled : Bool)
     → Fills a g filled b
     → SlicesInOrder (plan_of b) (working_of b) (working_of n) (order_in b) (order_in n)

@@ -1,4 +1,4 @@
--- What the header of an object holds, and its address; and the class of a length.
+-- For `find`, `forget` and `malloc`: an object's header and its address, and the class of a length.
 use Rattle.std.proofs.Common.{◌≡◌, ℕ, ◌+◌, ◌*◌, ◌/◌, ◌%◌, ◌^◌, ◌<◌, ◌≤◌, length, get_or, Some, None, arith, ◌∙◌, ap, subst, inl, inr}
 use Rattle.std.proofs.lemmas.Bool.{cases_lt}
 use Rattle.std.specs.FinMap.{get}
@@ -25,7 +25,7 @@ module _ (h : Heap) (k : IsValid h) (q : ℕ) (x : Placed) (there : get (state_o
   pub holds : need (length x.bytes) ≤ slot_for (paging_at h) (length x.bytes)
   holds = class_holds (paging_at h) (paging_ok h k) (length x.bytes) in_class
 
-  -- its slot is in the region
+  -- the object's slot is in the region
   pub inside : x.place + slot_for (paging_at h) (length x.bytes) ≤ length h.words
   inside = (let l = object_within (plan_of h) (plan_ok h k) (state_of h).held h.job k.kept q x there in let long = k.words_long in omega arith)
 
@@ -47,7 +47,7 @@ module _ (h : Heap) (k : IsValid h) (q : ℕ) (x : Placed) (there : get (state_o
   head_length w is = (let low = number_low in let e = head in let f : get_or h.words w 0 ≡ q + 2 ^ 32 * length x.bytes = ap (λ a. get_or h.words a 0) is
       ∙ e in omega arith)
 
-  -- its length has a class
+  -- the object's length has a class
   pub class_known_at : class_of h.classes.sizes (length x.bytes) ≡ Some (class_at (paging_at h) x)
   class_known_at = ap (λ (t : ClassTable). class_of t.sizes (length x.bytes)) k.table ∙ class_known (paging_at h) (paging_ok h k) (length x.bytes) in_class
 

@@ -19,7 +19,7 @@ use Rattle.slice_model.proofs.CallerLemmas.{job_within, kept_apart, object_slot,
 use Rattle.slice_model.proofs.CallerLemmas as model
 use Rattle.slice_words.proofs.CallerLemmas.{part_apart}
 use Rattle.word_bytes.proofs.CallerLemmas.{cleared_clears, moved_moves}
-use Rattle.sliced_heap.specs.Layout.{carried_to, completed}
+use Rattle.sliced_heap.specs.Layout.{completed, rest_moved}
 
 -- the address of an object among the addresses
 pub place_there : (m : Held) (at : FinMap nat_cmp ℕ) → at ≡ places m → (q : ℕ) (x : Placed) → get m q ≡ Some x → get at q ≡ Some x.place
@@ -53,10 +53,10 @@ module _ (plan : Plan) (ok : IsPlan plan) (m : Held) (k : JobSlot) (words words'
         zeros = λ i lt. after.done (record k { done = k.done + n }) refl i (omega arith);
       }
 
-  pub carried_all : (q : ℕ) (x : Placed) → get m q ≡ Some x → class_at plan.paging x ≡ k.class → IsKept plan (record { held = m; job = Move q k })
+  pub moved_all : (q : ℕ) (x : Placed) → get m q ≡ Some x → class_at plan.paging x ≡ k.class → IsKept plan (record { held = m; job = Move q k })
       → HasWords plan.paging (record { held = m; job = Move q k }) words
       → MovesWords words words' (record { from = k.address + k.done; count = n }) (x.place + k.done) → AreEnded plan.paging m k words'
-  carried_all q x there class kept has moves =
+  moved_all q x there class kept has moves =
       let apart = kept_apart plan ok (record { held = m; job = Move q k }) kept in
       let size : slot_for plan.paging (length x.bytes) ≡ slot_words plan.paging k.class = ap (slot_words plan.paging) class in
       let after = model.carried plan.paging m words words' n q x k there size apart (omega arith) has moves in
@@ -95,9 +95,9 @@ completed_words plan ok m (Move q k) kept at e words long has =
     let there : get at q ≡ Some o.0.place = place_there m at e q o.0 o.1 in
     let far = parts_apart plan ok m q k kept o.0 o.1 o.2 (slot_words plan.paging k.class - k.done) (omega arith) in
     let moves = moved_moves words (k.address + k.done) (o.0.place + k.done) (slot_words plan.paging k.class - k.done) (omega arith) (omega arith) far in
-    let ended = carried_all plan ok m k words (moved words (k.address + k.done) (o.0.place + k.done) (slot_words plan.paging k.class - k.done))
+    let ended = moved_all plan ok m k words (moved words (k.address + k.done) (o.0.place + k.done) (slot_words plan.paging k.class - k.done))
     (slot_words plan.paging k.class - k.done) (omega arith) q o.0 o.1 o.2 kept has moves in
-    subst (λ z. HasWords plan.paging (record { held = m; job = Idle }) (carried_to plan.paging k z words)) (sym there) ended.idle
+    subst (λ z. HasWords plan.paging (record { held = m; job = Idle }) (rest_moved plan.paging k z words)) (sym there) ended.idle
 
 module _ (plan : Plan) (ok : IsPlan plan) (m : Held) (j : Job) (kept : IsKept plan (record { held = m; job = j })) (at : FinMap nat_cmp ℕ) (e : at ≡ places m)
     (words : List ℕ) (long : length words ≡ plan.paging.pages * plan.paging.page_words) (has : HasWords plan.paging (record { held = m; job = j }) words)

@@ -1,4 +1,4 @@
--- A malloc, and why one is refused.
+-- For `malloc`: a malloc that is done, and the cause of each refusal.
 use Rattle.std.proofs.Common.{◌≡◌, ◌≢◌, ℕ, ◌+◌, ◌<◌, ◌≤◌, List, length, get_or, set, replicate, ◌∷◌, Some, None, arith, refl, sym, ◌∙◌, ap, subst, inl, inr}
 use Rattle.std.specs.Prelude.{◌↔◌, Bool, IsTrue, false, nat_eq, option_map}
 use Rattle.std.proofs.lemmas.Bool.{cases_lt, false≢true}
@@ -36,7 +36,7 @@ use Rattle.sliced_heap.proofs.Facts.{few_classes, held_bytes, held_len, no_place
 use Rattle.sliced_heap.proofs.Headers.{class_is}
 use Rattle.sliced_heap.proofs.Preserved.{Becomes, becomes_plan, becomes_state, becomes_valid}
 
--- one word becomes another
+-- setting one word of the region changes no other word
 pub one_word : (words : List ℕ) (a v : ℕ) → a < length words → Rewrites words (set words a v) (record { from = a; count = 1 }) (λ _. v)
 one_word words a v lt = record {
   within = λ i low. (let e : a ≡ a + i = omega arith in subst (λ w. get_or (set words a v) w 0 ≡ v) e (get_or-set_same words a v 0 lt));
@@ -115,7 +115,7 @@ module _ (h : Heap) (k : IsValid h) (bytes c : ℕ) (found : Some c ≡ class_of
         free : IsFreePlace (paging_at h) (occupied (plan_of h) (state_of h)) bytes a
         free = taken_is_free (paging_ok h k) k.serve.part k.occupied of_table is.2 at_table bytes is.1
 
-        -- its address is in the region
+        -- the slot's address is in the region
         pub place_inside : a < length h.words
         place_inside =
             let inside = slot_inside (paging_at h) (class_for (paging_at h) bytes) a free.slot in
@@ -123,7 +123,7 @@ module _ (h : Heap) (k : IsValid h) (bytes c : ℕ) (found : Some c ≡ class_of
             let long = k.words_long in
             omega arith
 
-        -- and the object is bound there and counted
+        -- the object is bound to the slot and counted
         module _ (n : Heap) (q : ℕ) (unused : get h.proxies.places q ≡ None) (below : q < h.proxies.limit) (handles : AreBelowLimit n.proxies)
             (first : h.proxies.free ≡ q ∷ n.proxies.free)
             (on : tables_in n ≡ new) (rest : n ≡ record h {
@@ -301,7 +301,7 @@ module _ (h t b n : Heap) (a q c w : ℕ) (et : t ≡ record h { maps = t.maps; 
   unfolding with_tables
   all_changes = by_taken ∙ ap with_tables (sym on_taken)
 
--- so the object is added
+-- from these parts: the object is added
 pub given_from : (h : Heap) (k : IsValid h) (bytes c : ℕ) → Some c ≡ class_of h.classes.sizes bytes → len h.proxies.places ≢ h.settings.proxies
     → h.needed + opens (slots h.classes.page_words h.classes.sizes c) (get_or h.live c 0) ≤ h.settings.pages → (t b n : Heap) (a q : ℕ)
     → TakesAt h.classes (tables_in h) c a (tables_in t) → AreTables h.classes (tables_in t) → t ≡ record h { maps = t.maps; lists = t.lists; pool = t.pool }

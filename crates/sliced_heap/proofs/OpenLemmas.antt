@@ -1,4 +1,4 @@
--- An open heap without objects.
+-- For `empty`: an open heap that was just put together is valid.
 use Rattle.std.proofs.Common.{◌≡◌, ℕ, false, ◌*◌, ◌<◌, ◌≤◌, length, replicate, get_or, [], Some, None, arith, sym}
 use Rattle.std.proofs.Common.{◌∙◌, ap, subst, inl, inr}
 use Rattle.std.specs.List.{range_with_len}
@@ -29,7 +29,7 @@ use Rattle.slice_model.specs.Words.{HasWords}
 use Rattle.sliced_heap.specs.Heap.{Heap}
 use Rattle.sliced_heap.specs.Layout.{IsNew, IsValid, completed, order_in, paging_at, paging_for, plan_of, profile_at, state_of, tables_in}
 
--- what an opened heap is made of
+-- the parts of a heap that was just opened
 pub record IsFirst (s : Settings) (n : ℕ) (h : Heap) : Type 0 where
   pub settings : h.settings ≡ s
   pub asked : h.quantum ≡ n
@@ -118,7 +118,7 @@ module _ (s : Settings) (n : ℕ) (h : Heap) (f : IsFirst s n h) where
     within = (let e = f.needed in omega arith);
   }
 
-  -- pages and numbers come in rising order
+  -- the order lists pages and numbers in rising order
   order_first : order_in h ≡ first_order (paging_at h) h.settings.proxies
   order_first =
       let lists : open_lists (classes (paging_at h)) h.lists ≡ replicate (classes (paging_at h)) [] =

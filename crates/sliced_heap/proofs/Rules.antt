@@ -28,7 +28,7 @@ keeps h k = record {
   order = order_ok (seen h) k;
 }
 
--- the same in the terms of the value
+-- as above, for the value s that contracts show
 pub keeps_of : (o : Option OpenHeap) → IsValidIn o → (s : SlicedState) → shown o ≡ s → IsTrue s.is_open → KeepsRules s
 keeps_of None k s is open_now = absurd (false≢true (ap (λ (t : SlicedState). t.is_open) is ∙ open_now))
 keeps_of (Some h) k s is open_now = subst KeepsRules is (keeps h k)

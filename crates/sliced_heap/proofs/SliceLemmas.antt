@@ -1,4 +1,4 @@
--- A slice of the pending job: some of its words, or the last ones.
+-- For `clear_slice` and `move_slice`: a slice that does some words of the job, or its last ones.
 use Rattle.std.proofs.Common.{◌≡◌, ℕ, ◌+◌, ◌-◌, ◌<◌, ◌≤◌, List, length, get_or, Some, None, arith, refl, sym, ◌∙◌, ap, subst, inl, inr}
 use Rattle.std.specs.Prelude.{min}
 use Rattle.page_model.specs.Arrangement.{IsSound}
@@ -21,11 +21,11 @@ use Rattle.sliced_heap.proofs.Facts.{held_bytes, places_are, plan_ok}
 use Rattle.sliced_heap.proofs.HeldFromWords.{AreEnded}
 use Rattle.sliced_heap.proofs.Preserved.{Becomes, becomes_plan, becomes_state, becomes_valid}
 
--- the same state, by its job
+-- the state of a heap whose job is j
 pub state_at : (h : Heap) (j : Job) → h.job ≡ j → state_of h ≡ record { held = (state_of h).held; job = j }
 state_at h j at = ap (λ j. record { held = (state_of h).held; job = j }) at
 
--- a slice of this job, if it is the heap's
+-- a slice of the job j is a slice of the heap, if j is its job
 pub slices_at : (plan : Plan) (old : Working) (j : Job) → old.state.job ≡ j → (new : Working)
     → IsSlice plan (record { held = old.state.held; job = j }) new.state
     → DoesWords old.state.held j (words_of_slice plan (job_slot j)) old.words new.words → Slices plan old new
@@ -44,7 +44,7 @@ pub record KeepsTables (h n : Heap) : Type 0 where
   pub proxies : n.proxies ≡ h.proxies
   pub long : length n.words ≡ length h.words
 
--- with another job, whose slot is the same
+-- the heap stays valid with another job of the same slot and other words
 module _ (h n : Heap) (k : IsValid h) (same : KeepsTables h n) (j : Job) (is : n.job ≡ j)
     (kept : IsKept (plan_of h) (record { held = (state_of h).held; job = j }))
     (words : HasWords (paging_at h) (record { held = (state_of h).held; job = j }) n.words)
@@ -178,7 +178,7 @@ module _ (h n : Heap) (k : IsValid h) (same : KeepsTables h n) (j : Job) (at : h
     pub vacant_plan : plan_of n ≡ plan_of h
     vacant_plan = job_plan h n k same (Clear (record g { done = 0 })) is kept_vacant words_vacant same_slot_vacant
 
--- the end of a job, whatever is done of its slot
+-- how the end of a job changes the order does not depend on `done`
 same_end : (plan : Plan) (m : Held) (g : JobSlot) (was now : Order) (j : Job) → EndFollows plan m (record g { done = 0 }) j was now
     → EndFollows plan m g j was now
 same_end plan m g was now Idle is = is

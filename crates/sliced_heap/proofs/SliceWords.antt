@@ -14,7 +14,7 @@ use Rattle.slice_model.proofs.CallerLemmas.{job_within, object_within}
 use Rattle.sliced_heap.specs.Heap.{Heap}
 use Rattle.sliced_heap.specs.Layout.{IsValid, paging_at, plan_of, state_of}
 use Rattle.sliced_heap.proofs.Facts.{place_known, plan_ok}
-use Rattle.sliced_heap.proofs.HeldFromWords.{AreEnded, carried_all, cleared_all, parts_apart}
+use Rattle.sliced_heap.proofs.HeldFromWords.{AreEnded, cleared_all, moved_all, parts_apart}
 
 module _ (h : Heap) (k : IsValid h) (g : JobSlot) where
   sizes_are : get_or h.classes.sizes g.class 0 ≡ slot_words (paging_at h) g.class
@@ -50,8 +50,8 @@ module _ (h : Heap) (k : IsValid h) (g : JobSlot) where
     o = kept_move.job.1
 
     -- the object has an address
-    pub carry_known : None ≡ get h.proxies.places q → ⊥
-    carry_known none = (let z : None ≡ Some o.0.place = none ∙ place_known h k q o.0 o.1 in cc)
+    pub move_known : None ≡ get h.proxies.places q → ⊥
+    move_known none = (let z : None ≡ Some o.0.place = none ∙ place_known h k q o.0 o.1 in cc)
 
     module _ (to : ℕ) (known : Some to ≡ get h.proxies.places q) where
       to_is : o.0.place ≡ to
@@ -61,15 +61,15 @@ module _ (h : Heap) (k : IsValid h) (g : JobSlot) where
         fits : g.done + n ≤ slot_words (paging_at h) g.class
         fits = (let some = kept_move.job.0.under_way in count_fits n n_is (omega arith))
 
-        pub carry_source : g.address + g.done + n ≤ length h.words
-        carry_source =
+        pub move_source : g.address + g.done + n ≤ length h.words
+        move_source =
             let f = fits in
             let l = job_within (plan_of h) (plan_ok h k) (state_of h).held (Move q g) kept_move g refl in
             let long = k.words_long in
             omega arith
 
-        pub carry_target : to + g.done + n ≤ length h.words
-        carry_target =
+        pub move_target : to + g.done + n ≤ length h.words
+        move_target =
             let f = fits in
             let l = object_within (plan_of h) (plan_ok h k) (state_of h).held (Move q g) kept_move q o.0 o.1 in
             let size : slot_for (paging_at h) (length o.0.bytes) ≡ slot_words (paging_at h) g.class = ap (slot_words (paging_at h)) o.2 in
@@ -77,17 +77,17 @@ module _ (h : Heap) (k : IsValid h) (g : JobSlot) where
             let e = to_is in
             omega arith
 
-        pub carry_apart : IsDisjoint (g.address + g.done) n (to + g.done) n
-        carry_apart = subst (λ a. IsDisjoint (g.address + g.done) n (a + g.done) n) to_is
+        pub move_apart : IsDisjoint (g.address + g.done) n (to + g.done) n
+        move_apart = subst (λ a. IsDisjoint (g.address + g.done) n (a + g.done) n) to_is
             (parts_apart (plan_of h) (plan_ok h k) (state_of h).held q g kept_move o.0 o.1 o.2 n fits)
 
       module _ (w : List ℕ) (n : ℕ) (moves : MovesWords h.words w (record { from = g.address + g.done; count = n }) (to + g.done)) where
         moves_so : MovesWords h.words w (record { from = g.address + g.done; count = n }) (o.0.place + g.done)
         moves_so = subst (λ a. MovesWords h.words w (record { from = g.address + g.done; count = n }) (a + g.done)) (sym to_is) moves
 
-        pub carry_does : DoesWords (state_of h).held (Move q g) n h.words w
-        carry_does = (o.0, o.1, moves_so)
+        pub move_does : DoesWords (state_of h).held (Move q g) n h.words w
+        move_does = (o.0, o.1, moves_so)
 
-        pub carry_ended : g.done + n ≡ slot_words (paging_at h) g.class → AreEnded (paging_at h) (state_of h).held g w
-        carry_ended all = carried_all (plan_of h) (plan_ok h k) (state_of h).held g h.words w n all q o.0 o.1 o.2 kept_move
+        pub move_ended : g.done + n ≡ slot_words (paging_at h) g.class → AreEnded (paging_at h) (state_of h).held g w
+        move_ended all = moved_all (plan_of h) (plan_ok h k) (state_of h).held g h.words w n all q o.0 o.1 o.2 kept_move
             (subst (λ j. HasWords (paging_at h) (record { held = (state_of h).held; job = j }) h.words) at k.words) moves_so

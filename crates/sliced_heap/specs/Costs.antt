@@ -12,7 +12,7 @@ use Rattle.slice_model.specs.declared.answers.SliceFault.{SliceFault}
 use Rattle.slice_model.specs.declared.answers.SliceRefusal.{SliceRefusal}
 use Rattle.slice_model.specs.declared.answers.SliceRefusal.TheVariants as refusal
 
--- a malloc: the class, a slot that fills its page, the proxy and the header; refused, the class; busy, also the search for a slot
+-- a malloc: the class, a slot whose use makes its page full, the proxy and the header; refused, the class; refused as `Busy`, also the search for a slot
 abbrev pub malloc_steps : Result Handle SliceRefusal → ℕ
 malloc_steps (Ok h) = 17
 malloc_steps (Err refusal.Size) = 1
@@ -20,29 +20,30 @@ malloc_steps (Err refusal.Proxy) = 1
 malloc_steps (Err refusal.Space) = 1
 malloc_steps (Err refusal.Busy) = 3
 
--- the steps of a slice of at most q words if n are left, and `last` steps more if it does them all
+-- the steps of a slice of at most q words if n words are left, with `last` steps more if the slice does all of them
 abbrev pub words_steps : ℕ → ℕ → ℕ → ℕ
 words_steps q n last = if nat_le n q then n + last else q
 
--- a slice: its words, and after the last ones the tables of the slot's page; if an object moves, also its address
+-- a slice: its words; after the last of them the tables of the slot's page; and the proxy of the object that the job moves, if it moves one
 abbrev pub job_steps : Plan → Job → ℕ
 job_steps plan Idle = 0
 job_steps plan (Clear k) = words_steps plan.quantum (slot_words plan.paging k.class - k.done) 14
 job_steps plan (Move h k) = 1 + words_steps plan.quantum (slot_words plan.paging k.class - k.done) 14
 
+-- the most steps of a slice in this state
 abbrev pub slice_steps : Plan → Sliced → ℕ
 slice_steps plan s = job_steps plan s.job
 
--- the words of the slot of object h
+-- the words of the slot of object h; 0 if h is not live
 abbrev pub words_of : Plan → Sliced → ℕ → ℕ
 words_of plan s h = elim (get s.held h) [ None ↦ 0 | Some x ↦ slot_words plan.paging (class_at plan.paging x) ]
 
--- a free: the proxy, the headers and the tables of two objects, and the first slice; refused, the proxy
+-- a free: the headers, the proxies and the tables of the object and of one that moves, and the first slice; refused, the proxy
 abbrev pub free_steps : Plan → Sliced → ℕ → Option SliceFault → ℕ
 free_steps plan s h None = 12 + words_steps plan.quantum (words_of plan s h) 11
 free_steps plan s h (Some e) = 1
 
--- a read or a write: the proxy, the header, and the words that hold one of the bytes
+-- a read or a write of `count` bytes from byte `from` on: the proxy, the header, and the words that hold one of the bytes
 abbrev pub access_steps : {T : Type 0} → Result T AccessFault → ℕ → ℕ → ℕ
 access_steps (Ok u) from count = 2 + words_touched from count
 access_steps (Err access.Unknown) from count = 1

@@ -1,4 +1,4 @@
--- What definitions see of an open heap: its parts, the words of its region, and the pending job.
+-- An open heap as definitions use it: the fields of `OpenHeap` and of its tables, with the model's job.
 use Rattle.std.specs.Prelude.{ℕ, Bool, List}
 use Rattle.cf_base.specs.declared.settings.Settings.{Settings}
 use Rattle.size_classes.specs.Table.{ClassTable}
@@ -23,23 +23,24 @@ pub record Heap : Type 0 where
   pub proxies : Proxies
   pub job : Job
 
--- the job of the model
+-- the model's job of a pending one
 abbrev pub job_of : Pending → Job
 job_of pending.Idle = Idle
 job_of (pending.Clear k) = Clear k
-job_of (pending.Carry h k) = Move h.0 k
+job_of (pending.Move h k) = Move h.0 k
 
+-- the definitions' view of an open heap
 abbrev pub seen : OpenHeap → Heap
 seen h = record {
   settings = h.settings;
   quantum = h.quantum;
-  classes = h.classes;
+  classes = h.tables.classes;
   live = h.live;
   needed = h.needed;
   words = h.region;
-  maps = h.maps.items;
+  maps = h.tables.maps.items;
   lists = h.lists;
-  pool = h.pool;
+  pool = h.tables.pool;
   proxies = h.proxies;
   job = job_of h.job;
 }

@@ -1,4 +1,4 @@
--- What contracts see of an open heap, and what it keeps.
+-- The state that contracts show of an open heap, and the heap's invariant.
 use Rattle.std.specs.Prelude.{◌≡◌, ℕ, ◌+◌, ◌-◌, ◌*◌, ◌%◌, ◌≤◌, ◌<◌, List, Option, Some, None, length, replicate, slice_index, nat_eq, if◌then◌else◌}
 use Rattle.std.specs.Ordering.{nat_cmp}
 use Rattle.std.specs.FinMap.{FinMap, get, empty}
@@ -22,52 +22,55 @@ use Rattle.slice_model.specs.Words.{HasWords}
 use Rattle.slice_model.specs.Runs.{Working}
 use Rattle.sliced_heap.specs.Heap.{Heap}
 
--- the numbers of the settings, with the bound 1, whatever bound they have
+-- the settings, with bound 1 in place of theirs
 abbrev pub profile_at : Settings → Profile
 profile_at s = record { pages = s.pages; page_words = s.page_words; k = 1; proxies = s.proxies }
 
+-- the pages and classes of a heap with these settings
 abbrev pub paging_for : Settings → Paging
 paging_for s = paging_of (profile_at s) Words (first_bounds (profile_at s) Words)
 
+-- the pages and classes of an open heap
 abbrev pub paging_at : Heap → Paging
 paging_at h = paging_for h.settings
 
+-- the model's settings of an open heap
 abbrev pub plan_of : Heap → Plan
 plan_of h = record { paging = paging_for h.settings; proxies = h.settings.proxies; quantum = h.quantum }
 
--- the words when the rest of this slot has moved: it lies from `a + done` on
-abbrev pub carried_to : Paging → JobSlot → Option ℕ → List ℕ → List ℕ
-carried_to p k None words = words
-carried_to p k (Some a) words = moved words (k.address + k.done) (a + k.done) (slot_words p k.class - k.done)
+-- the words as they will be after the rest of the job's slot is moved to the object's address a
+abbrev pub rest_moved : Paging → JobSlot → Option ℕ → List ℕ → List ℕ
+rest_moved p k None words = words
+rest_moved p k (Some a) words = moved words (k.address + k.done) (a + k.done) (slot_words p k.class - k.done)
 
--- the words when the rest of the job is done
+-- the words as they will be after the rest of the job is done
 abbrev pub completed : Paging → Job → FinMap nat_cmp ℕ → List ℕ → List ℕ
 completed p Idle places words = words
 completed p (Clear k) places words = cleared words (k.address + k.done) (slot_words p k.class - k.done)
-completed p (Move q k) places words = carried_to p k (get places q) words
+completed p (Move q k) places words = rest_moved p k (get places q) words
 
--- the objects by the words at their addresses when the job is done, and the job
+-- the model's state: the objects, whose bytes are read as if the rest of the job were done, and the job
 abbrev pub state_of : Heap → Sliced
 state_of h = record { held = held_at (completed (paging_at h) h.job h.proxies.places h.words) h.proxies.places; job = h.job }
 
--- the same with the words as they are
+-- the model's state with the present words
 abbrev pub working_of : Heap → Working
 working_of h = record { state = state_of h; words = h.words }
 
--- which slots of which pages are used
+-- the heap's tables of used slots, page lists and free pages
 abbrev pub tables_in : Heap → Tables
 tables_in h = tables h.maps h.lists h.pool
 
--- the order in which pages, slots and numbers are used next
+-- the order: what the tables and the spare numbers list next
 abbrev pub order_in : Heap → Order
 order_in h = order_of (classes (paging_at h)) (tables_in h) h.proxies.free
 
--- how many more pages one object more than n needs, with m slots to a page
+-- the number of pages, 1 or 0, that one more object adds to those of n objects, with m slots to a page
 abbrev pub opens : ℕ → ℕ → ℕ
 opens m n = if nat_eq (n % m) 0 then 1 else 0
 
--- What an open heap keeps: the rules of its state; the words of the state; tables that hold which slots the objects and the job occupy; and the counts
--- of the objects.
+-- The invariant of an open heap: the state keeps the rules; the words are those of the state; the tables hold the slots that the objects and the job use;
+-- the counts are those of the objects.
 pub record IsValid (h : Heap) : Type 0 where
   pub table : h.classes ≡ table_of h.settings.page_words Words
   pub quantum : 1 ≤ h.quantum
@@ -83,7 +86,7 @@ pub record IsValid (h : Heap) : Type 0 where
   pub needed : h.needed ≡ pages_needed (paging_at h) (objects (state_of h).held)
   pub within : h.needed ≤ h.settings.pages
 
--- a heap that was just opened, with slices of n words
+-- a heap that was just opened, with slices of at most n words
 pub record IsNew (s : Settings) (n : ℕ) (h : Heap) : Type 0 where
   pub settings : h.settings ≡ s
   pub quantum : h.quantum ≡ n

@@ -1,4 +1,4 @@
--- What contracts see of a sliced heap, in one record.
+-- The state of a sliced heap that contracts show.
 use Rattle.std.specs.Prelude.{◌≡◌, ℕ, ◌*◌, Bool, true, false, List, [], Option, Some, None, length, refl, replicate}
 use Rattle.std.specs.FinMap as map
 use Rattle.std.specs.Coded.{Coded, code_by, coded×, coded_ℕ, coded_list, coded_bool, coded_option}
@@ -28,16 +28,18 @@ pub record SlicedState : Type 0 where
   pub job : Job
   -- the words of the region
   pub words : List ℕ
-  -- which pages, slots and numbers are used next
+  -- the order: the pages, slots and numbers that calls use next
   pub order : Order
 
+-- the state of a closed heap
 abbrev pub closed_state : SlicedState
 closed_state = record { is_open = false; profile = no_profile; quantum = 0; held = map.empty; job = Idle; words = []; order = record { pool = []; not_full = []; spare = [] } }
 
--- the pages and the quantum, and the state with the words, as the model has them
+-- the model's settings of this state
 abbrev pub plan_in : SlicedState → Plan
 plan_in s = record { paging = paging_of s.profile Words (first_bounds s.profile Words); proxies = s.profile.proxies; quantum = s.quantum }
 
+-- the model's state, with the words
 abbrev pub working_in : SlicedState → Working
 working_in s = record { state = record { held = s.held; job = s.job }; words = s.words }
 
@@ -53,21 +55,21 @@ opened_state s quantum = record {
   order = first_order (paging_for s) s.proxies;
 }
 
--- what an open heap keeps
+-- the rules of an open heap
 pub record KeepsRules (s : SlicedState) : Type 0 where
   pub plan : IsPlan (plan_in s)
   pub consistent : IsConsistent (plan_in s) (working_in s)
   pub region : length s.words ≡ s.profile.pages * s.profile.page_words
   pub order : IsOrderBeside (plan_in s) (working_in s).state s.order
 
--- the heap stays open, with its pages and its quantum
+-- a call changes neither whether the heap is open nor its settings, its quantum, and the number of its words
 pub record StaysOpen (old new : SlicedState) : Type 0 where
   pub is_open : new.is_open ≡ old.is_open
   pub profile : new.profile ≡ old.profile
   pub quantum : new.quantum ≡ old.quantum
   pub region : length new.words ≡ length old.words
 
--- a heap that may be closed
+-- the state of a heap that may be closed
 abbrev pub shown : Option OpenHeap → SlicedState
 shown None = closed_state
 shown (Some h) = record {
@@ -80,12 +82,12 @@ shown (Some h) = record {
   order = order_in (seen h);
 }
 
--- what it keeps while it is open
+-- the invariant of a heap that may be closed
 abbrev pub IsValidIn : Option OpenHeap → Type 0
 IsValidIn None = Unit {0}
 IsValidIn (Some h) = IsValid (seen h)
 
--- a job as its slot, and the number of the object that moves, if one does
+-- From here on: the state as nested pairs, which the trait `Model` needs. A job is a pair of the moving object's number, if there is one, and the slot.
 abbrev pub JobParts : Type 0
 JobParts = Option (Option ℕ × (ℕ × (ℕ × ℕ)))
 

@@ -1,4 +1,4 @@
--- The parts of a free and of a slice. No public clause cites this module but `fault_in`.
+-- What the parts of a free and of a slice do. Of this module, public clauses cite `fault_in` alone.
 use Rattle.std.specs.Prelude.{◌≡◌, ℕ, ◌∷◌, ◌+◌, ◌-◌, ◌%◌, ◌^◌, ◌≤◌, Bool, true, false, Option, Some, None, Result, Ok, Err, slice_index}
 use Rattle.std.specs.FinMap.{get, remove}
 use Rattle.page_model.specs.Arrangement.{class_at}
@@ -17,12 +17,12 @@ use Rattle.sliced_heap.specs.Heap.{Heap}
 use Rattle.sliced_heap.specs.Layout.{order_in, paging_at, plan_of, state_of, tables_in}
 use Rattle.sliced_heap.specs.Costs.{words_steps}
 
--- why a free was refused, if it was
+-- the fault of a free, if it was refused
 abbrev pub fault_in : {T : Type 0} → Result T SliceFault → Option SliceFault
 fault_in (Ok u) = None
 fault_in (Err e) = Some e
 
--- object q is freed, and its slot is to be cleared
+-- what `forget` does: object q is removed, and clearing its slot k is the job
 pub record Forgets (old : Heap) (q : ℕ) (k : JobSlot) (new : Heap) : Type 0 where
   pub object : Placed
   pub found : get (state_of old).held q ≡ Some object
@@ -34,7 +34,7 @@ pub record Forgets (old : Heap) (q : ℕ) (k : JobSlot) (new : Heap) : Type 0 wh
   pub quantum : new.quantum ≡ old.quantum
   pub order : order_in new ≡ record (order_in old) { spare = q ∷ (order_in old).spare }
 
--- the next object to move, of another partly full page, gets the slot's address, and is to be carried there
+-- `fill` fills the slot: the object that the order lists next, of another partly full page, gets the slot's address, and moving it there is the job
 pub record IsFilled (old : Heap) (k : JobSlot) (new : Heap) : Type 0 where
   pub must : MustMove (paging_at old) (occupied (plan_of old) (state_of old)) (placeholder (paging_at old) k)
   pub object : ℕ
@@ -46,17 +46,18 @@ pub record IsFilled (old : Heap) (k : JobSlot) (new : Heap) : Type 0 where
   pub quantum : new.quantum ≡ old.quantum
   pub order : order_in new ≡ order_in old
 
--- the slot need not be filled
+-- `fill` changes nothing, since the slot need not be filled
 pub record StaysVacant (old : Heap) (k : JobSlot) (new : Heap) : Type 0 where
   pub stays : ¬ MustMove (paging_at old) (occupied (plan_of old) (state_of old)) (placeholder (paging_at old) k)
   pub same : new ≡ old
 
+-- what `fill` does, by its result
 abbrev pub Fills : Heap → JobSlot → Bool → Heap → Type 0
 Fills old k true new = IsFilled old k new
 Fills old k false new = StaysVacant old k new
 
--- the object that fills a slot of class c, found by its header, gets the slot's address, and is to be moved there
-pub record StartsCarry (old : Heap) (k : JobSlot) (new : Heap) : Type 0 where
+-- what `move_to` does: the filler's proxy gets the address of slot k, and moving it there is the job; the filler's header holds its number
+pub record StartsMove (old : Heap) (k : JobSlot) (new : Heap) : Type 0 where
   pub from : ℕ
   pub filler : IsFiller old.classes old.maps old.lists k.class from
   pub handles : AreBelowLimit new.proxies
@@ -66,18 +67,19 @@ pub record StartsCarry (old : Heap) (k : JobSlot) (new : Heap) : Type 0 where
     job = Move (slice_index old.words from % 2 ^ 32) (fresh_slot from k.class);
   }
 
--- the page of the slot isn't full
+-- the page of the slot isn't full, in terms of the cost: freeing a slot of it costs at most 10 steps
 abbrev pub IsPartlyFull : Heap → JobSlot → Type 0
 IsPartlyFull h k = steps_to_drop (tables_in h) (page_at h.classes k.address) ≤ 10
 
--- the steps of the end of a job of this slot: another partly full page is looked up, and the slot becomes free
+-- the most steps of the end of a job of this slot: 1 to look up another partly full page, and those of freeing the slot
 abbrev pub end_most : Heap → JobSlot → ℕ
 end_most h k = 1 + steps_to_drop (tables_in h) (page_at h.classes k.address)
 
--- the steps of a slice of each job
+-- the most steps of a slice of a job of this slot, without the lookup of a moving object
 abbrev pub part_most : Heap → JobSlot → ℕ
 part_most h k = words_steps h.quantum (slot_words (paging_at h) k.class - k.done) (end_most h k)
 
+-- the most steps of a slice of each job; one that moves an object also looks up its proxy
 abbrev pub job_most : Heap → Job → ℕ
 job_most h Idle = 0
 job_most h (Clear k) = part_most h k

@@ -1,4 +1,4 @@
-//! Reads and writes of an open heap, also of an object in motion.
+//! Reads and writes the objects of an open heap, also an object in motion.
 ghost use Rattle.std.specs.Prelude.{◌≡◌, ◌+◌, ◌≤◌, if◌then◌else◌, is_some, length, slice_get, IsErr};
 ghost use Rattle.step_ledger.specs.Counting.{RoseAtMost, RoseBy};
 ghost use Rattle.slice_model.specs.Runs.{Happens, Read, Write};
@@ -15,7 +15,7 @@ use step_ledger::Steps;
 use word_bytes::Header;
 
 impl OpenHeap {
-    /// A word of the region; none past its end.
+    /// Reads a word of the region; none past its end.
     pub fn peek(&self, word: u32, steps: &mut Steps) -> Option<u64>
         ensures value { result ≡ slice_get self.now.region word }
         ensures steps { RoseBy steps.old steps.new (if is_some result then 1 else 0) }
@@ -27,7 +27,8 @@ impl OpenHeap {
         }
     }
 
-    /// Fills `out` with the bytes of an object from byte `at` on.
+    /// Fills `out` with the bytes of an object from byte `at` on. Fails, with `out` unchanged, if the
+    /// handle is not live or the object has too few bytes.
     pub fn read(
         &self,
         h: Handle,
@@ -47,7 +48,8 @@ impl OpenHeap {
         Ok(())
     }
 
-    /// Writes bytes into an object from byte `at` on.
+    /// Writes `bytes` into an object from byte `at` on. Fails, with nothing changed, if the handle is not
+    /// live or the object has too few bytes.
     pub fn write(
         &mut self,
         h: Handle,
@@ -69,7 +71,8 @@ impl OpenHeap {
         Ok(())
     }
 
-    /// The two halves in which the words of the object lie, if `count` bytes from `at` on lie within it.
+    /// Returns the two halves in which the object's words lie. Fails if the handle is not live, or if the
+    /// object has fewer than `count` bytes from byte `at` on.
     fn find(
         &self,
         h: Handle,
@@ -92,7 +95,8 @@ impl OpenHeap {
         Ok(halves)
     }
 
-    /// The two halves in which the words of the object with this address lie.
+    /// The two halves in which the words of object h at address `place` lie: they differ only while the
+    /// pending job moves h.
     fn halves(&self, h: Handle, place: u32) -> Halves
         ensures { result ≡ halves_of (job_of self.now.job) h.0 place }
     {
@@ -104,7 +108,7 @@ impl OpenHeap {
         match self.job {
             Pending::Idle => together,
             Pending::Clear(_) => together,
-            Pending::Carry(q, k) => {
+            Pending::Move(q, k) => {
                 if q == h {
                     Halves {
                         to: place,

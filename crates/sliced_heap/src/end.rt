@@ -1,9 +1,7 @@
-//! The end of a job.
+//! Ends a job.
 ghost use Rattle.std.specs.Prelude.{◌≡◌, ℕ, ◌+◌, ◌<◌, ◌≤◌, slice_index};
-ghost use Rattle.step_ledger.specs.Counting.{RoseAtMost, RoseBy};
+ghost use Rattle.step_ledger.specs.Counting.{RoseAtMost};
 ghost use Rattle.page_model.specs.Paging.{slot_words};
-ghost use Rattle.page_slots.specs.Release.{Vacates, steps_to_drop};
-ghost use Rattle.page_slots.specs.Tables.{AreTables, IsUsed, page_at, slot_at, tables};
 ghost use Rattle.slice_model.specs.State.{Clear};
 ghost use Rattle.slice_model.specs.Ordered.{EndFollows};
 ghost use Rattle.slice_model.specs.Steps.{Ends};
@@ -12,7 +10,6 @@ ghost use Rattle.sliced_heap.specs.Layout.{IsValid, order_in, paging_at, plan_of
 ghost use Rattle.sliced_heap.specs.Steps.{end_most};
 
 use crate::open_heap::{OpenHeap, Pending};
-use page_slots::drop_slot;
 use slice_model::JobSlot;
 use step_ledger::Steps;
 
@@ -35,29 +32,8 @@ impl OpenHeap {
         if self.fill(k, steps) {
             return;
         }
-        self.release_slot(k.class, k.address, steps);
+        self.tables
+            .drop_slot(&mut self.lists, k.class, k.address, steps);
         self.job = Pending::Idle;
-    }
-
-    /// Frees the used slot of class c at an address.
-    fn release_slot(&mut self, c: u32, place: u32, steps: &mut Steps)
-        requires tables { AreTables self.old.classes (tables self.old.maps.items self.old.lists self.old.pool) }
-        requires used { IsUsed (tables self.old.maps.items self.old.lists self.old.pool) c (page_at self.old.classes place) (slot_at self.old.classes c place) }
-        ensures freed { Vacates (tables self.old.maps.items self.old.lists self.old.pool) c (page_at self.old.classes place)
-            (slot_at self.old.classes c place) (tables self.new.maps.items self.new.lists self.new.pool) }
-        ensures tables { AreTables self.old.classes (tables self.new.maps.items self.new.lists self.new.pool) }
-        ensures rest { self.new ≡ record self.old { maps = self.new.maps; lists = self.new.lists; pool = self.new.pool } }
-        ensures steps { RoseBy steps.old steps.new (steps_to_drop (tables self.old.maps.items self.old.lists self.old.pool)
-            (page_at self.old.classes place)) }
-    {
-        drop_slot(
-            &self.classes,
-            &mut self.maps,
-            &mut self.lists,
-            &mut self.pool,
-            c,
-            place,
-            steps,
-        );
     }
 }

@@ -1,21 +1,20 @@
-//! Fills a vacant slot if it must be filled.
+//! Starts the job that moves an object into a vacant slot, if the slot must be filled.
 ghost use Rattle.std.specs.Prelude.{◌≡◌, ℕ, ◌+◌, ◌%◌, ◌^◌, ◌<◌, ◌≤◌, IsSome, IsTrue, Some, if◌then◌else◌, length, slice_index};
 ghost use Rattle.std.specs.FinMap as map;
 ghost use Rattle.step_ledger.specs.Counting.{RoseBy};
 ghost use Rattle.class_lists.specs.PageLists.{pages_in};
 ghost use Rattle.class_lists.specs.declared.Which.TheVariants.{NotFull};
-ghost use Rattle.page_pool.specs.Pool.{Pool};
+ghost use Rattle.page_slots.specs.PageTables.{tables_with};
 ghost use Rattle.page_slots.specs.Release.{IsFiller};
-ghost use Rattle.page_slots.specs.Tables.{AreTables, tables};
+ghost use Rattle.page_slots.specs.Tables.{AreTables};
 ghost use Rattle.proxy_table.specs.Proxies.{AreBelowLimit};
 ghost use Rattle.slice_model.specs.declared.job_slot.JobSlot.{JobSlot};
 ghost use Rattle.slice_model.specs.State.{Clear, job_slot};
 ghost use Rattle.sliced_heap.specs.Heap.{job_of, seen};
 ghost use Rattle.sliced_heap.specs.Layout.{IsValid};
-ghost use Rattle.sliced_heap.specs.Steps.{Fills, IsPartlyFull, StartsCarry};
+ghost use Rattle.sliced_heap.specs.Steps.{Fills, IsPartlyFull, StartsMove};
 
 use crate::open_heap::{OpenHeap, Pending};
-use page_slots::{filler, must_move};
 use slice_model::JobSlot;
 use step_ledger::Steps;
 use word_bytes::Header;
@@ -32,33 +31,28 @@ impl OpenHeap {
         ensures partly { IsTrue result → (g : JobSlot) → job_slot (job_of self.new.job) ≡ Some g → IsPartlyFull (seen self.new) g }
         ensures steps { RoseBy steps.old steps.new (if result then 6 else 1) }
     {
-        if must_move(
-            &self.classes,
-            &self.maps,
-            &self.lists,
-            k.class,
-            k.address,
-            1,
-            steps,
-        ) {
-            self.carry_to(k, steps);
+        if self
+            .tables
+            .must_move(&self.lists, k.class, k.address, 1, steps)
+        {
+            self.move_to(k, steps);
             return true;
         }
         false
     }
 
-    /// Gives the object that fills the slot its address, and makes its move the job.
-    fn carry_to(&mut self, k: JobSlot, steps: &mut Steps)
-        requires tables { (pool : Pool) × AreTables self.old.classes (tables self.old.maps.items self.old.lists pool) }
-        requires class { k.class < length self.old.classes.sizes }
+    /// Points the proxy of the object that must move at the slot's address, and makes its move the job.
+    fn move_to(&mut self, k: JobSlot, steps: &mut Steps)
+        requires tables { AreTables self.old.tables.classes (tables_with self.old.tables self.old.lists) }
+        requires class { k.class < length self.old.tables.classes.sizes }
         requires some { 1 ≤ length (pages_in self.old.lists k.class NotFull) }
-        requires within { (a : ℕ) → IsFiller self.old.classes self.old.maps.items self.old.lists k.class a → a < length self.old.region }
-        requires live { (a : ℕ) → IsFiller self.old.classes self.old.maps.items self.old.lists k.class a
+        requires within { (a : ℕ) → IsFiller self.old.tables.classes self.old.tables.maps.items self.old.lists k.class a → a < length self.old.region }
+        requires live { (a : ℕ) → IsFiller self.old.tables.classes self.old.tables.maps.items self.old.lists k.class a
             → IsSome (map.get self.old.proxies.places (slice_index self.old.region a % 2 ^ 32)) }
-        ensures begun { StartsCarry (seen self.old) k (seen self.new) }
+        ensures begun { StartsMove (seen self.old) k (seen self.new) }
         ensures steps { RoseBy steps.old steps.new 5 }
     {
-        let from = filler(&self.classes, &self.maps, &self.lists, k.class, steps);
+        let from = self.tables.filler(&self.lists, k.class, steps);
         let other = Header::unpack(self.region.read(from, steps)).handle;
         self.proxies.rebind(other, k.address, steps);
         let slot = JobSlot {
@@ -66,6 +60,6 @@ impl OpenHeap {
             class: k.class,
             done: 0,
         };
-        self.job = Pending::Carry(other, slot);
+        self.job = Pending::Move(other, slot);
     }
 }

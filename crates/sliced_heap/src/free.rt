@@ -1,4 +1,4 @@
-//! A free.
+//! Frees an object.
 ghost use Rattle.std.specs.Prelude.{◌≡◌, ◌+◌, ◌*◌, ◌-◌, ◌<◌, ◌≤◌, Some, length, slice_index, slice_set};
 ghost use Rattle.std.specs.FinMap as map;
 ghost use Rattle.cf_base.specs.Classes.{slots};
@@ -18,7 +18,8 @@ use step_ledger::Steps;
 use word_bytes::Header;
 
 impl OpenHeap {
-    /// Frees an object, and does the first slice of the job that this leaves.
+    /// Frees an object, and does the first slice of the job that this leaves. Fails, with nothing changed,
+    /// if the handle is not live, or if a job is pending.
     pub fn free(&mut self, h: Handle, steps: &mut Steps) -> Result<(), SliceFault>
         requires { IsValid (seen self.old) }
         ensures step { Happens (plan_of (seen self.old)) (working_of (seen self.old)) (Free h.0 (fault_in result)) (working_of (seen self.new)) }
@@ -39,7 +40,7 @@ impl OpenHeap {
         Ok(())
     }
 
-    /// Frees a live object while no job is pending.
+    /// Frees the live object at `place` while no job is pending.
     fn free_live(&mut self, h: Handle, place: u32, steps: &mut Steps)
         requires kept { IsValid (seen self.old) }
         requires idle { job_of self.old.job ≡ Idle }
@@ -56,7 +57,7 @@ impl OpenHeap {
         self.slice(steps);
     }
 
-    /// Removes a live object. The job is then to clear its slot.
+    /// Removes the live object at `place`, makes clearing its slot the job, and returns that slot.
     fn forget(&mut self, h: Handle, place: u32, steps: &mut Steps) -> JobSlot
         requires kept { IsValid (seen self.old) }
         requires idle { job_of self.old.job ≡ Idle }
@@ -66,7 +67,7 @@ impl OpenHeap {
         ensures steps { RoseBy steps.old steps.new 4 }
     {
         let length = Header::unpack(self.region.read(place, steps)).length;
-        let Some(c) = self.classes.class_of(length, steps) else {
+        let Some(c) = self.tables.classes.class_of(length, steps) else {
             unreachable!();
         };
         self.proxies.release(h, steps);
@@ -80,15 +81,15 @@ impl OpenHeap {
         k
     }
 
-    /// Counts one object fewer in class c.
+    /// Subtracts an object of class c from the live objects and from the pages that they need.
     fn count_out(&mut self, c: u32)
-        requires class { c < length self.old.classes.sizes }
+        requires class { c < length self.old.tables.classes.sizes }
         requires listed { c < length self.old.live }
         requires live { 1 ≤ slice_index self.old.live c }
-        requires needed { opens (slots self.old.classes.page_words self.old.classes.sizes c) (slice_index self.old.live c - 1) ≤ self.old.needed }
+        requires needed { opens (slots self.old.tables.classes.page_words self.old.tables.classes.sizes c) (slice_index self.old.live c - 1) ≤ self.old.needed }
         ensures { self.new ≡ record self.old {
           live = slice_set self.old.live c (slice_index self.old.live c - 1);
-          needed = self.old.needed - opens (slots self.old.classes.page_words self.old.classes.sizes c) (slice_index self.old.live c - 1);
+          needed = self.old.needed - opens (slots self.old.tables.classes.page_words self.old.tables.classes.sizes c) (slice_index self.old.live c - 1);
         } }
     {
         self.live[c as usize] -= 1;

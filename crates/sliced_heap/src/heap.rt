@@ -1,4 +1,4 @@
-//! The heap that a caller holds: closed, or open.
+//! The sliced heap, closed or open, with its public calls.
 ghost use Rattle.std.specs.Prelude.{◌≡◌, ◌+◌, ◌*◌, ◌≤◌, if◌then◌else◌, is_some, length, slice_get, IsErr, IsTrue, OnErr, OnOk};
 ghost use Rattle.cf_model.specs.Costs.{words_touched};
 ghost use Rattle.slice_model.specs.Ordered.{HappensInOrder};
@@ -41,14 +41,14 @@ impl Model for SlicedHeap {
 }
 
 impl SlicedHeap {
-    /// A closed heap, which takes no memory.
+    /// Returns a closed heap, which has allocated nothing.
     pub fn closed(alloc: Global) -> SlicedHeap
         ensures { result ≡ closed_state }
     {
         SlicedHeap { alloc, inner: None }
     }
 
-    /// Whether the heap is open. An open one keeps its rules.
+    /// Returns whether the heap is open. An open heap keeps its rules.
     pub fn is_open(&self) -> bool
         ensures value { result ≡ self.now.is_open }
         ensures rules { IsTrue result → KeepsRules self.now }
@@ -56,9 +56,9 @@ impl SlicedHeap {
         self.inner.is_some()
     }
 
-    /// Opens an empty heap with these settings, whatever it held before, and slices of `quantum` words.
-    /// The bound of partly full pages is 1, whatever the settings have. All memory is taken here. At
-    /// `OutOfMemory` the heap is closed, and may be opened again.
+    /// Opens the heap without objects, with these settings and slices of at most `quantum` words; an open
+    /// heap is closed before. Each class has bound 1, whatever the settings have. All memory is allocated
+    /// here. If this fails with `OutOfMemory`, the heap is closed, and may be opened again.
     pub fn open_heap(&mut self, s: &Settings, quantum: u32) -> Result<(), OutOfMemory>
         requires least { 1 ≤ quantum }
         requires most { quantum ≤ 16384 }
@@ -71,12 +71,12 @@ impl SlicedHeap {
         Ok(())
     }
 
-    /// Adds an object of `bytes` bytes, all zero, under a handle that wasn't live. Fails with `Size` if
+    /// Makes an object of `bytes` bytes, all zero, under a handle that wasn't live. Fails with `Size` if
     /// it needs more than a page, else with `Proxy` if every proxy is in use, else with `Space` if the
-    /// objects with it would need more pages than there are, else with `Busy` if only the slot of the
-    /// pending job is left. A refusal changes nothing. The object gets the next number, and the least
-    /// free slot of the first partly full page, or slot 0 of the first free page; the slot of a pending
-    /// job counts as taken.
+    /// objects with it would need more pages than the heap has, else with `Busy` if the slot of the
+    /// pending job leaves no free slot for it. A refusal changes nothing. The object gets the next
+    /// number, and the lowest free slot of the first partly full page, or slot 0 of the first free page;
+    /// the slot of a pending job counts as used.
     pub fn malloc(&mut self, bytes: u32, steps: &mut Steps) -> Result<Handle, SliceRefusal>
         requires open { IsTrue self.old.is_open }
         ensures step { Happens (plan_in self.old) (working_in self.old) (Malloc bytes result) (working_in self.new) }
@@ -94,8 +94,8 @@ impl SlicedHeap {
 
     /// Frees an object and does the first slice of the job that this leaves. Fails with `Unknown` if the
     /// handle isn't live, else with `Busy` if a job is pending. A refusal changes nothing. If an object
-    /// has to move, it is the one at the least taken slot of the first partly full page; its slot, or
-    /// the freed one, stays taken until the job ends.
+    /// has to move, it is the one at the lowest used slot of the first partly full page. Its slot, or the
+    /// freed one if no object moves, stays used until the job ends.
     pub fn free(&mut self, h: Handle, steps: &mut Steps) -> Result<(), SliceFault>
         requires open { IsTrue self.old.is_open }
         ensures step { Happens (plan_in self.old) (working_in self.old) (Free h.0 (fault_in result)) (working_in self.new) }
@@ -111,9 +111,9 @@ impl SlicedHeap {
         }
     }
 
-    /// Does one slice of the job, if one is pending. If that ends the job and two pages of its class are
-    /// partly full without the job's slot, the next job carries the object at the least taken slot of the
-    /// first partly full page to it.
+    /// Does one slice of the job, if one is pending. If that ends the job, and two pages of its class
+    /// would be partly full without an object in the job's slot, the next job moves the object at the
+    /// lowest used slot of the first partly full page to that slot.
     pub fn step(&mut self, steps: &mut Steps)
         requires open { IsTrue self.old.is_open }
         ensures step { Happens (plan_in self.old) (working_in self.old) Step (working_in self.new) }
@@ -129,7 +129,7 @@ impl SlicedHeap {
         }
     }
 
-    /// How many words the job has still to do, 0 if none is pending.
+    /// The number of words that the job has yet to do; 0 if none is pending.
     pub fn left(&self) -> u32
         requires open { IsTrue self.now.is_open }
         ensures { result ≡ left_of (plan_in self.now) (working_in self.now).state }
@@ -140,8 +140,8 @@ impl SlicedHeap {
         }
     }
 
-    /// Fills `out` with the bytes of an object from byte `at` on, also of an object in motion. A refusal
-    /// leaves `out` as it was.
+    /// Fills `out` with the bytes of an object from byte `at` on, also of an object in motion. Fails, with
+    /// `out` unchanged, if the handle is not live or the object has too few bytes.
     pub fn read(
         &self,
         h: Handle,
@@ -162,8 +162,8 @@ impl SlicedHeap {
         }
     }
 
-    /// Writes bytes into an object from byte `at` on, also of an object in motion, and changes nothing
-    /// else. A refusal changes nothing.
+    /// Writes `bytes` into an object from byte `at` on, also into an object in motion, and changes nothing
+    /// else. Fails, with nothing changed, if the handle is not live or the object has too few bytes.
     pub fn write(
         &mut self,
         h: Handle,
@@ -187,7 +187,7 @@ impl SlicedHeap {
         }
     }
 
-    /// A word of the region; none past its end.
+    /// Reads a word of the region; none past its end.
     pub fn peek(&self, word: u32, steps: &mut Steps) -> Option<u64>
         requires open { IsTrue self.now.is_open }
         ensures value { result ≡ slice_get self.now.words word }

@@ -1,11 +1,9 @@
-//! A malloc.
+//! Makes an object.
 ghost use Rattle.std.specs.Prelude.{◌≡◌, ◌≢◌, ◌+◌, ◌<◌, ◌≤◌, ◌↔◌, ◌∷◌, IsTrue, None, length, slice_index, slice_set};
 ghost use Rattle.std.specs.FinMap as map;
 ghost use Rattle.cf_base.specs.Classes.{slots};
 ghost use Rattle.step_ledger.specs.Counting.{RoseAtMost, RoseBy};
 ghost use Rattle.page_model.specs.Image.{header_word};
-ghost use Rattle.page_slots.specs.Tables.{AreTables, tables};
-ghost use Rattle.page_slots.specs.Take.{TakesSlot, steps_to_take};
 ghost use Rattle.proxy_table.specs.Proxies.{AreBelowLimit, with_place};
 ghost use Rattle.slice_model.specs.Ordered.{HappensInOrder};
 ghost use Rattle.slice_model.specs.Runs.{Happens, Malloc};
@@ -15,13 +13,13 @@ ghost use Rattle.sliced_heap.specs.Layout.{IsValid, opens, order_in, plan_of, wo
 
 use crate::open_heap::OpenHeap;
 use cf_base::Handle;
-use page_slots::take_slot;
 use slice_model::SliceRefusal;
 use step_ledger::Steps;
 use word_bytes::Header;
 
 impl OpenHeap {
-    /// Adds an object of `bytes` bytes, all zero.
+    /// Makes an object of `bytes` bytes, all zero. Refused, with nothing changed, if it is larger than a
+    /// page, all proxies are in use, the pages are too few, or only the job's slot is left.
     pub fn malloc(&mut self, bytes: u32, steps: &mut Steps) -> Result<Handle, SliceRefusal>
         requires { IsValid (seen self.old) }
         ensures step { Happens (plan_of (seen self.old)) (working_of (seen self.old)) (Malloc bytes result) (working_of (seen self.new)) }
@@ -31,7 +29,7 @@ impl OpenHeap {
         ensures plan { plan_of (seen self.new) ≡ plan_of (seen self.old) }
         ensures steps { RoseAtMost steps.old steps.new (malloc_steps result) }
     {
-        let Some(c) = self.classes.class_of(bytes, steps) else {
+        let Some(c) = self.tables.classes.class_of(bytes, steps) else {
             return Err(SliceRefusal::Size);
         };
         if self.proxies.live() == self.settings.proxies {
@@ -40,7 +38,7 @@ impl OpenHeap {
         if self.is_over(c) {
             return Err(SliceRefusal::Space);
         }
-        let Some(place) = self.take_slot(c, steps) else {
+        let Some(place) = self.tables.take_slot(&mut self.lists, c, steps) else {
             return Err(SliceRefusal::Busy);
         };
         let handle = self.bind(place, bytes, steps);
@@ -48,53 +46,34 @@ impl OpenHeap {
         Ok(handle)
     }
 
-    /// How many pages more the objects need with one more of class c: 1 or 0.
+    /// The number of pages that one more object of class c adds to those needed by arithmetic: 1 if the
+    /// live objects of the class fill whole pages, else 0.
     pub(crate) fn opens_page(&self, c: u32) -> u32
-        requires class { c < length self.now.classes.sizes }
+        requires class { c < length self.now.tables.classes.sizes }
         requires listed { c < length self.now.live }
-        ensures value { result ≡ opens (slots self.now.classes.page_words self.now.classes.sizes c) (slice_index self.now.live c) }
+        ensures value { result ≡ opens (slots self.now.tables.classes.page_words self.now.tables.classes.sizes c) (slice_index self.now.live c) }
         ensures few { result ≤ 1 }
     {
-        if self.live[c as usize] % self.classes.slots(c) == 0 {
+        if self.live[c as usize] % self.tables.classes.slots(c) == 0 {
             1
         } else {
             0
         }
     }
 
-    /// Whether the objects, with one more of class c, would need more pages than there are.
+    /// Returns whether the objects, with one more of class c, would need more pages than the heap has.
     fn is_over(&self, c: u32) -> bool
-        requires class { c < length self.now.classes.sizes }
+        requires class { c < length self.now.tables.classes.sizes }
         requires listed { c < length self.now.live }
         requires within { self.now.needed ≤ self.now.settings.pages }
         ensures { IsTrue result ↔ (self.now.settings.pages < self.now.needed
-            + opens (slots self.now.classes.page_words self.now.classes.sizes c) (slice_index self.now.live c)) }
+            + opens (slots self.now.tables.classes.page_words self.now.tables.classes.sizes c) (slice_index self.now.live c)) }
     {
         self.needed + self.opens_page(c) > self.settings.pages
     }
 
-    /// Takes a free slot of class c; none if there is none.
-    fn take_slot(&mut self, c: u32, steps: &mut Steps) -> Option<u32>
-        requires tables { AreTables self.old.classes (tables self.old.maps.items self.old.lists self.old.pool) }
-        requires class { c < length self.old.classes.sizes }
-        ensures taken { TakesSlot self.old.classes (tables self.old.maps.items self.old.lists self.old.pool) c result
-            (tables self.new.maps.items self.new.lists self.new.pool) }
-        ensures tables { AreTables self.old.classes (tables self.new.maps.items self.new.lists self.new.pool) }
-        ensures rest { self.new ≡ record self.old { maps = self.new.maps; lists = self.new.lists; pool = self.new.pool } }
-        ensures steps { RoseBy steps.old steps.new (steps_to_take self.old.classes (tables self.old.maps.items self.old.lists self.old.pool) c) }
-        ensures bound { RoseAtMost steps.old steps.new 13 }
-    {
-        take_slot(
-            &self.classes,
-            &mut self.maps,
-            &mut self.lists,
-            &mut self.pool,
-            c,
-            steps,
-        )
-    }
-
-    /// Gives an object of `bytes` zeros at an address its number and its header.
+    /// Binds the next free number to an address, writes the header of an object of `bytes` bytes there,
+    /// and returns the number.
     fn bind(&mut self, place: u32, bytes: u32, steps: &mut Steps) -> Handle
         requires some { map.len self.old.proxies.places ≢ self.old.proxies.limit }
         requires within { place < length self.old.region }
@@ -119,15 +98,15 @@ impl OpenHeap {
         handle
     }
 
-    /// Counts one more object in class c.
+    /// Adds an object of class c to the live objects and to the pages that they need.
     fn count_in(&mut self, c: u32)
-        requires class { c < length self.old.classes.sizes }
+        requires class { c < length self.old.tables.classes.sizes }
         requires listed { c < length self.old.live }
         requires live { slice_index self.old.live c ≤ 65536 }
         requires needed { self.old.needed ≤ 4096 }
         ensures { self.new ≡ record self.old {
           live = slice_set self.old.live c (slice_index self.old.live c + 1);
-          needed = self.old.needed + opens (slots self.old.classes.page_words self.old.classes.sizes c) (slice_index self.old.live c);
+          needed = self.old.needed + opens (slots self.old.tables.classes.page_words self.old.tables.classes.sizes c) (slice_index self.old.live c);
         } }
     {
         self.needed += self.opens_page(c);

@@ -1,4 +1,4 @@
-//! A slice of the pending job.
+//! Does a slice of the pending job.
 ghost use Rattle.std.specs.Prelude.{◌≡◌, ◌+◌, ◌-◌, ◌<◌, ◌≤◌, length, min, slice_index};
 ghost use Rattle.step_ledger.specs.Counting.{RoseAtMost};
 ghost use Rattle.slice_model.specs.Ordered.{HappensInOrder, SlicesInOrder};
@@ -12,11 +12,11 @@ ghost use Rattle.sliced_heap.specs.Steps.{job_most, part_most};
 use crate::open_heap::{OpenHeap, Pending};
 use cf_base::Handle;
 use slice_model::JobSlot;
-use slice_words::{carry_next, clear_next, words_of_slice};
+use slice_words::{clear_next, move_next, words_of_slice};
 use step_ledger::Steps;
 
 impl OpenHeap {
-    /// Does one slice of the job, if one is pending.
+    /// Does one slice of the job, if one is pending. This is the public call; `free` calls `slice`.
     pub fn step(&mut self, steps: &mut Steps)
         requires { IsValid (seen self.old) }
         ensures step { Happens (plan_of (seen self.old)) (working_of (seen self.old)) Step (working_of (seen self.new)) }
@@ -29,19 +29,19 @@ impl OpenHeap {
         self.slice(steps);
     }
 
-    /// How many words the job has still to do, 0 if none is pending.
+    /// The number of words that the job has yet to do; 0 if none is pending.
     pub fn left(&self) -> u32
         requires { IsValid (seen self.now) }
         ensures { result ≡ left_of (plan_of (seen self.now)) (state_of (seen self.now)) }
     {
         match self.job {
             Pending::Idle => 0,
-            Pending::Clear(k) => self.classes.slot_words(k.class) - k.done,
-            Pending::Carry(_, k) => self.classes.slot_words(k.class) - k.done,
+            Pending::Clear(k) => self.tables.classes.slot_words(k.class) - k.done,
+            Pending::Move(_, k) => self.tables.classes.slot_words(k.class) - k.done,
         }
     }
 
-    /// One slice, whatever the job is.
+    /// Does one slice of the job, of either kind; nothing if none is pending.
     pub(crate) fn slice(&mut self, steps: &mut Steps)
         requires { IsValid (seen self.old) }
         ensures step { Slices (plan_of (seen self.old)) (working_of (seen self.old)) (working_of (seen self.new)) }
@@ -54,20 +54,24 @@ impl OpenHeap {
         match self.job {
             Pending::Idle => {}
             Pending::Clear(k) => self.clear_slice(k, steps),
-            Pending::Carry(h, k) => self.carry_slice(h, k, steps),
+            Pending::Move(h, k) => self.move_slice(h, k, steps),
         }
     }
 
-    /// The number of words that a slice does of the job of this slot.
+    /// The number of words that the next slice of the job of this slot does.
     fn words_of(&self, k: JobSlot) -> u32
-        requires class { k.class < length self.now.classes.sizes }
-        requires done { k.done ≤ slice_index self.now.classes.sizes k.class }
-        ensures { result ≡ min self.now.quantum (slice_index self.now.classes.sizes k.class - k.done) }
+        requires class { k.class < length self.now.tables.classes.sizes }
+        requires done { k.done ≤ slice_index self.now.tables.classes.sizes k.class }
+        ensures { result ≡ min self.now.quantum (slice_index self.now.tables.classes.sizes k.class - k.done) }
     {
-        words_of_slice(self.classes.slot_words(k.class), k.done, self.quantum)
+        words_of_slice(
+            self.tables.classes.slot_words(k.class),
+            k.done,
+            self.quantum,
+        )
     }
 
-    /// A slice of a job that clears its slot.
+    /// Does a slice of a job that clears its slot, and ends the job if its last word is cleared.
     fn clear_slice(&mut self, k: JobSlot, steps: &mut Steps)
         requires kept { IsValid (seen self.old) }
         requires job { job_of self.old.job ≡ Clear k }
@@ -81,7 +85,7 @@ impl OpenHeap {
         let n = self.words_of(k);
         clear_next(&mut self.region, k, n, steps);
         let done = k.done + n;
-        if done < self.classes.slot_words(k.class) {
+        if done < self.tables.classes.slot_words(k.class) {
             self.job = Pending::Clear(JobSlot { done, ..k });
             return;
         }
@@ -90,8 +94,8 @@ impl OpenHeap {
         self.end(vacant, steps);
     }
 
-    /// A slice of a job that moves an object.
-    fn carry_slice(&mut self, h: Handle, k: JobSlot, steps: &mut Steps)
+    /// Does a slice of a job that moves an object, and ends the job if its last word is moved.
+    fn move_slice(&mut self, h: Handle, k: JobSlot, steps: &mut Steps)
         requires kept { IsValid (seen self.old) }
         requires job { job_of self.old.job ≡ Move h.0 k }
         ensures step { Slices (plan_of (seen self.old)) (working_of (seen self.old)) (working_of (seen self.new)) }
@@ -105,10 +109,10 @@ impl OpenHeap {
             unreachable!();
         };
         let n = self.words_of(k);
-        carry_next(&mut self.region, k, to, n, steps);
+        move_next(&mut self.region, k, to, n, steps);
         let done = k.done + n;
-        if done < self.classes.slot_words(k.class) {
-            self.job = Pending::Carry(h, JobSlot { done, ..k });
+        if done < self.tables.classes.slot_words(k.class) {
+            self.job = Pending::Move(h, JobSlot { done, ..k });
             return;
         }
         let vacant = JobSlot { done: 0, ..k };

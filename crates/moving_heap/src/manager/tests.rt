@@ -1,10 +1,11 @@
-//! What the heap keeps.
+//! Tests by name and type of each field that the heap has no list of its objects.
 use super::MovingHeap;
 use block_table::BlockTable;
 use cf_base::Settings;
 use cf_model::Manager;
 use class_lists::ClassLists;
 use page_pool::PagePool;
+use page_slots::PageTables;
 use paged_heap::OpenHeap;
 use proxy_table::ProxyTable;
 use region::Region;
@@ -13,7 +14,7 @@ use slot_bitmap::SlotMap;
 use std::alloc::Global;
 use std::test::Fail;
 
-/// What is open, of the two fields of the heap.
+/// Returns the field that holds the open heap, and lists both fields with their types.
 fn inner_of(heap: &MovingHeap) -> &Option<OpenHeap> {
     let MovingHeap { alloc, inner } = heap;
     let _alloc: &Global = alloc;
@@ -21,12 +22,11 @@ fn inner_of(heap: &MovingHeap) -> &Option<OpenHeap> {
     inner
 }
 
-/// The region of what is open, whose other fields are numbers, arrays of a number for each class, a table of
-/// each kind, and a map for each page. There is no list of objects.
+/// Returns the region of an open heap, and lists all its fields with their types: numbers, arrays of a
+/// number for each class, tables, and a map for each page. None is a list of objects.
 fn region_of(open: &OpenHeap) -> &Region {
     let OpenHeap {
         settings,
-        classes,
         bounds,
         live,
         asked,
@@ -34,13 +34,11 @@ fn region_of(open: &OpenHeap) -> &Region {
         cost,
         region,
         blocks,
-        maps,
+        tables,
         lists,
-        pool,
         proxies,
     } = open;
     let _settings: &Settings = settings;
-    let _classes: &Classes = classes;
     let _bounds: &[u32; 128] = bounds;
     let _live: &[u32; 128] = live;
     let _asked: &u64 = asked;
@@ -48,14 +46,21 @@ fn region_of(open: &OpenHeap) -> &Region {
     let _cost: &u64 = cost;
     let region: &Region = region;
     let _blocks: &Option<BlockTable> = blocks;
+    let PageTables {
+        classes,
+        maps,
+        pool,
+    } = tables;
+    let _classes: &Classes = classes;
     let _maps: &Vec<SlotMap> = maps;
-    let _lists: &ClassLists = lists;
     let _pool: &PagePool = pool;
+    let _lists: &ClassLists = lists;
     let _proxies: &ProxyTable = proxies;
     region
 }
 
-/// Each field of an open heap has a name and a written type above. Two pages of 64 words are its region.
+/// Compiles only if the two functions above list each field with its type. The region of a heap of two
+/// pages of 64 words has 128 words.
 #[test]
 fn the_heap_has_these_fields_and_no_others(rt: HostRuntime) -> Result<(), Fail> {
     let alloc = rt.alloc();

@@ -1,4 +1,4 @@
-//! What the heap keeps.
+//! Tests by name and type of each field that the heap has no list of its objects.
 use super::QuotaHeap;
 use crate::open_tasks::OpenTasks;
 use crate::shared_pages::SharedPages;
@@ -6,6 +6,7 @@ use crate::task::{CLASSES, Task};
 use cf_base::Settings;
 use class_lists::ClassLists;
 use page_pool::PagePool;
+use page_slots::PageTables;
 use proxy_table::ProxyTable;
 use region::Region;
 use size_classes::Classes;
@@ -13,7 +14,7 @@ use slot_bitmap::SlotMap;
 use std::alloc::Global;
 use std::test::Fail;
 
-/// The open heap, one of the two fields.
+/// Returns the field that holds the open heap, and lists both fields with their types.
 fn inner_of(heap: &QuotaHeap) -> &Option<OpenTasks> {
     let QuotaHeap { alloc, inner } = heap;
     let _alloc: &Global = alloc;
@@ -21,7 +22,7 @@ fn inner_of(heap: &QuotaHeap) -> &Option<OpenTasks> {
     inner
 }
 
-/// What the tasks share, and the tasks. The third field is the sum of the quotas.
+/// Returns the shared pages and the tasks. The third field is the sum of the quotas.
 fn parts_of(open: &OpenTasks) -> (&SharedPages, &Vec<Task>) {
     let OpenTasks {
         shared_pages,
@@ -34,25 +35,28 @@ fn parts_of(open: &OpenTasks) -> (&SharedPages, &Vec<Task>) {
     (shared_pages, tasks)
 }
 
-/// The region that the tasks share, with the tables of its pages.
+/// Returns the region that the tasks share, and lists the tables of its pages with their types.
 fn region_of(shared_pages: &SharedPages) -> &Region {
     let SharedPages {
         settings,
-        classes,
         region,
-        maps,
-        pool,
+        tables,
     } = shared_pages;
     let _settings: &Settings = settings;
-    let _classes: &Classes = classes;
     let region: &Region = region;
+    let PageTables {
+        classes,
+        maps,
+        pool,
+    } = tables;
+    let _classes: &Classes = classes;
     let _maps: &Vec<SlotMap> = maps;
     let _pool: &PagePool = pool;
     region
 }
 
-/// The live objects of each class of a task. Its other fields are two numbers and two tables. There is
-/// no list of objects.
+/// Returns the number of live objects of a task by class. The task's other fields are two numbers and
+/// two tables; none is a list of objects.
 fn live_of(task: &Task) -> &[u32; CLASSES] {
     let Task {
         quota,
@@ -69,8 +73,8 @@ fn live_of(task: &Task) -> &[u32; CLASSES] {
     live
 }
 
-/// Each field of an open heap has a name and a type above. Sixteen tasks without objects share two pages
-/// of 64 words.
+/// Compiles only if the functions above list each field with its type. Sixteen tasks without objects
+/// share two pages of 64 words.
 #[test]
 fn the_heap_has_these_fields_and_no_others(rt: HostRuntime) -> Result<(), Fail> {
     let mut heap = QuotaHeap::closed(rt.alloc());

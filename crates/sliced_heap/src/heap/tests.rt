@@ -1,9 +1,10 @@
-//! The fields of the heap.
+//! Tests by name and type of each field that the heap has no list of its objects.
 use super::SlicedHeap;
 use crate::open_heap::{CLASSES, OpenHeap, Pending};
 use cf_base::Settings;
 use class_lists::ClassLists;
 use page_pool::PagePool;
+use page_slots::PageTables;
 use proxy_table::ProxyTable;
 use region::Region;
 use size_classes::Classes;
@@ -11,7 +12,7 @@ use slot_bitmap::SlotMap;
 use std::alloc::Global;
 use std::test::Fail;
 
-/// The open heap, one of the two fields.
+/// Returns the field that holds the open heap, and lists both fields with their types.
 fn inner_of(heap: &SlicedHeap) -> &Option<OpenHeap> {
     let SlicedHeap { alloc, inner } = heap;
     let _alloc: &Global = alloc;
@@ -19,23 +20,26 @@ fn inner_of(heap: &SlicedHeap) -> &Option<OpenHeap> {
     inner
 }
 
-/// The region of an open heap. The other fields are numbers, a number for each class, one job, a table of
-/// each kind, and a map for each page. There is no list of objects, and no word of an object outside the
-/// region.
+/// Returns the region of an open heap, and lists all its fields with their types: numbers, a number for
+/// each class, one job, tables, and a map for each page. No other field holds a word of an object, and none
+/// is a list of objects.
 fn region_of(open: &OpenHeap) -> &Region {
     let OpenHeap {
         settings,
         quantum,
-        classes,
         live,
         needed,
         region,
-        maps,
+        tables,
         lists,
-        pool,
         proxies,
         job,
     } = open;
+    let PageTables {
+        classes,
+        maps,
+        pool,
+    } = tables;
     let _settings: &Settings = settings;
     let _quantum: &u32 = quantum;
     let _classes: &Classes = classes;
@@ -50,7 +54,8 @@ fn region_of(open: &OpenHeap) -> &Region {
     region
 }
 
-/// Each field of an open heap has a name and a type above. The region of two pages has 128 words.
+/// Compiles only if the two functions above list each field with its type. The region of a heap of two
+/// pages of 64 words has 128 words.
 #[test]
 fn the_heap_has_these_fields_and_no_others(rt: HostRuntime) -> Result<(), Fail> {
     let mut heap = SlicedHeap::closed(rt.alloc());

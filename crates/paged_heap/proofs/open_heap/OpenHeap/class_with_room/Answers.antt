@@ -1,4 +1,4 @@
--- The refusals in their order.
+-- The refusals, in the order in which the code tests their causes.
 use Rattle.std.proofs.Common.{arith, sym, ◌∙◌}
 use Rattle.paged_heap.specs.Heap.{seen}
 use Rattle.paged_heap.proofs.CountLimits.{class_is}

@@ -11,15 +11,15 @@ returns-clause-kept g c = record {
         (first_laid g.A.Mapping.kind c.args.s.now c.args.blocks c.args.region c.requires.blocks c.requires.region).0 refl refl;
     frames = first_frames_are g.A.Mapping.kind c.args.s.now c.args.blocks c.requires.blocks;
     words = (first_laid g.A.Mapping.kind c.args.s.now c.args.blocks c.args.region c.requires.blocks c.requires.region).1;
-    table = c.requires.classes;
+    table = c.requires.tables.classes;
     bounds = refl;
     live = refl;
     asked = refl;
     taken = refl;
     cost = refl;
-    maps = c.requires.maps;
+    maps = c.requires.tables.maps;
     lists = c.requires.lists;
-    pool = c.requires.pool;
+    pool = c.requires.tables.pool;
     proxies = c.requires.proxies;
     handles = c.requires.handles;
   });
@@ -31,15 +31,15 @@ returns-clause-empty g c = first_empty _ (record {
       (first_laid g.A.Mapping.kind c.args.s.now c.args.blocks c.args.region c.requires.blocks c.requires.region).0 refl refl;
   frames = first_frames_are g.A.Mapping.kind c.args.s.now c.args.blocks c.requires.blocks;
   words = (first_laid g.A.Mapping.kind c.args.s.now c.args.blocks c.args.region c.requires.blocks c.requires.region).1;
-  table = c.requires.classes;
+  table = c.requires.tables.classes;
   bounds = refl;
   live = refl;
   asked = refl;
   taken = refl;
   cost = refl;
-  maps = c.requires.maps;
+  maps = c.requires.tables.maps;
   lists = c.requires.lists;
-  pool = c.requires.pool;
+  pool = c.requires.tables.pool;
   proxies = c.requires.proxies;
   handles = c.requires.handles;
 })

@@ -1,11 +1,12 @@
 -- A slot is taken, and the object is copied there.
-use Rattle.std.proofs.Common.{◌-◌, ◌+◌, length, get_or, arith, refl, ap}
+use Rattle.std.proofs.Common.{◌-◌, ◌+◌, get_or, arith, refl, ap}
 use Rattle.std.proofs.lemmas.List.{get_or-set_other}
+use Rattle.size_classes.specs.Table.{ClassTable}
 use Rattle.paged_heap.specs.declared.open_heap.OpenHeap.{OpenHeap}
 use Rattle.paged_heap.specs.ResizeClass.{kept_words}
 use Rattle.paged_heap.specs.Heap.{Heap, seen}
-use Rattle.paged_heap.proofs.ByKind.{in_region, in_step, laid_same}
-use Rattle.paged_heap.proofs.LayoutFacts.{as_many, tables_ok}
+use Rattle.paged_heap.proofs.ByKind.{in_region, in_step}
+use Rattle.paged_heap.proofs.LayoutFacts.{as_many, retabled, tables_ok, with_tables}
 use Rattle.paged_heap.proofs.MallocLemmas.{lacks_slots}
 use Rattle.paged_heap.proofs.ResizeInPlace.{holds_bytes}
 use Rattle.paged_heap.proofs.ResizeEnter.{entered, is_free, new_holds, new_whole, slots_apart, target, words_apart}
@@ -28,49 +29,41 @@ returns-then-not-has_slot-clause-entered g c =
     let h = seen g.A.Mapping.kind c.args.self.now in
     record { lacking = lacks_slots h c.requires.kept.kept c.args.x.to (c.has_slot.ensures.none c.if-not-has_slot.true); tables = refl; rest = refl }
 
-pub copy_to_slot-requires-clause-laid : goal.copy_to_slot-requires-clause-laid
-copy_to_slot-requires-clause-laid g c =
-    laid_same g.A.Mapping.kind c.args.self.now c.take_slot-to.new.self (ap (λ (x : OpenHeap). x.blocks) c.take_slot-to.ensures.rest)
-    (ap (λ (x : OpenHeap). x.region) c.take_slot-to.ensures.rest) c.requires.kept.laid
-
 pub copy_to_slot-requires-clause-source : goal.copy_to_slot-requires-clause-source
 copy_to_slot-requires-clause-source g c =
     let kind = g.A.Mapping.kind in let h = seen kind c.args.self.now in let k = c.requires.kept.kept in let x = c.args.x in let is = c.requires.change in
     let i = it_inside k is.object in
     let l = in_region kind c.args.self.now c.requires.kept.laid in
     let o = holds_bytes k is.object in
-    let e = ap (λ (x : OpenHeap). length x.region) c.take_slot-to.ensures.rest in
     omega arith
 
 pub copy_to_slot-requires-clause-target : goal.copy_to_slot-requires-clause-target
 copy_to_slot-requires-clause-target g c =
     let kind = g.A.Mapping.kind in let h = seen kind c.args.self.now in let k = c.requires.kept.kept in let x = c.args.x in let is = c.requires.change in
-    let free = is_free k is c.take_slot-to.ensures.taken c.take_slot-to.ensures.tables in
+    let free = is_free k is c.in-Some.ensures.taken c.in-Some.ensures.kept in
     let t = target k is free in
     let l = in_region kind c.args.self.now c.requires.kept.laid in
-    let e = ap (λ (x : OpenHeap). length x.region) c.take_slot-to.ensures.rest in
     omega arith
 
 pub copy_to_slot-requires-clause-apart : goal.copy_to_slot-requires-clause-apart
 copy_to_slot-requires-clause-apart g c =
     let kind = g.A.Mapping.kind in let h = seen kind c.args.self.now in let k = c.requires.kept.kept in let x = c.args.x in let is = c.requires.change in
-    let free = is_free k is c.take_slot-to.ensures.taken c.take_slot-to.ensures.tables in
+    let free = is_free k is c.in-Some.ensures.taken c.in-Some.ensures.kept in
     let o = holds_bytes k is.object in
     let r = new_holds k is free in
-    words_apart c.args.x.place c.take_slot-to.result _ _ (kept_words x) (slots_apart k is free) (omega arith) (omega arith)
+    words_apart c.args.x.place c.in-Some.to _ _ (kept_words x) (slots_apart k is free) (omega arith) (omega arith)
 
 pub copy_to_slot-requires-clause-in_step : goal.copy_to_slot-requires-clause-in_step
 copy_to_slot-requires-clause-in_step g c =
     let kind = g.A.Mapping.kind in let h = seen kind c.args.self.now in let k = c.requires.kept.kept in let x = c.args.x in let is = c.requires.change in
-    let free = is_free k is c.take_slot-to.ensures.taken c.take_slot-to.ensures.tables in
-    in_step kind x.place c.take_slot-to.result (whole_slot h k x.handle.0 (it k is.object) (it_found k is.object)).0 (new_whole k is free)
+    let free = is_free k is c.in-Some.ensures.taken c.in-Some.ensures.kept in
+    in_step kind x.place c.in-Some.to (whole_slot h k x.handle.0 (it k is.object) (it_found k is.object)).0 (new_whole k is free)
 
 pub count_out-requires-clause-live : goal.count_out-requires-clause-live
 count_out-requires-clause-live g c =
     let kind = g.A.Mapping.kind in let h = seen kind c.args.self.now in let k = c.requires.kept.kept in let x = c.args.x in let is = c.requires.change in
     let l = live_some k is.object in
     let e = ap (λ (x : Heap). get_or x.live c.args.x.class 0) c.copy_to_slot.ensures.rest in
-    let f = ap (λ (x : OpenHeap). get_or x.live c.args.x.class 0) c.take_slot-to.ensures.rest in
     omega arith
 
 pub count_out-requires-clause-asked : goal.count_out-requires-clause-asked
@@ -78,7 +71,6 @@ count_out-requires-clause-asked g c =
     let kind = g.A.Mapping.kind in let h = seen kind c.args.self.now in let k = c.requires.kept.kept in let x = c.args.x in let is = c.requires.change in
     let l = asked_some k is.object in
     let e = ap (λ (x : Heap). x.asked) c.copy_to_slot.ensures.rest in
-    let f = ap (λ (x : OpenHeap). x.asked) c.take_slot-to.ensures.rest in
     omega arith
 
 pub count_out-requires-clause-taken : goal.count_out-requires-clause-taken
@@ -86,9 +78,8 @@ count_out-requires-clause-taken g c =
     let kind = g.A.Mapping.kind in let h = seen kind c.args.self.now in let k = c.requires.kept.kept in let x = c.args.x in let is = c.requires.change in
     let l = taken_some k is.object in
     let e = ap (λ (x : Heap). x.taken) c.copy_to_slot.ensures.rest in
-    let f = ap (λ (x : OpenHeap). x.taken) c.take_slot-to.ensures.rest in
     let o = ap (λ (x : Heap). get_or x.classes.sizes c.args.x.class 0) c.copy_to_slot.ensures.rest in
-    let i = ap (λ (x : OpenHeap). get_or x.classes.sizes c.args.x.class 0) c.take_slot-to.ensures.rest in
+    let i = ap (λ (t : ClassTable). get_or t.sizes c.args.x.class 0) c.in-Some.ensures.classes in
     omega arith
 
 pub count_in-requires-clause-live : goal.count_in-requires-clause-live
@@ -98,7 +89,6 @@ count_in-requires-clause-live g c =
     let d = ap (λ (x : OpenHeap). get_or x.live c.args.x.to 0) c.count_out.ensures in
     let o = get_or-set_other c.copy_to_slot.new.self.live c.args.x.class c.args.x.to (get_or c.copy_to_slot.new.self.live c.args.x.class 0 - 1) 0 is.other in
     let e = ap (λ (x : Heap). get_or x.live c.args.x.to 0) c.copy_to_slot.ensures.rest in
-    let f = ap (λ (x : OpenHeap). get_or x.live c.args.x.to 0) c.take_slot-to.ensures.rest in
     omega arith
 
 pub count_in-requires-clause-asked : goal.count_in-requires-clause-asked
@@ -107,7 +97,6 @@ count_in-requires-clause-asked g c =
     let l = asked_room h k in
     let d = ap (λ (x : OpenHeap). x.asked) c.count_out.ensures in
     let e = ap (λ (x : Heap). x.asked) c.copy_to_slot.ensures.rest in
-    let f = ap (λ (x : OpenHeap). x.asked) c.take_slot-to.ensures.rest in
     omega arith
 
 pub count_in-requires-clause-taken : goal.count_in-requires-clause-taken
@@ -116,28 +105,27 @@ count_in-requires-clause-taken g c =
     let l = taken_room h k in
     let d = ap (λ (x : OpenHeap). x.taken) c.count_out.ensures in
     let e = ap (λ (x : Heap). x.taken) c.copy_to_slot.ensures.rest in
-    let f = ap (λ (x : OpenHeap). x.taken) c.take_slot-to.ensures.rest in
     omega arith
 
 pub returns-clause-entered : goal.returns-clause-entered
 returns-clause-entered g c =
     let kind = g.A.Mapping.kind in let h = seen kind c.args.self.now in let k = c.requires.kept.kept in let x = c.args.x in let is = c.requires.change in
-    entered h x is c.take_slot-to.result (seen kind c.take_slot-to.new.self) (seen kind c.copy_to_slot.new.self) (seen kind c.count_out.new.self)
+    entered h x is c.in-Some.to (seen kind (with_tables c.args.self.now c.take_slot.new.self c.take_slot.new.lists)) (seen kind c.copy_to_slot.new.self) (seen kind c.count_out.new.self)
     (seen kind c.count_in.new.self)
-    c.take_slot-to.ensures.taken c.take_slot-to.ensures.tables (ap (seen kind) c.take_slot-to.ensures.rest) c.copy_to_slot.ensures.rest
+    c.in-Some.ensures.taken c.in-Some.ensures.kept (retabled kind c.args.self.now c.take_slot.new.self c.take_slot.new.lists c.in-Some.ensures.classes) c.copy_to_slot.ensures.rest
     c.copy_to_slot.ensures.free c.copy_to_slot.ensures.words c.copy_to_slot.ensures.handles (ap (seen kind) c.count_out.ensures) (ap (seen kind) c.count_in.ensures)
 
 pub returns-clause-steps : goal.returns-clause-steps
 returns-clause-steps g c =
     let kind = g.A.Mapping.kind in let h = seen kind c.args.self.now in let k = c.requires.kept.kept in let x = c.args.x in let is = c.requires.change in
     let along = copy_along kind x.place 1 (x.place + 1) (kept_words x) (whole_slot h k x.handle.0 (it k is.object) (it_found k is.object)).0 (omega arith) in
-    let few = tail_few kind c.take_slot-to.result x.bytes (kept_words x) (omega arith) in
-    let a = c.take_slot-to.ensures.bound in let b = c.copy_to_slot.ensures.steps in
+    let few = tail_few kind c.in-Some.to x.bytes (kept_words x) (omega arith) in
+    let a = c.in-Some.ensures.bound in let b = c.copy_to_slot.ensures.steps in
     let ak = a.kept in let ab = a.bound in let bk = b.kept in let bb = b.bound in
     record { kept = omega arith; bound = omega arith }
 
 pub returns-clause-cost : goal.returns-clause-cost
 returns-clause-cost g c = λ some. (
     let kind = g.A.Mapping.kind in let h = seen kind c.args.self.now in let k = c.requires.kept.kept in let is = c.requires.change in
-    entering_sum k is c.take_slot-to.result _ c.take_slot-to.ensures.taken (new_whole k is (is_free k is c.take_slot-to.ensures.taken c.take_slot-to.ensures.tables))
-    _ _ _ c.take_slot-to.ensures.steps c.copy_to_slot.ensures.steps)
+    entering_sum k is c.in-Some.to _ c.in-Some.ensures.taken (new_whole k is (is_free k is c.in-Some.ensures.taken c.in-Some.ensures.kept))
+    _ _ _ c.in-Some.ensures.steps c.copy_to_slot.ensures.steps)

@@ -10,7 +10,7 @@ use Rattle.paged_heap.specs.Layout.{held_in, paging_at, state_of, tables_in}
 use Rattle.paged_heap.proofs.CostLemmas.{alone_sum}
 use Rattle.paged_heap.proofs.FreeAlone.{alone, alone_follows}
 use Rattle.paged_heap.proofs.ByKind.{clear_most, frames_stay, framed_of, in_region, laid_same}
-use Rattle.paged_heap.proofs.LayoutFacts.{paged_kind}
+use Rattle.paged_heap.proofs.LayoutFacts.{paged_kind, retabled, with_tables}
 use Rattle.paged_heap.proofs.FreedObject.{asked_some, goes_freed, goes_kept, it, it_inside, it_used, live_some, moving, rest_held, taken_some}
 use Rattle.paged_heap.proofs.open_heap.OpenHeap.free_alone.Goals as goal
 
@@ -40,8 +40,8 @@ count_out-requires-clause-taken g c =
     let f = ap (λ (x : Heap). get_or x.classes.sizes c.args.c 0) c.erase.ensures.rest in
     omega arith
 
-pub release_slot-requires-clause-used : goal.release_slot-requires-clause-used
-release_slot-requires-clause-used g c =
+pub drop_slot-requires-clause-used : goal.drop_slot-requires-clause-used
+drop_slot-requires-clause-used g c =
     let u = it_used c.requires.kept.kept c.requires.object in
     let kind = g.A.Mapping.kind in
     subst (λ (x : Heap). IsUsed (tables_in x) c.args.c (page_at x.classes c.args.place) (slot_at x.classes c.args.c c.args.place))
@@ -51,20 +51,19 @@ release_slot-requires-clause-used g c =
 
 pub returns-clause-step : goal.returns-clause-step
 returns-clause-step g c =
-    let kind = g.A.Mapping.kind in
-    let h = seen kind c.args.self.now in let k = c.requires.kept.kept in let o = c.requires.object in let n = seen kind c.release_slot.new.self in
+    let kind = g.A.Mapping.kind in let z = with_tables c.count_out.new.self c.drop_slot.new.self c.drop_slot.new.lists in
+    let h = seen kind c.args.self.now in let k = c.requires.kept.kept in let o = c.requires.object in let n = seen kind z in
     let w = c.slot_words-slot_words.ensures.value in
     let e = c.erase.ensures.rest in
-    let d = ap (seen kind) c.release_slot.ensures.rest in
+    let d = retabled kind c.count_out.new.self c.drop_slot.new.self c.drop_slot.new.lists c.drop_slot.ensures.classes in
     let gone = subst (λ s. Clears h.words (seen kind c.erase.new.self).words (record { from = c.args.place; count = s })) w c.erase.ensures.words in
     let long = in_region kind c.erase.new.self c.erase.ensures.laid ∙ c.erase.ensures.len ∙ sym (in_region kind c.args.self.now c.requires.kept.laid) in
-    let laid = laid_same kind c.erase.new.self c.release_slot.new.self
-    (ap (λ (x : OpenHeap). x.blocks) c.release_slot.ensures.rest ∙ ap (λ (x : OpenHeap). x.blocks) c.count_out.ensures)
-    (ap (λ (x : OpenHeap). x.region) c.release_slot.ensures.rest ∙ ap (λ (x : OpenHeap). x.region) c.count_out.ensures) c.erase.ensures.laid in
+    let laid = laid_same kind c.erase.new.self z (ap (λ (x : OpenHeap). x.blocks) c.count_out.ensures) (ap (λ (x : OpenHeap). x.region) c.count_out.ensures)
+    c.erase.ensures.laid in
     let no : MustMove (paging_at h) (held_in h) (it k o) → ⊥ = λ m. c.requires.stays (moving k o m) in
     let b = alone k o c.requires.stays (seen kind c.erase.new.self) (seen kind c.count_out.new.self) n
-    e gone long (framed_of kind c.release_slot.new.self laid) c.erase.ensures.handles (ap (seen kind) c.count_out.ensures) c.release_slot.ensures.freed
-    c.release_slot.ensures.tables d in
+    e gone long (framed_of kind z laid) c.erase.ensures.handles (ap (seen kind) c.count_out.ensures) c.drop_slot.ensures.freed
+    c.drop_slot.ensures.kept d in
     goes_freed k o n None no b
     (ap (λ (x : Heap). x.frames) d ∙ ap (λ (x : Heap). x.frames) (ap (seen kind) c.count_out.ensures) ∙ ap (λ (x : Heap). x.frames) e
     ∙ sym (frames_stay kind (paged_kind h k) (state_of h) (rest_held k o n None no)))
@@ -72,44 +71,42 @@ returns-clause-step g c =
 
 pub returns-clause-kept : goal.returns-clause-kept
 returns-clause-kept g c =
-    let kind = g.A.Mapping.kind in
-    let h = seen kind c.args.self.now in let k = c.requires.kept.kept in let o = c.requires.object in let n = seen kind c.release_slot.new.self in
+    let kind = g.A.Mapping.kind in let z = with_tables c.count_out.new.self c.drop_slot.new.self c.drop_slot.new.lists in
+    let h = seen kind c.args.self.now in let k = c.requires.kept.kept in let o = c.requires.object in let n = seen kind z in
     let w = c.slot_words-slot_words.ensures.value in
     let gone = subst (λ s. Clears h.words (seen kind c.erase.new.self).words (record { from = c.args.place; count = s })) w c.erase.ensures.words in
     let long = in_region kind c.erase.new.self c.erase.ensures.laid ∙ c.erase.ensures.len ∙ sym (in_region kind c.args.self.now c.requires.kept.laid) in
-    let laid = laid_same kind c.erase.new.self c.release_slot.new.self
-    (ap (λ (x : OpenHeap). x.blocks) c.release_slot.ensures.rest ∙ ap (λ (x : OpenHeap). x.blocks) c.count_out.ensures)
-    (ap (λ (x : OpenHeap). x.region) c.release_slot.ensures.rest ∙ ap (λ (x : OpenHeap). x.region) c.count_out.ensures) c.erase.ensures.laid in
+    let laid = laid_same kind c.erase.new.self z (ap (λ (x : OpenHeap). x.blocks) c.count_out.ensures) (ap (λ (x : OpenHeap). x.region) c.count_out.ensures)
+    c.erase.ensures.laid in
     let no : MustMove (paging_at h) (held_in h) (it k o) → ⊥ = λ m. c.requires.stays (moving k o m) in
     let b = alone k o c.requires.stays (seen kind c.erase.new.self) (seen kind c.count_out.new.self) n
-    (c.erase.ensures.rest) gone long (framed_of kind c.release_slot.new.self laid) c.erase.ensures.handles (ap (seen kind) c.count_out.ensures)
-    c.release_slot.ensures.freed c.release_slot.ensures.tables (ap (seen kind) c.release_slot.ensures.rest) in
+    (c.erase.ensures.rest) gone long (framed_of kind z laid) c.erase.ensures.handles (ap (seen kind) c.count_out.ensures)
+    c.drop_slot.ensures.freed c.drop_slot.ensures.kept (retabled kind c.count_out.new.self c.drop_slot.new.self c.drop_slot.new.lists c.drop_slot.ensures.classes) in
     record { laid = laid; kept = goes_kept k o n None no b }
 
 pub returns-clause-choice : goal.returns-clause-choice
 returns-clause-choice g c =
-    let kind = g.A.Mapping.kind in
-    let h = seen kind c.args.self.now in let k = c.requires.kept.kept in let o = c.requires.object in let n = seen kind c.release_slot.new.self in
+    let kind = g.A.Mapping.kind in let z = with_tables c.count_out.new.self c.drop_slot.new.self c.drop_slot.new.lists in
+    let h = seen kind c.args.self.now in let k = c.requires.kept.kept in let o = c.requires.object in let n = seen kind z in
     let w = c.slot_words-slot_words.ensures.value in
     let gone = subst (λ s. Clears h.words (seen kind c.erase.new.self).words (record { from = c.args.place; count = s })) w c.erase.ensures.words in
     let long = in_region kind c.erase.new.self c.erase.ensures.laid ∙ c.erase.ensures.len ∙ sym (in_region kind c.args.self.now c.requires.kept.laid) in
-    let laid = laid_same kind c.erase.new.self c.release_slot.new.self
-    (ap (λ (x : OpenHeap). x.blocks) c.release_slot.ensures.rest ∙ ap (λ (x : OpenHeap). x.blocks) c.count_out.ensures)
-    (ap (λ (x : OpenHeap). x.region) c.release_slot.ensures.rest ∙ ap (λ (x : OpenHeap). x.region) c.count_out.ensures) c.erase.ensures.laid in
+    let laid = laid_same kind c.erase.new.self z (ap (λ (x : OpenHeap). x.blocks) c.count_out.ensures) (ap (λ (x : OpenHeap). x.region) c.count_out.ensures)
+    c.erase.ensures.laid in
     alone_follows k o c.requires.stays (seen kind c.erase.new.self) (seen kind c.count_out.new.self) n
-    c.erase.ensures.rest gone long (framed_of kind c.release_slot.new.self laid) c.erase.ensures.handles (ap (seen kind) c.count_out.ensures)
-    c.release_slot.ensures.freed c.release_slot.ensures.tables (ap (seen kind) c.release_slot.ensures.rest)
+    c.erase.ensures.rest gone long (framed_of kind z laid) c.erase.ensures.handles (ap (seen kind) c.count_out.ensures)
+    c.drop_slot.ensures.freed c.drop_slot.ensures.kept (retabled kind c.count_out.new.self c.drop_slot.new.self c.drop_slot.new.lists c.drop_slot.ensures.classes)
 
 pub returns-clause-steps : goal.returns-clause-steps
 returns-clause-steps g c =
     let m = clear_most g.A.Mapping.kind c.args.place c.slot_words-slot_words.result in
-    let a = c.erase.ensures.steps in let b = c.release_slot.ensures.bound in
+    let a = c.erase.ensures.steps in let b = c.drop_slot.ensures.bound in
     record { kept = omega (arith, a.kept, b.kept); bound = omega (arith, m, a.bound, b.bound) }
 
 pub returns-clause-cost : goal.returns-clause-cost
 returns-clause-cost g c =
     let kind = g.A.Mapping.kind in
     alone_sum c.requires.kept.kept c.requires.object c.slot_words-slot_words.result c.slot_words-slot_words.ensures.value _ _ _ _
-    (ap (λ (x : OpenHeap). steps_to_drop (tables_in (seen kind x)) (page_at x.classes c.args.place)) c.count_out.ensures
+    (ap (λ (x : OpenHeap). steps_to_drop (tables_in (seen kind x)) (page_at x.tables.classes c.args.place)) c.count_out.ensures
     ∙ ap (λ (x : Heap). steps_to_drop (tables_in x) (page_at x.classes c.args.place)) c.erase.ensures.rest)
-    c.erase.ensures.steps c.release_slot.ensures.steps
+    c.erase.ensures.steps c.drop_slot.ensures.steps

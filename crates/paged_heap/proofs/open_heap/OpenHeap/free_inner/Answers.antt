@@ -24,10 +24,9 @@ unreachable-requires g c =
 
 pub must_move-requires-clause-page : goal.must_move-requires-clause-page
 must_move-requires-clause-page g c =
-    rw c.deref.ensures.value
-    (page_there c.requires.kept
+    page_there c.requires.kept
     (object_at (seen g.A.Mapping.kind c.args.self.now) c.requires.kept c.args.h.0 c.in-Some.place (sym c.in-Some.ensures.found)
-    c.length_at-length.result c.length_at-length.ensures.value c.in-Some-class_of.c c.in-Some-class_of.ensures.found))
+    c.length_at-length.result c.length_at-length.ensures.value c.in-Some-class_of.c c.in-Some-class_of.ensures.found)
 
 pub free_and_fill-requires-clause-object : goal.free_and_fill-requires-clause-object
 free_and_fill-requires-clause-object g c =

@@ -5,7 +5,7 @@ use Rattle.paged_heap.proofs.ByKind.{malloc_by_order}
 use Rattle.paged_heap.proofs.Preserved.{cost_kept}
 use Rattle.paged_heap.proofs.LayoutFacts.{paged_kind}
 use Rattle.paged_heap.proofs.MallocLemmas.{malloc_with_cost}
-use Rattle.paged_heap.proofs.StepLemmas.{rose_is}
+use Rattle.step_ledger.proofs.CallerLemmas.{rose_is}
 use Rattle.paged_heap.proofs.open_heap.OpenHeap.malloc.Goals as goal
 
 pub returns-clause-step : goal.returns-clause-step

@@ -1,33 +1,27 @@
 -- The class, the proxy and the slot are found; then the object is made.
-use Rattle.std.proofs.Common.{length, get_or, arith, ap}
+use Rattle.std.proofs.Common.{get_or, arith, ap}
 use Rattle.paged_heap.specs.declared.open_heap.OpenHeap.{OpenHeap}
 use Rattle.paged_heap.specs.Heap.{Heap, seen}
 use Rattle.paged_heap.proofs.ByKind.{in_region, laid_same}
 use Rattle.paged_heap.proofs.CostLemmas.{malloc_sum}
 use Rattle.paged_heap.proofs.CountLimits.{asked_room, class_is, live_room, taken_room}
-use Rattle.paged_heap.proofs.LayoutFacts.{as_many}
+use Rattle.paged_heap.proofs.LayoutFacts.{as_many, retabled, with_tables}
 use Rattle.paged_heap.proofs.MallocPreserves.{comes_chosen, comes_given, comes_kept}
 use Rattle.paged_heap.proofs.MallocLemmas.{comes, place_inside}
 use Rattle.paged_heap.proofs.open_heap.OpenHeap.malloc_inner.Goals as goal
 
-pub take_slot-place-requires-clause-class : goal.take_slot-place-requires-clause-class
-take_slot-place-requires-clause-class g c =
+pub take_slot-requires-clause-class : goal.take_slot-requires-clause-class
+take_slot-requires-clause-class g c =
     let h = seen g.A.Mapping.kind c.args.self.now in
     let is = class_is h c.requires.kept c.args.bytes c.in_ok-c.c c.in_ok-c.ensures.class in let lt = is.2 in
     let many = as_many h c.requires.kept in
     omega arith
 
-pub bind-handle-requires-clause-laid : goal.bind-handle-requires-clause-laid
-bind-handle-requires-clause-laid g c =
-    laid_same g.A.Mapping.kind c.args.self.now c.take_slot-place.new.self (ap (λ (x : OpenHeap). x.blocks) c.take_slot-place.ensures.rest)
-    (ap (λ (x : OpenHeap). x.region) c.take_slot-place.ensures.rest) c.requires.laid
-
 pub bind-handle-requires-clause-within : goal.bind-handle-requires-clause-within
 bind-handle-requires-clause-within g c =
     let lt = place_inside (seen g.A.Mapping.kind c.args.self.now) c.requires.kept c.args.bytes c.in_ok-c.c c.in_ok-c.ensures.class _
-    c.take_slot-place.result c.take_slot-place.ensures.taken c.take_slot-place.ensures.tables in
+    c.in-Some.place c.in-Some.ensures.taken c.in-Some.ensures.kept in
     let l = in_region g.A.Mapping.kind c.args.self.now c.requires.laid in
-    let e = ap (λ (x : OpenHeap). length x.region) c.take_slot-place.ensures.rest in
     omega arith
 
 pub count_in-requires-clause-live : goal.count_in-requires-clause-live
@@ -35,62 +29,59 @@ count_in-requires-clause-live g c =
     let is = class_is (seen g.A.Mapping.kind c.args.self.now) c.requires.kept c.args.bytes c.in_ok-c.c c.in_ok-c.ensures.class in
     let l = live_room (seen g.A.Mapping.kind c.args.self.now) c.requires.kept c.in_ok-c.c is.2 in
     let e = ap (λ (x : Heap). get_or x.live c.in_ok-c.c 0) c.bind-handle.ensures.whole in
-    let f = ap (λ (x : OpenHeap). get_or x.live c.in_ok-c.c 0) c.take_slot-place.ensures.rest in
     omega arith
 
 pub count_in-requires-clause-asked : goal.count_in-requires-clause-asked
 count_in-requires-clause-asked g c =
     let l = asked_room (seen g.A.Mapping.kind c.args.self.now) c.requires.kept in
     let e = ap (λ (x : Heap). x.asked) c.bind-handle.ensures.whole in
-    let f = ap (λ (x : OpenHeap). x.asked) c.take_slot-place.ensures.rest in
     omega arith
 
 pub count_in-requires-clause-taken : goal.count_in-requires-clause-taken
 count_in-requires-clause-taken g c =
     let l = taken_room (seen g.A.Mapping.kind c.args.self.now) c.requires.kept in
     let e = ap (λ (x : Heap). x.taken) c.bind-handle.ensures.whole in
-    let f = ap (λ (x : OpenHeap). x.taken) c.take_slot-place.ensures.rest in
     omega arith
 
 pub returns-clause-step : goal.returns-clause-step
 returns-clause-step g c =
     let kind = g.A.Mapping.kind in
     let h = seen kind c.args.self.now in let n = seen kind c.count_in.new.self in
-    let co = comes h c.requires.kept c.args.bytes c.in_ok-c.c c.in_ok-c.ensures.class (seen kind c.take_slot-place.new.self)
-    (seen kind c.bind-handle.new.self) n c.take_slot-place.result c.bind-handle.result.0
-    c.in_ok-c.ensures.few c.take_slot-place.ensures.taken c.take_slot-place.ensures.tables
-    (ap (seen kind) c.take_slot-place.ensures.rest)
+    let co = comes h c.requires.kept c.args.bytes c.in_ok-c.c c.in_ok-c.ensures.class (seen kind (with_tables c.args.self.now c.take_slot.new.self c.take_slot.new.lists))
+    (seen kind c.bind-handle.new.self) n c.in-Some.place c.bind-handle.result.0
+    c.in_ok-c.ensures.few c.in-Some.ensures.taken c.in-Some.ensures.kept
+    (retabled kind c.args.self.now c.take_slot.new.self c.take_slot.new.lists c.in-Some.ensures.classes)
     c.bind-handle.ensures.unused c.bind-handle.ensures.below c.bind-handle.ensures.first c.bind-handle.ensures.whole c.bind-handle.ensures.handles (ap (seen kind) c.count_in.ensures) in
-    comes_given h n c.requires.kept c.in_ok-c.c c.take_slot-place.result c.args.bytes c.bind-handle.result.0 co
+    comes_given h n c.requires.kept c.in_ok-c.c c.in-Some.place c.args.bytes c.bind-handle.result.0 co
 
 pub returns-clause-kept : goal.returns-clause-kept
 returns-clause-kept g c =
     let kind = g.A.Mapping.kind in
     let h = seen kind c.args.self.now in let n = seen kind c.count_in.new.self in
-    let co = comes h c.requires.kept c.args.bytes c.in_ok-c.c c.in_ok-c.ensures.class (seen kind c.take_slot-place.new.self)
-    (seen kind c.bind-handle.new.self) n c.take_slot-place.result c.bind-handle.result.0
-    c.in_ok-c.ensures.few c.take_slot-place.ensures.taken c.take_slot-place.ensures.tables
-    (ap (seen kind) c.take_slot-place.ensures.rest)
+    let co = comes h c.requires.kept c.args.bytes c.in_ok-c.c c.in_ok-c.ensures.class (seen kind (with_tables c.args.self.now c.take_slot.new.self c.take_slot.new.lists))
+    (seen kind c.bind-handle.new.self) n c.in-Some.place c.bind-handle.result.0
+    c.in_ok-c.ensures.few c.in-Some.ensures.taken c.in-Some.ensures.kept
+    (retabled kind c.args.self.now c.take_slot.new.self c.take_slot.new.lists c.in-Some.ensures.classes)
     c.bind-handle.ensures.unused c.bind-handle.ensures.below c.bind-handle.ensures.first c.bind-handle.ensures.whole c.bind-handle.ensures.handles (ap (seen kind) c.count_in.ensures) in
     record {
       laid = laid_same kind c.bind-handle.new.self c.count_in.new.self (ap (λ (x : OpenHeap). x.blocks) c.count_in.ensures)
           (ap (λ (x : OpenHeap). x.region) c.count_in.ensures) c.bind-handle.ensures.laid;
-      kept = comes_kept h n c.requires.kept c.in_ok-c.c c.take_slot-place.result c.args.bytes c.bind-handle.result.0 co;
+      kept = comes_kept h n c.requires.kept c.in_ok-c.c c.in-Some.place c.args.bytes c.bind-handle.result.0 co;
     }
 
 pub returns-clause-choice : goal.returns-clause-choice
 returns-clause-choice g c =
     let kind = g.A.Mapping.kind in
     let h = seen kind c.args.self.now in let n = seen kind c.count_in.new.self in
-    let co = comes h c.requires.kept c.args.bytes c.in_ok-c.c c.in_ok-c.ensures.class (seen kind c.take_slot-place.new.self)
-    (seen kind c.bind-handle.new.self) n c.take_slot-place.result c.bind-handle.result.0
-    c.in_ok-c.ensures.few c.take_slot-place.ensures.taken c.take_slot-place.ensures.tables
-    (ap (seen kind) c.take_slot-place.ensures.rest)
+    let co = comes h c.requires.kept c.args.bytes c.in_ok-c.c c.in_ok-c.ensures.class (seen kind (with_tables c.args.self.now c.take_slot.new.self c.take_slot.new.lists))
+    (seen kind c.bind-handle.new.self) n c.in-Some.place c.bind-handle.result.0
+    c.in_ok-c.ensures.few c.in-Some.ensures.taken c.in-Some.ensures.kept
+    (retabled kind c.args.self.now c.take_slot.new.self c.take_slot.new.lists c.in-Some.ensures.classes)
     c.bind-handle.ensures.unused c.bind-handle.ensures.below c.bind-handle.ensures.first c.bind-handle.ensures.whole c.bind-handle.ensures.handles
     (ap (seen kind) c.count_in.ensures) in
-    comes_chosen h n c.requires.kept c.in_ok-c.c c.take_slot-place.result c.args.bytes c.bind-handle.result.0 co
+    comes_chosen h n c.requires.kept c.in_ok-c.c c.in-Some.place c.args.bytes c.bind-handle.result.0 co
 
 pub returns-clause-cost : goal.returns-clause-cost
 returns-clause-cost g c =
     malloc_sum (seen g.A.Mapping.kind c.args.self.now) c.requires.kept c.args.bytes c.in_ok-c.c c.in_ok-c.ensures.class c.bind-handle.result _ _
-    c.take_slot-place.ensures.taken _ _ _ _ c.in_ok-c.ensures.steps c.take_slot-place.ensures.steps c.bind-handle.ensures.steps
+    c.in-Some.ensures.taken _ _ _ _ c.in_ok-c.ensures.steps c.in-Some.ensures.steps c.bind-handle.ensures.steps

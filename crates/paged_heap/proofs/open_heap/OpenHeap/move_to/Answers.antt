@@ -1,4 +1,4 @@
--- The number of words stays, since that of the region does.
+-- The number of virtual words is unchanged, since that of the region is.
 use Rattle.std.proofs.Common.{sym, ◌∙◌}
 use Rattle.step_ledger.proofs.CallerLemmas.{rose_both}
 use Rattle.virtual_words.proofs.CallerLemmas.{laid_long}

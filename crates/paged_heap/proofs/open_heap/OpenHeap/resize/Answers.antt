@@ -5,7 +5,7 @@ use Rattle.paged_heap.proofs.ByKind.{resize_by_order}
 use Rattle.paged_heap.proofs.Preserved.{cost_kept}
 use Rattle.paged_heap.proofs.LayoutFacts.{paged_kind}
 use Rattle.paged_heap.proofs.ResizeCosts.{few_resize}
-use Rattle.paged_heap.proofs.StepLemmas.{rose_is}
+use Rattle.step_ledger.proofs.CallerLemmas.{rose_is}
 use Rattle.paged_heap.proofs.ResizeLemmas.{resize_with_cost}
 use Rattle.paged_heap.proofs.open_heap.OpenHeap.resize.Goals as goal
 

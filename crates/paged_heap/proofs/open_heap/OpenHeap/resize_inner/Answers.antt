@@ -1,4 +1,4 @@
--- Each refusal is before any change.
+-- Each refusal comes before any change of the heap.
 use Rattle.std.proofs.Common.{arith, refl, sym, ◌∙◌}
 use Rattle.paged_heap.specs.Heap.{seen}
 use Rattle.paged_heap.specs.Layout.{state_of}

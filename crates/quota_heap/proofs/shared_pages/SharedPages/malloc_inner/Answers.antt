@@ -1,6 +1,5 @@
-use Rattle.std.proofs.Common.{arith, subst}
-use Rattle.page_slots.specs.Tables.{tables}
-use Rattle.page_slots.specs.Take.{TakesAt}
+use Rattle.std.proofs.Common.{arith}
+use Rattle.page_slots.specs.PageTables.{tables_with}
 use Rattle.quota_heap.proofs.Facts.{live_room}
 use Rattle.quota_heap.proofs.MallocLemmas.{taken_inside}
 use Rattle.quota_heap.proofs.ObjectFacts.{pool_few}
@@ -15,12 +14,10 @@ overflow_add-task c =
 
 pub write-requires : goal.write-requires
 write-requires c =
-    let g = c.args.self.now in let x = c.args.task.now in
-    let new = tables c.take_slot.new.maps c.take_slot.new.lists c.take_slot.new.pool in
-    let taken = subst (λ m. TakesAt g.classes (tables m x.lists g.pool) c.args.c c.in-Some.place new) c.deref_mut.ensures.value c.in-Some.ensures.taken in
+    let new = tables_with c.take_slot.new.self c.take_slot.new.lists in
     record {
-      within = taken_inside g c.requires.shared_pages c.args.t x c.requires.kept c.args.c c.requires.in_range c.in-Some.place new taken c.take_slot.ensures.kept
-          c.args.bytes c.requires.class;
+      within = taken_inside c.args.self.now c.requires.shared_pages c.args.t c.args.task.now c.requires.kept c.args.c c.requires.in_range c.in-Some.place new
+          c.in-Some.ensures.taken c.take_slot.ensures.kept c.args.bytes c.requires.class;
     }
 
 pub overflow_add-task-2 : goal.overflow_add-task-2

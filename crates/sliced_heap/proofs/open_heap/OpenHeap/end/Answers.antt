@@ -4,8 +4,8 @@ use Rattle.slice_model.specs.State.{Idle}
 use Rattle.sliced_heap.specs.Heap.{Heap, seen}
 use Rattle.sliced_heap.specs.Layout.{tables_in}
 use Rattle.sliced_heap.specs.Steps.{Fills, StaysVacant}
-use Rattle.sliced_heap.specs.declared.open_heap.OpenHeap.{OpenHeap}
 use Rattle.sliced_heap.proofs.EndLemmas.{filled_ends, filled_follows, idle_at, slot_used}
+use Rattle.sliced_heap.proofs.Facts.{only_tables}
 use Rattle.sliced_heap.proofs.open_heap.OpenHeap.end.Goals as goal
 
 pub returns-then-fill-clause-ended : goal.returns-then-fill-clause-ended
@@ -18,8 +18,8 @@ returns-then-fill-clause-ordered c =
     filled_follows (seen c.args.self.now) c.requires.kept c.args.k c.requires.job (seen c.fill.new.self)
     (subst (λ b. Fills (seen c.args.self.now) c.args.k b (seen c.fill.new.self)) c.if-fill.true c.fill.ensures.filled)
 
-pub release_slot-requires-clause-used : goal.release_slot-requires-clause-used
-release_slot-requires-clause-used c =
+pub drop_slot-requires-clause-used : goal.drop_slot-requires-clause-used
+drop_slot-requires-clause-used c =
     let v : StaysVacant (seen c.args.self.now) c.args.k (seen c.fill.new.self) =
     subst (λ b. Fills (seen c.args.self.now) c.args.k b (seen c.fill.new.self)) c.if-fill.false c.fill.ensures.filled in
     subst (λ (x : Heap). IsUsed (tables_in x) c.args.k.class (page_at x.classes c.args.k.address) (slot_at x.classes c.args.k.class c.args.k.address))
@@ -31,18 +31,21 @@ returns-clause-ended c =
     let v : StaysVacant (seen c.args.self.now) c.args.k (seen c.fill.new.self) =
     subst (λ b. Fills (seen c.args.self.now) c.args.k b (seen c.fill.new.self)) c.if-fill.false c.fill.ensures.filled in
     (idle_at (seen c.args.self.now) c.requires.kept c.args.k c.requires.job v.stays c.requires.zeros (seen c.fill.new.self) _ v.same
-    (ap (λ (x : OpenHeap). record (seen x) { job = Idle }) c.release_slot.ensures.rest) c.release_slot.ensures.freed c.release_slot.ensures.tables).1
+    (ap (λ (x : Heap). record x { job = Idle }) (only_tables c.fill.new.self c.drop_slot.new.self c.drop_slot.new.lists c.drop_slot.ensures.classes))
+    c.drop_slot.ensures.freed c.drop_slot.ensures.kept).1
 
 pub returns-clause-ordered : goal.returns-clause-ordered
 returns-clause-ordered c =
     let v : StaysVacant (seen c.args.self.now) c.args.k (seen c.fill.new.self) =
     subst (λ b. Fills (seen c.args.self.now) c.args.k b (seen c.fill.new.self)) c.if-fill.false c.fill.ensures.filled in
     (idle_at (seen c.args.self.now) c.requires.kept c.args.k c.requires.job v.stays c.requires.zeros (seen c.fill.new.self) _ v.same
-    (ap (λ (x : OpenHeap). record (seen x) { job = Idle }) c.release_slot.ensures.rest) c.release_slot.ensures.freed c.release_slot.ensures.tables).2
+    (ap (λ (x : Heap). record x { job = Idle }) (only_tables c.fill.new.self c.drop_slot.new.self c.drop_slot.new.lists c.drop_slot.ensures.classes))
+    c.drop_slot.ensures.freed c.drop_slot.ensures.kept).2
 
 pub returns-clause-kept : goal.returns-clause-kept
 returns-clause-kept c =
     let v : StaysVacant (seen c.args.self.now) c.args.k (seen c.fill.new.self) =
     subst (λ b. Fills (seen c.args.self.now) c.args.k b (seen c.fill.new.self)) c.if-fill.false c.fill.ensures.filled in
     (idle_at (seen c.args.self.now) c.requires.kept c.args.k c.requires.job v.stays c.requires.zeros (seen c.fill.new.self) _ v.same
-    (ap (λ (x : OpenHeap). record (seen x) { job = Idle }) c.release_slot.ensures.rest) c.release_slot.ensures.freed c.release_slot.ensures.tables).0
+    (ap (λ (x : Heap). record x { job = Idle }) (only_tables c.fill.new.self c.drop_slot.new.self c.drop_slot.new.lists c.drop_slot.ensures.classes))
+    c.drop_slot.ensures.freed c.drop_slot.ensures.kept).0

@@ -1,55 +1,43 @@
-use Rattle.std.proofs.Common.{[], length, refl, subst, ◌∙◌, sym}
-use Rattle.std.specs.Prelude.{IsTrue, slice_index_or}
+use Rattle.std.proofs.Common.{refl, subst, ◌∙◌, sym}
+use Rattle.std.specs.Prelude.{IsTrue}
 use Rattle.std.proofs.lemmas.Bool.{false≢true}
-use Rattle.class_lists.specs.PageLists.{pages_in}
-use Rattle.class_lists.specs.declared.Which.TheVariants.{NotFull}
 use Rattle.page_model.specs.Steps.{MustMove}
-use Rattle.page_slots.specs.Release.{MovesObject}
-use Rattle.page_slots.specs.Tables.{page_at}
 use Rattle.slice_model.specs.State.{placeholder}
 use Rattle.sliced_heap.specs.Heap.{seen}
 use Rattle.sliced_heap.specs.Layout.{paging_at}
-use Rattle.sliced_heap.proofs.FillLemmas.{all_are, carried_partly, carried_valid, from_within, is_filled, must_is, number_live, page_within}
+use Rattle.sliced_heap.proofs.FillLemmas.{all_are, filled_partly, filled_valid, from_within, is_filled, must_is, number_live, page_within}
 use Rattle.sliced_heap.proofs.open_heap.OpenHeap.fill.Goals as goal
 
 pub must_move-requires-clause-page : goal.must_move-requires-clause-page
-must_move-requires-clause-page c = rw c.deref.ensures.value (page_within (seen c.args.self.now) c.requires.kept c.args.k c.requires.job)
+must_move-requires-clause-page c = page_within (seen c.args.self.now) c.requires.kept c.args.k c.requires.job
 
-pub carry_to-requires-clause-within : goal.carry_to-requires-clause-within
-carry_to-requires-clause-within c =
+pub move_to-requires-clause-within : goal.move_to-requires-clause-within
+move_to-requires-clause-within c =
     let h = seen c.args.self.now in
     let t = c.must_move.ensures.value.0 c.if-must_move.true in
-    let t' : MovesObject (slice_index_or h.maps (page_at h.classes c.args.k.address) []) (length (pages_in h.lists c.args.k.class NotFull)) 1 =
-    rw c.deref.ensures.value at t in
-    from_within h c.requires.kept c.args.k c.requires.job ((must_is h c.requires.kept c.args.k c.requires.job).0 t')
+    from_within h c.requires.kept c.args.k c.requires.job ((must_is h c.requires.kept c.args.k c.requires.job).0 t)
 
-pub carry_to-requires-clause-live : goal.carry_to-requires-clause-live
-carry_to-requires-clause-live c =
+pub move_to-requires-clause-live : goal.move_to-requires-clause-live
+move_to-requires-clause-live c =
     let h = seen c.args.self.now in
     let t = c.must_move.ensures.value.0 c.if-must_move.true in
-    let t' : MovesObject (slice_index_or h.maps (page_at h.classes c.args.k.address) []) (length (pages_in h.lists c.args.k.class NotFull)) 1 =
-    rw c.deref.ensures.value at t in
-    number_live h c.requires.kept c.args.k c.requires.job ((must_is h c.requires.kept c.args.k c.requires.job).0 t')
+    number_live h c.requires.kept c.args.k c.requires.job ((must_is h c.requires.kept c.args.k c.requires.job).0 t)
 
 pub returns-then-must_move-clause-filled : goal.returns-then-must_move-clause-filled
 returns-then-must_move-clause-filled c =
     let h = seen c.args.self.now in
     let t = c.must_move.ensures.value.0 c.if-must_move.true in
-    let t' : MovesObject (slice_index_or h.maps (page_at h.classes c.args.k.address) []) (length (pages_in h.lists c.args.k.class NotFull)) 1 =
-    rw c.deref.ensures.value at t in
-    let b = c.carry_to.ensures.begun in
-    is_filled h c.requires.kept c.args.k c.requires.job ((must_is h c.requires.kept c.args.k c.requires.job).0 t') b.from b.filler c.requires.fresh
-    (seen c.carry_to.new.self) b.handles b.free b.whole
+    let b = c.move_to.ensures.begun in
+    is_filled h c.requires.kept c.args.k c.requires.job ((must_is h c.requires.kept c.args.k c.requires.job).0 t) b.from b.filler c.requires.fresh
+    (seen c.move_to.new.self) b.handles b.free b.whole
 
 pub returns-then-must_move-clause-kept : goal.returns-then-must_move-clause-kept
 returns-then-must_move-clause-kept c =
     let h = seen c.args.self.now in
     let t = c.must_move.ensures.value.0 c.if-must_move.true in
-    let t' : MovesObject (slice_index_or h.maps (page_at h.classes c.args.k.address) []) (length (pages_in h.lists c.args.k.class NotFull)) 1 =
-    rw c.deref.ensures.value at t in
-    let b = c.carry_to.ensures.begun in
-    carried_valid h c.requires.kept c.args.k c.requires.job ((must_is h c.requires.kept c.args.k c.requires.job).0 t') b.from b.filler c.requires.fresh
-    (seen c.carry_to.new.self) b.handles b.free b.whole
+    let b = c.move_to.ensures.begun in
+    filled_valid h c.requires.kept c.args.k c.requires.job ((must_is h c.requires.kept c.args.k c.requires.job).0 t) b.from b.filler c.requires.fresh
+    (seen c.move_to.new.self) b.handles b.free b.whole
 
 pub returns-clause-filled : goal.returns-clause-filled
 returns-clause-filled c =
@@ -59,7 +47,7 @@ returns-clause-filled c =
       stays = λ must.
           let must' : MustMove (paging_at h) _ (placeholder (paging_at h) c.args.k) =
           subst (λ o. MustMove (paging_at h) o (placeholder (paging_at h) c.args.k)) (all_are h c.requires.kept c.args.k c.requires.job) must in
-          let t : IsTrue c.must_move.result = c.must_move.ensures.value.1 (rw c.deref.ensures.value (p.1 must')) in
+          let t : IsTrue c.must_move.result = c.must_move.ensures.value.1 (p.1 must') in
           false≢true (sym c.if-must_move.false ∙ t);
       same = refl;
     }
@@ -68,8 +56,6 @@ pub returns-then-must_move-clause-partly : goal.returns-then-must_move-clause-pa
 returns-then-must_move-clause-partly c = λ _ f slot.
     (let h = seen c.args.self.now in
     let t = c.must_move.ensures.value.0 c.if-must_move.true in
-    let t' : MovesObject (slice_index_or h.maps (page_at h.classes c.args.k.address) []) (length (pages_in h.lists c.args.k.class NotFull)) 1 =
-    rw c.deref.ensures.value at t in
-    let b = c.carry_to.ensures.begun in
-    carried_partly h c.requires.kept c.args.k c.requires.job ((must_is h c.requires.kept c.args.k c.requires.job).0 t') b.from b.filler c.requires.fresh
-    (seen c.carry_to.new.self) b.handles b.free b.whole f slot)
+    let b = c.move_to.ensures.begun in
+    filled_partly h c.requires.kept c.args.k c.requires.job ((must_is h c.requires.kept c.args.k c.requires.job).0 t) b.from b.filler c.requires.fresh
+    (seen c.move_to.new.self) b.handles b.free b.whole f slot)

@@ -10,7 +10,7 @@ use Rattle.sliced_heap.proofs.open_heap.OpenHeap.free.Goals as goal
 not_idle : (j : Pending) → (j ≡ pending.Idle → ⊥) → job_of j ≡ Idle → ⊥
 not_idle pending.Idle not e = not refl
 not_idle (pending.Clear k) not e = (let e' : Clear k ≡ Idle = e in cc)
-not_idle (pending.Carry h k) not e = (let e' : Move h.0 k ≡ Idle = e in cc)
+not_idle (pending.Move h k) not e = (let e' : Move h.0 k ≡ Idle = e in cc)
 
 pub returns-in_default-clause-step : goal.returns-in_default-clause-step
 returns-in_default-clause-step c = (no_place (seen c.args.self.now) c.requires c.args.h.0 (sym c.in_default.ensures.found), refl)

@@ -1,9 +1,10 @@
-use Rattle.std.proofs.Common.{length, get_or, arith, refl, sym, ◌∙◌, ap}
+use Rattle.std.proofs.Common.{get_or, arith, refl, sym, ◌∙◌, ap}
 use Rattle.sliced_heap.specs.Heap.{seen}
 use Rattle.page_model.specs.Paging.{classes}
 use Rattle.page_slots.specs.Orders.{order_of}
-use Rattle.sliced_heap.specs.Layout.{order_in, paging_at, working_of}
+use Rattle.sliced_heap.specs.Layout.{paging_at}
 use Rattle.sliced_heap.specs.declared.open_heap.OpenHeap.{OpenHeap}
+use Rattle.sliced_heap.proofs.Facts.{only_tables, seen_with}
 use Rattle.sliced_heap.proofs.MallocLemmas.{given_from, live_room, place_inside, wants_proxy, wants_slot, wants_space, within_of}
 use Rattle.sliced_heap.proofs.open_heap.OpenHeap.malloc.Goals as goal
 
@@ -24,7 +25,7 @@ pub returns-in_default-take_slot-clause-step : goal.returns-in_default-take_slot
 returns-in_default-take_slot-clause-step c = (
   wants_slot (seen c.args.self.now) c.requires c.args.bytes c.in-Some.c c.in-Some.ensures.found (λ e. c.if-live-self.false (c.live.ensures.count ∙ e))
       (within_of c.is_over.result _ _ c.is_over.ensures c.if-is_over.false) _ c.in_default-take_slot.ensures.taken,
-  ap (λ (x : OpenHeap). working_of (seen x)) c.take_slot.ensures.rest,
+  refl,
 )
 
 pub returns-then-live-self-clause-ordered : goal.returns-then-live-self-clause-ordered
@@ -42,8 +43,7 @@ returns-then-is_over-clause-ordered c = (
 pub returns-in_default-take_slot-clause-ordered : goal.returns-in_default-take_slot-clause-ordered
 returns-in_default-take_slot-clause-ordered c = (
   returns-in_default-take_slot-clause-step c,
-  ap (λ (x : OpenHeap). order_in (seen x)) c.take_slot.ensures.rest
-      ∙ ap (λ t. order_of (classes (paging_at (seen c.args.self.now))) t c.args.self.now.proxies.free) c.in_default-take_slot.ensures.taken.2,
+  ap (λ t. order_of (classes (paging_at (seen c.args.self.now))) t c.args.self.now.proxies.free) c.in_default-take_slot.ensures.taken.2,
 )
 
 pub bind-handle-requires-clause-within : goal.bind-handle-requires-clause-within
@@ -51,37 +51,41 @@ bind-handle-requires-clause-within c =
     let lt = place_inside (seen c.args.self.now) c.requires c.args.bytes c.in-Some.c c.in-Some.ensures.found
     (λ e. c.if-live-self.false (c.live.ensures.count ∙ e))
     (within_of c.is_over.result _ _ c.is_over.ensures c.if-is_over.false) _ c.in-Some-take_slot.place c.in-Some-take_slot.ensures.taken
-    c.take_slot.ensures.tables in
-    let e = ap (λ (x : OpenHeap). length x.region) c.take_slot.ensures.rest in
+    c.take_slot.ensures.kept in
     omega arith
 
 pub count_in-requires-clause-live : goal.count_in-requires-clause-live
 count_in-requires-clause-live c =
     let l = live_room (seen c.args.self.now) c.requires c.args.bytes c.in-Some.c c.in-Some.ensures.found in
     let e = ap (λ (x : OpenHeap). get_or x.live c.in-Some.c 0) c.bind-handle.ensures.whole in
-    let f = ap (λ (x : OpenHeap). get_or x.live c.in-Some.c 0) c.take_slot.ensures.rest in
     omega arith
 
 pub returns-clause-step : goal.returns-clause-step
 returns-clause-step c =
     (given_from (seen c.args.self.now) c.requires c.args.bytes c.in-Some.c c.in-Some.ensures.found (λ e. c.if-live-self.false (c.live.ensures.count ∙ e))
-    (within_of c.is_over.result _ _ c.is_over.ensures c.if-is_over.false) (seen c.take_slot.new.self) (seen c.bind-handle.new.self) (seen c.count_in.new.self)
-    c.in-Some-take_slot.place c.bind-handle.result.0 c.in-Some-take_slot.ensures.taken c.take_slot.ensures.tables (ap seen c.take_slot.ensures.rest)
+    (within_of c.is_over.result _ _ c.is_over.ensures c.if-is_over.false)
+    (seen_with c.args.self.now c.take_slot.new.self c.take_slot.new.lists) (seen c.bind-handle.new.self) (seen c.count_in.new.self)
+    c.in-Some-take_slot.place c.bind-handle.result.0 c.in-Some-take_slot.ensures.taken c.take_slot.ensures.kept
+    (only_tables c.args.self.now c.take_slot.new.self c.take_slot.new.lists c.take_slot.ensures.classes)
     c.bind-handle.ensures.unused c.bind-handle.ensures.below (ap seen c.bind-handle.ensures.whole) c.bind-handle.ensures.handles c.bind-handle.ensures.first
     (ap seen c.count_in.ensures)).0.mallocs
 
 pub returns-clause-ordered : goal.returns-clause-ordered
 returns-clause-ordered c =
     (given_from (seen c.args.self.now) c.requires c.args.bytes c.in-Some.c c.in-Some.ensures.found (λ e. c.if-live-self.false (c.live.ensures.count ∙ e))
-    (within_of c.is_over.result _ _ c.is_over.ensures c.if-is_over.false) (seen c.take_slot.new.self) (seen c.bind-handle.new.self) (seen c.count_in.new.self)
-    c.in-Some-take_slot.place c.bind-handle.result.0 c.in-Some-take_slot.ensures.taken c.take_slot.ensures.tables (ap seen c.take_slot.ensures.rest)
+    (within_of c.is_over.result _ _ c.is_over.ensures c.if-is_over.false)
+    (seen_with c.args.self.now c.take_slot.new.self c.take_slot.new.lists) (seen c.bind-handle.new.self) (seen c.count_in.new.self)
+    c.in-Some-take_slot.place c.bind-handle.result.0 c.in-Some-take_slot.ensures.taken c.take_slot.ensures.kept
+    (only_tables c.args.self.now c.take_slot.new.self c.take_slot.new.lists c.take_slot.ensures.classes)
     c.bind-handle.ensures.unused c.bind-handle.ensures.below (ap seen c.bind-handle.ensures.whole) c.bind-handle.ensures.handles c.bind-handle.ensures.first
     (ap seen c.count_in.ensures)).0
 
 pub returns-clause-kept : goal.returns-clause-kept
 returns-clause-kept c =
     (given_from (seen c.args.self.now) c.requires c.args.bytes c.in-Some.c c.in-Some.ensures.found (λ e. c.if-live-self.false (c.live.ensures.count ∙ e))
-    (within_of c.is_over.result _ _ c.is_over.ensures c.if-is_over.false) (seen c.take_slot.new.self) (seen c.bind-handle.new.self) (seen c.count_in.new.self)
-    c.in-Some-take_slot.place c.bind-handle.result.0 c.in-Some-take_slot.ensures.taken c.take_slot.ensures.tables (ap seen c.take_slot.ensures.rest)
+    (within_of c.is_over.result _ _ c.is_over.ensures c.if-is_over.false)
+    (seen_with c.args.self.now c.take_slot.new.self c.take_slot.new.lists) (seen c.bind-handle.new.self) (seen c.count_in.new.self)
+    c.in-Some-take_slot.place c.bind-handle.result.0 c.in-Some-take_slot.ensures.taken c.take_slot.ensures.kept
+    (only_tables c.args.self.now c.take_slot.new.self c.take_slot.new.lists c.take_slot.ensures.classes)
     c.bind-handle.ensures.unused c.bind-handle.ensures.below (ap seen c.bind-handle.ensures.whole) c.bind-handle.ensures.handles c.bind-handle.ensures.first
     (ap seen c.count_in.ensures)).1

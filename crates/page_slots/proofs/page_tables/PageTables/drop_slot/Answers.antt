@@ -1,10 +1,11 @@
 -- A page with a used slot is in the list that its slots determine.
-use Rattle.std.proofs.Common.{[], subst, sym}
+use Rattle.std.proofs.Common.{[], subst, sym, ◌∙◌}
 use Rattle.std.proofs.lemmas.List.{get_or_default}
-use Rattle.page_slots.specs.Tables.{IsOf, tables}
+use Rattle.page_slots.specs.PageTables.{tables_with}
+use Rattle.page_slots.specs.Tables.{IsOf}
 use Rattle.page_slots.proofs.Calls.{dropped_steps, of_class, of_lists_class, of_listed, of_page, of_taken, page_inside}
 use Rattle.page_slots.proofs.TablesAfterFree.{loses, loses_others}
-use Rattle.page_slots.proofs.release.drop_slot.Goals as goal
+use Rattle.page_slots.proofs.page_tables.PageTables.drop_slot.Goals as goal
 
 pub slot_of-slot-requires : goal.slot_of-slot-requires
 slot_of-slot-requires c = of_class _ _ c.requires.tables _ _ c.requires.used.of
@@ -17,8 +18,8 @@ vacate-requires-clause-taken c = rw c.page_of-page.ensures (of_taken _ _ c.requi
 
 pub vacate-requires-clause-listed : goal.vacate-requires-clause-listed
 vacate-requires-clause-listed c =
-    let there = subst (λ g. IsOf (tables c.args.maps.now c.args.lists.now c.args.pool.now) c.args.c g) (sym c.page_of-page.ensures) c.requires.used.of in
-    of_listed _ _ c.requires.tables c.args.c c.page_of-page.result there c.list_of-which.result c.index-maps-page.result c.list_of-which.ensures.full
+    let there = subst (λ g. IsOf (tables_with c.args.self.now c.args.lists.now) c.args.c g) (sym c.page_of-page.ensures) c.requires.used.of in
+    of_listed _ _ c.requires.tables c.args.c c.page_of-page.result there c.list_of-which.result c.index.result.now c.index.ensures c.list_of-which.ensures.full
     c.list_of-which.ensures.not_full
 
 pub returns-clause-others : goal.returns-clause-others
@@ -34,5 +35,5 @@ pub returns-clause-steps : goal.returns-clause-steps
 returns-clause-steps c =
     let inside = page_inside _ _ c.requires.tables _ (of_page _ _ c.requires.tables _ _ c.requires.used.of) in
     rw (← c.page_of-page.ensures) (dropped_steps _ _ c.list_of-which.result _ _ _
-    (get_or_default c.args.maps.now c.page_of-page.result c.index-maps-page.result [] (rw c.page_of-page.ensures inside))
+    (c.index.ensures ∙ get_or_default c.args.self.now.maps.items c.page_of-page.result c.index.result.now [] (rw c.page_of-page.ensures inside))
     c.list_of-which.ensures.full c.list_of-which.ensures.not_full c.list_of-which.ensures.steps c.vacate.ensures.steps)

@@ -1,4 +1,4 @@
-//! Bytes of an object whose words lie side by side.
+//! Reads and writes bytes of one half of an object, whose words lie side by side.
 ghost use Rattle.std.specs.Prelude.{◌≡◌, ℕ, ◌+◌, ◌/◌, ◌^◌, ◌<◌, ◌≤◌, length, slice_index};
 ghost use Rattle.cf_model.specs.Costs.{words_touched};
 ghost use Rattle.step_ledger.specs.Counting.{RoseAtMost};
@@ -9,15 +9,15 @@ use region::Region;
 use step_ledger::Steps;
 use word_bytes::{read_run, words_with, write_run};
 
-/// Copies the bytes from byte `at` on of an object whose header is word `place`.
-pub(crate) fn read_piece(region: &Region, place: u32, at: u32, out: &mut [u8], steps: &mut Steps)
+/// Fills `out` with the bytes from byte `at` on of an object whose header is word `place`.
+pub(crate) fn read_part(region: &Region, place: u32, at: u32, out: &mut [u8], steps: &mut Steps)
     requires small { length region.now < 2 ^ 32 }
     requires within { place + 1 + (at + length out.old + 7) / 8 ≤ length region.now }
     ensures bytes { (j : ℕ) → j < length out.new → slice_index out.new j ≡ byte_from region.now (place + 1) (at + j) }
     ensures bound { RoseAtMost steps.old steps.new (words_touched at (length out.old)) }
 {
     let len = out.len();
-    // No word holds a byte of an empty part.
+    // A call for no bytes touches no word.
     if len == 0 {
         return;
     }
@@ -26,8 +26,8 @@ pub(crate) fn read_piece(region: &Region, place: u32, at: u32, out: &mut [u8], s
     read_run(region, place + 1 + at / 8, count, from, out, steps);
 }
 
-/// Writes the bytes over those from byte `at` on of an object whose header is word `place`.
-pub(crate) fn write_piece(region: &mut Region, place: u32, at: u32, bytes: &[u8], steps: &mut Steps)
+/// Writes `bytes` over those from byte `at` on of an object whose header is word `place`.
+pub(crate) fn write_part(region: &mut Region, place: u32, at: u32, bytes: &[u8], steps: &mut Steps)
     requires small { length region.old < 2 ^ 32 }
     requires within { place + 1 + (at + length bytes.now + 7) / 8 ≤ length region.old }
     ensures bytes { WritesBytes region.old region.new (word_from place) at bytes.now }

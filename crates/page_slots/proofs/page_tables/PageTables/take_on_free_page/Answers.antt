@@ -1,15 +1,15 @@
 -- The first page of the pool is in no list.
-use Rattle.std.proofs.Common.{refl, inr, ◌∙◌, ap}
+use Rattle.std.proofs.Common.{refl, inr, ◌∙◌, ap, arith}
 use Rattle.std.specs.Prelude.{slice_get}
 use Rattle.page_slots.proofs.Calls.{pool_inside, pool_small, pool_listable, pool_unlisted, pool_unused, took_free}
 use Rattle.page_slots.proofs.TablesAfterTake.{first_of, taken_gains, taken_others}
-use Rattle.page_slots.proofs.take.take_on_free_page.Goals as goal
+use Rattle.page_slots.proofs.page_tables.PageTables.take_on_free_page.Goals as goal
 
-pub bounds-maps-page : goal.bounds-maps-page
-bounds-maps-page c = pool_inside _ _ c.requires.tables _ _ c.in_ok-page.ensures.taken
+pub index_mut-map-requires : goal.index_mut-map-requires
+index_mut-map-requires c = (let lt = pool_inside _ _ c.requires.tables _ _ c.in_ok-page.ensures.taken in omega arith)
 
 pub renew-requires-clause-unused : goal.renew-requires-clause-unused
-renew-requires-clause-unused c = pool_unused _ _ c.requires.tables _ _ c.in_ok-page.ensures.taken _
+renew-requires-clause-unused c = pool_unused _ _ c.requires.tables _ _ c.in_ok-page.ensures.taken _ c.index_mut-map.ensures.value
 
 pub set-requires : goal.set-requires
 set-requires c = ap (λ xs. slice_get xs 0) c.renew.ensures.value ∙ first_of c.slots-slots.result c.slots-slots.ensures.some

@@ -1,11 +1,11 @@
 use Rattle.std.proofs.Common.{◌+◌, ◌/◌, ◌%◌, subst}
 use Rattle.word_bytes.specs.Overwriting.{Overwrites}
-use Rattle.slice_words.proofs.OnePiece.{piece_writes}
-use Rattle.slice_words.proofs.pieces.write_piece.Goals as goal
+use Rattle.slice_words.proofs.OnePart.{part_writes}
+use Rattle.slice_words.proofs.parts.write_part.Goals as goal
 
 pub returns-clause-bytes : goal.returns-clause-bytes
 returns-clause-bytes c =
-    piece_writes c.args.region.now c.write_run.new.region c.args.place c.args.at c.args.bytes.now c.if-len-eq0.false
+    part_writes c.args.region.now c.write_run.new.region c.args.place c.args.at c.args.bytes.now c.if-len-eq0.false
     (subst (λ m. Overwrites c.args.region.now c.write_run.new.region (record { from = c.args.place + 1 + c.args.at / 8; count = m })
     (c.args.at % 8) c.args.bytes.now)
     c.words_with-count.ensures c.write_run.ensures.words)

@@ -1,4 +1,4 @@
--- Bytes of an object whose words lie side by side.
+-- For `read_part` and `write_part`: bytes of an object whose words lie side by side.
 use Rattle.std.proofs.Common.{◌≡◌, ◌≢◌, ℕ, ◌+◌, ◌-◌, ◌*◌, ◌/◌, ◌%◌, ◌^◌, ◌<◌, ◌≤◌, List, length, get_or, arith, refl, sym, ◌∙◌, ap, subst, inl, inr}
 use Rattle.std.proofs.lemmas.Bool.{cases_lt}
 use Rattle.page_model.specs.Bytes.{byte_of}
@@ -35,10 +35,10 @@ read_later words place at k =
     ap (byte_from words (place + 1 + at / 8)) e ∙ byte_shift words (place + 1) (at / 8) (at + k) (omega arith)
 
 -- bytes that are written over others in a run of words
-pub piece_writes : (old new : List ℕ) (place at : ℕ) (bytes : List ℕ) → length bytes ≢ 0
+pub part_writes : (old new : List ℕ) (place at : ℕ) (bytes : List ℕ) → length bytes ≢ 0
     → Overwrites old new (record { from = place + 1 + at / 8; count = (at % 8 + length bytes + 7) / 8 }) (at % 8) bytes
     → WritesBytes old new (word_from place) at bytes
-piece_writes old new place at bytes some o = record {
+part_writes old new place at bytes some o = record {
   others = λ w out. o.others w (elim (cases_lt w (place + 1 + at / 8)) [
     | inl low ↦ inl low
     | inr from ↦ elim (cases_lt w (place + 1 + at / 8 + (at % 8 + length bytes + 7) / 8)) [

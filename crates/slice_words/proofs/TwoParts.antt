@@ -1,4 +1,4 @@
--- Bytes of an object whose words lie in two halves: those of the first half, and those after them.
+-- For `read_halves` and `write_halves`: the bytes in the first half of an object, and those in the second.
 use Rattle.std.proofs.Common.{◌≡◌, ℕ, ◌+◌, ◌-◌, ◌/◌, ◌%◌, ◌<◌, ◌≤◌, List, length, get_or, ◌++◌, take, drop}
 use Rattle.std.proofs.Common.{arith, sym, ◌∙◌, ap, inl, inr, length-append, length-drop}
 use Rattle.std.specs.Prelude.{◌⊎◌}
@@ -23,7 +23,7 @@ word_low s i lt = (let f = le_no s.done i lt in rw f)
 pub word_high : (s : Halves) (i : ℕ) → s.done ≤ i → place_of_word s i ≡ s.from + i
 word_high s i le = (let f = le_yes s.done i le in rw f)
 
--- what the first bytes of a part do, if a byte that isn't one of them is none of the part
+-- writing only the first bytes has the effect of writing all of them on each byte before the first half's end
 front_same : (f : ℕ → ℕ) (at first : ℕ) (bytes : List ℕ) (k : ℕ) → first ≤ length bytes → (k < at + first) ⊎ (first ≡ length bytes)
     → overwritten f at (take first bytes) k ≡ overwritten f at bytes k
 front_same f at first bytes k le (inr all) = ap (λ part. overwritten f at part k) (take_all first bytes (omega arith))
@@ -35,7 +35,7 @@ front_same f at first bytes k le (inl lt) =
           ∙ sym (overwritten_inside f at bytes k from (omega arith))
     ]
 
--- what the bytes behind them do
+-- writing only the other bytes has the effect of writing all of them on each byte from the first half's end on
 rest_same : (f : ℕ → ℕ) (at first : ℕ) (bytes : List ℕ) (k : ℕ) → first ≤ length bytes → at + first ≤ k
     → overwritten f (at + first) (drop first bytes) k ≡ overwritten f at bytes k
 rest_same f at first bytes k le from =
@@ -69,14 +69,14 @@ module _ (s : Halves) (at count : ℕ) where
   touched_rest i le t = (let some = t.some in let low = t.first in let high = t.last in
       record { some = omega arith; first = omega arith; last = omega arith })
 
-  -- a byte in a word of the first half is one of the first bytes, if there are others
+  -- a byte in a word of the first half is before the second part of the write, if that part is not empty
   low_byte : (k : ℕ) → 1 + k / 8 < s.done → (k < at + first) ⊎ (first ≡ count)
   low_byte k lt = elim (cases_lt first count) [
     | inl less ↦ inl (omega arith)
     | inr all ↦ inr (omega arith)
   ]
 
-  -- a byte in a word of the second half is none of the first bytes, if there are some
+  -- a byte in a word of the second half is after the first part of the write, if that part is not empty
   high_byte : (k : ℕ) → s.done ≤ 1 + k / 8 → (at + first ≤ k) ⊎ (first ≡ 0)
   high_byte k le = elim (cases_lt 0 first) [
     | inl some ↦ inl (omega arith)
@@ -101,9 +101,9 @@ module _ (s : Halves) (at : ℕ) (bytes : List ℕ) (apart : AreApart s (1 + (at
   rest_long : length (drop n bytes) ≡ length bytes - n
   rest_long = (let l = length-drop n bytes in omega arith)
 
-  pub two_pieces : WritesBytes old mid (word_from s.to) at (take n bytes) → WritesBytes mid new (word_from s.from) (at + n) (drop n bytes)
+  pub two_parts : WritesBytes old mid (word_from s.to) at (take n bytes) → WritesBytes mid new (word_from s.from) (at + n) (drop n bytes)
       → WritesBytes old new (place_of_word s) at bytes
-  two_pieces a b = record {
+  two_parts a b = record {
     others = λ w out.
         b.others w (λ i t. (let r = in_rest s at (length bytes) i (rest_of i t) in λ e. out i r.1 (word_high s i r.0 ∙ e)))
         ∙ a.others w (λ i t. (let r = in_first s at (length bytes) i (front_of i t) in λ e. out i r.1 (word_low s i r.0 ∙ e)));
@@ -144,7 +144,7 @@ module _ (s : Halves) (at : ℕ) (bytes : List ℕ) (apart : AreApart s (1 + (at
       within : (i : ℕ) → IsTouched at (length bytes) i → i < 1 + (at + length bytes + 7) / 8
       within i t = (let some = t.some in let last = t.last in omega arith)
 
-      -- the second piece leaves the words of the first half, and the first one those of the second
+      -- the second part leaves the words of the first half, and the first one those of the second
       first_stays : (i : ℕ) → i < s.done → IsTouched at (length bytes) i → get_or new (s.to + i) 0 ≡ get_or mid (s.to + i) 0
       first_stays i lt t = b.others (s.to + i) (λ k u. (
           let r = in_rest s at (length bytes) k (rest_of k u) in
@@ -163,7 +163,7 @@ module _ (s : Halves) (at : ℕ) (bytes : List ℕ) (apart : AreApart s (1 + (at
       behind k (inl le) = rest_same (byte_by (place_of_word s) old) at n bytes k few le
       behind k (inr none) = nothing_before (byte_by (place_of_word s) old) n none k
 
--- the steps of both
+-- the steps of both parts are at most those of the words that hold one of the bytes
 pub two_bounds : (s : Halves) (at count f l r x y z : ℕ) → f ≡ first_bytes s at count → l ≡ f → r ≡ count - f → RoseAtMost x y (words_touched at l)
     → RoseAtMost y z (words_touched (at + f) r) → RoseAtMost x z (words_touched at count)
 two_bounds s at count f l r x y z is left right a b =

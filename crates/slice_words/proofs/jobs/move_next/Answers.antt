@@ -1,7 +1,7 @@
 use Rattle.std.proofs.Common.{◌+◌, sym, subst}
 use Rattle.page_model.specs.Image.{MovesWords}
 use Rattle.word_bytes.proofs.CallerLemmas.{moved_moves}
-use Rattle.slice_words.proofs.jobs.carry_next.Goals as goal
+use Rattle.slice_words.proofs.jobs.move_next.Goals as goal
 
 pub returns-clause-words : goal.returns-clause-words
 returns-clause-words c =

@@ -1,0 +1,19 @@
+-- The tables that all owners of a region's pages share.
+use Rattle.std.specs.Prelude.{◌≡◌, false, replicate}
+use Rattle.std.specs.List.{range_with_len}
+use Rattle.cf_base.specs.declared.kind.Layout.{Layout}
+use Rattle.cf_base.specs.declared.settings.Settings.{Settings}
+use Rattle.class_lists.specs.PageLists.{PageLists}
+use Rattle.size_classes.specs.Table.{table_of}
+use Rattle.page_slots.specs.Tables.{Tables, tables}
+use Rattle.page_slots.specs.declared.page_tables.PageTables.{PageTables}
+
+-- the tables as one owner sees them: the shared ones and its own lists
+abbrev pub tables_with : PageTables → PageLists → Tables
+tables_with t lists = tables t.maps.items lists t.pool
+
+-- the shared tables of a new heap: every page is free
+pub record AreFirst (s : Settings) (layout : Layout) (t : PageTables) : Type 0 where
+  pub classes : t.classes ≡ table_of s.page_words layout
+  pub maps : t.maps.items ≡ replicate s.pages (replicate 1 false)
+  pub pool : t.pool ≡ record { pages = s.pages; free = range_with_len 0 s.pages }

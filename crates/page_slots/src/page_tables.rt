@@ -1,0 +1,32 @@
+//! The tables of a region's pages.
+ghost use Rattle.std.specs.Prelude.{IfOk};
+ghost use Rattle.page_slots.specs.PageTables.{AreFirst};
+
+use cf_base::{Layout, OutOfMemory, Settings};
+use page_pool::PagePool;
+use size_classes::Classes;
+use slot_bitmap::{SlotMap, free_maps};
+use std::alloc::Global;
+
+/// What all owners of a region's pages share: the size classes, a map of the slots of each page, and
+/// the pool of free pages. The pages of each class are in lists beside it, one set for each owner.
+#[derive(Drop)]
+pub struct PageTables {
+    pub classes: Classes,
+    pub maps: Vec<SlotMap>,
+    pub pool: PagePool,
+}
+
+impl PageTables {
+    /// Tables in which all pages of the settings are free, with slot sizes of this layout. Only this
+    /// call allocates.
+    pub fn new(alloc: Global, s: &Settings, layout: Layout) -> Result<PageTables, OutOfMemory>
+        ensures { IfOk result (λ t. AreFirst s.now layout t) }
+    {
+        Ok(PageTables {
+            classes: Classes::new(alloc, s.page_words, layout)?,
+            maps: free_maps(alloc, s.pages)?,
+            pool: PagePool::new(alloc, s.pages)?,
+        })
+    }
+}

@@ -1,0 +1,108 @@
+use Rattle.std.proofs.Common.{arith, refl}
+use Rattle.slice_model.specs.State.{Move}
+use Rattle.sliced_heap.specs.Heap.{seen}
+use Rattle.sliced_heap.proofs.SliceWords.{move_apart, move_does, move_ended, move_known, move_source, move_target}
+use Rattle.sliced_heap.proofs.SliceLemmas.{all_zeros, ends_in_order, goes_in_order, goes_on, goes_on_valid, goes_to_end, vacated_valid}
+use Rattle.sliced_heap.proofs.open_heap.OpenHeap.move_slice.Goals as goal
+
+pub unreachable-requires : goal.unreachable-requires
+unreachable-requires c = move_known (seen c.args.self.now) c.requires.kept c.args.k c.args.h.0 c.requires.job c.in_default.ensures.found
+
+pub move_next-requires-clause-source : goal.move_next-requires-clause-source
+move_next-requires-clause-source c =
+    move_source (seen c.args.self.now) c.requires.kept c.args.k c.args.h.0 c.requires.job c.in-Some.to c.in-Some.ensures.found c.words_of-n.result
+    c.words_of-n.ensures
+
+pub move_next-requires-clause-target : goal.move_next-requires-clause-target
+move_next-requires-clause-target c =
+    move_target (seen c.args.self.now) c.requires.kept c.args.k c.args.h.0 c.requires.job c.in-Some.to c.in-Some.ensures.found c.words_of-n.result
+    c.words_of-n.ensures
+
+pub move_next-requires-clause-apart : goal.move_next-requires-clause-apart
+move_next-requires-clause-apart c =
+    move_apart (seen c.args.self.now) c.requires.kept c.args.k c.args.h.0 c.requires.job c.in-Some.to c.in-Some.ensures.found c.words_of-n.result
+    c.words_of-n.ensures
+
+pub returns-then-done-slot_words-clause-step : goal.returns-then-done-slot_words-clause-step
+returns-then-done-slot_words-clause-step c =
+    let h = seen c.args.self.now in
+    let s = c.slot_words.ensures.value in
+    goes_on h c.requires.kept (Move c.args.h.0 c.args.k) c.requires.job c.args.k refl c.move_next.new.region c.move_next.ensures.len c.words_of-n.result
+    c.words_of-n.ensures
+    (move_does h c.requires.kept c.args.k c.args.h.0 c.requires.job c.in-Some.to c.in-Some.ensures.found c.move_next.new.region c.words_of-n.result
+    c.move_next.ensures.words)
+    (move_ended h c.requires.kept c.args.k c.args.h.0 c.requires.job c.in-Some.to c.in-Some.ensures.found c.move_next.new.region c.words_of-n.result
+    c.move_next.ensures.words)
+    (let t = c.if-done-slot_words.true in omega arith)
+
+pub returns-then-done-slot_words-clause-ordered : goal.returns-then-done-slot_words-clause-ordered
+returns-then-done-slot_words-clause-ordered c =
+    let h = seen c.args.self.now in
+    let s = c.slot_words.ensures.value in
+    goes_in_order h c.requires.kept (Move c.args.h.0 c.args.k) c.requires.job c.args.k refl c.move_next.new.region c.move_next.ensures.len c.words_of-n.result
+    c.words_of-n.ensures
+    (move_does h c.requires.kept c.args.k c.args.h.0 c.requires.job c.in-Some.to c.in-Some.ensures.found c.move_next.new.region c.words_of-n.result
+    c.move_next.ensures.words)
+    (move_ended h c.requires.kept c.args.k c.args.h.0 c.requires.job c.in-Some.to c.in-Some.ensures.found c.move_next.new.region c.words_of-n.result
+    c.move_next.ensures.words)
+    (let t = c.if-done-slot_words.true in omega arith)
+
+pub returns-then-done-slot_words-clause-kept : goal.returns-then-done-slot_words-clause-kept
+returns-then-done-slot_words-clause-kept c =
+    let h = seen c.args.self.now in
+    let s = c.slot_words.ensures.value in
+    goes_on_valid h c.requires.kept (Move c.args.h.0 c.args.k) c.requires.job c.args.k refl c.move_next.new.region c.move_next.ensures.len c.words_of-n.result
+    c.words_of-n.ensures
+    (move_does h c.requires.kept c.args.k c.args.h.0 c.requires.job c.in-Some.to c.in-Some.ensures.found c.move_next.new.region c.words_of-n.result
+    c.move_next.ensures.words)
+    (move_ended h c.requires.kept c.args.k c.args.h.0 c.requires.job c.in-Some.to c.in-Some.ensures.found c.move_next.new.region c.words_of-n.result
+    c.move_next.ensures.words)
+    (let t = c.if-done-slot_words.true in omega arith)
+
+pub end-requires-clause-kept : goal.end-requires-clause-kept
+end-requires-clause-kept c =
+    let h = seen c.args.self.now in
+    let s = c.slot_words.ensures.value in
+    vacated_valid h c.requires.kept (Move c.args.h.0 c.args.k) c.requires.job c.args.k refl c.move_next.new.region c.move_next.ensures.len c.words_of-n.result
+    c.words_of-n.ensures
+    (move_does h c.requires.kept c.args.k c.args.h.0 c.requires.job c.in-Some.to c.in-Some.ensures.found c.move_next.new.region c.words_of-n.result
+    c.move_next.ensures.words)
+    (move_ended h c.requires.kept c.args.k c.args.h.0 c.requires.job c.in-Some.to c.in-Some.ensures.found c.move_next.new.region c.words_of-n.result
+    c.move_next.ensures.words)
+    (let t = c.if-done-slot_words.false in omega arith)
+
+pub end-requires-clause-zeros : goal.end-requires-clause-zeros
+end-requires-clause-zeros c =
+    let h = seen c.args.self.now in
+    let s = c.slot_words.ensures.value in
+    all_zeros h c.requires.kept (Move c.args.h.0 c.args.k) c.requires.job c.args.k refl c.move_next.new.region c.move_next.ensures.len c.words_of-n.result
+    c.words_of-n.ensures
+    (move_does h c.requires.kept c.args.k c.args.h.0 c.requires.job c.in-Some.to c.in-Some.ensures.found c.move_next.new.region c.words_of-n.result
+    c.move_next.ensures.words)
+    (move_ended h c.requires.kept c.args.k c.args.h.0 c.requires.job c.in-Some.to c.in-Some.ensures.found c.move_next.new.region c.words_of-n.result
+    c.move_next.ensures.words)
+    (let t = c.if-done-slot_words.false in omega arith)
+
+pub returns-clause-step : goal.returns-clause-step
+returns-clause-step c =
+    let h = seen c.args.self.now in
+    let s = c.slot_words.ensures.value in
+    goes_to_end h c.requires.kept (Move c.args.h.0 c.args.k) c.requires.job c.args.k refl c.move_next.new.region c.move_next.ensures.len c.words_of-n.result
+    c.words_of-n.ensures
+    (move_does h c.requires.kept c.args.k c.args.h.0 c.requires.job c.in-Some.to c.in-Some.ensures.found c.move_next.new.region c.words_of-n.result
+    c.move_next.ensures.words)
+    (move_ended h c.requires.kept c.args.k c.args.h.0 c.requires.job c.in-Some.to c.in-Some.ensures.found c.move_next.new.region c.words_of-n.result
+    c.move_next.ensures.words)
+    (let t = c.if-done-slot_words.false in omega arith) (seen c.end.new.self) c.end.ensures.ended c.end.ensures.words
+
+pub returns-clause-ordered : goal.returns-clause-ordered
+returns-clause-ordered c =
+    let h = seen c.args.self.now in
+    let s = c.slot_words.ensures.value in
+    ends_in_order h c.requires.kept (Move c.args.h.0 c.args.k) c.requires.job c.args.k refl c.move_next.new.region c.move_next.ensures.len c.words_of-n.result
+    c.words_of-n.ensures
+    (move_does h c.requires.kept c.args.k c.args.h.0 c.requires.job c.in-Some.to c.in-Some.ensures.found c.move_next.new.region c.words_of-n.result
+    c.move_next.ensures.words)
+    (move_ended h c.requires.kept c.args.k c.args.h.0 c.requires.job c.in-Some.to c.in-Some.ensures.found c.move_next.new.region c.words_of-n.result
+    c.move_next.ensures.words)
+    (let t = c.if-done-slot_words.false in omega arith) (seen c.end.new.self) c.end.ensures.ended c.end.ensures.ordered c.end.ensures.words
