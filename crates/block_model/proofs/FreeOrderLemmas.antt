@@ -104,7 +104,7 @@ module _ (rule : FreeLists) (lists : List (List ℕ)) (a size : ℕ) where
   pub led_other : (k : ℕ) → k ≢ rule.bucket size → list_in (lists_led_by rule lists a size) k ≡ list_in lists k
   led_other k ne = get_or-set_other lists (rule.bucket size) k (a ∷ list_in lists (rule.bucket size)) [] ne
 
--- lists of lists that have the same lists are the same
+-- two lists of lists are equal if each list k is the same in both
 pub same_listed : (xs ys : List (List ℕ)) → length xs ≡ length ys → ((k : ℕ) → list_in xs k ≡ list_in ys k) → xs ≡ ys
 same_listed [] [] long same = refl
 same_listed [] (y ∷ ys) long same = absurd (omega arith)
@@ -320,7 +320,7 @@ module _ (rule : FreeLists) (count : ℕ) (s : Listed) (of : AreListsOf rule cou
         ];
       }
 
-  -- there is a next block, if a block serves
+  -- there is a next block, if a free block may serve the need
   pub next_there : (need x : ℕ) (b : Block) → block_at s.blocks x ≡ Some b → Serves rule need b → (a : ℕ) × (next_block rule s.lists need ≡ Some a)
   next_there need x b there serves = by_cases (next_block rule s.lists need) refl
     where
@@ -338,7 +338,7 @@ module _ (rule : FreeLists) (count : ℕ) (s : Listed) (of : AreListsOf rule cou
     next : IsNext d.need place
     next = next_is d.need place c.next
 
-    -- it is a malloc
+    -- a carve of the next block is a malloc of the model
     pub carve_is_malloc : Carves rule s.blocks d place new.blocks
     carve_is_malloc = record { found = next.block; there = next.there; serves = next.serves; least = next.least; carved = c.blocks }
 

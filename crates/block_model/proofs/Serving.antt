@@ -1,4 +1,4 @@
--- A malloc succeeds, or no block serves it.
+-- A malloc of the model has a result, or no free block may serve the need.
 use Rattle.std.proofs.Common.{◌≡◌, ℕ, ◌+◌, ◌≤◌, List, [], ◌∷◌, Option, Some, None, arith, sym, ◌∙◌, inl, inr, ap, refl}
 use Rattle.std.specs.Prelude.{◌⊎◌}
 use Rattle.std.proofs.lemmas.Bool.{cases_eq, cases_lt}
@@ -8,7 +8,7 @@ use Rattle.cf_lemmas.proofs.Tests.{eq_yes, eq_no}
 use Rattle.block_model.proofs.Rewriting.{behind}
 
 module _ (rule : FreeLists) (need : ℕ) where
-  -- a block that serves, of the least bucket of those that do
+  -- a free block that may serve the need, of the lowest bucket of such blocks
   record Least (bs : List Block) : Type 0 where
     place : ℕ
     found : Block
@@ -16,7 +16,7 @@ module _ (rule : FreeLists) (need : ℕ) where
     serves : Serves rule need found
     least : (a : ℕ) (b : Block) → block_at bs a ≡ Some b → Serves rule need b → rule.bucket found.size ≤ rule.bucket b.size
 
-  -- a block serves or doesn't
+  -- a block may serve the need or not
   serves_or_not : (b : Block) → Serves rule need b ⊎ (Serves rule need b → ⊥)
   serves_or_not b = by_owner b.owner refl
     where
@@ -79,7 +79,7 @@ module _ (rule : FreeLists) (need : ℕ) where
     ]
   ]
 
--- a malloc succeeds, or no block serves it
+-- a malloc has a result, or no free block may serve the need
 pub carved_or_lacking : (rule : FreeLists) (count : ℕ) (old : List Block) (d : Demand) → IsTiling count old
     → ((place : ℕ) × (new : List Block) × Carves rule old d place new) ⊎ LacksBlock rule old d.need
 carved_or_lacking rule count old d t = elim (least_or_none rule d.need old 0 count t.fill) [

@@ -1,4 +1,4 @@
--- What calls on blocks take at most.
+-- The most steps of calls on blocks.
 use Rattle.std.proofs.Common.{ℕ, Bool, true, false, ◌+◌, ◌-◌, ◌/◌, ◌%◌, ◌^◌, ◌≤◌, ◌==◌, List, Option, Some, None, cond, length, get_or, arith}
 use Rattle.std.specs.Prelude.{nat_le, nat_lt}
 use Rattle.block_model.specs.Buckets.{FreeLists}
@@ -7,12 +7,12 @@ use Rattle.block_model.specs.Costs.{next_merge_steps, next_steps, previous_merge
 use Rattle.block_model.specs.FreeOrder.{free_from, free_up_to, no_block}
 use Rattle.block_model.specs.Tiling.{Block, size_at}
 
--- a choice is at most what both are
+-- if two numbers are at most n, the one that a test chooses is at most n
 either_at_most : (t : Bool) (x y n : ℕ) → x ≤ n → y ≤ n → cond t x y ≤ n
 either_at_most true x y n p q = p
 either_at_most false x y n p q = q
 
--- so is a sum
+-- a sum is at most the sum of the bounds
 sum_at_most : (a b m n : ℕ) → a ≤ m → b ≤ n → a + b ≤ m + n
 sum_at_most a b m n p q = omega arith
 
@@ -81,7 +81,7 @@ join_at_most link end words =
     sum_at_most (5 + unlink_steps link) (before_steps end words) 11 2 (sum_at_most 5 (unlink_steps link) 5 6 (omega arith) (unlink_at_most link))
     (before_at_most end words)
 
--- the header of a neighbour, if there is one, and a join with it, if it is free
+-- reading the header of a neighbour, if there is one, and joining with it, if it is free, costs at most 14 steps
 merge_at_most : (last none : Bool) (link end words : ℕ) → cond last 0 1 + cond none 0 (join_steps link end words) ≤ 14
 merge_at_most last none link end words =
     sum_at_most (cond last 0 1) (cond none 0 (join_steps link end words)) 1 13 (either_at_most last 0 1 1 (omega arith) (omega arith))

@@ -14,7 +14,7 @@ log n = log_up_to 31 n
 unfoldable pub tlsf_bucket : ℕ → ℕ
 tlsf_bucket s = if nat_lt s 16 then s else 16 + 16 * (log s - 4) + (s - 2 ^ log s) / 2 ^ (log s - 4)
 
--- the need, rounded up so that every block of its list is large enough
+-- the need, rounded up so that every block of the result's list is large enough
 unfoldable pub tlsf_rounded : ℕ → ℕ
 tlsf_rounded need = if nat_lt need 16 then need else need + 2 ^ (log need - 4) - 1
 

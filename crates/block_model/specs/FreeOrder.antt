@@ -1,4 +1,4 @@
--- The order in which the free blocks are used: one list for each bucket, what a carve takes of them, and what a carve and a release leave.
+-- The order in which the free blocks are used: a list for each bucket, the block that a carve takes, and the lists after a carve and a release.
 use Rattle.std.specs.Prelude.{◌≡◌, ℕ, ◌+◌, ◌-◌, ◌*◌, ◌^◌, ◌↔◌, List, [], ◌∷◌, Option, Some, None, length, slice_index, slice_index_or, slice_set, map, drop, nat_eq, nat_le}
 use Rattle.std.specs.Prelude.{not, replicate, cond, if◌then◌else◌}
 use Rattle.std.specs.List.{Contains, IsDistinct, filter}
@@ -11,7 +11,7 @@ pub record Listed : Type 0 where
   pub blocks : List Block
   pub lists : List (List ℕ)
 
--- list k
+-- list k, or no block if there is no such list
 abbrev pub list_in : List (List ℕ) → ℕ → List ℕ
 list_in lists k = slice_index_or lists k []
 
@@ -28,7 +28,7 @@ pub record AreListsOf (rule : FreeLists) (count : ℕ) (s : Listed) : Type 0 whe
   pub members : (k a : ℕ) → Contains (list_in s.lists k) a ↔ IsFreeOf rule s.blocks k a
   pub once : (k : ℕ) → IsDistinct nat_eq (list_in s.lists k)
 
--- the first block of the first list that is not empty
+-- the first block of the first list that is not empty; none if all are empty
 abbrev pub first_listed : List (List ℕ) → Option ℕ
 first_listed [] = None
 first_listed ([] ∷ lists) = first_listed lists
@@ -42,7 +42,7 @@ next_block rule lists need = first_listed (drop (rule.search need) lists)
 abbrev pub lists_without : List (List ℕ) → ℕ → List (List ℕ)
 lists_without lists a = map (without_number a) lists
 
--- the lists, where a free block of `size` words is the first of its list now
+-- the lists after a free block of `size` words at `a` became the first of its list
 abbrev pub lists_led_by : FreeLists → List (List ℕ) → ℕ → ℕ → List (List ℕ)
 lists_led_by rule lists a size = slice_set lists (rule.bucket size) (a ∷ list_in lists (rule.bucket size))
 
@@ -63,11 +63,12 @@ pub record CarvesNext (rule : FreeLists) (old : Listed) (d : Demand) (place : �
   pub blocks : new.blocks ≡ carved_at old.blocks place d
   pub lists : new.lists ≡ lists_carved rule old d.need place
 
--- the words of the free block that begins at the address, 0 if there is none
+-- the words of the block if there is one and it is free, else 0
 abbrev pub free_size : Option Block → ℕ
 free_size None = 0
 free_size (Some b) = cond (is_free b) b.size 0
 
+-- the words of the free block that begins at the address, 0 if there is none
 abbrev pub free_from : List Block → ℕ → ℕ
 free_from blocks a = free_size (block_at blocks a)
 
@@ -76,14 +77,16 @@ abbrev pub free_up_to : List Block → ℕ → ℕ
 free_up_to [] a = 0
 free_up_to (b ∷ bs) a = if nat_eq (b.address + b.size) a then cond (is_free b) b.size 0 else free_up_to bs a
 
--- where the block that a release leaves begins, and its words: the block at the address and its free neighbours
+-- the address of the block that a release leaves: the block at `a` with its free neighbours
 abbrev pub merged_start : List Block → ℕ → ℕ
 merged_start blocks a = a - free_up_to blocks a
 
+-- the words of the block that a release leaves
 abbrev pub merged_size : List Block → ℕ → ℕ
 merged_size blocks a = free_up_to blocks a + (size_at blocks a + free_from blocks (a + size_at blocks a))
 
--- the lists after a release: its free neighbours leave their lists, and the block that it leaves is the first of its list; a used block is in no list
+-- the lists after a release: the free neighbours leave their lists, and the merged block becomes the first of its list; a used neighbour is in no list, so
+-- removing it changes nothing
 abbrev pub lists_released : FreeLists → Listed → ℕ → List (List ℕ)
 lists_released rule s a =
     lists_led_by rule (lists_without (lists_without s.lists (a + size_at s.blocks a)) (merged_start s.blocks a)) (merged_start s.blocks a) (merged_size s.blocks a)
@@ -96,16 +99,16 @@ no_block = 2 ^ 32 - 1
 abbrev pub link_word : ℕ → ℕ → ℕ
 link_word next previous = next + 2 ^ 32 * previous
 
--- the first block of a list, if any
+-- the address of the first block of a list, or `no_block`
 abbrev pub first : List ℕ → ℕ
 first [] = no_block
 first (a ∷ xs) = a
 
--- word 1 of each block of the list links it with its neighbours there; before the first is `previous`
+-- word 1 of each block of the list links the block with the next and the previous one in the list; the first has the previous block `previous`
 abbrev pub AreThreaded : List ℕ → ℕ → List ℕ → Type 0
 AreThreaded words previous [] = Unit {0}
 AreThreaded words previous (a ∷ xs) = (slice_index words (a + 1) ≡ link_word (first xs) previous) × AreThreaded words a xs
 
--- word 1 of each free block links it with its neighbours in its list
+-- word 1 of each block in a list links the block with the next and the previous one in its list
 abbrev pub HaveLinks : List ℕ → List (List ℕ) → Type 0
 HaveLinks words lists = (k : ℕ) → AreThreaded words no_block (list_in lists k)

@@ -51,7 +51,7 @@ pub record Demand : Type 0 where
 abbrev pub block_need : ℕ → ℕ
 block_need n = 2 + (n + 7) / 8
 
--- a free block that may serve the need
+-- a free block that may serve the need: its list is the first that is searched, or a later one
 pub record Serves (rule : FreeLists) (need : ℕ) (b : Block) : Type 0 where
   pub free : b.owner ≡ None
   pub reached : rule.search need ≤ rule.bucket b.size
@@ -60,19 +60,20 @@ pub record Serves (rule : FreeLists) (need : ℕ) (b : Block) : Type 0 where
 abbrev pub LacksBlock : FreeLists → List Block → ℕ → Type 0
 LacksBlock rule blocks need = (a : ℕ) (b : Block) → block_at blocks a ≡ Some b → Serves rule need b → ⊥
 
--- the first words of a block become used, and the rest becomes a free block; a rest of less than two words stays with the first
+-- a block is split: its first words, which the request needs, become used, and the rest becomes a free block; a rest of less than two words stays with the
+-- first
 abbrev pub carved : Block → Demand → List Block
 carved b d = if nat_le (d.need + 2) b.size
     then record { address = b.address; size = d.need; owner = Some d.owner } ∷ record
     { address = b.address + d.need; size = b.size - d.need; owner = None } ∷ []
     else (record { address = b.address; size = b.size; owner = Some d.owner } ∷ [])
 
--- the block at the address is split
+-- the blocks after the one at the address is split
 abbrev pub carved_at : List Block → ℕ → Demand → List Block
 carved_at [] a d = []
 carved_at (b ∷ bs) a d = if nat_eq b.address a then carved b d ++ bs else b ∷ carved_at bs a d
 
--- a malloc: of the free blocks that serve, one of the least bucket is split
+-- a malloc: of the free blocks that may serve the need, one of the lowest bucket is split
 pub record Carves (rule : FreeLists) (old : List Block) (d : Demand) (place : ℕ) (new : List Block) : Type 0 where
   pub found : Block
   pub there : block_at old place ≡ Some found
@@ -85,12 +86,12 @@ abbrev pub joined : Block → List Block → List Block
 joined b [] = b ∷ []
 joined b (c ∷ cs) = if is_free b && is_free c then record { address = b.address; size = b.size + c.size; owner = None } ∷ cs else (b ∷ c ∷ cs)
 
--- free neighbours become one block
+-- the blocks after all free neighbours became one block
 abbrev pub merged : List Block → List Block
 merged [] = []
 merged (b ∷ bs) = joined b (merged bs)
 
--- the block at the address becomes free
+-- the blocks after the one at the address became free
 abbrev pub freed_at : List Block → ℕ → List Block
 freed_at [] a = []
 freed_at (b ∷ bs) a = if nat_eq b.address a then record { address = b.address; size = b.size; owner = None } ∷ bs else b ∷ freed_at bs a
@@ -133,7 +134,7 @@ pub record IsCarvedTo (blocks : List Block) (place : ℕ) (d : Demand) : Type 0 
   pub least : d.need ≤ block.size
   pub most : block.size ≤ d.need + 1
 
--- each used block but the one at the address is in both lists
+-- each used block but the one at the address is in both lists of blocks
 pub record StaysUsed (old : List Block) (place : ℕ) (new : List Block) : Type 0 where
   pub kept : (a : ℕ) (b : Block) (h : ℕ) → a ≢ place → b.owner ≡ Some h → block_at old a ≡ Some b → block_at new a ≡ Some b
   pub no_other : (a : ℕ) (b : Block) (h : ℕ) → a ≢ place → b.owner ≡ Some h → block_at new a ≡ Some b → block_at old a ≡ Some b

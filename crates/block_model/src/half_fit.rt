@@ -5,7 +5,7 @@ ghost use Rattle.block_model.specs.Buckets.{half_fit_bucket, half_fit_search};
 /// The number of free lists for sizes up to `2^23` words.
 pub const COUNT: u32 = 24;
 
-/// The free list of a block of `size` words.
+/// The number of the free list for blocks of `size` words.
 pub fn bucket_of(size: u32) -> u32
     requires { 1 ≤ size }
     ensures { result ≡ half_fit_bucket size }
@@ -13,7 +13,7 @@ pub fn bucket_of(size: u32) -> u32
     size.ilog2()
 }
 
-/// The first free list in which every block has at least `need` words.
+/// The number of the first free list in which every block has at least `need` words.
 pub fn search_for(need: u32) -> u32
     ensures { result ≡ half_fit_search need }
 {

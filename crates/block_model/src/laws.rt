@@ -11,18 +11,19 @@ pub fn one_block_is_a_tiling()
     ensures { (words : ℕ) → 2 ≤ words → IsTiling words (one_free_block words) }
 {}
 
-/// A malloc keeps the tiling.
+/// The blocks after a malloc are a tiling of the region.
 pub fn malloc_keeps_tiling()
     ensures { (rule : FreeLists) (words : ℕ) (old new : List Block) (d : Demand) (place : ℕ)
         → 2 ≤ d.need → IsTiling words old → Carves rule old d place new → IsTiling words new }
 {}
 
-/// A free keeps the tiling.
+/// The blocks after a free are a tiling of the region.
 pub fn free_keeps_tiling()
     ensures { (words : ℕ) (old : List Block) (place : ℕ) → IsTiling words old → IsTiling words (released old place) }
 {}
 
-/// The block of a malloc has the words that are needed, or one more.
+/// The block of a malloc has the words that the request needs, or one more, and the request's
+/// owner.
 pub fn malloc_gives_what_is_needed()
     ensures { (rule : FreeLists) (count words : ℕ) (old new : List Block) (d : Demand) (place : ℕ)
         → AreLawful rule count → words ≤ 2 ^ 23 → 2 ≤ d.need → d.need ≤ 2 ^ 23 → IsTiling words old → Carves rule old d place new
@@ -36,25 +37,26 @@ pub fn other_blocks_stay()
     ensures free { (words : ℕ) (old : List Block) (place : ℕ) → IsTiling words old → StaysUsed old place (released old place) }
 {}
 
-/// The free lists of TLSF and of Half-Fit are lawful.
+/// The rules of TLSF, with 336 free lists, and of Half-Fit, with 24, are lawful (`AreLawful`).
 pub fn free_lists_are_lawful()
     ensures tlsf { AreLawful tlsf 336 }
     ensures half_fit { AreLawful half_fit 24 }
 {}
 
-/// A malloc succeeds if a block serves.
+/// A malloc of the model has a result, unless no free block may serve the need.
 pub fn a_malloc_is_done_or_lacks_a_block()
     ensures { (rule : FreeLists) (words : ℕ) (old : List Block) (d : Demand) → IsTiling words old
         → ((place : ℕ) × (new : List Block) × Carves rule old d place new) ⊎ LacksBlock rule old d.need }
 {}
 
-/// Each tiling has words, whatever the contents of its blocks.
+/// Each tiling has words that represent it (`AreTilingWords`), whatever the contents of its used
+/// blocks.
 pub fn a_tiling_has_words()
     ensures { (content : ℕ → ℕ → ℕ) (count : ℕ) (blocks : List Block) → IsTiling count blocks
         → AreTilingWords content blocks (tiling_words content blocks 0) × (length (tiling_words content blocks 0) ≡ count) }
 {}
 
-/// The words determine the blocks, without word 1 of the free ones.
+/// The words determine the blocks. Word 1 of a free block isn't needed for that.
 pub fn the_words_show_the_blocks()
     ensures { (count : ℕ) (blocks : List Block) (words : List ℕ) → count < 2 ^ 31 → IsTiling count blocks
         → HaveHeaders words blocks 0 → HaveTags words blocks → read_blocks count words 0 count ≡ blocks }

@@ -1,5 +1,5 @@
-//! A region divided into blocks without a gap, as in TLSF (2004) and Half-Fit (1995): what it is,
-//! what a malloc and a free do to it and cost, and the free lists of both.
+//! A region divided into blocks without a gap (a tiling), as in TLSF (2004) and Half-Fit (1995):
+//! what a malloc and a free do to the blocks, what they cost in steps, and the free lists of both.
 #![tactic(auto)]
 
 pub mod costs;

@@ -5,7 +5,7 @@ ghost use Rattle.block_model.specs.Buckets.{tlsf_bucket, tlsf_rounded, tlsf_sear
 /// The number of free lists for sizes up to `2^23` words.
 pub const COUNT: u32 = 336;
 
-/// The free list of a block of `size` words.
+/// The number of the free list for blocks of `size` words.
 pub fn bucket_of(size: u32) -> u32
     requires { size ≤ 2 ^ 24 }
     ensures { result ≡ tlsf_bucket size }
@@ -17,7 +17,7 @@ pub fn bucket_of(size: u32) -> u32
     16 + 16 * (power - 4) + ((size - (1 << power)) >> (power - 4))
 }
 
-/// The first free list in which every block has at least `need` words.
+/// The number of the first free list in which every block has at least `need` words.
 pub fn search_for(need: u32) -> u32
     requires { need ≤ 2 ^ 23 }
     ensures { result ≡ tlsf_search need }
@@ -25,7 +25,7 @@ pub fn search_for(need: u32) -> u32
     bucket_of(rounded_up(need))
 }
 
-/// The need, rounded up so that every block of its list is large enough.
+/// The need in words, rounded up so that every block of the result's list is large enough.
 fn rounded_up(need: u32) -> u32
     requires { need ≤ 2 ^ 23 }
     ensures value { result ≡ tlsf_rounded need }

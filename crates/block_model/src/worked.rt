@@ -25,7 +25,7 @@ pub fn a_remainder_of_a_word_stays()
 {}
 
 /// 256 bytes need 34 words, and 30 remain with TLSF and with Half-Fit. 176 bytes need 24: TLSF
-/// serves them from the 30, Half-Fit refuses them.
+/// splits the block of 30 for them, Half-Fit refuses them.
 pub fn half_fit_refuses_what_tlsf_serves()
     ensures needs { (block_need 256 ≡ 34) × (block_need 176 ≡ 24) }
     ensures tlsf_first { Carves tlsf (one_free_block 64) (record { need = 34; owner = 1 }) 0 (used 0 34 1 ∷ free 34 30 ∷ []) }

@@ -30,7 +30,7 @@ module _ (a b n : ℕ) (apart : (a + n ≤ b) ⊎ (b + n ≤ a)) where
   pub partner_else : (v : ℕ) → ((v < a) ⊎ (a + n ≤ v)) → ((v < b) ⊎ (b + n ≤ v)) → partner a b n v ≡ v
   partner_else v p q = (let x = among_no a n v p in let y = among_no b n v q in rw (x, y) refl)
 
-  -- whether a number is in the first run, in the second, or in neither
+  -- the three cases of a number: in the first run, in the second, or in neither; with its partner in each case
   data Where (v : ℕ) : Type 0 where
     first : a ≤ v → v < a + n → partner a b n v ≡ b + (v - a) → Where v
     second : b ≤ v → v < b + n → partner a b n v ≡ a + (v - b) → Where v

@@ -1,4 +1,4 @@
--- Lookups in finite maps by number, by whether the keys are equal.
+-- Lookups in finite maps after a removal or an insertion: of the key itself, and of another one.
 use Rattle.std.proofs.Common.{◌≡◌, ◌≢◌, ℕ, cond, ◌+◌, ◌-◌, Some, None, sym, ◌∙◌, ap, refl, inl, inr}
 use Rattle.std.specs.Option.{is_some}
 use Rattle.std.specs.Prelude.{◌⊎◌}
@@ -29,6 +29,10 @@ module _ {V : Type 0} (m : FinMap nat_cmp V) (h : ℕ) where
 
   pub len_gone : (w : V) → get m h ≡ Some w → len (remove m h) ≡ len m - 1
   len_gone w some = len-remove nat_cmp_total m h ∙ ap (λ o. cond (is_some o) (len m - 1) (len m)) some
+
+-- a key has one value
+pub found_once : {V : Type 0} (m : FinMap nat_cmp V) (q : ℕ) (x y : V) → get m q ≡ Some x → get m q ≡ Some y → x ≡ y
+found_once m q x y a b = (let e : Some x ≡ Some y = sym a ∙ b in cc)
 
 -- maps with the same lookups are equal
 pub equal_maps : {V : Type 0} (m n : FinMap nat_cmp V) → ((q : ℕ) → get m q ≡ get n q) → m ≡ n

@@ -1,13 +1,19 @@
 -- Which numbers are in a list, that none is in it twice, and the list without one number.
 use Rattle.std.proofs.Common.{◌≡◌, ◌≢◌, ℕ, zero, suc, true, false, ◌+◌, ◌<◌, ◌≤◌, List, [], ◌∷◌, length, get_or, cond, eqb, arith, refl, sym, ◌∙◌, ap, inl, inr}
 use Rattle.std.specs.Prelude.{◌⊎◌, not, nat_eq, ◌||◌}
-use Rattle.std.specs.List.{Contains, IsDistinct, AllByRecursion, list_any}
+use Rattle.std.specs.List.{Contains, IsDistinct, AllByRecursion, list_any, range_with_len}
 use Rattle.std.proofs.lemmas.Bool.{cases_eq, eq-eqb, true≢false}
 use Rattle.std.proofs.lemmas.Bool.Decides.{nat_tests}
 use Rattle.std.proofs.lemmas.List.Elements.{All-from_recursion, All-contains}
+use Rattle.std.proofs.lemmas.List.FromFn.{get_or-range_with_len, length-range_with_len}
 use Rattle.std.proofs.lemmas.Map.Keys.{IsDistinct-head, IsDistinct-tail, IsDistinct-cons}
 use Rattle.std.proofs.lemmas.Map.Steps.{length-le_from_distinct_below}
 use Rattle.cf_lemmas.specs.Lists.{without_number}
+
+-- a list is empty, or has a first number
+pub empty_or_not : (xs : List ℕ) → (xs ≡ []) ⊎ ((x : ℕ) × (rest : List ℕ) × (xs ≡ x ∷ rest))
+empty_or_not [] = inl refl
+empty_or_not (x ∷ xs) = inr (x, xs, refl)
 
 pub distinct_nil : IsDistinct nat_eq []
 unfolding IsDistinct
@@ -52,6 +58,31 @@ module _ (p : ℕ) where
   -- filtering out p keeps the other numbers
   pub without_same : (xs : List ℕ) → without_number p (p ∷ xs) ≡ without_number p xs
   without_same xs = ap (λ b. cond (not b) (p ∷ without_number p xs) (without_number p xs)) (eq-eqb p p refl)
+
+-- a range from 0 on has just the numbers below its length
+pub range_below : (n x : ℕ) → Contains (range_with_len 0 n) x → x < n
+range_below n x (k, lt, is) =
+    let long = length-range_with_len 0 n in
+    let at : 0 + k ≡ x = sym (get_or-range_with_len 0 n k x (omega arith)) ∙ is in
+    omega arith
+
+pub range_has : (n x : ℕ) → x < n → Contains (range_with_len 0 n) x
+range_has n x lt =
+    let long = length-range_with_len 0 n in
+    (x, omega arith, get_or-range_with_len 0 n x x lt ∙ (let e : 0 + x ≡ x = omega arith in e))
+
+apart_from_range : (a b n : ℕ) → a < b → AllByRecursion (λ q. eqb a q ≡ false) (range_with_len b n)
+apart_from_range a b zero lt = tt
+apart_from_range a b (suc n) lt = (differs a b (λ e. omega arith), apart_from_range a (b + 1) n (omega arith))
+
+-- and each number of a range is in it once
+pub range_distinct : (a n : ℕ) → IsDistinct nat_eq (range_with_len a n)
+unfolding IsDistinct
+range_distinct a zero = tt
+range_distinct a (suc n) = (apart_from_range a (a + 1) n (omega arith), range_distinct (a + 1) n)
+
+pub distinct_one : (p : ℕ) → IsDistinct nat_eq (p ∷ [])
+distinct_one p = distinct_cons p [] (contains_nil p) distinct_nil
 
 pub without_other : (p x : ℕ) (xs : List ℕ) → x ≢ p → without_number p (x ∷ xs) ≡ x ∷ without_number p xs
 without_other p x xs ne = ap (λ b. cond (not b) (x ∷ without_number p xs) (without_number p xs)) (differs x p ne)

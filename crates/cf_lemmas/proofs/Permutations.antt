@@ -1,26 +1,18 @@
 -- Lists that contain each number below their length once.
-use Rattle.std.proofs.Common.{◌≡◌, ◌≢◌, ℕ, zero, suc, ◌+◌, ◌<◌, ◌≤◌, ◌⊎◌, inl, inr, List, length, slice_index, get_or, min, max}
-use Rattle.std.proofs.Common.{arith, sym, subst, ◌∙◌, eqb, eq-eqb, false, zero-add}
+use Rattle.std.proofs.Common.{◌≡◌, ◌≢◌, ℕ, ◌+◌, ◌<◌, ◌≤◌, ◌⊎◌, inl, inr, List, length, slice_index, get_or, min, max}
+use Rattle.std.proofs.Common.{arith, sym, subst, ◌∙◌, eqb, eq-eqb}
 use Rattle.std.proofs.lemmas.Bool.{eqb-false, ne_eqb, cases_eq, cases_order}
 use Rattle.std.proofs.lemmas.Grind.{get_or_default_zero}
 use Rattle.std.proofs.lemmas.List.FromFn.{length-range_with_len, get_or-range_with_len}
 use Rattle.std.proofs.lemmas.List.Sorted.{All-permutation, Contains-permutation, IsPermutation-refl, IsPermutation-trans}
 use Rattle.std.proofs.lemmas.Map.Keys.{IsDistinct-IsPermutation, apart_from_distinct}
-use Rattle.std.specs.List.{AllByRecursion, Contains, IsDistinct, range_with_len}
+use Rattle.std.specs.List.{range_with_len}
 use Rattle.std.specs.List.Sorted.{IsPermutation}
 use Rattle.cf_lemmas.specs.Exchanges.{exchanged}
 use Rattle.cf_lemmas.proofs.Exchanges.{length-exchanged}
+use Rattle.cf_lemmas.proofs.Members.{range_distinct, range_has}
 use Rattle.cf_lemmas.proofs.Swapping.{swapped_permutation}
 use Rattle.cf_lemmas.proofs.SwappedRuns.{swapped_is}
-
-above_by_test : (a b n : ℕ) → a < b → AllByRecursion (λ q. eqb a q ≡ false) (range_with_len b n)
-above_by_test a b zero lt = tt
-above_by_test a b (suc n) lt = (ne_eqb a b (λ e. omega arith), above_by_test a (b + 1) n (omega arith))
-
-range_distinct : (a n : ℕ) → IsDistinct eqb (range_with_len a n)
-unfolding IsDistinct
-range_distinct a zero = tt
-range_distinct a (suc n) = (above_by_test a (a + 1) n (omega arith), range_distinct (a + 1) n)
 
 test_turned : (x y : ℕ) → eqb x y ≡ eqb y x
 test_turned x y = elim (cases_eq x y) [
@@ -55,7 +47,7 @@ module _ (xs : List ℕ) (n : ℕ) (long : length xs ≡ n) (p : IsPermutation (
   pub entry_onto : (b : ℕ) → b < n → (v : ℕ) × (v < n) × (slice_index xs v ≡ b)
   entry_onto b lt =
       let count : length (range_with_len 0 n) ≡ n = length-range_with_len 0 n in
-      let stands : Contains (range_with_len 0 n) b = (b, omega arith, get_or-range_with_len 0 n b b (omega arith) ∙ zero-add b) in
+      let stands = range_has n b lt in
       let found = Contains-permutation _ _ b p stands in
       let within = found.1 in
       (found.0, omega arith, sym (get_or_default_zero xs found.0 b found.1) ∙ found.2)
@@ -70,7 +62,7 @@ pub exchanged_permutation : (s : List ℕ) (a b n : ℕ) → (a + n ≤ b) ⊎ (
 exchanged_permutation s a b n apart at_a at_b =
     rw (← swapped_is s a b n apart at_a at_b) (swapped_permutation s (min a b) (max a b) n (elim apart [ inl l ↦ omega arith | inr l ↦ omega arith ]))
 
--- so a permutation of the numbers stays one
+-- so a list that contains each number below its length once still does after an exchange of two runs
 pub exchanged_permuted : (s : List ℕ) (a b n : ℕ) → (a + n ≤ b) ⊎ (b + n ≤ a) → a + n ≤ length s → b + n ≤ length s
     → IsPermutation (range_with_len 0 (length s)) s → IsPermutation (range_with_len 0 (length (exchanged s a b n))) (exchanged s a b n)
 exchanged_permuted s a b n apart at_a at_b p =

@@ -28,24 +28,22 @@ module _ {V : Type 0} where
       go q (Some v) e = absurd (let f = r.all q v e in let g : get (empty {X = V} {R = nat_cmp}) f.0 ≡ None = get-empty nat_cmp f.0 in let h : Some v ≡ None =
           sym f.2 ∙ g in cc)
 
-  module _ (ids : FinMap nat_cmp ℕ) (m n : FinMap nat_cmp V) (id : ℕ) (v : V) (none : get n id ≡ None) (r : AreRenamed ids m (insert n id v)) where
-    number : (h : ℕ) × (get ids id ≡ Some h) × (get m h ≡ Some v)
-    number = r.found id v (get_inserted n id v)
-
+  module _ (ids : FinMap nat_cmp ℕ) (m n : FinMap nat_cmp V) (id : ℕ) (v : V) (none : get n id ≡ None) (r : AreRenamed ids m (insert n id v))
+      (number : ℕ) (named : get ids id ≡ Some number) where
     -- what remains after removing the id and its number
-    fewer : AreRenamed (remove ids id) (remove m number.0) n
+    fewer : AreRenamed (remove ids id) (remove m number) n
     fewer = record {
       found = λ q w e. elim (cases_eq q id) [
         | inl is ↦ absurd (let e' : get n id ≡ Some w = rw (← is) e in cc)
         | inr ne ↦ (
             let f = r.found q w (get_insert_other n id v q ne ∙ e) in
-            let apart = (λ (is : f.0 ≡ number.0). ne (r.once id q number.0 number.1 (rw (← is) f.1))) in
-            (f.0, get_remove_other ids id q ne ∙ f.1, get_remove_other m number.0 f.0 apart ∙ f.2))
+            let apart = (λ (is : f.0 ≡ number). ne (r.once id q number named (rw (← is) f.1))) in
+            (f.0, get_remove_other ids id q ne ∙ f.1, get_remove_other m number f.0 apart ∙ f.2))
       ];
       all = λ g w e. (
-          let s = some_removed m number.0 g w e in
+          let s = some_removed m number g w e in
           let f = r.all g w s.1 in
-          let ne = (λ (is : f.0 ≡ id). s.0 (let a = f.1 in let b = number.1 in let c : get ids id ≡ Some g = rw (← is) a in cc)) in
+          let ne = (λ (is : f.0 ≡ id). s.0 (let a = f.1 in let b = named in let c : get ids id ≡ Some g = rw (← is) a in cc)) in
           (f.0, get_remove_other ids id f.0 ne ∙ f.1, sym (get_insert_other n id v f.0 ne) ∙ f.2));
       once = λ q other h a b. r.once q other h (some_removed ids id q h a).1 (some_removed ids id other h b).1;
     }
@@ -54,8 +52,8 @@ module _ {V : Type 0} where
   counted_alike = map_induction (λ n. (ids : FinMap nat_cmp ℕ) (m : FinMap nat_cmp V) → AreRenamed ids m n → CountAlike m n)
       (λ ids m r. subst (λ x. CountAlike x empty) (sym (only_empty ids m r)) (record { count = refl; sums = λ f. refl }))
       (λ n id v none before ids m r. (
-      let h = number ids m n id v none r in
-      let rest = before (remove ids id) (remove m h.0) (fewer ids m n id v none r) in
+      let h = r.found id v (get_inserted n id v) in
+      let rest = before (remove ids id) (remove m h.0) (fewer ids m n id v none r h.0 h.1) in
       record {
         count = (
             let a = len_fresh n id v none in

@@ -84,7 +84,7 @@ module _ (s : List ℕ) (i j n : ℕ) (low : i + n ≤ j) (within : j + n ≤ le
   swapped_long : length (swapped s i j n) ≡ length s
   swapped_long = length_permutation _ _ (swapped_permutation s i j n low)
 
--- the same with the two runs in either order
+-- swapping two runs exchanges them, whichever of them is first
 pub swapped_is : (s : List ℕ) (a b n : ℕ) → (a + n ≤ b) ⊎ (b + n ≤ a) → a + n ≤ length s → b + n ≤ length s
     → swapped s (min a b) (max a b) n ≡ exchanged s a b n
 swapped_is s a b n (inl l) at_a at_b = (

@@ -16,7 +16,7 @@ no_values {V} = ap (map (λ e. e.1)) (nil_from_length _ (sym (len-entries (empty
 pub map_values-empty : {X Y : Type 0} (f : X → Y) → map_values f (empty {R = nat_cmp}) ≡ empty {R = nat_cmp}
 map_values-empty f = equal_maps _ _ (λ q. get-map_values f (empty {R = nat_cmp}) q ∙ ap (option_map f) (get-empty nat_cmp q) ∙ sym (get-empty nat_cmp q))
 
--- the number of values stays the same
+-- a function applied to each value keeps the number of values
 pub len-map_values : {X Y : Type 0} (f : X → Y) (m : FinMap nat_cmp X) → len (map_values f m) ≡ len m
 len-map_values {X} {Y} f = map_induction (λ m. len (map_values f m) ≡ len m)
     (ap len (map_values-empty f) ∙ len-empty nat_cmp Y ∙ sym (len-empty nat_cmp X))

@@ -2,6 +2,6 @@
 use Rattle.std.specs.Prelude.{ℕ, List, not, nat_eq}
 use Rattle.std.specs.List.{filter}
 
--- the other numbers of a list, in order
+-- the list without n: its other numbers, in order
 abbrev pub without_number : ℕ → List ℕ → List ℕ
 without_number n xs = filter (λ other. not (nat_eq other n)) xs

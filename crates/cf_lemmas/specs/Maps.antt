@@ -7,7 +7,7 @@ use Rattle.std.specs.FinMap.{FinMap, empty, insert, from_sorted, entries}
 unfoldable pub map_values : {X Y : Type 0} → (X → Y) → FinMap nat_cmp X → FinMap nat_cmp Y
 map_values f m = from_sorted (map (λ e. (e.0, f e.1)) (entries m))
 
--- the map of the list's values under their positions, counted from k
+-- the map from positions, counted from k, to the values of a list; a position without a value is no key
 abbrev pub numbered : {X : Type 0} → ℕ → List (Option X) → FinMap nat_cmp X
 numbered k [] = empty
 numbered k (None ∷ xs) = numbered (k + 1) xs

@@ -1,2 +1,3 @@
-//! Lemmas on finite maps by number, on sums and counts over them, and on ranges. No code.
+//! Lemmas on finite maps whose keys are numbers, on sums and counts over them, and on ranges. No
+//! code.
 #![tactic(auto)]

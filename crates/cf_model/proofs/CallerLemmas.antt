@@ -7,4 +7,4 @@ pub use Rattle.cf_model.proofs.OpeningOrders.{opened_in_order}
 pub use Rattle.cf_model.proofs.Owning.{no_one, owned_free, owned_malloc, owned_replaced}
 pub use Rattle.cf_model.proofs.ReadObjects.{fresh_word, objects_shown}
 pub use Rattle.cf_model.proofs.BlockWords.{link_outside, links_stay}
-pub use Rattle.cf_model.proofs.OneOutcome.{free_same, one_malloc, one_resize, one_write, order_stays, same_words}
+pub use Rattle.cf_model.proofs.OneOutcome.{free_same, one_malloc, one_resize, one_write, order_stays, pages_kept, same_words}

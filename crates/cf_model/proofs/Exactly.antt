@@ -1,8 +1,7 @@
 -- Each result of a call excludes every other one.
 use Rattle.std.proofs.Common.{◌≡◌, ℕ, ◌+◌, ◌<◌, ◌≤◌, Some, None, length, arith, sym, ◌∙◌, subst, inl, inr, ap, refl}
-use Rattle.std.specs.Prelude.{nat_lt, ◌&&◌}
 use Rattle.std.specs.FinMap.{get}
-use Rattle.cf_lemmas.proofs.Ranges.{some_in_range as counted}
+use Rattle.cf_lemmas.proofs.Maps.{found_once}
 use Rattle.cf_base.specs.declared.answers.AccessFault.{AccessFault}
 use Rattle.cf_base.specs.declared.answers.AccessFault.TheVariants as access
 use Rattle.cf_base.specs.declared.answers.Refusal.{Refusal}
@@ -12,30 +11,14 @@ use Rattle.cf_base.specs.declared.answers.ResizeFault.{ResizeFault}
 use Rattle.cf_base.specs.declared.answers.ResizeFault.TheVariants as resize
 use Rattle.cf_base.specs.declared.kind.Kind.{Kind}
 use Rattle.page_model.specs.Held.{Held, Placed}
-use Rattle.page_model.specs.Paging.{Paging, class_for, page_of, slots_of}
-use Rattle.page_model.specs.Arrangement.{class_at, objects_on, not_full_pages, LacksRoom}
-use Rattle.page_model.specs.Steps.{Request, IsFreePlace}
-use Rattle.page_model.proofs.CallerLemmas.{part_yes}
+use Rattle.page_model.specs.Arrangement.{class_at}
+use Rattle.page_model.specs.Steps.{Request}
+use Rattle.page_model.proofs.CallerLemmas.{place_is_room}
 use Rattle.block_model.specs.Tiling.{Carves, LacksBlock, block_need}
 use Rattle.cf_model.specs.Families.{Family, paged, tiled, family_of, free_lists_of}
 use Rattle.cf_model.specs.State.{HeapState, paging_in}
 use Rattle.cf_model.specs.Rules.{IsPaged, IsTiled}
 use Rattle.cf_model.specs.Steps.{GivesObject, IsPlacedBy, IsRefusedBy, LacksRoomIn, Part, IsFault, ResizesObject, IsResizeFault}
-
-module _ (p : Paging) (m : Held) (n a : ℕ) (free : IsFreePlace p m n a) (lacking : LacksRoom p m (class_for p n)) where
-  not_none : 0 < objects_on p m (class_for p n) (page_of p a) → objects_on p m (class_for p n) (page_of p a) < slots_of p (class_for p n)
-      → 0 < not_full_pages p m (class_for p n)
-  unfolding not_full_pages
-  not_none some less = counted (λ page. nat_lt 0 (objects_on p m (class_for p n) page) && nat_lt (objects_on p m (class_for p n) page)
-      (slots_of p (class_for p n))) 0 p.pages (page_of p a) (omega arith) (let h = free.slot.page in omega arith)
-      (part_yes (objects_on p m (class_for p n) (page_of p a)) (slots_of p (class_for p n)) some less)
-
-  -- if there is a free place, the class has a slot left
-  place_is_room : ⊥
-  place_is_room = elim free.choice [
-    | inl (some, less) ↦ (let q = not_none some less in let full = lacking.full in omega arith)
-    | inr (full, none) ↦ (let q = lacking.taken (page_of p a) free.slot.page in omega arith)
-  ]
 
 placed_is_room : (k : Kind) (old new : HeapState) (asked : Request) (place : ℕ) → IsPlacedBy k old asked place new → LacksRoomIn k old asked.length → ⊥
 placed_is_room k old new asked place placed lacking = by_family (family_of k) refl
@@ -69,15 +52,12 @@ one_cause s bytes refusal.Space refusal.Space x y = refl
 pub not_none_found : (m : Held) (h : ℕ) (x : Placed) → get m h ≡ Some x → get m h ≡ None → ⊥
 not_none_found m h x e f = (let g : Some x ≡ None = sym e ∙ f in cc)
 
-pub same_found : (m : Held) (h : ℕ) (x y : Placed) → get m h ≡ Some x → get m h ≡ Some y → x ≡ y
-same_found m h x y e f = (let g : Some x ≡ Some y = sym e ∙ f in cc)
-
 -- a read or write within the object has no cause for a refusal
 pub part_is_not_refused : (s : HeapState) (part : Part) (count : ℕ) (x : Placed) → get s.held part.number ≡ Some x → part.from + count ≤ length x.bytes
     → (e : AccessFault) → IsFault s part count e → ⊥
 part_is_not_refused s part count x found within access.Unknown cause = not_none_found s.held part.number x found cause
 part_is_not_refused s part count x found within access.Range cause =
-    let same = same_found s.held part.number cause.object x cause.found found in
+    let same = found_once s.held part.number cause.object x cause.found found in
     let past : length x.bytes < part.from + count = subst (λ (z : Placed). length z.bytes < part.from + count) same cause.past in
     omega arith
 
@@ -93,6 +73,6 @@ resized_is_not_refused old new asked done r resize.Kind cause = both_kinds old.k
 resized_is_not_refused old new asked done r resize.Size cause = (let fits = r.fits in let large = cause.large in omega arith)
 resized_is_not_refused old new asked done r resize.Space cause = elim r.step [
   | inl within ↦ cause.other (within.same ∙ ap (class_at (paging_in old))
-      (same_found old.held asked.number within.object cause.object within.found cause.found))
+      (found_once old.held asked.number within.object cause.object within.found cause.found))
   | inr other ↦ place_is_room (paging_in old) old.held asked.length other.place other.free cause.lacking
 ]

@@ -2,7 +2,7 @@
 use Rattle.std.proofs.Common.{◌≡◌, ℕ, ◌+◌, true, false, List, ◌∷◌, Option, Some, None, Result, Ok, Err, arith, length, refl, sym, ◌∙◌, ap, subst}
 use Rattle.std.specs.Prelude.{IfSome, IsSome, is_some, option_map, slice_index}
 use Rattle.std.specs.FinMap.{get, insert}
-use Rattle.cf_lemmas.proofs.Maps.{get_inserted}
+use Rattle.cf_lemmas.proofs.Maps.{found_once, get_inserted}
 use Rattle.cf_base.specs.Classes.{need}
 use Rattle.cf_base.specs.declared.answers.AccessFault.{AccessFault}
 use Rattle.cf_base.specs.declared.answers.AccessFault.TheVariants as access
@@ -38,7 +38,7 @@ use Rattle.cf_model.specs.State.{HeapState, paging_in, region_words}
 use Rattle.cf_model.specs.Steps.{ChangesCost, FreesObject, GivesObject, IsFault, IsFreeStep, IsMallocStep, IsResizeFault, IsResizeStep, IsUnmoved, IsWriteStep, MovesIn, Part}
 use Rattle.cf_model.specs.Steps.{ResizesObject, StaysOutside, WritesBytes, frames_left, leaves_of, number_of, slot_in, tiling_left}
 use Rattle.cf_model.proofs.BlockWords.{link_outside, links_agree, some_order, words_once}
-use Rattle.cf_model.proofs.Exactly.{both_kinds, given_is_not_refused, not_none_found, one_cause, part_is_not_refused, resized_is_not_refused, same_found}
+use Rattle.cf_model.proofs.Exactly.{both_kinds, given_is_not_refused, not_none_found, one_cause, part_is_not_refused, resized_is_not_refused}
 use Rattle.cf_model.proofs.PageSteps.{free_removes}
 
 -- an order, and one that follows it
@@ -54,7 +54,7 @@ followed step None new some f = absurd (let e : false ≡ true = some in cc)
 followed step (Some o) None some f = absurd f
 followed step (Some o) (Some n) some f = record { before = o; after = n; was = refl; is = refl; steps = f }
 
--- no step gains or loses the order
+-- a manager has an order after a call if and only if it had one before
 pub order_stays : (step : Order → Order → Type 0) (old new : Option Order) → Follows step old new → is_some new ≡ is_some old
 order_stays step None None f = refl
 order_stays step None (Some n) f = absurd f
@@ -63,7 +63,8 @@ order_stays step (Some o) (Some n) f = refl
 
 -- ---- states that keep the rules
 
-pages_kept : (k : Kind) (s : HeapState) → IsPaged k → KeepsRulesOf k s → KeepsPages s
+-- the rules of a kind with pages
+pub pages_kept : (k : Kind) (s : HeapState) → IsPaged k → KeepsRulesOf k s → KeepsPages s
 pages_kept k s is rules = (let kept : KeepsPages s × KeepsTable k s = rw (is, KeepsRulesOf) at rules in kept.0)
 
 tiling_kept : (k : Kind) (s : HeapState) → IsTiled k → KeepsRulesOf k s → KeepsTiling s
@@ -73,7 +74,7 @@ tiling_kept k s is rules = rw (is, KeepsRulesOf) at rules
 paged_words : (a b : HeapState) → KeepsPages a → KeepsPages b → length b.words ≡ length a.words → b.held ≡ a.held → b.words ≡ a.words
 paged_words a b pa pb long held = image_unique need a.held b.words a.words long (subst (λ m. IsImage m b.words) held pb.image) pa.image
 
--- with blocks the objects and the blocks do, but for word 1 of each free block
+-- with blocks the objects and the blocks determine the words, but for word 1 of each free block
 tiled_words : (a b : HeapState) → KeepsRules a → KeepsRules b → KeepsTiling a → KeepsTiling b → b.profile ≡ a.profile → b.held ≡ a.held → b.tiling ≡ a.tiling
     → ((p : ℕ) (c : Block) → block_at a.tiling p ≡ Some c → c.owner ≡ None → slice_index b.words (p + 1) ≡ slice_index a.words (p + 1)) → b.words ≡ a.words
 tiled_words a b first second ta tb profile held tiling linked =
@@ -180,12 +181,12 @@ module _ (old new next : HeapState) (some : IsSome old.order) (before : KeepsRul
   some_after : (after : Order) → new.order ≡ Some after → IsSome new.order
   some_after after is = ap is_some is
 
-  -- the address that a malloc gave
+  -- the address of the object that a malloc added
   given_there : (h : Handle) (n : ℕ) (s : HeapState) (g : GivesObject old (record { number = h.0; length = n }) s) → place_of s h.0 ≡ Some g.place
   given_there h n s g = ap (λ (x : HeapState). place_of x h.0) g.whole
       ∙ ap (option_map (λ (x : Placed). x.place)) (get_inserted old.held h.0 (zeros_at g.place n))
 
-  -- what two mallocs choose
+  -- two mallocs use the same number and the same address
   record Agree (number other place at : ℕ) : Type 0 where
     numbers : number ≡ other
     places : place ≡ at
@@ -323,7 +324,7 @@ module _ (old new next : HeapState) (some : IsSome old.order) (before : KeepsRul
 
   -- ---- free
 
-  -- what two frees choose; the costs are the same if the answers and the blocks are
+  -- two frees move the same object and leave the same order; the costs are equal if the answers and the blocks are
   record FreeAgree (h : ℕ) (freed other : Freed) : Type 0 where
     number : number_of freed.moved ≡ number_of other.moved
     some_new : IsSome new.order
@@ -394,7 +395,7 @@ module _ (old new next : HeapState) (some : IsSome old.order) (before : KeepsRul
     free_same =
         let a = frees_agree in
         let moved = same_moved freed.moved other.moved a.number in
-        let object : g.object ≡ f.object = same_found old.held h g.object f.object g.found f.found in
+        let object : g.object ≡ f.object = found_once old.held h g.object f.object g.found f.found in
         let held : next.held ≡ new.held = f.held ∙ ap (λ (x : Placed). without old.held h x.place (number_of other.moved)) (sym object)
         ∙ ap (λ m. without old.held h g.object.place m) (sym a.number) ∙ sym g.held in
         let slot : freed.slot_words ≡ other.slot_words = g.slot ∙ ap (slot_in old.kind old) object ∙ sym f.slot in
@@ -450,7 +451,7 @@ module _ (old new next : HeapState) (some : IsSome old.order) (before : KeepsRul
       let (left, order) = resize_once p old.held asked after other_after s.before s.after t.after pages.paging pages.sound g.step u.choice f.step again in
       let held : next.held ≡ new.held = sym (ap (λ (l : Leaves). l.held) left) in
       let moved = same_moved done.moved other.moved (ap (λ (l : Leaves). l.moved) left) in
-      let object : g.object ≡ f.object = same_found old.held asked.number g.object f.object g.found f.found in
+      let object : g.object ≡ f.object = found_once old.held asked.number g.object f.object g.found f.found in
       let was : done.old_slot_words ≡ other.old_slot_words = g.old_slot ∙ ap (λ (x : Placed). slot_for p (length x.bytes)) object ∙ sym f.old_slot in
       let now : done.slot_words ≡ other.slot_words = g.slot ∙ sym f.slot in
       let answer : done ≡ other = λ i. record { old_slot_words = was i; slot_words = now i; moved = moved i } in
@@ -501,7 +502,7 @@ module _ (old new next : HeapState) (some : IsSome old.order) (before : KeepsRul
 
 -- ---- write
 
--- a write needs no order for that: it changes no word of a free block
+-- a write has one outcome without an order too: it changes no word of a free block
 module _ (old new next : HeapState) (first : KeepsRules new) (second : KeepsRules next) where
   -- with blocks, a write keeps word 1 of each free block
   link_kept : (s : HeapState) (part : Part) (bytes : List ℕ) (g : WritesBytes old part bytes s) → IsTiled old.kind → KeepsTiling s
@@ -545,7 +546,7 @@ module _ (old new next : HeapState) (first : KeepsRules new) (second : KeepsRule
 
   write_same : (part : Part) (bytes : List ℕ) → WritesBytes old part bytes new → WritesBytes old part bytes next → next ≡ new
   write_same part bytes g f =
-      let object : f.object ≡ g.object = same_found old.held part.number f.object g.object f.found g.found in
+      let object : f.object ≡ g.object = found_once old.held part.number f.object g.object f.found g.found in
       let put : Placed → Held = λ (x : Placed). insert old.held part.number (record x { bytes = written x.bytes part.from bytes }) in
       let held : next.held ≡ new.held = ap (λ (x : HeapState). x.held) f.whole ∙ ap put object ∙ sym (ap (λ (x : HeapState). x.held) g.whole) in
       let words = words_written part bytes g f held in

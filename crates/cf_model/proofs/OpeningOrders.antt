@@ -1,24 +1,21 @@
 -- The order after opening a manager is one of its empty heap.
-use Rattle.std.proofs.Common.{◌≡◌, ℕ, ◌+◌, ◌^◌, ◌≤◌, ◌<◌, List, [], ◌∷◌, Option, Some, None, length, get_or, replicate, eqb, arith, sym, ◌∙◌, subst, inl, inr, ap, refl}
-use Rattle.std.specs.Prelude.{IfSome, IsSome, count_by, is_some, nat_eq}
-use Rattle.std.specs.List.{Contains, IsDistinct, range_with_len}
-use Rattle.std.proofs.lemmas.Bool.{cases_eq, false≢true, ne_eqb}
+use Rattle.std.proofs.Common.{◌≡◌, ℕ, ◌^◌, ◌≤◌, ◌<◌, List, [], ◌∷◌, Option, Some, None, length, get_or, replicate, arith, sym, ◌∙◌, subst, inl, inr, ap, refl}
+use Rattle.std.specs.Prelude.{IfSome, IsSome, is_some}
+use Rattle.std.specs.List.{range_with_len}
+use Rattle.std.proofs.lemmas.Bool.{cases_eq, false≢true}
 use Rattle.std.proofs.lemmas.List.{length-replicate}
-use Rattle.std.proofs.lemmas.List.FromFn.{get_or-range_with_len, length-range_with_len}
-use Rattle.std.proofs.lemmas.Map.Keys.{IsDistinct-from_apart}
+use Rattle.std.proofs.lemmas.List.FromFn.{length-range_with_len}
 use Rattle.std.specs.Ordering.{nat_cmp}
 use Rattle.std.specs.FinMap.{empty, get, get-empty, len, len-empty}
-use Rattle.cf_lemmas.proofs.Members.{contains_nil, distinct_nil}
-use Rattle.cf_lemmas.proofs.Values.{no_values}
+use Rattle.cf_lemmas.proofs.Members.{range_below, range_distinct}
 use Rattle.cf_base.specs.Settings.{Profile, profile_of}
 use Rattle.cf_base.specs.declared.kind.Kind.{Kind}
 use Rattle.cf_base.specs.declared.kind.Kind.TheVariants.{Moving, NonMoving, Tlsf, HalfFit}
 use Rattle.cf_base.specs.declared.settings.Settings.{Settings}
-use Rattle.page_model.specs.Arrangement.{count_on}
 use Rattle.page_model.specs.Held.{Placed}
 use Rattle.page_model.specs.Order.{IsOrderOf, Order, first_order}
-use Rattle.page_model.specs.Paging.{Paging, classes, first_bounds, page_of, paging_of}
-use Rattle.page_model.proofs.CallerLemmas.{on_none}
+use Rattle.page_model.specs.Paging.{Paging, classes, first_bounds, paging_of}
+use Rattle.page_model.proofs.CallerLemmas.{first_is_order}
 use Rattle.block_model.specs.Buckets.{AreLawful, FreeLists}
 use Rattle.block_model.specs.FreeOrder.{AreListsOf, AreThreaded, HaveLinks, first_lists, link_word, no_block}
 use Rattle.block_model.specs.Tiling.{one_free_block}
@@ -29,45 +26,7 @@ use Rattle.cf_model.specs.State.{HeapState, layout_of, region_words}
 use Rattle.cf_model.specs.Ordered.{KeepsPromise}
 use Rattle.cf_model.specs.Steps.{IsEmptyHeap, IsOpeningOrder, opening_order, ordered_heap}
 
--- the numbers below n, each once
-below_all : (n x : ℕ) → Contains (range_with_len 0 n) x → x < n
-below_all n x (k, lt, is) =
-    let long = length-range_with_len 0 n in
-    let at : 0 + k ≡ x = sym (get_or-range_with_len 0 n k x (omega arith)) ∙ is in
-    omega arith
-
-all_below : (n x : ℕ) → x < n → Contains (range_with_len 0 n) x
-all_below n x lt =
-    (x, (let long = length-range_with_len 0 n in omega arith), get_or-range_with_len 0 n x x lt ∙ (let e : 0 + x ≡ x = omega arith in e))
-
-each_once : (n : ℕ) → IsDistinct nat_eq (range_with_len 0 n)
-each_once n = IsDistinct-from_apart eqb (range_with_len 0 n) (λ i j d lt within. (
-    let long = length-range_with_len 0 n in
-    let at = get_or-range_with_len 0 n i d (omega arith) in
-    let at' = get_or-range_with_len 0 n j d (omega arith) in
-    rw (at, at') (ne_eqb (0 + i) (0 + j) (λ same. absurd (omega arith)))))
-
 -- ---- pages
-
-none_standing : (p : Paging) (page : ℕ) → count_on p empty page ≡ 0
-unfolding count_on
-none_standing p page = ap (count_by (λ (x : Placed). nat_eq (page_of p x.place) page)) no_values
-
--- pages and numbers in rising order are an order of no objects
-first_is_order : (p : Paging) (limit : ℕ) → IsOrderOf p empty limit (first_order p limit)
-first_is_order p limit = record {
-  pool = λ page. ((λ h. (below_all p.pages page h, none_standing p page)), (λ h. all_below p.pages page h.0));
-  pool_once = each_once p.pages;
-  as_many = length-replicate {A = List ℕ} (classes p) [];
-  not_full = λ c page lt. (
-    (λ h. absurd (contains_nil page (subst (λ xs. Contains xs page) (no_list (classes p) c) h))),
-    (λ h. absurd (let e = on_none p c page in let some = h.1.0 in omega arith)),
-  );
-  not_full_once = λ c lt. subst (IsDistinct nat_eq) (sym (no_list (classes p) c)) distinct_nil;
-  spare = λ h i. (below_all limit h i, get-empty nat_cmp h);
-  spare_once = each_once limit;
-  spare_all = (let long = length-range_with_len 0 limit in let none = len-empty nat_cmp Placed in omega arith);
-}
 
 -- the pages and classes of a manager that opens
 abbrev pub first_paging : Kind → Profile → Paging
@@ -119,8 +78,8 @@ module _ (opens : OpensLists) (p : Profile) (words : List ℕ) (some : 2 ≤ reg
         (opens (free_lists_of s.kind) (list_count_of s.kind) (region_words p) lawful some few);
     links = subst (λ ws. HaveLinks ws (first_lists (free_lists_of s.kind) (list_count_of s.kind) (region_words p))) (sym w)
         (first_links (free_lists_of s.kind) (list_count_of s.kind) (region_words p) words (lawful.below (region_words p) some few) link);
-    spare = λ h i. (rw profile (below_all p.proxies h i), ap (λ m. get m h) none ∙ get-empty nat_cmp h);
-    spare_once = each_once p.proxies;
+    spare = λ h i. (rw profile (range_below p.proxies h i), ap (λ m. get m h) none ∙ get-empty nat_cmp h);
+    spare_once = range_distinct 0 p.proxies;
     spare_all =
         let long = length-range_with_len 0 p.proxies in
         let zero_len = ap (λ m. len m) none ∙ len-empty nat_cmp Placed in

@@ -24,7 +24,7 @@ abbrev pub block_of_object : HeapState → Option Placed → ℕ → Option ℕ
 block_of_object s None i = None
 block_of_object s (Some x) i = if nat_lt i (slot_for (paging_in s) (length x.bytes) / 4) then Some (block_of s.frames x.place i) else None
 
--- the same by kind; only the non-moving kind has physical blocks
+-- the physical block of block i of object h, if there is one; only the non-moving kind has physical blocks
 abbrev pub block_in : Kind → HeapState → ℕ → ℕ → Option ℕ
 block_in Moving s h i = None
 block_in NonMoving s h i = block_of_object s (get s.held h) i

@@ -1,4 +1,4 @@
--- How many steps the calls may take.
+-- The most steps that each call costs, refused or not.
 use Rattle.std.specs.Prelude.{◌≡◌, ℕ, ◌+◌, ◌*◌, ◌/◌, ◌%◌, ⊤, Result, Ok, Err, if◌then◌else◌, nat_eq, max}
 use Rattle.step_ledger.specs.Counting.{RoseAtMost}
 use Rattle.cf_base.specs.declared.answers.Freed.{Freed}
@@ -12,17 +12,17 @@ use Rattle.cf_model.specs.Families.{paged, tiled, family_of}
 abbrev pub TakesAtMost : Kind → ℕ → ℕ → ℕ → ℕ → Type 0
 TakesAtMost kind old new n m = elim (family_of kind) [ paged ↦ RoseAtMost old new n | tiled ↦ RoseAtMost old new m ]
 
--- a free: 96 steps, plus twice the words of the slot
+-- a free with pages: 96 steps, plus twice the words of the slot
 abbrev pub free_bound : Result Freed NotLive → ℕ
 free_bound (Ok freed) = 96 + 2 * freed.slot_words
 free_bound (Err e) = 96
 
--- a free with blocks: 41 steps, plus the words of the block
+-- a free with blocks: 41 steps, plus the words of the block; 1 if refused
 abbrev pub block_free_bound : Result Freed NotLive → ℕ
 block_free_bound (Ok freed) = 41 + freed.slot_words
 block_free_bound (Err e) = 1
 
--- a resize: 160 steps, plus three times the words of the larger slot
+-- a resize with pages: 160 steps, plus three times the words of the larger slot
 abbrev pub resize_bound : Result Resized ResizeFault → ℕ
 resize_bound (Ok done) = 160 + 3 * max done.old_slot_words done.slot_words
 resize_bound (Err e) = 160

@@ -1,4 +1,4 @@
--- The exact steps of a call: a function of the state before, the order of the tables and the result.
+-- The exact steps of a call, computed from the state before, the order and the result. Each comment lists what the steps are for.
 use Rattle.std.specs.Prelude.{ℕ, ◌+◌, ◌-◌, ◌*◌, ◌/◌, Option, None, Some, Result, Ok, Err, if◌then◌else◌, length, min, nat_eq, nat_lt}
 use Rattle.std.specs.FinMap.{get}
 use Rattle.cf_base.specs.declared.answers.Freed.{Freed}
@@ -28,7 +28,7 @@ abbrev pub malloc_cost : HeapState → Order → ℕ → Result Handle Refusal �
 malloc_cost s o bytes (Ok h) = 3 + word_steps s.kind + steps_to_take (paging_in s) s.held o (class_for (paging_in s) bytes)
 malloc_cost s o bytes (Err e) = 1
 
--- leaving the slot of x: it is cleared and becomes free, or another object moves there, and its slot becomes free
+-- leaving the slot of x: the slot is cleared and becomes free, or another object moves there and that object's slot becomes free
 abbrev pub leaving_cost : HeapState → Order → Placed → Option Handle → ℕ
 leaving_cost s o x None =
     wipe_steps s.kind (slot_for (paging_in s) (length x.bytes)) + steps_to_drop (paging_in s) s.held (class_at (paging_in s) x) (page_of (paging_in s) x.place)
@@ -40,7 +40,7 @@ abbrev pub free_cost : HeapState → Order → ℕ → Result Freed NotLive → 
 free_cost s o h (Ok freed) = elim (get s.held h) [ None ↦ 0 | Some x ↦ 5 + word_steps s.kind + leaving_cost s o x freed.moved ]
 free_cost s o h (Err e) = 1
 
--- cutting m bytes at word a to n: the word where they end now, and the cleared ones after it
+-- cutting m bytes, with the header at word a, to n bytes: the word in which they then end, and the words after it, which are cleared
 abbrev pub tail_steps : Kind → ℕ → ℕ → ℕ → ℕ
 tail_steps kind a n m = if nat_lt n m then word_steps kind + run_steps kind (a + 2 + n / 8) ((m + 7) / 8 - n / 8 - 1) else 0
 

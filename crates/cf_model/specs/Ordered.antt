@@ -1,4 +1,4 @@
--- What a manager with an order promises of a call: what comes next is used, and the cost is a function of the state before and the answer.
+-- What a manager with an order promises of a call: it uses what is next in the order, and its cost is computed from the state before and the answer.
 use Rattle.std.specs.Prelude.{◌≡◌, ℕ, ⊤, IfOk, IfSome, List, ◌∷◌, Option, None, Some, Result, is_some}
 use Rattle.cf_base.specs.declared.answers.Freed.{Freed}
 use Rattle.cf_base.specs.declared.answers.Handle.{Handle}
@@ -24,38 +24,39 @@ Follows step None (Some new) = ⊥
 Follows step (Some old) None = ⊥
 Follows step (Some old) (Some new) = step old new
 
--- an open manager, or a closed one, promises an order afterwards if it did before
+-- a manager, open or closed, promises an order afterwards if and only if it did before
 abbrev pub KeepsPromise : HeapState → HeapState → Type 0
 KeepsPromise old new = is_some new.order ≡ is_some old.order
 
--- with pages, a malloc in this order
+-- with pages, a malloc follows the order `was`, leaves the order `now`, and has the exact cost
 pub record MallocInOrder (old : HeapState) (bytes : ℕ) (answer : Result Handle Refusal) (new : HeapState) (was now : Order) : Type 0 where
   pub choice : IfOk answer (λ h. IfSome (place_of new h.0) (λ a. MallocFollows (paging_in old) old.held (record { number = h.0; length = bytes }) a was now))
   pub cost : new.cost ≡ malloc_cost old was bytes answer
 
--- with pages, a free in this order
+-- with pages, a free follows the order `was`, leaves the order `now`, and has the exact cost
 pub record FreeInOrder (old : HeapState) (h : ℕ) (answer : Result Freed NotLive) (new : HeapState) (was now : Order) : Type 0 where
   pub choice : IfOk answer (λ freed. FreeFollows (paging_in old) old.held h (number_of freed.moved) was now)
   pub cost : new.cost ≡ free_cost old was h answer
 
--- with pages, a resize in this order
+-- with pages, a resize follows the order `was`, leaves the order `now`, and has the exact cost
 pub record ResizeInOrder (old : HeapState) (asked : Request) (answer : Result Resized ResizeFault) (new : HeapState) (was now : Order) : Type 0 where
   pub choice : IfOk answer (λ done. ResizeFollows (paging_in old) old.held asked (record { held = new.held; moved = number_of done.moved }) was now)
   pub cost : new.cost ≡ resize_cost old was asked answer
 
--- an object of blocks gets the next number and the next block, which is carved
+-- with blocks, an object gets the first spare number, and its block is carved from the next one
 pub record CarvesInOrder (old : HeapState) (asked : Request) (place : ℕ) (new : HeapState) (was now : Order) : Type 0 where
   pub rest : List ℕ
   pub number : was.spare ≡ asked.number ∷ rest
   pub carves : CarvesNext (free_lists_of old.kind) (listed_by old was) (record { need = block_need asked.length; owner = asked.number }) place (listed_by new now)
   pub left : now ≡ record was { not_full = now.not_full; spare = rest }
 
--- with blocks, a malloc in this order
+-- with blocks, a malloc follows the order `was`, leaves the order `now`, and has the exact cost
 pub record BlockMallocInOrder (old : HeapState) (bytes : ℕ) (answer : Result Handle Refusal) (new : HeapState) (was now : Order) : Type 0 where
   pub choice : IfOk answer (λ h. IfSome (place_of new h.0) (λ a. CarvesInOrder old (record { number = h.0; length = bytes }) a new was now))
   pub cost : new.cost ≡ block_malloc_cost old bytes answer new
 
--- with blocks, a free in this order: the block that it leaves is the first of its list, and the freed number is the next to be used
+-- with blocks, a free leaves the order `now`, and has the exact cost: the block that it leaves is the first of its list, and the freed number is the first
+-- spare one
 pub record BlockFreeInOrder (old : HeapState) (h : ℕ) (answer : Result Freed NotLive) (new : HeapState) (was now : Order) : Type 0 where
   pub choice : IfOk answer (λ freed. IfSome (place_of old h) (λ a. now ≡ record was {
     not_full = lists_released (free_lists_of old.kind) (listed_by old was) a;
@@ -63,31 +64,35 @@ pub record BlockFreeInOrder (old : HeapState) (h : ℕ) (answer : Result Freed N
   }))
   pub cost : new.cost ≡ block_free_cost old h answer new
 
--- each call in an order, by the kind; with blocks a resize is always refused
+-- a malloc in an order, by the kind
 abbrev pub MallocByOrder : HeapState → ℕ → Result Handle Refusal → HeapState → Order → Order → Type 0
 MallocByOrder old bytes answer new was now = elim (family_of old.kind) [
   | paged ↦ MallocInOrder old bytes answer new was now
   | tiled ↦ BlockMallocInOrder old bytes answer new was now
 ]
 
+-- a free in an order, by the kind
 abbrev pub FreeByOrder : HeapState → ℕ → Result Freed NotLive → HeapState → Order → Order → Type 0
 FreeByOrder old h answer new was now = elim (family_of old.kind) [
   | paged ↦ FreeInOrder old h answer new was now
   | tiled ↦ BlockFreeInOrder old h answer new was now
 ]
 
+-- a resize in an order, by the kind; with blocks it is always refused, and keeps the order
 abbrev pub ResizeByOrder : HeapState → Request → Result Resized ResizeFault → HeapState → Order → Order → Type 0
 ResizeByOrder old asked answer new was now = elim (family_of old.kind) [
   | paged ↦ ResizeInOrder old asked answer new was now
   | tiled ↦ now ≡ was
 ]
 
--- each call in the order of the manager, if it has one
+-- a malloc in the order of the manager, if it has one
 abbrev pub IsOrderedMalloc : HeapState → ℕ → Result Handle Refusal → HeapState → Type 0
 IsOrderedMalloc old bytes answer new = Follows (MallocByOrder old bytes answer new) old.order new.order
 
+-- a free in the order of the manager, if it has one
 abbrev pub IsOrderedFree : HeapState → ℕ → Result Freed NotLive → HeapState → Type 0
 IsOrderedFree old h answer new = Follows (FreeByOrder old h answer new) old.order new.order
 
+-- a resize in the order of the manager, if it has one
 abbrev pub IsOrderedResize : HeapState → Request → Result Resized ResizeFault → HeapState → Type 0
 IsOrderedResize old asked answer new = Follows (ResizeByOrder old asked answer new) old.order new.order

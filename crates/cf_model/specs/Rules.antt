@@ -31,17 +31,17 @@ pub record AreInRange (p : Profile) : Type 0 where
   pub few_proxies : p.proxies ≤ 65536
   pub small_region : p.pages * p.page_words ≤ 2 ^ 23
 
--- each object's number is below the proxies, its items are bytes, and there are no more objects than proxies
+-- each object's number is below the number of proxies, its contents are bytes, and there are no more objects than proxies
 pub record AreObjects (s : HeapState) : Type 0 where
   pub handles : (h : ℕ) (x : Placed) → get s.held h ≡ Some x → h < s.profile.proxies
   pub bytes : (h : ℕ) (x : Placed) → get s.held h ≡ Some x → AreBytes x.bytes
   pub few : len s.held ≤ s.profile.proxies
 
--- what a manager with pages keeps; so no class has more partly full pages than its bound, and no page of a class is empty
+-- the rules of a manager with pages; by them no class has more partly full pages than its bound, and no page of a class is empty
 pub record KeepsPages (s : HeapState) : Type 0 where
   -- the sizes of the classes rise to the page, and each class has a bound of at least 1
   pub paging : IsPaging (paging_in s)
-  -- and of at most 64
+  -- each bound is at most 64
   pub low_bounds : (c : ℕ) → slice_index s.bounds c ≤ 64
   -- each object is in a slot of its class, no two in the same, within the bounds
   pub sound : IsSound (paging_in s) s.held
@@ -94,7 +94,7 @@ pub record IsBlockOrder (s : HeapState) (o : Order) : Type 0 where
   pub spare_once : IsDistinct nat_eq o.spare
   pub spare_all : length o.spare + len s.held ≡ s.profile.proxies
 
--- what a manager with blocks keeps
+-- the rules of a manager with blocks
 pub record KeepsTiling (s : HeapState) : Type 0 where
   -- the blocks fill the region, and no two neighbours are both free
   pub tiling : IsTiling (region_words s.profile) s.tiling
@@ -107,14 +107,14 @@ pub record KeepsTiling (s : HeapState) : Type 0 where
   -- the order, if it has one, is one of its blocks and numbers
   pub order : IfSome s.order (IsBlockOrder s)
 
--- what each kind keeps of a block table; only the non-moving kind has one
+-- the rule of each kind for the block table; only the non-moving kind has one
 abbrev pub KeepsTable : Kind → HeapState → Type 0
 KeepsTable Moving s = HasNoFrames s
 KeepsTable NonMoving s = KeepsFrames s
 KeepsTable Tlsf s = HasNoFrames s
 KeepsTable HalfFit s = HasNoFrames s
 
--- what each kind keeps of its memory
+-- the rules of each kind for its memory
 abbrev pub KeepsRulesOf : Kind → HeapState → Type 0
 KeepsRulesOf kind s = elim (family_of kind) [ paged ↦ KeepsPages s × KeepsTable kind s | tiled ↦ KeepsTiling s ]
 
@@ -122,9 +122,9 @@ KeepsRulesOf kind s = elim (family_of kind) [ paged ↦ KeepsPages s × KeepsTab
 pub record KeepsRules (s : HeapState) : Type 0 where
   -- the settings are in their ranges
   pub settings : AreInRange s.profile
-  -- the region has the words that the settings ask for
+  -- the region has the words of the pages of the settings
   pub region : length s.words ≡ region_words s.profile
-  -- there are at most as many objects as proxies, and they are lists of bytes
+  -- there are no more objects than proxies, and their contents are bytes
   pub numbers : AreObjects s
-  -- what managers with pages, or with blocks, keep of their memory
+  -- the rules of managers with pages, or of managers with blocks
   pub of_kind : KeepsRulesOf s.kind s

@@ -72,17 +72,17 @@ paging_in s = paging_of s.profile (layout_of s.kind) s.bounds
 abbrev pub region_words : Profile → ℕ
 region_words p = p.pages * p.page_words
 
--- settings are stored as nested pairs
+-- the encoding of settings as nested pairs, which the model of a manager needs
 abbrev pub profile_code : Coded Profile
 profile_code = code_by (ℕ × (ℕ × (ℕ × ℕ))) (coded× coded_ℕ (coded× coded_ℕ (coded× coded_ℕ coded_ℕ)))
     (λ p. (p.pages, (p.page_words, (p.k, p.proxies)))) (λ q. record { pages = q.0; page_words = q.1.0; k = q.1.1.0; proxies = q.1.1.1 }) (λ _. refl)
 
--- a block is stored as nested pairs
+-- the encoding of a block as nested pairs
 abbrev pub block_code : Coded Block
 block_code = code_by (ℕ × (ℕ × Option ℕ)) (coded× coded_ℕ (coded× coded_ℕ (coded_option coded_ℕ)))
     (λ b. (b.address, (b.size, b.owner))) (λ q. record { address = q.0; size = q.1.0; owner = q.1.1 }) (λ _. refl)
 
--- an order is stored as nested pairs
+-- the encoding of an order as nested pairs
 abbrev pub order_code : Coded Order
 order_code = code_by (List ℕ × (List (List ℕ) × List ℕ)) (coded× (coded_list coded_ℕ) (coded× (coded_list (coded_list coded_ℕ)) (coded_list coded_ℕ)))
     (λ o. (o.pool, (o.not_full, o.spare))) (λ q. record { pool = q.0; not_full = q.1.0; spare = q.1.1 }) (λ _. refl)
@@ -91,12 +91,12 @@ order_code = code_by (List ℕ × (List (List ℕ) × List ℕ)) (coded× (coded
 abbrev pub StateParts : Type 0
 StateParts = Kind × (Bool × (Profile × (List ℕ × (Held × (List ℕ × (List ℕ × (List Block × (Option Order × ℕ))))))))
 
--- nested pairs are stored as such
+-- the encoding of these nested pairs
 abbrev pub parts_code : Coded StateParts
 parts_code = coded× kind.the_row.coded (coded× coded_bool (coded× profile_code (coded× (coded_list coded_ℕ) (coded× (map.code coded_ℕ placed_code)
     (coded× (coded_list coded_ℕ) (coded× (coded_list coded_ℕ) (coded× (coded_list block_code) (coded× (coded_option order_code) coded_ℕ))))))))
 
--- a state is stored as the nested pairs of its fields
+-- the encoding of a state as the nested pairs of its fields
 abbrev pub state_code : Coded HeapState
 state_code = code_by StateParts parts_code
     (λ s. (s.kind, (s.is_open, (s.profile, (s.bounds, (s.held, (s.words, (s.frames, (s.tiling, (s.order, s.cost))))))))))

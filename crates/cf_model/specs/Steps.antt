@@ -1,4 +1,4 @@
--- The steps of a manager, from the state before to the state after.
+-- What each call of a manager does, from the state before to the state after.
 use Rattle.std.specs.Prelude.{◌≡◌, ◌≢◌, ℕ, ◌+◌, ◌*◌, ◌/◌, ◌≤◌, ◌<◌, List, [], Option, Some, None, Result, Ok, Err, ⊤, true, false, length, take, drop}
 use Rattle.std.specs.Prelude.{replicate, slice_index, option_map}
 use Rattle.std.specs.FinMap.{get, insert, remove, len, empty}
@@ -89,7 +89,7 @@ empty_heap kind p words = record {
   cost = 0;
 }
 
--- the same, with this order
+-- an open heap without objects, with these settings and this order
 abbrev pub ordered_heap : Kind → Profile → List ℕ → Option Order → HeapState
 ordered_heap kind p words order = record (empty_heap kind p words) { order = order }
 
@@ -104,7 +104,7 @@ opening_order kind p = elim (family_of kind) [
   }
 ]
 
--- the same, if there is one
+-- the order, if there is one, is the order at the start
 abbrev pub IsOpeningOrder : Kind → Profile → Option Order → Type 0
 IsOpeningOrder kind p None = ⊤
 IsOpeningOrder kind p (Some order) = order ≡ opening_order kind p
@@ -115,18 +115,18 @@ pub record IsEmptyHeap (kind : Kind) (s : Settings) (new : HeapState) : Type 0 w
   pub order : IsOpeningOrder kind (profile_of s) new.order
   pub whole : new ≡ ordered_heap kind (profile_of s) new.words new.order
 
--- no space for an object of `bytes` bytes: its class has no slot left, or no free block serves
+-- no space for an object of `bytes` bytes: its class has no slot left, or no free block may serve its need
 abbrev pub LacksRoomIn : Kind → HeapState → ℕ → Type 0
 LacksRoomIn kind s bytes = elim (family_of kind) [
   | paged ↦ LacksRoom (paging_in s) s.held (class_for (paging_in s) bytes)
   | tiled ↦ LacksBlock (free_lists_of kind) s.tiling (block_need bytes)
 ]
 
--- the same for the kind of the heap
+-- no space for an object of `bytes` bytes, by the kind of the heap
 abbrev pub lacks_room : HeapState → ℕ → Type 0
 lacks_room s bytes = LacksRoomIn s.kind s bytes
 
--- the requested object may be placed there: in a free slot, or in the block that is carved
+-- the requested object may be placed at the address: in a free slot, or in the block that is carved
 abbrev pub IsPlacedBy : Kind → HeapState → Request → ℕ → HeapState → Type 0
 IsPlacedBy kind old asked place new = elim (family_of kind) [
   | paged ↦ IsFreePlace (paging_in old) old.held asked.length place
@@ -179,7 +179,7 @@ slot_in kind s x = elim (family_of kind) [ paged ↦ slot_for (paging_in s) (len
 abbrev pub MovesIn : Kind → HeapState → Placed → Option ℕ → Type 0
 MovesIn kind s x moved = elim (family_of kind) [ paged ↦ Moves (paging_in s) s.held x moved | tiled ↦ moved ≡ None ]
 
--- the block table after a step; only an object that moves exchanges blocks
+-- the block table after a free or a resize; it changes only if an object moved
 abbrev pub frames_left : Kind → HeapState → Leaves → List ℕ
 frames_left Moving s after = s.frames
 frames_left NonMoving s after = frames_after (paging_in s) s.held after s.frames
@@ -251,7 +251,7 @@ abbrev pub IsWriteStep : HeapState → Part → List ℕ → Result Unit AccessF
 IsWriteStep old part bytes (Ok u) new = WritesBytes old part bytes new
 IsWriteStep old part bytes (Err e) new = IsFault old part (length bytes) e × (new ≡ old)
 
--- the `count` bytes of the part
+-- `bytes` are the `count` bytes of the part
 pub record ReadsBytes (s : HeapState) (part : Part) (count : ℕ) (bytes : List ℕ) : Type 0 where
   pub object : Placed
   pub found : get s.held part.number ≡ Some object
@@ -329,7 +329,7 @@ pub record BlocksStay (old : HeapState) (h : ℕ) (new : HeapState) : Type 0 whe
       → j < 4
       → slice_index after (4 * block_of old.frames x.place i + j) ≡ slice_index before (4 * block_of old.frames x.place i + j)
 
--- what a free or a resize of h keeps of the other objects' blocks
+-- a free or a resize of h keeps the blocks of the other objects; nothing is claimed of kinds without a block table
 abbrev pub BlocksStayIn : Kind → HeapState → ℕ → HeapState → Type 0
 BlocksStayIn Moving old h new = Unit {0}
 BlocksStayIn NonMoving old h new = BlocksStay old h new

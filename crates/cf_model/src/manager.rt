@@ -1,4 +1,4 @@
-//! The interface of the managers.
+//! The trait of all memory managers.
 ghost use Rattle.std.specs.Prelude.{◌≡◌, ◌+◌, ◌^◌, ◌≤◌, IsTrue, OnOk, OnErr, is_some, length, slice_get};
 ghost use Rattle.std.specs.FinMap as map;
 ghost use Rattle.step_ledger.specs.Counting.{RoseAtMost};
@@ -33,14 +33,15 @@ use step_ledger::Steps;
 /// TLSF (2004) or Half-Fit (1995).
 ///
 /// A manager may promise an order (`HeapState`, field `order`), closed or open: then each malloc, free
-/// and resize uses the page, slot or block, number and object that come next, and takes exactly the
-/// steps that the state before and the answer give (clause `ordered`; with blocks a resize is refused,
-/// and the clause leaves its steps open). No call changes whether a manager promises one.
+/// and resize uses the page, slot or block, number and object that are next in the order, and costs
+/// exactly the steps that the state before and the answer determine (clause `ordered`; with blocks a
+/// resize is refused, and the clause leaves its steps open). No call changes whether a manager
+/// promises one.
 pub trait Manager: Drop {
-    /// What contracts see of it.
+    /// What contracts see of a manager.
     ghost state: { Self → HeapState };
 
-    /// The kind, which no call changes.
+    /// The kind of the manager, which no call changes.
     fn kind(&self) -> Kind
         ensures { result ≡ (state self.now).kind };
 
@@ -49,8 +50,8 @@ pub trait Manager: Drop {
         ensures value { result ≡ (state self.now).is_open }
         ensures rules { IsTrue result → KeepsRules (state self.now) };
 
-    /// Opens an empty heap with these settings, whatever was there before. Only this call takes
-    /// memory. At `OutOfMemory` the manager is closed, and may be opened again. A manager that
+    /// Opens an empty heap with these settings, whatever was there before. Only this call
+    /// allocates. At `OutOfMemory` the manager is closed, and may be opened again. A manager that
     /// promised an order promises one afterwards, open or closed.
     fn open_heap(&mut self, s: &Settings) -> Result<(), OutOfMemory>
         ensures ok { OnOk result (IsEmptyHeap (state self.old).kind s.now (state self.new)) }
@@ -60,8 +61,8 @@ pub trait Manager: Drop {
 
     /// Adds an object of `bytes` bytes, all zero, under a handle that wasn't live. Refused, in this
     /// order: `Size` if it needs more than a page; `Proxy` if every proxy is in use; `Space` if its
-    /// class has no slot left, or no free block serves. A refusal changes only the cost. At most 64
-    /// steps with pages, 25 with blocks.
+    /// class has no slot left, or if no free list that is searched for its size has a block. A
+    /// refusal changes only the cost. At most 64 steps with pages, 25 with blocks.
     fn malloc(&mut self, bytes: u32, steps: &mut Steps) -> Result<Handle, Refusal>
         requires open { IsTrue (state self.old).is_open }
         requires room { steps.old ≤ 2 ^ 63 }
@@ -72,10 +73,11 @@ pub trait Manager: Drop {
         ensures bound { TakesAtMost (state self.old).kind steps.old steps.new 64 25 }
         ensures cost { steps.new ≡ steps.old + (state self.new).cost };
 
-    /// Removes an object, and returns the words of its slot or block. With pages, if the free must
-    /// move an object (`MustMove`), another object of the class moves to the freed address; `moved`
-    /// is that object. A refusal changes only the cost. With pages at most 96 steps plus twice the
-    /// words of the slot; with blocks at most 41 plus the words of the block, 1 if refused.
+    /// Removes an object, and returns the words of its slot or block. Refused if the handle isn't
+    /// live. With pages, if the free must move an object (`MustMove`), another object of the class
+    /// moves to the freed address; `moved` is that object. A refusal changes only the cost. With
+    /// pages at most 96 steps plus twice the words of the slot; with blocks at most 41 plus the
+    /// words of the block, 1 if refused.
     fn free(&mut self, h: Handle, steps: &mut Steps) -> Result<Freed, NotLive>
         requires open { IsTrue (state self.old).is_open }
         requires room { steps.old ≤ 2 ^ 63 }
@@ -87,8 +89,10 @@ pub trait Manager: Drop {
         ensures cost { steps.new ≡ steps.old + (state self.new).cost }
         ensures blocks { BlocksStayIn (state self.old).kind (state self.old) h.0 (state self.new) };
 
-    /// Writes bytes into an object from byte `at` on, and changes nothing else. A refusal changes
-    /// nothing. At most 16 steps plus three times the words that hold one of the bytes.
+    /// Writes bytes into an object from byte `at` on, and changes nothing else. Refused, in this
+    /// order: `Unknown` if the handle isn't live; `Range` if the bytes pass the end of the object.
+    /// A refusal changes nothing. At most 16 steps plus three times the words that hold one of the
+    /// bytes.
     fn write(
         &mut self,
         h: Handle,
@@ -103,8 +107,8 @@ pub trait Manager: Drop {
         ensures rules { KeepsRules (state self.new) }
         ensures bound { RoseAtMost steps.old steps.new (access_bound at (length bytes.now)) };
 
-    /// Fills `out` with the bytes of an object from byte `at` on. A refusal leaves `out` unchanged.
-    /// At most 16 steps plus three times the words that hold one of the bytes.
+    /// Fills `out` with the bytes of an object from byte `at` on. Refused as `write` is; then `out`
+    /// stays unchanged. At most 16 steps plus three times the words that hold one of the bytes.
     fn read(&self, h: Handle, at: u32, out: &mut [u8], steps: &mut Steps) -> Result<(), AccessFault>
         requires open { IsTrue (state self.now).is_open }
         requires room { steps.old ≤ 2 ^ 63 }
@@ -112,12 +116,13 @@ pub trait Manager: Drop {
         ensures rules { KeepsRules (state self.now) }
         ensures bound { RoseAtMost steps.old steps.new (access_bound at (length out.old)) };
 
-    /// Changes an object's length: its first bytes stay, and added bytes are zeros. With pages it
-    /// stays in its slot if its class stays. Otherwise it takes a slot of the new class, and its
-    /// old slot is freed, into which another object may move; `moved` is that object. Refused, in
-    /// this order: `Unknown`; `Kind` with blocks; `Size`; `Space` if the class changes and the new
-    /// one has no slot left. A refusal changes only the cost, with blocks nothing. With pages at
-    /// most 160 steps plus three times the words of the larger slot, 160 if refused; with blocks 1.
+    /// Changes an object's length: its first bytes stay, and added bytes are zeros. With pages the
+    /// object stays in its slot if its class stays. Otherwise it takes a slot of the new class, and
+    /// its old slot is freed, into which another object may move; `moved` is that object. Refused,
+    /// in this order: `Unknown` if the handle isn't live; `Kind` with blocks; `Size` if the object
+    /// would need more than a page; `Space` if the class changes and the new one has no slot left.
+    /// A refusal changes only the cost, with blocks nothing. With pages at most 160 steps plus
+    /// three times the words of the larger slot, 160 if refused; with blocks 1.
     fn resize(&mut self, h: Handle, bytes: u32, steps: &mut Steps) -> Result<Resized, ResizeFault>
         requires open { IsTrue (state self.old).is_open }
         requires room { steps.old ≤ 2 ^ 63 }
@@ -178,8 +183,8 @@ pub trait Manager: Drop {
         ensures value { result ≡ totals_in (state self.now).kind (state self.now) }
         ensures rises { steps.old ≤ steps.new };
 
-    /// What the heap uses: three of its figures. Each heap here keeps these counts, so its own body
-    /// takes no step.
+    /// The bytes that the heap uses: three of its figures. Each manager of this repository keeps
+    /// them as counts, so its own body of this call costs no step.
     fn usage(&self, steps: &mut Steps) -> Usage
         requires { IsTrue (state self.now).is_open }
         ensures value { result ≡ usage_in (state self.now).kind (state self.now) }

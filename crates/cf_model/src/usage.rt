@@ -14,7 +14,7 @@ pub struct Usage {
 }
 
 impl Usage {
-    /// What a heap with these totals uses.
+    /// The bytes that a heap with these totals uses.
     pub fn of(totals: &Totals) -> Usage
         ensures { result ≡ usage_of totals.now }
     {

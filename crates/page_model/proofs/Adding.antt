@@ -44,7 +44,7 @@ live_rewritten p o h v u some same c =
     let f : one (nat_eq (class_for p (length u)) c) ≡ one (nat_eq (class_for p (length v)) c) = ap (λ d. one (nat_eq d c)) same in
     omega arith
 
--- at most all objects are of one class
+-- a class has at most all objects
 pub live_few : (p : Paging) (m : Held) (c : ℕ) → live p (objects m) c ≤ len m
 unfolding live
 live_few p m c =

@@ -1,4 +1,4 @@
--- What each step does to the frames, stated for `RemovesObject` and `RefitsObject`.
+-- What a free (`RemovesObject`) and a resize (`RefitsObject`) do to the frames, the block table of the non-moving heap.
 use Rattle.std.proofs.Common.{◌≡◌, ◌≢◌, ℕ, ◌*◌, ◌/◌, ◌<◌, List, Some, length, ◌∙◌, inl, inr, ap, refl}
 use Rattle.std.specs.FinMap.{get}
 use Rattle.cf_lemmas.proofs.Maps.{get_inserted, get_insert_other}
@@ -65,12 +65,14 @@ module _ (p : Paging) (old : Held) (frames : List ℕ) (ok : IsPaging p) (b : Ar
       frames_as_many p ok b old s asked.number r.object r.found frames len after (changed_left r) after.moved refl (change_is p ok old s asked after r).0,
     )
 
+-- a free keeps what `AreFramed` says of objects and frames
 pub framed_free : (p : Paging) (old : Held) (frames : List ℕ) (h : ℕ) (after : Leaves) → AreFramed p old frames → RemovesObject p old h after
     → AreFramed p after.held (frames_after p old after frames)
 framed_free p old frames h after f step =
     let r = free_frames p old frames f.paged f.blocks f.sound f.count h after step f.permuted in
     record { paged = f.paged; blocks = f.blocks; sound = sound_free p old h after f.paged f.sound step; count = r.1 ∙ f.count; permuted = r.0 }
 
+-- so does a resize
 pub framed_resize : (p : Paging) (old : Held) (frames : List ℕ) (asked : Request) (after : Leaves) → AreFramed p old frames → RefitsObject p old asked after
     → AreFramed p after.held (frames_after p old after frames)
 framed_resize p old frames asked after f step =

@@ -1,7 +1,8 @@
--- The steps that follow an order have one outcome.
+-- Mallocs, frees and resizes that follow an order have one outcome.
 use Rattle.std.proofs.Common.{◌≡◌, ℕ, List, [], ◌∷◌, Option, Some, None, arith, refl, sym, ◌∙◌, ap, subst, inl, inr}
 use Rattle.std.specs.FinMap.{get}
 use Rattle.std.proofs.lemmas.Bool.{cases_eq, cases_lt}
+use Rattle.cf_lemmas.proofs.Maps.{found_once}
 use Rattle.page_model.specs.Held.{Held, Placed}
 use Rattle.page_model.specs.Paging.{Paging, class_for, page_of, address_of}
 use Rattle.page_model.specs.Arrangement.{IsSound, class_at}
@@ -16,7 +17,7 @@ not_both_fronts : (xs : List ℕ) (x : ℕ) (rest : List ℕ) → xs ≡ [] → 
 not_both_fronts xs x rest none some = (let e : [] ≡ x ∷ rest = sym none ∙ some in cc)
 
 module _ (p : Paging) (m : Held) where
-  -- a page has one least free slot
+  -- a page has one lowest free slot
   least_free_once : (c page slot other : ℕ) → IsLeastFree p m c page slot → IsLeastFree p m c page other → slot ≡ other
   least_free_once c page slot other a b = elim (cases_lt slot other) [
     | inl lt ↦ absurd (a.free (b.least slot lt))
@@ -26,7 +27,7 @@ module _ (p : Paging) (m : Held) where
     ]
   ]
 
-  -- and one least taken slot
+  -- and one lowest taken slot
   least_taken_once : (c page slot other : ℕ) → IsLeastTaken p m c page slot → IsLeastTaken p m c page other → slot ≡ other
   least_taken_once c page slot other a b = elim (cases_lt slot other) [
     | inl lt ↦ absurd (b.least slot lt a.taken)
@@ -36,7 +37,7 @@ module _ (p : Paging) (m : Held) where
     ]
   ]
 
-  -- the next slot, and the order after it is taken
+  -- there is one next slot, and one order after it is taken
   pub next_once : (c a b : ℕ) (old new next : Order) → TakesNext p m old c a new → TakesNext p m old c b next → (a ≡ b) × (new ≡ next)
   next_once c a b old new next (inl s) (inl t) =
       let (page, rest) = same_front (not_full_in old c) s.page t.page s.rest t.rest s.front t.front in
@@ -64,10 +65,7 @@ malloc_once p m asked other place elsewhere old new next s t same =
     (number, at, left)
 
 module _ (p : Paging) (m : Held) (sound : IsSound p m) where
-  pub found_once : (q : ℕ) (x y : Placed) → get m q ≡ Some x → get m q ≡ Some y → x ≡ y
-  found_once q x y a b = (let e : Some x ≡ Some y = sym a ∙ b in cc)
-
-  -- the object that moves next
+  -- there is one next object to move
   pub mover_once : (o : Order) (c q r : ℕ) (y z : Placed) → get m q ≡ Some y → get m r ≡ Some z → IsNextToMove p m o c y → IsNextToMove p m o c z → q ≡ r
   mover_once o c q r y z there here s t =
       let (page, rest) = same_front (not_full_in o c) s.page t.page s.rest t.rest s.front t.front in
@@ -78,7 +76,7 @@ module _ (p : Paging) (m : Held) (sound : IsSound p m) where
         | inr ne ↦ absurd (sound.own_place q y r z there here ne place)
       ]
 
-  -- the order after an object is removed
+  -- there is one order after an object is removed
   pub slot_once : (x : Placed) (moved other : Option ℕ) (old new next : Order) → Moves p m x moved → Moves p m x other
       → SlotFollows p m x moved old new → SlotFollows p m x other old next → (moved ≡ other) × (new ≡ next)
   slot_once x None None old new next a b s t = (refl, s ∙ sym t)
@@ -86,16 +84,16 @@ module _ (p : Paging) (m : Held) (sound : IsSound p m) where
   slot_once x (Some q) None old new next a b s t = absurd (b a.0)
   slot_once x (Some q) (Some r) old new next a b (y, there, first, s) (z, here, second, t) =
       let number = mover_once old (class_at p x) q r y z there here first second in
-      let same : y ≡ z = found_once r y z (ap (get m) (sym number) ∙ there) here in
+      let same : y ≡ z = found_once m r y z (ap (get m) (sym number) ∙ there) here in
       (ap Some number, s ∙ ap (λ (w : Placed). slot_freed p m old (class_at p x) (page_of p w.place)) same ∙ sym t)
 
   free_again : (h : ℕ) (after other : Leaves) (old new next : Order) → RemovesObject p m h after → FreeFollows p m h after.moved old new
       → RemovesObject p m h other → FreeFollows p m h other.moved old next → (after ≡ other) × (new ≡ next)
   free_again h after other old new next r s u t =
       let x = r.freed in
-      let first : s.object ≡ x = found_once h s.object x s.found r.found in
-      let second : t.object ≡ x = found_once h t.object x t.found r.found in
-      let third : u.freed ≡ x = found_once h u.freed x u.found r.found in
+      let first : s.object ≡ x = found_once m h s.object x s.found r.found in
+      let second : t.object ≡ x = found_once m h t.object x t.found r.found in
+      let third : u.freed ≡ x = found_once m h u.freed x u.found r.found in
       let (moved, between) = slot_once x after.moved other.moved old s.between t.between r.moves
       (subst (λ z. Moves p m z other.moved) third u.moves)
       (subst (λ z. SlotFollows p m z after.moved old s.between) first s.slot)

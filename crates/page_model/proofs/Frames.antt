@@ -1,4 +1,4 @@
--- A step keeps the blocks of the objects that stay, and no two objects share a block.
+-- A free or a resize keeps the blocks of the other objects, and no two objects share a block.
 use Rattle.std.proofs.Common.{◌≡◌, ◌≢◌, ℕ, ◌+◌, ◌*◌, ◌/◌, ◌%◌, ◌<◌, ◌≤◌, List, Option, Some, None, length, get_or, arith, sym, ◌∙◌, subst, inl, inr, ap, refl}
 use Rattle.std.specs.Prelude.{◌⊎◌}
 use Rattle.std.proofs.Math.Nat.{mul-mod_left}

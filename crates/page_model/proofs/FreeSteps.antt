@@ -64,6 +64,6 @@ module _ (p : Paging) (ok : IsPaging p) (m : Held) (s : IsSound p m) (h : ℕ) (
   sound_without None never = sound_freed p m h x some s (may_leave never)
   sound_without (Some q) (must, (y, there, may)) = rw there (sound_moved q y there must may)
 
--- the same for every step `RemovesObject`
+-- a free (`RemovesObject`) keeps the arrangement sound
 pub sound_free : (p : Paging) (old : Held) (h : ℕ) (after : Leaves) → IsPaging p → IsSound p old → RemovesObject p old h after → IsSound p after.held
 sound_free p old h after ok s step = (let e = step.left in rw e (sound_without p ok old s h step.freed step.found after.moved step.moves))

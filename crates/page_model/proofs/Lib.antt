@@ -25,8 +25,8 @@ pub mod ResizedWords
 pub mod Enough
 pub mod Following
 pub mod ResizeOnce
-pub mod NumberLists
 pub mod OrderLists
+pub mod FirstOrder
 pub mod OrderTake
 pub mod OrderFree
 pub mod NextSlots

@@ -1,9 +1,10 @@
--- A free moves the object that the order names, or none.
+-- A free moves the object that is next to move in the order, or none.
 use Rattle.std.proofs.Common.{◌≡◌, ℕ, ◌+◌, ◌/◌, ◌%◌, ◌<◌, List, ◌∷◌, Option, Some, None, arith, refl, sym, ◌∙◌, ap, subst, inl, inr}
 use Rattle.std.specs.Prelude.{◌⊎◌}
 use Rattle.std.specs.List.{Contains}
 use Rattle.std.specs.FinMap.{get}
 use Rattle.cf_lemmas.proofs.Ranges.{one}
+use Rattle.cf_lemmas.proofs.Members.{contains_head, contains_nil, empty_or_not}
 use Rattle.page_model.specs.Held.{Held, Placed}
 use Rattle.page_model.specs.Paging.{Paging, IsPaging, address_of, classes, page_of, slots_of, slot_words}
 use Rattle.page_model.specs.Arrangement.{IsSlotAt, IsSound, class_at, is_on, not_full_pages, objects_on}
@@ -12,7 +13,6 @@ use Rattle.page_model.specs.Steps.{MayFill, Moves, MustMove, without}
 use Rattle.page_model.proofs.Addresses.{address_is_slot, slot_is_address}
 use Rattle.page_model.proofs.Counting.{on_page}
 use Rattle.page_model.proofs.NextSlots.{least_below}
-use Rattle.page_model.proofs.NumberLists.{at_head, empty_or_not, not_in_nil}
 use Rattle.page_model.proofs.OpenPages.{classed, open_page, some_move, taken_or_vacant}
 use Rattle.page_model.proofs.OrderLists.{IsList}
 use Rattle.page_model.proofs.Parts.{freed_counts, moved_counts}
@@ -63,7 +63,7 @@ module _ (p : Paging) (ok : IsPaging p) (m : Held) (s : IsSound p m) (o : Order)
 
     mover_on : (page : ℕ) (rest : List ℕ) → not_full_in o c ≡ page ∷ rest → HasMover p m c o
     mover_on page rest front =
-        let (within, (some, less)) = (is page).0 (subst (λ xs. Contains xs page) (sym front) (at_head page rest)) in
+        let (within, (some, less)) = (is page).0 (subst (λ xs. Contains xs page) (sym front) (contains_head page rest)) in
         let k = least_taken page some in
         let (q, y, there, at) = (k.2).taken in
         let on : page_of p y.place ≡ page = ap (page_of p) at ∙ (address_is_slot p ok c lt page k.0 within k.1).1 in
@@ -82,7 +82,7 @@ module _ (p : Paging) (ok : IsPaging p) (m : Held) (s : IsSound p m) (o : Order)
       | inl none ↦ absurd (
           let g = open_page p m c some in
           let there = (is g.0).1 ((g.1).within, ((g.1).some, (g.1).less)) in
-          not_in_nil g.0 (subst (λ xs. Contains xs g.0) none there))
+          contains_nil g.0 (subst (λ xs. Contains xs g.0) none there))
     ]
 
   -- a free of a live object

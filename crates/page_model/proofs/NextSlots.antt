@@ -1,8 +1,9 @@
--- If a class has a slot left, the order names one, and the order after it is one of the new arrangement.
+-- If a class has a slot left, the order determines the next one, and the order after it is taken is one of the new arrangement.
 use Rattle.std.proofs.Common.{◌≡◌, ℕ, Bool, true, false, zero, suc, ◌+◌, ◌<◌, List, [], ◌∷◌, arith, refl, sym, ◌∙◌, ap, subst, inl, inr}
 use Rattle.std.specs.Prelude.{◌⊎◌, nat_eq, if◌then◌else◌}
 use Rattle.std.specs.List.{Contains}
 use Rattle.std.proofs.lemmas.Bool.{cases_eq, cases_lt}
+use Rattle.cf_lemmas.proofs.Members.{contains_head, contains_nil, empty_or_not}
 use Rattle.page_model.specs.Held.{Held}
 use Rattle.page_model.specs.Paging.{Paging, IsPaging, address_of, class_for, classes, page_of, slots_of}
 use Rattle.page_model.specs.Arrangement.{IsSound, LacksRoom, not_full_pages, objects_on, count_on}
@@ -10,7 +11,6 @@ use Rattle.page_model.specs.Order.{IsLeastFree, IsTaken, Order, TakesNext, not_f
 use Rattle.page_model.specs.Steps.{IsFreePlace}
 use Rattle.page_model.proofs.Addresses.{address_is_slot}
 use Rattle.page_model.proofs.Counting.{nothing_on}
-use Rattle.page_model.proofs.NumberLists.{at_head, empty_or_not, not_in_nil}
 use Rattle.page_model.proofs.OpenPages.{open_page, taken_or_vacant, vacant_where_less}
 use Rattle.page_model.proofs.OrderLists.{HasOneMore, ListsPages}
 use Rattle.page_model.proofs.OrderTake.{listed_free, listed_open}
@@ -64,7 +64,7 @@ module _ (p : Paging) (ok : IsPaging p) (m : Held) (s : IsSound p m) where
     next_open : (page : ℕ) (rest : List ℕ) → not_full_in o (class_for p n) ≡ page ∷ rest → HasNext p m n o
     next_open page rest front =
         let c = class_for p n in
-        let (within, (some, less)) = (is.not_full c lt page).0 (subst (λ xs. Contains xs page) (sym front) (at_head page rest)) in
+        let (within, (some, less)) = (is.not_full c lt page).0 (subst (λ xs. Contains xs page) (sym front) (contains_head page rest)) in
         let v = vacant_where_less p ok c lt page within m s some less in
         let k = least_free c page v.0 (λ (q, y, there, is). v.2 q y there is) in
         let below : k.0 < slots_of p c = (let a = v.1 in let b = k.1 in omega arith) in
@@ -83,7 +83,7 @@ module _ (p : Paging) (ok : IsPaging p) (m : Held) (s : IsSound p m) where
     next_free : not_full_in o (class_for p n) ≡ [] → not_full_pages p m (class_for p n) ≡ 0 → (page : ℕ) (rest : List ℕ) → o.pool ≡ page ∷ rest → HasNext p m n o
     next_free none full page rest front =
         let c = class_for p n in
-        let (within, bare) = (is.pool page).0 (subst (λ xs. Contains xs page) (sym front) (at_head page rest)) in
+        let (within, bare) = (is.pool page).0 (subst (λ xs. Contains xs page) (sym front) (contains_head page rest)) in
         let slots = slots_some p ok c lt in
         let at = address_is_slot p ok c lt page 0 within slots in
         let on = at.1 in
@@ -105,14 +105,14 @@ module _ (p : Paging) (ok : IsPaging p) (m : Held) (s : IsSound p m) where
       | inl some ↦ absurd (
           let g = open_page p m (class_for p n) some in
           let there = (is.not_full (class_for p n) lt g.0).1 ((g.1).within, ((g.1).some, (g.1).less)) in
-          not_in_nil g.0 (subst (λ xs. Contains xs g.0) none there))
+          contains_nil g.0 (subst (λ xs. Contains xs g.0) none there))
       | inr le ↦ omega arith
     ]
 
     all_taken : o.pool ≡ [] → (page : ℕ) → page < p.pages → 0 < count_on p m page
     all_taken none page within = elim (cases_lt 0 (count_on p m page)) [
       | inl some ↦ some
-      | inr le ↦ absurd (not_in_nil page (subst (λ xs. Contains xs page) none ((is.pool page).1 (within, omega arith))))
+      | inr le ↦ absurd (contains_nil page (subst (λ xs. Contains xs page) none ((is.pool page).1 (within, omega arith))))
     ]
 
     pub next_slot : (¬ LacksRoom p m (class_for p n)) → HasNext p m n o

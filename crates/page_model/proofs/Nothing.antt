@@ -50,7 +50,7 @@ image_empty extent n = record {
   ];
 }
 
--- no address holds an object
+-- without addresses, the words determine no object
 pub nothing_held : (words : List ℕ) → held_at words empty ≡ empty
 nothing_held words = map_values-empty (λ a. record { place = a; bytes = bytes_at words a })
 

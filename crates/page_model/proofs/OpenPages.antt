@@ -1,5 +1,5 @@
 -- Partly full pages, their free slots, and the object that a free moves from one.
-use Rattle.std.proofs.Common.{◌≡◌, ◌≢◌, ℕ, zero, suc, true, ◌+◌, ◌/◌, ◌%◌, ◌<◌, ◌≤◌, Option, Some, None, arith, sym, ◌∙◌, ap, inl, inr}
+use Rattle.std.proofs.Common.{◌≡◌, ◌≢◌, ℕ, zero, suc, true, ◌+◌, ◌/◌, ◌%◌, ◌<◌, ◌≤◌, Option, Some, None, arith, refl, sym, ◌∙◌, ap, inl, inr}
 use Rattle.std.specs.Prelude.{◌⊎◌, ◌&&◌, count_by, nat_eq, nat_lt}
 use Rattle.std.proofs.lemmas.Bool.{cases_eq, cases_lt, false≢true, and_parts as both, eqb-true}
 use Rattle.std.proofs.lemmas.Bool.Decides.{nat_tests}
@@ -7,13 +7,15 @@ use Rattle.std.specs.FinMap.{get, remove, values}
 use Rattle.cf_lemmas.proofs.Maps.{get_remove_other, some_removed}
 use Rattle.cf_lemmas.proofs.Ranges.{some_in_range}
 use Rattle.cf_lemmas.proofs.Tests.{eq_yes}
-use Rattle.page_model.specs.Arrangement.{IsSound, class_at, not_full_pages, objects_on}
+use Rattle.page_model.specs.Arrangement.{IsSlotAt, IsSound, LacksRoom, class_at, not_full_pages, objects_on}
 use Rattle.page_model.specs.Held.{Held, Placed}
-use Rattle.page_model.specs.Paging.{IsPaging, Paging, address_of, bound_of, classes, page_of, slot_words, slots_of}
-use Rattle.page_model.specs.Steps.{Moves}
+use Rattle.page_model.specs.Paging.{IsPaging, Paging, address_of, bound_of, class_for, classes, page_of, slot_words, slots_of}
+use Rattle.page_model.specs.Steps.{IsFreePlace, Moves}
 use Rattle.page_model.proofs.Counting.{none_counted, on_page, part_yes, some_counted}
 use Rattle.page_model.proofs.Freeing.{objects_on-left}
 use Rattle.page_model.proofs.Addresses.{address_is_slot}
+use Rattle.page_model.proofs.PageCounts.{size_some}
+use Rattle.page_model.proofs.Totals.{page_below}
 use Rattle.cf_lemmas.proofs.Searches.{counted_in_range, search_below}
 
 -- an object is at the address
@@ -97,6 +99,21 @@ module _ (p : Paging) (ok : IsPaging p) (c : ℕ) (lt : c < classes p) (page : �
           | inr found ↦ found
           | inl all ↦ absurd (let l = used_are_few (slots_of p c) m (omega arith) classed all in omega arith)
         ]
+
+-- a page with a vacant slot isn't full
+pub less_where_vacant : (p : Paging) → IsPaging p → (c : ℕ) (m : Held) → IsSound p m → (a : ℕ) → IsSlotAt p c a → IsVacant m a
+    → objects_on p m c (page_of p a) < slots_of p c
+less_where_vacant p ok c m s a slot vacant = page_below p c (page_of p a) m a (size_some p ok c slot.class) s slot refl vacant
+
+-- if there is a free place, the class has a slot left
+pub place_is_room : (p : Paging) (m : Held) (n a : ℕ) → IsFreePlace p m n a → LacksRoom p m (class_for p n) → ⊥
+place_is_room p m n a free lacks = elim free.choice [
+  | inl (some, less) ↦ (
+      let room = open_counts p m (class_for p n) (page_of p a) (record { within = free.slot.page; some = some; less = less }) in
+      let full = lacks.full in
+      omega arith)
+  | inr (_, bare) ↦ (let some = lacks.taken (page_of p a) free.slot.page in omega arith)
+]
 
 -- a free moves no object, or there is one that it may move
 pub some_move : (p : Paging) → IsPaging p → (m : Held) → IsSound p m → (h : ℕ) (x : Placed) → get m h ≡ Some x → (moved : Option ℕ) × Moves p m x moved

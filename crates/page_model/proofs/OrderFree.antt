@@ -1,16 +1,17 @@
--- The order after a slot becomes free is one of the arrangement that is left.
+-- The order after a slot becomes free is an order of the arrangement without the object.
 use Rattle.std.proofs.Common.{◌≡◌, ◌≢◌, ℕ, Bool, true, false, ◌+◌, ◌<◌, ◌≤◌, Some, ◌∷◌, arith, refl, sym, ◌∙◌, subst, inl, inr}
 use Rattle.std.specs.Prelude.{nat_eq, not, if◌then◌else◌}
 use Rattle.std.specs.List.{Contains, IsDistinct, filter}
 use Rattle.std.specs.FinMap.{get}
 use Rattle.std.proofs.lemmas.Bool.{cases_eq, cases_lt}
 use Rattle.cf_lemmas.proofs.Tests.{eq_no, eq_yes}
+use Rattle.cf_lemmas.specs.Lists.{without_number}
+use Rattle.cf_lemmas.proofs.Members.{contains_cases, contains_head, contains_tail, contains_without, distinct_cons, distinct_without, without_contains}
 use Rattle.page_model.specs.Held.{Held, Placed}
 use Rattle.page_model.specs.Paging.{IsPaging, Paging, classes, page_of, slots_of}
 use Rattle.page_model.specs.Arrangement.{IsSound, class_at, objects_on, count_on}
 use Rattle.page_model.specs.Order.{Order, not_full_in, slot_freed, with_not_full}
 use Rattle.page_model.proofs.Counting.{on_page}
-use Rattle.page_model.proofs.NumberLists.{at_head, front_once, head_or_tail, in_tail, left_once, left_were, leaving_out, others_left}
 use Rattle.page_model.proofs.OrderLists.{HasOneMore, IsList, IsPool, ListsPages, bare_page, bare_same, list_changed, list_same, lists_kept, occupied}
 use Rattle.page_model.proofs.PageCounts.{within}
 
@@ -26,7 +27,7 @@ pub spare_kept : (p : Paging) (m : Held) (o : Order) (c page : ℕ) → (slot_fr
 spare_kept p m o c page = by (nat_eq (objects_on p m c page) 1) (nat_eq (objects_on p m c page) (slots_of p c))
   where
     by : (emptied opened : Bool)
-        → (if emptied then record (with_not_full o c (leaving_out page (not_full_in o c))) { pool = page ∷ o.pool }
+        → (if emptied then record (with_not_full o c (without_number page (not_full_in o c))) { pool = page ∷ o.pool }
         else if opened then with_not_full o c (page ∷ not_full_in o c) else o).spare ≡ o.spare
     by true opened = refl
     by false true = refl
@@ -85,35 +86,35 @@ module _ (p : Paging) (ok : IsPaging p) (m : Held) (s : IsSound p m) (n : Held) 
     pool_more g = elim (cases_eq page g) [
       | inl e ↦ (
         λ _. (subst (λ j. j < p.pages) e inside, subst (λ j. count_on p n j ≡ 0) e empty),
-        λ _. subst (λ q. Contains (page ∷ o.pool) q) e (at_head page o.pool),
+        λ _. subst (λ q. Contains (page ∷ o.pool) q) e (contains_head page o.pool),
       )
       | inr ne ↦ (
-        λ there. elim (head_or_tail g page o.pool there) [
+        λ there. elim (contains_cases g page o.pool there) [
           | inl e ↦ absurd (ne (sym e))
           | inr later ↦ (let (l, bare) = (is.pool g).0 later in (l, bare_now g ne bare))
         ],
-        λ (l, bare). in_tail g page o.pool ((is.pool g).1 (l, bare_then g ne bare)),
+        λ (l, bare). contains_tail g page o.pool ((is.pool g).1 (l, bare_then g ne bare)),
       )
     ]
 
-    emptied_list : IsList p n c (leaving_out page (not_full_in o c))
+    emptied_list : IsList p n c (without_number page (not_full_in o c))
     emptied_list g = elim (cases_eq page g) [
       | inl e ↦ (
-        λ there. absurd ((left_were page g (not_full_in o c) there).0 (sym e)),
+        λ there. absurd ((contains_without page g (not_full_in o c) there).0 (sym e)),
         λ (l, (a, b)). absurd (let f = subst (λ j. objects_on p m c page ≡ objects_on p n c j + 1) e one.more in omega arith),
       )
       | inr ne ↦ (
           let same = one.others c g (inl ne) in (
             λ there. (
-                let (l, (a, b)) = (is.not_full c lt g).0 (left_were page g (not_full_in o c) there).1 in
+                let (l, (a, b)) = (is.not_full c lt g).0 (contains_without page g (not_full_in o c) there).1 in
                 (l, (omega arith, omega arith))),
-            λ (l, (a, b)). others_left page g (not_full_in o c) (λ e. ne (sym e)) ((is.not_full c lt g).1 (l, (omega arith, omega arith))),
+            λ (l, (a, b)). without_contains page g (not_full_in o c) (λ e. ne (sym e)) ((is.not_full c lt g).1 (l, (omega arith, omega arith))),
           ))
     ]
 
-    listed_emptied : ListsPages p n (record (with_not_full o c (leaving_out page (not_full_in o c))) { pool = page ∷ o.pool })
-    listed_emptied = list_changed p n o c is.as_many (page ∷ o.pool) pool_more (front_once page o.pool not_free is.pool_once) others_are is.not_full_once lt
-        (leaving_out page (not_full_in o c)) emptied_list (left_once page (not_full_in o c) (is.not_full_once c lt))
+    listed_emptied : ListsPages p n (record (with_not_full o c (without_number page (not_full_in o c))) { pool = page ∷ o.pool })
+    listed_emptied = list_changed p n o c is.as_many (page ∷ o.pool) pool_more (distinct_cons page o.pool not_free is.pool_once) others_are is.not_full_once lt
+        (without_number page (not_full_in o c)) emptied_list (distinct_without page (not_full_in o c) (is.not_full_once c lt))
 
   -- the page still has objects
   module _ (more : objects_on p m c page ≢ 1) where
@@ -143,20 +144,20 @@ module _ (p : Paging) (ok : IsPaging p) (m : Held) (s : IsSound p m) (n : Held) 
     opened_list full g = elim (cases_eq page g) [
       | inl e ↦ (
         λ _. (subst (λ j. j < p.pages) e inside, part_now g e),
-        λ _. subst (λ q. Contains (page ∷ not_full_in o c) q) e (at_head page (not_full_in o c)),
+        λ _. subst (λ q. Contains (page ∷ not_full_in o c) q) e (contains_head page (not_full_in o c)),
       )
       | inr ne ↦ (
           let same = one.others c g (inl ne) in (
-            λ there. elim (head_or_tail g page (not_full_in o c) there) [
+            λ there. elim (contains_cases g page (not_full_in o c) there) [
               | inl e ↦ absurd (ne (sym e))
               | inr later ↦ (let (l, (a, b)) = (is.not_full c lt g).0 later in (l, (omega arith, omega arith)))
             ],
-            λ (l, (a, b)). in_tail g page (not_full_in o c) ((is.not_full c lt g).1 (l, (omega arith, omega arith))),
+            λ (l, (a, b)). contains_tail g page (not_full_in o c) ((is.not_full c lt g).1 (l, (omega arith, omega arith))),
           ))
     ]
 
     opened_once : objects_on p m c page ≡ slots_of p c → IsDistinct nat_eq (page ∷ not_full_in o c)
-    opened_once full = front_once page (not_full_in o c) (λ there. (let (l, (a, b)) = (is.not_full c lt page).0 there in omega arith)) (is.not_full_once c lt)
+    opened_once full = distinct_cons page (not_full_in o c) (λ there. (let (l, (a, b)) = (is.not_full c lt page).0 there in omega arith)) (is.not_full_once c lt)
 
     still_list : objects_on p m c page ≢ slots_of p c → IsList p n c (not_full_in o c)
     still_list part g = elim (cases_eq page g) [
@@ -184,7 +185,7 @@ module _ (p : Paging) (ok : IsPaging p) (m : Held) (s : IsSound p m) (n : Held) 
     ]
 
   abbrev freed_by : Bool → Order
-  freed_by emptied = if emptied then record (with_not_full o c (leaving_out page (not_full_in o c))) { pool = page ∷ o.pool }
+  freed_by emptied = if emptied then record (with_not_full o c (without_number page (not_full_in o c))) { pool = page ∷ o.pool }
       else if nat_eq (objects_on p m c page) (slots_of p c) then with_not_full o c (page ∷ not_full_in o c) else o
 
   pub listed_freed : ListsPages p n (slot_freed p m o c page)

@@ -41,7 +41,7 @@ module _ (p : Paging) (m : Held) where
   abbrev pub IsList : ℕ → List ℕ → Type 0
   IsList d xs = (g : ℕ) → Contains xs g ↔ ((g < p.pages) × IsPartlyFull p m d g)
 
--- the same counts on a page
+-- a page with the same counts of each class is without objects in both arrangements
 pub bare_same : (p : Paging) (n m : Held) (g : ℕ) → ((d : ℕ) → objects_on p n d g ≡ objects_on p m d g) → count_on p m g ≡ 0 → count_on p n g ≡ 0
 bare_same p n m g same bare = bare_page p n g (λ d. same d ∙ bare_class p m g bare d)
 
@@ -79,9 +79,9 @@ renumbered p m o spare is = record {
   not_full_once = is.not_full_once;
 }
 
--- another arrangement with the same counts
-pub pages_same : (p : Paging) (n m : Held) (o : Order) → ((d g : ℕ) → objects_on p n d g ≡ objects_on p m d g) → ListsPages p m o → ListsPages p n o
-pages_same p n m o same is = record {
+-- the order lists the pages of each arrangement with the same counts
+pub still_listed : (p : Paging) (n m : Held) (o : Order) → ((d g : ℕ) → objects_on p n d g ≡ objects_on p m d g) → ListsPages p m o → ListsPages p n o
+still_listed p n m o same is = record {
   pool = λ g. (
     λ there. (let (l, bare) = (is.pool g).0 there in (l, bare_same p n m g (λ d. same d g) bare)),
     λ (l, bare). (is.pool g).1 (l, bare_same p m n g (λ d. sym (same d g)) bare),

@@ -1,4 +1,4 @@
--- The free numbers of an order, over the steps of an arrangement.
+-- The free numbers of an order, after a malloc, a free and a resize.
 use Rattle.std.proofs.Common.{◌≡◌, ◌≢◌, ℕ, ◌+◌, ◌<◌, List, ◌∷◌, Option, Some, None, length, arith, sym, ◌∙◌, ap, subst, inl, inr}
 use Rattle.std.specs.Prelude.{nat_eq}
 use Rattle.std.specs.List.{Contains, IsDistinct}
@@ -6,13 +6,13 @@ use Rattle.std.proofs.lemmas.Bool.{cases_eq}
 use Rattle.std.specs.FinMap.{get, insert, len, remove}
 use Rattle.cf_lemmas.proofs.Maps.{get_insert_other, get_remove_other, get_removed, len_fresh, len_rebound}
 use Rattle.cf_lemmas.proofs.Searches.{len_without}
+use Rattle.cf_lemmas.proofs.Members.{contains_cases, contains_head, contains_tail, distinct_cons, distinct_head, distinct_tail}
 use Rattle.page_model.specs.Held.{Held, Placed}
 use Rattle.page_model.specs.Paging.{IsPaging, Paging, class_for}
 use Rattle.page_model.specs.Arrangement.{IsSound, objects_on, count_on}
 use Rattle.page_model.specs.Order.{IsOrderOf, Order}
 use Rattle.page_model.specs.Steps.{Moves, without}
 use Rattle.page_model.proofs.FreeSteps.{mover_is_other}
-use Rattle.page_model.proofs.NumberLists.{at_head, front_once, head_once, head_or_tail, in_tail, tail_once}
 use Rattle.page_model.proofs.OrderLists.{ListsPages}
 
 -- the numbers below the limit that no object has, each once
@@ -37,7 +37,7 @@ order_is p m limit o pages numbers = record {
   spare_all = numbers.all;
 }
 
--- other bounds of the classes
+-- with other bounds of the classes, it is still an order of the arrangement
 pub order_bounded : (p : Paging) (bounds : List ℕ) (m : Held) (limit : ℕ) (o : Order) → IsOrderOf p m limit o
     → IsOrderOf (record p { bounds = bounds }) m limit o
 unfolding objects_on count_on class_for
@@ -52,16 +52,16 @@ order_bounded p bounds m limit o is = record {
   spare_all = is.spare_all;
 }
 
--- the first number is given out
+-- if a malloc uses the first free number, the others stay free
 pub spare_given : (m : Held) (limit h : ℕ) (rest : List ℕ) (x : Placed) → AreSpare m limit (h ∷ rest) → AreSpare (insert m h x) limit rest
 spare_given m limit h rest x are =
-    let none = (are.below h (at_head h rest)).1 in
+    let none = (are.below h (contains_head h rest)).1 in
     record {
       below = λ g there. (
-          let was = are.below g (in_tail g h rest there) in
-          let ne : g ≢ h = λ e. head_once h rest are.once (subst (λ q. Contains rest q) e there) in
+          let was = are.below g (contains_tail g h rest there) in
+          let ne : g ≢ h = λ e. distinct_head h rest are.once (subst (λ q. Contains rest q) e there) in
           (was.0, get_insert_other m h x g ne ∙ was.1));
-      once = tail_once h rest are.once;
+      once = distinct_tail h rest are.once;
       all = (let more = len_fresh m h x none in let a = are.all in omega arith);
     }
 
@@ -102,15 +102,15 @@ module _ (p : Paging) (ok : IsPaging p) (m : Held) (s : IsSound p m) (h : ℕ) (
       let less = len_without m h x found in
       omega arith
 
-  -- a freed number is the first one
+  -- if a free makes its number the first one, the list has the free numbers
   pub spare_freed : (limit : ℕ) (spare : List ℕ) (moved : Option ℕ) → Moves p m x moved → h < limit → AreSpare m limit spare
       → AreSpare (without m h x.place moved) limit (h ∷ spare)
   spare_freed limit spare moved moves below are = record {
-    below = λ g there. elim (head_or_tail g h spare there) [
+    below = λ g there. elim (contains_cases g h spare there) [
       | inl e ↦ (rw e below, rw e (none_freed moved moves))
       | inr later ↦ (let was = are.below g later in (was.0, none_stays moved moves g was.1))
     ];
-    once = front_once h spare (λ there. (let z : Some x ≡ None = sym found ∙ (are.below h there).1 in cc)) are.once;
+    once = distinct_cons h spare (λ there. (let z : Some x ≡ None = sym found ∙ (are.below h there).1 in cc)) are.once;
     all = (let less = len_less moved moves in let a = are.all in omega arith);
   }
 

@@ -6,6 +6,7 @@ use Rattle.std.specs.FinMap.{get, insert, len}
 use Rattle.cf_lemmas.proofs.Maps.{get_inserted}
 use Rattle.cf_lemmas.proofs.Ranges.{one}
 use Rattle.cf_lemmas.proofs.Searches.{fresh_key}
+use Rattle.cf_lemmas.proofs.Members.{contains_head, empty_or_not}
 use Rattle.page_model.specs.Held.{Held, Placed}
 use Rattle.page_model.specs.Paging.{Paging, IsPaging, class_for, classes, page_of}
 use Rattle.page_model.specs.Arrangement.{IsSound, LacksRoom, class_at, is_on, objects_on}
@@ -13,9 +14,8 @@ use Rattle.page_model.specs.Order.{FreeFollows, IsOrderOf, MallocFollows, Order,
 use Rattle.page_model.specs.Steps.{IsFreePlace, Leaves, Moves, RefitsObject, Request, resized, resized_at, without, zeros_at}
 use Rattle.page_model.proofs.NextMoves.{HasLeft, slot_left}
 use Rattle.page_model.proofs.NextSlots.{HasNext, next_slot}
-use Rattle.page_model.proofs.NumberLists.{at_head, empty_or_not}
 use Rattle.page_model.proofs.OrderFree.{freed_at, listed_freed, spare_kept}
-use Rattle.page_model.proofs.OrderLists.{HasOneMore, ListsPages, list_same, one_more, pages_listed, pages_same, renumbered}
+use Rattle.page_model.proofs.OrderLists.{HasOneMore, ListsPages, list_same, one_more, pages_listed, still_listed, renumbered}
 use Rattle.page_model.proofs.OrderNumbers.{AreSpare, none_freed, numbers_spare, order_is, spare_freed, spare_given, spare_in_place, spare_resized}
 use Rattle.page_model.proofs.Parts.{in_place_counts}
 use Rattle.page_model.proofs.Placing.{objects_on-inserted, sound_placed}
@@ -25,7 +25,7 @@ use Rattle.page_model.proofs.Resizing.{changes_class, class-resized, length-resi
 pub one_added : (p : Paging) (m : Held) (h : ℕ) (x : Placed) → get m h ≡ None → HasOneMore p m (insert m h x) (class_at p x) (page_of p x.place)
 one_added p m h x none = one_more p m (insert m h x) x (λ d g. sym (objects_on-inserted p m h x none d g))
 
--- a malloc that follows the order
+-- a malloc of n bytes can follow the order
 pub record CanMalloc (p : Paging) (m : Held) (n limit : ℕ) (o : Order) : Type 0 where
   pub number : ℕ
   pub place : ℕ
@@ -36,7 +36,7 @@ pub record CanMalloc (p : Paging) (m : Held) (n limit : ℕ) (o : Order) : Type 
   pub follows : MallocFollows p m (record { number = number; length = n }) place o new
   pub is_order : IsOrderOf p (insert m number (zeros_at place n)) limit new
 
--- a free of x that follows the order
+-- a free of x can follow the order
 pub record CanFree (p : Paging) (m : Held) (h : ℕ) (x : Placed) (limit : ℕ) (o : Order) : Type 0 where
   pub moved : Option ℕ
   pub new : Order
@@ -44,7 +44,7 @@ pub record CanFree (p : Paging) (m : Held) (h : ℕ) (x : Placed) (limit : ℕ) 
   pub follows : FreeFollows p m h moved o new
   pub is_order : IsOrderOf p (without m h x.place moved) limit new
 
--- a resize that follows the order
+-- a resize can follow the order
 pub record CanResize (p : Paging) (m : Held) (asked : Request) (limit : ℕ) (o : Order) : Type 0 where
   pub after : Leaves
   pub new : Order
@@ -63,7 +63,7 @@ module _ (p : Paging) (ok : IsPaging p) (m : Held) (s : IsSound p m) (limit : �
   given n h rest first lt room =
       let next = next_slot p ok m s n (record o { spare = rest }) (renumbered p m o rest pages) lt room in
       let are : AreSpare m limit (h ∷ rest) = subst (AreSpare m limit) first numbers in
-      let top = are.below h (at_head h rest) in
+      let top = are.below h (contains_head h rest) in
       let x : Placed = zeros_at next.place n in
       let class : class_at p x ≡ class_for p n = ap (class_for p) (length-replicate {A = ℕ} n 0) in
       let more : HasOneMore p m (insert m h x) (class_for p n) (page_of p next.place) =
@@ -107,12 +107,12 @@ module _ (p : Paging) (ok : IsPaging p) (m : Held) (s : IsSound p m) (limit : �
             (subst (λ r. AreSpare n limit (h ∷ r)) (sym kept) (spare_freed p ok m s h x found limit o.spare l.moved l.moves below numbers));
       }
 
-  -- other bytes in the slot of an object, of its class
+  -- an order stays one if an object gets other bytes of its class in its slot
   pub order_in_place : (h n : ℕ) (x : Placed) → get m h ≡ Some x → class_for p n ≡ class_at p x → (v : List ℕ) → length v ≡ n
       → IsOrderOf p (insert m h (record { place = x.place; bytes = v })) limit o
   order_in_place h n x found same v long =
       let y : Placed = record { place = x.place; bytes = v } in
-      order_is p (insert m h y) limit o (pages_same p (insert m h y) m o (in_place_counts p m h n x found same v long) pages)
+      order_is p (insert m h y) limit o (still_listed p (insert m h y) m o (in_place_counts p m h n x found same v long) pages)
       (spare_in_place p ok m s h x found limit o.spare y numbers)
 
   module _ (h n : ℕ) (x : Placed) (found : get m h ≡ Some x) where

@@ -4,11 +4,11 @@ use Rattle.std.specs.Prelude.{nat_eq, if◌then◌else◌}
 use Rattle.std.specs.List.{Contains, IsDistinct}
 use Rattle.std.proofs.lemmas.Bool.{cases_eq}
 use Rattle.cf_lemmas.proofs.Tests.{eq_no, eq_yes}
+use Rattle.cf_lemmas.proofs.Members.{contains_cases, contains_head, contains_nil, contains_tail, distinct_head, distinct_one, distinct_tail}
 use Rattle.page_model.specs.Held.{Held}
 use Rattle.page_model.specs.Paging.{Paging, classes, slots_of}
 use Rattle.page_model.specs.Arrangement.{objects_on, count_on}
 use Rattle.page_model.specs.Order.{Order, not_full_in, with_not_full}
-use Rattle.page_model.proofs.NumberLists.{at_head, head_once, head_or_tail, in_tail, not_in_nil, one_once, tail_once}
 use Rattle.page_model.proofs.OrderLists.{HasOneMore, IsList, IsPool, ListsPages, bare_class, bare_same, list_changed, list_same, lists_kept, occupied}
 
 module _ (p : Paging) (n m : Held) (c page : ℕ) (one : HasOneMore p n m c page) (lt : c < classes p) (o : Order) (is : ListsPages p n o) where
@@ -29,7 +29,7 @@ module _ (p : Paging) (n m : Held) (c page : ℕ) (one : HasOneMore p n m c page
   -- the slot is on the first partly full page
   module _ (pages : List ℕ) (front : not_full_in o c ≡ page ∷ pages) where
     listed : Contains (not_full_in o c) page
-    listed = subst (λ xs. Contains xs page) (sym front) (at_head page pages)
+    listed = subst (λ xs. Contains xs page) (sym front) (contains_head page pages)
 
     within : page < p.pages
     within = ((is.not_full c lt page).0 listed).0
@@ -62,17 +62,17 @@ module _ (p : Paging) (n m : Held) (c page : ℕ) (one : HasOneMore p n m c page
     filled_list : objects_on p n c page + 1 ≡ slots_of p c → IsList p m c pages
     filled_list full g = elim (cases_eq page g) [
       | inl e ↦ (
-        λ there. absurd (head_once page pages pages_once (subst (λ q. Contains pages q) (sym e) there)),
+        λ there. absurd (distinct_head page pages pages_once (subst (λ q. Contains pages q) (sym e) there)),
         λ (l, (a, b)). absurd (let f = subst (λ j. objects_on p m c j ≡ objects_on p n c page + 1) e one.more in omega arith),
       )
       | inr ne ↦ (
           let same = one.others c g (inl ne) in (
             λ there. (
-                let (l, (a, b)) = (is.not_full c lt g).0 (subst (λ xs. Contains xs g) (sym front) (in_tail g page pages there)) in
+                let (l, (a, b)) = (is.not_full c lt g).0 (subst (λ xs. Contains xs g) (sym front) (contains_tail g page pages there)) in
                 (l, (omega arith, omega arith))),
             λ (l, (a, b)). (
                 let there = (is.not_full c lt g).1 (l, (omega arith, omega arith)) in
-                elim (head_or_tail g page pages (subst (λ xs. Contains xs g) front there)) [
+                elim (contains_cases g page pages (subst (λ xs. Contains xs g) front there)) [
                   | inl e ↦ absurd (ne (sym e))
                   | inr later ↦ later
                 ]),
@@ -101,7 +101,7 @@ module _ (p : Paging) (n m : Held) (c page : ℕ) (one : HasOneMore p n m c page
     listed_open = elim (cases_eq (objects_on p n c page + 1) (slots_of p c)) [
       | inl full ↦ subst (λ b. ListsPages p m (left_open b)) (sym (eq_yes _ _ full))
           (list_changed p m o c is.as_many o.pool pool_stays is.pool_once others_are is.not_full_once lt pages (filled_list full)
-          (tail_once page pages pages_once))
+          (distinct_tail page pages pages_once))
       | inr part ↦ subst (λ b. ListsPages p m (left_open b)) (sym (eq_no _ _ part))
           (lists_kept p m o c is.as_many o.pool pool_stays is.pool_once others_are is.not_full_once (open_list part))
     ]
@@ -109,7 +109,7 @@ module _ (p : Paging) (n m : Held) (c page : ℕ) (one : HasOneMore p n m c page
   -- the slot is on the first free page
   module _ (pages : List ℕ) (none : not_full_in o c ≡ []) (front : o.pool ≡ page ∷ pages) (slots : 0 < slots_of p c) where
     first : Contains o.pool page
-    first = subst (λ xs. Contains xs page) (sym front) (at_head page pages)
+    first = subst (λ xs. Contains xs page) (sym front) (contains_head page pages)
 
     inside_first : page < p.pages
     inside_first = ((is.pool page).0 first).0
@@ -123,16 +123,16 @@ module _ (p : Paging) (n m : Held) (c page : ℕ) (one : HasOneMore p n m c page
     pool_rest : IsPool p m pages
     pool_rest g = elim (cases_eq page g) [
       | inl e ↦ (
-        λ there. absurd (head_once page pages pool_once (subst (λ q. Contains pages q) (sym e) there)),
+        λ there. absurd (distinct_head page pages pool_once (subst (λ q. Contains pages q) (sym e) there)),
         λ (inside, bare). absurd (let st = subst (λ j. 0 < count_on p m j) e stands_now in omega arith),
       )
       | inr ne ↦ (
         λ there. (
-            let (inside, bare) = (is.pool g).0 (subst (λ xs. Contains xs g) (sym front) (in_tail g page pages there)) in
+            let (inside, bare) = (is.pool g).0 (subst (λ xs. Contains xs g) (sym front) (contains_tail g page pages there)) in
             (inside, bare_now g ne bare)),
         λ (inside, bare). (
             let there = (is.pool g).1 (inside, bare_then g ne bare) in
-            elim (head_or_tail g page pages (subst (λ xs. Contains xs g) front there)) [
+            elim (contains_cases g page pages (subst (λ xs. Contains xs g) front there)) [
               | inl e ↦ absurd (ne (sym e))
               | inr later ↦ later
             ]),
@@ -144,11 +144,11 @@ module _ (p : Paging) (n m : Held) (c page : ℕ) (one : HasOneMore p n m c page
     not_elsewhere g ne l a b =
         let same = one.others c g (inl ne) in
         let there = (is.not_full c lt g).1 (l, (omega arith, omega arith)) in
-        not_in_nil g (subst (λ xs. Contains xs g) none there)
+        contains_nil g (subst (λ xs. Contains xs g) none there)
 
     full_list : slots_of p c ≡ 1 → IsList p m c (not_full_in o c)
     full_list single g = (
-      λ there. absurd (not_in_nil g (subst (λ xs. Contains xs g) none there)),
+      λ there. absurd (contains_nil g (subst (λ xs. Contains xs g) none there)),
       λ (l, (a, b)). elim (cases_eq page g) [
         | inl e ↦ absurd (let f = subst (λ j. objects_on p m c j ≡ 1) e one_here in omega arith)
         | inr ne ↦ absurd (not_elsewhere g ne l a b)
@@ -157,12 +157,12 @@ module _ (p : Paging) (n m : Held) (c page : ℕ) (one : HasOneMore p n m c page
 
     first_list : slots_of p c ≢ 1 → IsList p m c (page ∷ [])
     first_list several g = (
-      λ there. elim (head_or_tail g page [] there) [
+      λ there. elim (contains_cases g page [] there) [
         | inl e ↦ (let f = subst (λ j. objects_on p m c j ≡ 1) (sym e) one_here in (subst (λ j. j < p.pages) (sym e) inside_first, (omega arith, omega arith)))
-        | inr later ↦ absurd (not_in_nil g later)
+        | inr later ↦ absurd (contains_nil g later)
       ],
       λ (l, (a, b)). elim (cases_eq page g) [
-        | inl e ↦ subst (λ q. Contains (page ∷ []) q) e (at_head page [])
+        | inl e ↦ subst (λ q. Contains (page ∷ []) q) e (contains_head page [])
         | inr ne ↦ absurd (not_elsewhere g ne l a b)
       ],
     )
@@ -173,8 +173,8 @@ module _ (p : Paging) (n m : Held) (c page : ℕ) (one : HasOneMore p n m c page
     pub listed_free : ListsPages p m (record (if nat_eq (slots_of p c) 1 then o else with_not_full o c (page ∷ [])) { pool = pages })
     listed_free = elim (cases_eq (slots_of p c) 1) [
       | inl single ↦ subst (λ b. ListsPages p m (left_free b)) (sym (eq_yes _ _ single))
-          (lists_kept p m o c is.as_many pages pool_rest (tail_once page pages pool_once) others_are is.not_full_once (full_list single))
+          (lists_kept p m o c is.as_many pages pool_rest (distinct_tail page pages pool_once) others_are is.not_full_once (full_list single))
       | inr several ↦ subst (λ b. ListsPages p m (left_free b)) (sym (eq_no _ _ several))
-          (list_changed p m o c is.as_many pages pool_rest (tail_once page pages pool_once) others_are is.not_full_once lt (page ∷ []) (first_list several)
-          (one_once page))
+          (list_changed p m o c is.as_many pages pool_rest (distinct_tail page pages pool_once) others_are is.not_full_once lt (page ∷ []) (first_list several)
+          (distinct_one page))
     ]

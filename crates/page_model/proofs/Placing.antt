@@ -79,7 +79,7 @@ module _ (p : Paging) (m : Held) (h : ℕ) (x : Placed) (none : get m h ≡ None
     few_not_full = few_after ok f s.few_not_full;
   }
 
--- the same for every step `PlacesObject`
+-- a malloc (`PlacesObject`) keeps the arrangement sound
 pub sound_malloc : (p : Paging) (old : Held) (asked : Request) (new : Held) → IsPaging p → IsSound p old → PlacesObject p old asked new → IsSound p new
 sound_malloc p old asked new ok s step =
     let len : length (replicate asked.length 0) ≡ asked.length = length-replicate {A = ℕ} asked.length 0 in

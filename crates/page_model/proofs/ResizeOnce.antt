@@ -1,13 +1,13 @@
 -- A resize that follows an order has one outcome.
 use Rattle.std.proofs.Common.{◌≡◌, ℕ, Some, sym, ◌∙◌, ap, subst, inl, inr}
 use Rattle.std.specs.FinMap.{get, insert}
-use Rattle.cf_lemmas.proofs.Maps.{get_inserted}
+use Rattle.cf_lemmas.proofs.Maps.{found_once, get_inserted}
 use Rattle.page_model.specs.Held.{Held, Placed}
 use Rattle.page_model.specs.Paging.{IsPaging, Paging, class_for}
 use Rattle.page_model.specs.Arrangement.{IsSound, class_at}
 use Rattle.page_model.specs.Order.{Order, ResizeFollows, SlotFollows, TakesNext}
 use Rattle.page_model.specs.Steps.{ChangesClass, Leaves, Moves, RefitsObject, Request, ResizesInPlace, resized_at, without}
-use Rattle.page_model.proofs.Following.{found_once, next_once, slot_once}
+use Rattle.page_model.proofs.Following.{next_once, slot_once}
 use Rattle.page_model.proofs.Resizing.{change_is}
 
 -- x changes its class, by an order
@@ -24,7 +24,7 @@ module _ (p : Paging) (ok : IsPaging p) (m : Held) (s : IsSound p m) (asked : Re
       → Changed p m asked r.object after old new
   changed after old new r f =
       let x = r.object in
-      let same : f.object ≡ x = found_once p m s asked.number f.object x f.found r.found in
+      let same : f.object ≡ x = found_once m asked.number f.object x f.found r.found in
       let (place, between, at, taken, slot) = f.changes (λ e. r.other (e ∙ ap (class_at p) same)) in
       let is = change_is p ok m s asked after r in
       let here : get after.held asked.number ≡ Some (resized_at r.place x asked.length) = ap (λ n. get n asked.number) is.1
@@ -55,17 +55,17 @@ module _ (p : Paging) (ok : IsPaging p) (m : Held) (s : IsSound p m) (asked : Re
 
   stayed_once : (after other : Leaves) → ResizesInPlace p m asked after → ResizesInPlace p m asked other → after ≡ other
   stayed_once after other r t =
-      let same : r.object ≡ t.object = found_once p m s asked.number r.object t.object r.found t.found in
+      let same : r.object ≡ t.object = found_once m asked.number r.object t.object r.found t.found in
       let held : after.held ≡ other.held = r.placed
       ∙ ap (λ (y : Placed). insert m asked.number (resized_at y.place y asked.length)) same ∙ sym t.placed in
       let moved : after.moved ≡ other.moved = r.still ∙ sym t.still in
       λ i. record { held = held i; moved = moved i }
 
   stayed_order : (after : Leaves) (old new : Order) → ResizesInPlace p m asked after → ResizeFollows p m asked after old new → new ≡ old
-  stayed_order after old new r f = f.stays (r.same ∙ ap (class_at p) (found_once p m s asked.number r.object f.object r.found f.found))
+  stayed_order after old new r f = f.stays (r.same ∙ ap (class_at p) (found_once m asked.number r.object f.object r.found f.found))
 
   not_both : (after other : Leaves) → ResizesInPlace p m asked after → ChangesClass p m asked other → ⊥
-  not_both after other r t = t.other (r.same ∙ ap (class_at p) (found_once p m s asked.number r.object t.object r.found t.found))
+  not_both after other r t = t.other (r.same ∙ ap (class_at p) (found_once m asked.number r.object t.object r.found t.found))
 
   refits_once : (after other : Leaves) (old new next : Order) → RefitsObject p m asked after → ResizeFollows p m asked after old new
       → RefitsObject p m asked other → ResizeFollows p m asked other old next → (after ≡ other) × (new ≡ next)
@@ -74,7 +74,7 @@ module _ (p : Paging) (ok : IsPaging p) (m : Held) (s : IsSound p m) (asked : Re
   refits_once after other old new next (inl r) f (inr t) g = absurd (not_both after other r t)
   refits_once after other old new next (inr r) f (inl t) g = absurd (not_both other after t r)
   refits_once after other old new next (inr r) f (inr t) g =
-      let same : t.object ≡ r.object = found_once p m s asked.number t.object r.object t.found r.found in
+      let same : t.object ≡ r.object = found_once m asked.number t.object r.object t.found r.found in
       changed_once r.object after other old new next (changed after old new r f)
       (subst (λ y. Changed p m asked y other old next) same (changed other old next t g))
 

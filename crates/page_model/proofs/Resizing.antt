@@ -164,7 +164,7 @@ changes_class p ok old s h n a spare x moved found other unused free moves = rec
   renamed = equal_maps _ _ (λ q. sym (no_trace p ok old s h n a spare x found other unused q moved moves));
 }
 
--- every resize to another class is one of these
+-- every resize to another class (`ChangesClass`) has such a result
 pub change_is : (p : Paging) → IsPaging p → (old : Held) → IsSound p old → (asked : Request) (after : Leaves) (r : ChangesClass p old asked after)
     → Moves p old r.object after.moved × (after.held ≡ insert (without old asked.number r.object.place after.moved) asked.number
     (resized_at r.place r.object asked.length))

@@ -27,7 +27,7 @@ multiples_apart s x y p q lt =
       | inr above ↦ absurd (let m : y / s * s ≤ x / s * s = mul-le (y / s) s (x / s) s above (omega arith) in omega arith)
     ]
 
--- the same for addresses on different pages
+-- n words from a on, all on the page of a, end before each address on a later page
 page_apart : (P a b : ℕ) → a / P < b / P → (n : ℕ) → a % P + n ≤ P → a + n ≤ b
 page_apart P a b lt n fits =
     let ea : a / P * P + a % P ≡ a = div-add-mod' a P in

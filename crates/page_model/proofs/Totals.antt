@@ -21,7 +21,7 @@ use Rattle.cf_lemmas.proofs.Ranges.{one, count_changed}
 use Rattle.cf_lemmas.proofs.Induction.{map_induction}
 use Rattle.page_model.specs.Held.{Held, Placed, objects}
 use Rattle.page_model.specs.Paging.{Paging, slot_words, slots_of, page_of, class_for}
-use Rattle.page_model.specs.Arrangement.{class_at, is_on, objects_on, live, IsSound}
+use Rattle.page_model.specs.Arrangement.{class_at, is_on, objects_on, live, IsSlotAt, IsSound}
 use Rattle.page_model.proofs.Counting.{on_parts}
 use Rattle.page_model.proofs.Placing.{objects_on-inserted}
 
@@ -191,13 +191,39 @@ module _ (p : Paging) (c page : ℕ) where
       (λ _. ([], record { count = sym (on_none p c page); distinct = tt; taken = λ j a. absurd (false≢true a) }))
       (λ m h x none ih s. (let o = ih (had_slots m h x none s) in one_more m h x (is_on p c page x) refl none s o.0 o.1))
 
+  taken_below : (m : Held) (js : List ℕ) → 0 < slot_words p c → HasSlots p c m → SlotsOf p c m page js → (j : ℕ) → list_any (nat_eq j) js ≡ true
+      → j < slots_of p c
+  taken_below m js pos has o j a =
+      let t = o.taken j a in
+      let b = slot_below p.page_words (slot_words p c) t.1.place pos (has.aligned t.0 t.1 page t.2 t.3) (has.fits t.0 t.1 page t.2 t.3) in
+      rw (← t.4) b
+
   -- a page has at most as many objects as slots
   pub page_within : (m : Held) → 0 < slot_words p c → IsSound p m → objects_on p m c page ≤ slots_of p c
   page_within m pos s =
       let has = sound_slots p m c s in
       let o = slots_taken m has in
-      let n = length-le_from_distinct_below o.0 (slots_of p c) o.1.distinct (λ j a. (
-      let t = o.1.taken j a in
-      let b = slot_below p.page_words (slot_words p c) t.1.place pos (has.aligned t.0 t.1 page t.2 t.3) (has.fits t.0 t.1 page t.2 t.3) in
-      rw (← t.4) b)) in
+      let n = length-le_from_distinct_below o.0 (slots_of p c) o.1.distinct (taken_below m o.0 pos has o.1) in
+      omega (arith, o.1.count)
+
+  -- and fewer if a slot of the page has no object
+  pub page_below : (m : Held) (a : ℕ) → 0 < slot_words p c → IsSound p m → IsSlotAt p c a → page_of p a ≡ page
+      → ((q : ℕ) (y : Placed) → get m q ≡ Some y → y.place ≢ a) → objects_on p m c page < slots_of p c
+  unfolding IsDistinct
+  page_below m a pos s slot on vacant =
+      let has = sound_slots p m c s in
+      let o = slots_taken m has in
+      let below = slot_below p.page_words (slot_words p c) a pos slot.aligned slot.fits in
+      let free = absent (a % p.page_words / slot_words p c) o.0 (λ any. (
+      let t = o.1.taken (a % p.page_words / slot_words p c) any in
+      vacant t.0 t.1 t.2 (one_place p.page_words (slot_words p c) t.1.place a ((on_parts p c page t.1 t.3).0 ∙ sym on)
+      (has.aligned t.0 t.1 page t.2 t.3) slot.aligned t.4))) in
+      let n = length-le_from_distinct_below (a % p.page_words / slot_words p c ∷ o.0) (slots_of p c) (free, o.1.distinct) (λ i any. elim
+      (cases_eq i (a % p.page_words / slot_words p c)) [
+        | inl is ↦ rw is below
+        | inr ne ↦ (
+            let f : nat_eq i (a % p.page_words / slot_words p c) ≡ false = eq_no _ _ ne in
+            let any' : list_any (nat_eq i) o.0 ≡ true = rw f at any in
+            taken_below m o.0 pos has o.1 i any')
+      ]) in
       omega (arith, o.1.count)

@@ -46,11 +46,11 @@ free_pages p m = p.pages - used_pages p m
 abbrev pub pages_for : Paging → (ℕ → ℕ) → ℕ
 pages_for p count = sum_by (λ c. ceil_div (count c) (slots_of p c)) (range_with_len 0 (classes p))
 
--- the pages that the objects need by arithmetic
+-- the pages that the objects need: for each class its objects over the slots of a page, rounded up
 unfoldable pub pages_needed : Paging → Objects → ℕ
 pages_needed p objects = pages_for p (live p objects)
 
--- the same with one more object of n bytes
+-- the pages that the objects and one more of n bytes need
 unfoldable pub pages_needed_with : Paging → Objects → ℕ → ℕ
 pages_needed_with p objects n = pages_for p (λ c. live p objects c + cond (nat_eq (class_for p n) c) 1 0)
 

@@ -27,6 +27,6 @@ AreBytes v = (i : ℕ) → slice_index v i < 256
 abbrev pub written : List ℕ → ℕ → List ℕ → List ℕ
 written v at bytes = take at v ++ (bytes ++ drop (at + length bytes) v)
 
--- numbers of 32 bits, and bytes: what words can represent
+-- words can represent the objects: their numbers fit 32 bits, and their contents are bytes
 abbrev pub AreStorable : Held → Type 0
 AreStorable m = (h : ℕ) (x : Placed) → get m h ≡ Some x → (h < 2 ^ 32) × AreBytes x.bytes

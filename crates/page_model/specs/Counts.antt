@@ -13,7 +13,7 @@ pub record LieOn (p n m k q : ℕ) : Type 0 where
 abbrev pub CanHold : ℕ → ℕ → ℕ → ℕ → Type 0
 CanHold p n m k = (q : ℕ) × LieOn p n m k q
 
--- the same as a test
+-- `CanHold` as a test
 abbrev pub can_hold : ℕ → ℕ → ℕ → ℕ → Bool
 can_hold p n m k = list_any (λ q. nat_le q p && nat_le ((p - q) * m + q) n && nat_le n ((p - q) * m + q * (m - 1))) (range_with_len 0 (k + 1))
 

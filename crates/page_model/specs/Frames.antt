@@ -1,4 +1,4 @@
--- The block permutation of the non-moving manager. A block is four words; virtual block v is at physical block `frames[v]`.
+-- The block table of the non-moving manager, as a list of numbers (`frames`). A block is four words; virtual block v is physical block `frames[v]`.
 use Rattle.std.specs.Prelude.{◌≡◌, ℕ, ◌+◌, ◌*◌, ◌/◌, ◌%◌, ◌<◌, List, Option, Some, None, length, slice_index}
 use Rattle.std.specs.List.{range_with_len}
 use Rattle.std.specs.List.Sorted.{IsPermutation}
@@ -9,7 +9,7 @@ use Rattle.page_model.specs.Paging.{IsPaging, Paging, slot_words}
 use Rattle.page_model.specs.Arrangement.{IsSound, class_at}
 use Rattle.page_model.specs.Steps.{Leaves}
 
--- the numbers below n in order
+-- the block table of an empty heap: the numbers below n in order
 abbrev pub first_frames : ℕ → List ℕ
 first_frames n = range_with_len 0 n
 
@@ -28,7 +28,7 @@ abbrev pub found : Held → Option ℕ → Option Placed
 found m None = None
 found m (Some q) = get m q
 
--- the frames after a step: only an object that moved exchanges blocks
+-- the block table after a free or a resize: it changes only if an object moved
 abbrev pub frames_after : Paging → Held → Leaves → List ℕ → List ℕ
 frames_after p old after frames = frames_moved p (found old after.moved) (found after.held after.moved) frames
 

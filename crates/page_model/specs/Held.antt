@@ -10,15 +10,15 @@ pub record Placed : Type 0 where
   pub place : ℕ
   pub bytes : List ℕ
 
--- the objects by number
+-- an arrangement: the objects by number, each with its address
 abbrev pub Held : Type 0
 Held = FinMap nat_cmp Placed
 
--- the bytes by number, without the addresses
+-- the bytes of objects by number, without the addresses
 abbrev pub Objects : Type 0
 Objects = FinMap nat_cmp (List ℕ)
 
--- the bytes by number
+-- the objects of an arrangement without their addresses
 abbrev pub objects : Held → Objects
 objects m = map_values (λ (x : Placed). x.bytes) m
 
@@ -26,6 +26,6 @@ objects m = map_values (λ (x : Placed). x.bytes) m
 abbrev pub places : Held → FinMap nat_cmp ℕ
 places m = map_values (λ (x : Placed). x.place) m
 
--- an object is stored as a pair
+-- the encoding of an object, as a pair, that a map of objects needs
 abbrev pub placed_code : Coded Placed
 placed_code = code_by (ℕ × List ℕ) (coded× coded_ℕ (coded_list coded_ℕ)) (λ x. (x.place, x.bytes)) (λ p. record { place = p.0; bytes = p.1 }) (λ _. refl)

@@ -45,11 +45,11 @@ pub record IsImageOver (extent : ℕ → ℕ) (m : Held) (words : List ℕ) : Ty
   pub held : (h : ℕ) (x : Placed) → get m h ≡ Some x → (i : ℕ) → i < extent (length x.bytes) → slice_index words (x.place + i) ≡ object_word h x.bytes i
   pub zeros : (w : ℕ) → ((h : ℕ) (x : Placed) → get m h ≡ Some x → IsOutsideOf extent x w) → slice_index words w ≡ 0
 
--- the words are those of the objects, and zeros
+-- the words are those of the objects, and zeros elsewhere
 abbrev pub IsImage : Held → List ℕ → Type 0
 IsImage m words = IsImageOver need m words
 
--- the same, with the whole slot of each object
+-- the words are those of the objects' whole slots, and zeros elsewhere
 abbrev pub IsSlotImage : Paging → Held → List ℕ → Type 0
 IsSlotImage p m words = IsImageOver (slot_for p) m words
 

@@ -1,4 +1,4 @@
--- The order in which a manager gives out pages, slots and numbers, and the steps that follow it.
+-- The order in which a manager uses pages, slots and numbers, the calls that follow it, and what they cost in steps.
 use Rattle.std.specs.Prelude.{◌≡◌, ℕ, ◌+◌, ◌<◌, ◌⊎◌, ◌↔◌, List, [], ◌∷◌, Option, Some, None, length, slice_index_or, slice_set, nat_eq, not, replicate, if◌then◌else◌}
 use Rattle.std.specs.List.{Contains, IsDistinct, filter, range_with_len}
 use Rattle.std.specs.FinMap.{get, len}
@@ -9,7 +9,7 @@ use Rattle.page_model.specs.Paging.{Paging, classes, class_for, slots_of, page_o
 use Rattle.page_model.specs.Arrangement.{class_at, objects_on, count_on}
 use Rattle.page_model.specs.Steps.{Leaves, Request, resized_at}
 
--- what is given out next: the free pages, the partly full pages of each class, and the numbers that no object has; each list begins with the next one
+-- what a manager uses next: the free pages, the partly full pages of each class, and the numbers that no object has; each list begins with the next one
 pub record Order : Type 0 where
   pub pool : List ℕ
   pub not_full : List (List ℕ)
@@ -57,7 +57,7 @@ pub record IsLeastTaken (p : Paging) (m : Held) (c page slot : ℕ) : Type 0 whe
   pub taken : IsTaken m (address_of p c page slot)
   pub least : (s : ℕ) → s < slot → ¬ IsTaken m (address_of p c page s)
 
--- takes the least free slot of the first partly full page of class c; the page leaves its list if that fills it
+-- a call takes the lowest free slot, at address a, of the first partly full page of class c; if that fills the page, the page leaves its list
 pub record TakesOnOpenPage (p : Paging) (m : Held) (old : Order) (c a : ℕ) (new : Order) : Type 0 where
   pub page : ℕ
   pub slot : ℕ
@@ -67,7 +67,8 @@ pub record TakesOnOpenPage (p : Paging) (m : Held) (old : Order) (c a : ℕ) (ne
   pub least : IsLeastFree p m c page slot
   pub left : new ≡ (if nat_eq (objects_on p m c page + 1) (slots_of p c) then with_not_full old c rest else old)
 
--- no page of class c is partly full: takes slot 0 of the first free page; unless that fills the page, it becomes the only one in the class's list
+-- no page of class c is partly full, and a call takes slot 0, at address a, of the first free page; unless that fills the page, it becomes the only one in the
+-- class's list
 pub record TakesOnFreePage (p : Paging) (old : Order) (c a : ℕ) (new : Order) : Type 0 where
   pub page : ℕ
   pub rest : List ℕ
@@ -76,11 +77,11 @@ pub record TakesOnFreePage (p : Paging) (old : Order) (c a : ℕ) (new : Order) 
   pub front : old.pool ≡ page ∷ rest
   pub left : new ≡ record (if nat_eq (slots_of p c) 1 then old else with_not_full old c (page ∷ [])) { pool = rest }
 
--- takes the next slot of class c, whose address is a
+-- a call takes the next slot of class c, at address a
 abbrev pub TakesNext : Paging → Held → Order → ℕ → ℕ → Order → Type 0
 TakesNext p m old c a new = TakesOnOpenPage p m old c a new ⊎ TakesOnFreePage p old c a new
 
--- a malloc uses the next number and takes the next slot
+-- a malloc uses the first spare number and takes the next slot of its class
 pub record MallocFollows (p : Paging) (m : Held) (asked : Request) (place : ℕ) (old new : Order) : Type 0 where
   pub rest : List ℕ
   pub number : old.spare ≡ asked.number ∷ rest
@@ -94,7 +95,7 @@ slot_freed p m o c page =
     else if nat_eq (objects_on p m c page) (slots_of p c) then with_not_full o c (page ∷ not_full_in o c)
     else o
 
--- y is at the least taken slot of the first partly full page of class c
+-- y is at the lowest taken slot of the first partly full page of class c
 pub record IsNextToMove (p : Paging) (m : Held) (o : Order) (c : ℕ) (y : Placed) : Type 0 where
   pub page : ℕ
   pub slot : ℕ
@@ -103,13 +104,13 @@ pub record IsNextToMove (p : Paging) (m : Held) (o : Order) (c : ℕ) (y : Place
   pub least : IsLeastTaken p m c page slot
   pub address : y.place ≡ address_of p c page slot
 
--- x is removed: its slot becomes free, or another object moves there and that one's slot becomes free
+-- x is removed: its slot becomes free, or the next object to move, q, moves there and the old slot of q becomes free
 abbrev pub SlotFollows : Paging → Held → Placed → Option ℕ → Order → Order → Type 0
 SlotFollows p m x None old new = new ≡ slot_freed p m old (class_at p x) (page_of p x.place)
 SlotFollows p m x (Some q) old new = (y : Placed) × (get m q ≡ Some y) × IsNextToMove p m old (class_at p x) y
     × (new ≡ slot_freed p m old (class_at p x) (page_of p y.place))
 
--- a free moves the next object to move, if it moves one; the freed number is the next to be used
+-- if a free moves an object, it is the next one to move; the freed number becomes the first spare one
 pub record FreeFollows (p : Paging) (m : Held) (h : ℕ) (moved : Option ℕ) (old new : Order) : Type 0 where
   pub object : Placed
   pub found : get m h ≡ Some object
@@ -127,7 +128,7 @@ pub record ResizeFollows (p : Paging) (m : Held) (asked : Request) (after : Leav
       × TakesNext p m old (class_for p asked.length) place between
       × SlotFollows p m object after.moved between new
 
--- the steps of reading or writing a word: one more through the block table
+-- the steps of reading or writing a word: one, and with a block table one more to read its entry
 abbrev pub word_steps : Kind → ℕ
 word_steps Moving = 1
 word_steps NonMoving = 2
@@ -146,7 +147,7 @@ new_page_steps = 11
 abbrev pub drop_steps : ℕ → ℕ → ℕ
 drop_steps used n = if nat_eq used 1 then 10 else if nat_eq used n then 13 else 5
 
--- the steps of finding the least taken slot of a partly full page with `used` taken slots, and freeing it: more if that empties the page
+-- the steps of finding the lowest taken slot of a partly full page with `used` taken slots, and freeing it: more if that empties the page
 abbrev pub fill_steps : ℕ → ℕ
 fill_steps used = if nat_eq used 1 then 12 else 7
 

@@ -45,11 +45,11 @@ class_for p n = position_or_len (λ s. nat_le (need n) s) p.sizes
 abbrev pub page_of : Paging → ℕ → ℕ
 page_of p a = a / p.page_words
 
--- the address of a slot of class c
+-- the address of a slot of class c, by its page and its number on the page
 abbrev pub address_of : Paging → ℕ → ℕ → ℕ → ℕ
 address_of p c page slot = page * p.page_words + slot * slot_words p c
 
--- the slot sizes are as `AreSizes` asks, and each class has a bound of at least 1
+-- the slot sizes have the properties of `AreSizes`, and each class has a bound of at least 1
 pub record IsPaging (p : Paging) : Type 0 where
   pub sized : AreSizes p.page_words p.sizes
   pub bounded : length p.bounds ≡ length p.sizes

@@ -1,4 +1,4 @@
--- The steps of an arrangement: malloc, free and resize.
+-- What a malloc, a free and a resize do to an arrangement.
 use Rattle.std.specs.Prelude.{◌≡◌, ◌≢◌, ℕ, ◌⊎◌, ◌-◌, ◌<◌, List, ◌++◌, Option, Some, None, length, take, replicate}
 use Rattle.std.specs.FinMap.{get, insert, remove}
 use Rattle.page_model.specs.Held.{Held, Placed}
@@ -10,7 +10,7 @@ pub record Request : Type 0 where
   pub number : ℕ
   pub length : ℕ
 
--- the result of a step: the objects, and the other object that moved, if one did
+-- the result of a free or a resize: the objects, and the number of the other object that moved, if one did
 pub record Leaves : Type 0 where
   pub held : Held
   pub moved : Option ℕ
@@ -54,7 +54,7 @@ abbrev pub moved_to : Held → ℕ → Option Placed → ℕ → Held
 moved_to m q None a = m
 moved_to m q (Some y) a = insert m q (record { place = a; bytes = y.bytes })
 
--- without object h; if an object moved, it has the address a
+-- the objects without h; if an object moved, it has the address a
 abbrev pub without : Held → ℕ → ℕ → Option ℕ → Held
 without m h a None = remove m h
 without m h a (Some q) = moved_to (remove m h) q (get m q) a

@@ -1,4 +1,4 @@
--- The steps of touching many words, by kind: with a block table each block costs steps of its own.
+-- The steps of touching many words, by kind. With a block table, reading an entry for each block costs steps too.
 use Rattle.std.specs.Prelude.{ℕ, ◌+◌, ◌*◌, ◌/◌, ◌%◌, min}
 use Rattle.cf_base.specs.declared.kind.Kind.{Kind}
 use Rattle.cf_base.specs.declared.kind.Kind.TheVariants.{Moving, NonMoving, Tlsf, HalfFit}

@@ -7,8 +7,8 @@ ghost use Rattle.page_model.specs.Image.{IsSlotImage, object_word, slot_for};
 ghost use Rattle.page_model.specs.Paging.{Paging};
 ghost use Rattle.page_model.specs.Steps.{RemovesObject, RefitsObject, Leaves, Request, ResizesInPlace};
 
-/// The frames of an empty heap, and those after each free and each resize, contain every number
-/// once.
+/// The block table (`frames`) of an empty heap contains the number of each block once. It still
+/// does after a free and after a resize.
 pub fn frames_stay_permuted()
     ensures first { (n : ℕ) → IsPermuted (first_frames n) × (length (first_frames n) ≡ n) }
     ensures free { (p : Paging) (old : Held) (frames : List ℕ) (h : ℕ) (after : Leaves)
@@ -19,9 +19,9 @@ pub fn frames_stay_permuted()
         → AreFramed p after.held (frames_after p old after frames) }
 {}
 
-/// Each block of an object stays the same while other objects are freed or resized, even if the
-/// object moves. It also stays while the object is resized within its class. A malloc changes no
-/// frame and no address.
+/// Each physical block of an object stays the same while other objects are freed or resized, even
+/// if the object moves. It also stays while the object is resized within its class. A malloc has no
+/// clause here, since it moves no object.
 pub fn blocks_of_others_stay()
     ensures free { (p : Paging) (old : Held) (frames : List ℕ) (h : ℕ) (after : Leaves)
         → AreFramed p old frames → RemovesObject p old h after

@@ -2,13 +2,14 @@
 ghost use Rattle.std.specs.Prelude.{ℕ, ◌≡◌, ◌+◌, ◌/◌, ◌<◌, ◌≤◌, ◌↔◌, IsTrue};
 ghost use Rattle.page_model.specs.Counts.{CanHold, can_hold, ceil_div, most_pages};
 
-/// With at most one page partly full and none empty, n objects, m to a page, are on exactly one
-/// number of pages: n over m, rounded up.
+/// If no page is empty and at most one is partly full, n objects, m to a page, are on exactly n / m
+/// pages, rounded up.
 pub fn one_page_count_at_bound_one()
     ensures { (p n m : ℕ) → 0 < m → CanHold p n m 1 ↔ (p ≡ ceil_div n m) }
 {}
 
-/// With at most k pages partly full and none empty, n objects are on at most n / m + k pages.
+/// If no page is empty and at most k are partly full, n objects, m to a page, are on at most n / m
+/// + k pages.
 pub fn pages_are_within_the_bound()
     ensures { (p n m k : ℕ) → 0 < m → CanHold p n m k → p ≤ n / m + k }
 {}

@@ -1,4 +1,4 @@
-//! The numbers in the reports on classes and on the whole heap.
+//! Laws of the figures that reports show of a class and of the whole heap.
 ghost use Rattle.std.specs.Prelude.{ℕ, ◌≡◌, ◌+◌, ◌*◌, List, None, Some, cond, length, nat_eq};
 ghost use Rattle.std.specs.FinMap.{get, insert, len, remove};
 ghost use Rattle.page_model.specs.Arrangement.{IsSound, free_pages, live, used_pages};
@@ -6,16 +6,16 @@ ghost use Rattle.page_model.specs.Figures.{asked_bytes, taken_bytes};
 ghost use Rattle.page_model.specs.Held.{Held, Objects, objects};
 ghost use Rattle.page_model.specs.Paging.{Paging, class_for, slot_words};
 
-/// The pages in use and the free ones add up to all pages. `objects` has as many entries as the
-/// arrangement.
+/// The pages in use and the free ones add up to all pages. The map `objects` has the same number of
+/// entries as the arrangement.
 pub fn pages_and_objects_add_up()
     ensures pages { (p : Paging) (m : Held) → IsSound p m
         → used_pages p m + free_pages p m ≡ p.pages }
     ensures len { (m : Held) → len (objects m) ≡ len m }
 {}
 
-/// An added object counts in its class. Its bytes are added to those asked for, those of its slot
-/// to those taken.
+/// Adding an object adds one to the live objects of its class, its bytes to the bytes asked, and
+/// the bytes of its slot to the bytes taken.
 pub fn figures_where_an_object_comes()
     ensures live { (p : Paging) (o : Objects) (h : ℕ) (v : List ℕ) (c : ℕ) → get o h ≡ None
         → live p (insert o h v) c ≡ live p o c + cond (nat_eq (class_for p (length v)) c) 1 0 }
@@ -26,7 +26,8 @@ pub fn figures_where_an_object_comes()
         ≡ taken_bytes p o + 8 * slot_words p (class_for p (length v)) }
 {}
 
-/// A removed object no longer counts in its class. Its bytes and those of its slot are subtracted.
+/// Removing an object subtracts one from the live objects of its class, its bytes from the bytes
+/// asked, and the bytes of its slot from the bytes taken.
 pub fn figures_where_an_object_goes()
     ensures live { (p : Paging) (o : Objects) (h : ℕ) (v : List ℕ) (c : ℕ) → get o h ≡ Some v
         → live p (remove o h) c + cond (nat_eq (class_for p (length v)) c) 1 0 ≡ live p o c }

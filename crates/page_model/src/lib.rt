@@ -1,5 +1,5 @@
 //! Arrangements of objects on pages, as in Compact-fit (2008): what a sound arrangement is, and how
-//! a malloc, a free and a resize change it, the words and the blocks. The public functions do
+//! a malloc, a free and a resize change it, its words and its blocks. The public functions do
 //! nothing; each contract is a law of these definitions.
 #![tactic(auto)]
 

@@ -1,5 +1,5 @@
-//! The order in which pages, slots and numbers are given out: it leaves no choice, and a call that
-//! may succeed can follow it.
+//! Laws of the order in which a manager uses pages, slots and numbers: the order leaves a call no
+//! choice, and each call that may succeed can follow it.
 ghost use Rattle.std.specs.Prelude.{ℕ, ◌≡◌, ◌≢◌, ◌<◌, Option, Some, None};
 ghost use Rattle.std.specs.FinMap.{get, insert, len};
 ghost use Rattle.page_model.specs.Arrangement.{IsSound, LacksRoom, class_at};
@@ -9,8 +9,8 @@ ghost use Rattle.page_model.specs.Paging.{IsPaging, Paging, class_for, classes};
 ghost use Rattle.page_model.specs.Steps.{IsFreePlace, Leaves, Moves, RefitsObject, RemovesObject, Request, without, zeros_at};
 
 /// Two mallocs of the same length that follow the same order use the same number and address, and
-/// leave the same order. Two frees of the same object leave the same objects and the same order, and
-/// so do two resizes of the same object to the same length.
+/// leave the same order. Two frees of the same object that follow the same order leave the same
+/// objects and the same order. So do two resizes of the same object to the same length.
 pub fn an_order_leaves_no_choice()
     ensures malloc { (p : Paging) (m : Held) (asked other : Request) (place elsewhere : ℕ) (old new next : Order)
         → MallocFollows p m asked place old new → MallocFollows p m other elsewhere old next → asked.length ≡ other.length
@@ -36,7 +36,7 @@ pub fn a_malloc_can_follow_an_order()
 {}
 
 /// A free of each live object can follow the order, whether it moves an object or not. It leaves an
-/// order of what is left.
+/// order of the arrangement without the object.
 pub fn a_free_can_follow_an_order()
     ensures { (p : Paging) (m : Held) (limit h : ℕ) (x : Placed) (o : Order) → IsPaging p → IsSound p m → IsOrderOf p m limit o
         → get m h ≡ Some x → h < limit

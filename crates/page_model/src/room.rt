@@ -12,8 +12,8 @@ pub fn lack_of_room_is_no_page_left()
         → LacksRoom p m c ↔ ((not_full_pages p m c ≡ 0) × (free_pages p m ≡ 0)) }
 {}
 
-/// If a class has no slot left, its objects fill their pages. There are no more other pages than
-/// the objects of the other classes can be on.
+/// If a class has no slot left, its objects fill their pages. All other pages hold objects of other
+/// classes, so their number is at most the greatest that those objects can be on.
 pub fn pages_where_room_is_lacking()
     ensures { (p : Paging) (m : Held) (c : ℕ) → IsPaging p → IsSound p m → c < classes p
         → LacksRoom p m c
@@ -21,13 +21,14 @@ pub fn pages_where_room_is_lacking()
         × (p.pages ≤ live p (objects m) c / slots_of p c + most_pages_besides p (objects m) c) }
 {}
 
-/// Whatever the bounds, the objects are on at least the pages that they need by arithmetic.
+/// Whatever the bounds, the number of pages in use is at least `pages_needed`: for each class its
+/// objects over the slots of a page, rounded up, summed over the classes.
 pub fn objects_need_no_more_pages()
     ensures { (p : Paging) (m : Held) → IsPaging p → IsSound p m
         → pages_needed p (objects m) ≤ used_pages p m }
 {}
 
-/// If every bound is 1, the pages in use are exactly those that the objects need by arithmetic.
+/// If every bound is 1, the number of pages in use is exactly `pages_needed`.
 pub fn pages_are_those_needed_at_bound_one()
     ensures { (p : Paging) (m : Held) → IsPaging p → AreOne p → IsSound p m
         → used_pages p m ≡ pages_needed p (objects m) }

@@ -1,4 +1,5 @@
-//! What a sound arrangement is, and that each step leaves one.
+//! Laws of sound arrangements: a malloc, a free and a resize keep an arrangement sound, and change
+//! its counts as stated here.
 ghost use Rattle.std.specs.Prelude.{ℕ, ◌≡◌, ◌≢◌, ◌+◌, ◌/◌, ◌<◌, ◌≤◌, ◌&&◌, Option, Some, None, cond, length, nat_lt, replicate};
 ghost use Rattle.std.specs.FinMap.{empty, get, insert, remove};
 ghost use Rattle.page_model.specs.Arrangement.{IsSound, class_at, home_pages, is_on, live, not_full_pages, objects_on};
@@ -48,9 +49,10 @@ pub fn a_resize_keeps_soundness()
         → RefitsObject p old asked after → IsSound p after.held }
 {}
 
-/// A resize to another class leaves what a free of the object leaves, and the object under its own
-/// number at a free address. `given`: each such arrangement is the result of a resize, whatever unused
-/// number the definition takes as `spare`. `taken`: each resize has such a result.
+/// The definition of a resize to another class (`ChangesClass`) first makes a copy under an unused
+/// number, `spare`. The result is simpler: the arrangement after a free of the object, and the resized
+/// object under its own number at a free address. `given`: each such arrangement is the result of a
+/// resize, whatever unused number `spare` is. `taken`: each resize has such a result.
 pub fn a_resize_in_two_steps()
     ensures given { (p : Paging) (m : Held) (h n a spare : ℕ) (x : Placed) (moved : Option ℕ)
         → IsPaging p → IsSound p m → get m h ≡ Some x → class_for p n ≢ class_at p x
@@ -65,7 +67,8 @@ pub fn a_resize_in_two_steps()
         (resized_at r.place r.object asked.length)) }
 {}
 
-/// What each step does to the bytes alone, and to the addresses alone.
+/// What a malloc and a free do to the map of bytes (`objects`) and to the map of addresses
+/// (`places`).
 pub fn objects_after_a_step()
     ensures malloc { (m : Held) (h a n : ℕ)
         → (objects (insert m h (zeros_at a n)) ≡ insert (objects m) h (replicate n 0))
@@ -99,8 +102,8 @@ pub fn counts_after_a_free()
         ≡ objects_on p m c page }
 {}
 
-/// If the objects of a class changed on one page alone, its counts of pages and of partly full
-/// pages change as that page does.
+/// If the objects of a class changed on one page alone, the class's counts of pages and of partly
+/// full pages change only by that page.
 pub fn page_counts_follow_one_page()
     ensures pages { (p : Paging) (old new : Held) (c page : ℕ) → page < p.pages
         → ((g : ℕ) → g ≢ page → objects_on p new c g ≡ objects_on p old c g)

@@ -9,8 +9,9 @@ ghost use Rattle.page_model.specs.Image.{Clears, IsImage, IsSlotImage, MovesWord
 ghost use Rattle.page_model.specs.Paging.{IsPaging, Paging, class_for};
 ghost use Rattle.page_model.specs.Steps.{IsFreePlace, MayFill, MustMove, resized, without, zeros_at};
 
-/// The objects determine the words of a region; those of an empty region are zeros. If whole slots
-/// are right, so are the objects' own words.
+/// The objects determine the words of a region; those of an empty region are zeros. Words that are
+/// right for whole slots (`IsSlotImage`) are right for the objects without the rest of their slots
+/// (`IsImage`).
 pub fn words_are_one_list()
     ensures one { (m : Held) (u v : List ℕ) → length u ≡ length v → IsImage m u → IsImage m v
         → u ≡ v }
@@ -19,7 +20,8 @@ pub fn words_are_one_list()
         → IsSlotImage p m words → IsImage m words }
 {}
 
-/// A malloc writes its header into zeros, and no other word.
+/// The words of a free slot are zeros. A malloc writes the object's header there, and no other
+/// word.
 pub fn words_after_a_malloc()
     ensures zeros { (p : Paging) (m : Held) (words : List ℕ) (h n a : ℕ) → IsPaging p → IsSound p m
         → IsSlotImage p m words → get m h ≡ None → IsFreePlace p m n a
@@ -30,7 +32,8 @@ pub fn words_after_a_malloc()
         → IsSlotImage p (insert m h (zeros_at a n)) (slice_set words a (header_word h n)) }
 {}
 
-/// A write changes only those words of the object that hold one of the written bytes.
+/// A write changes only the words of the object that hold one of the written bytes (`bytes`). A
+/// resize within the class rewrites the words of the object's slot (`slot`).
 pub fn words_after_a_write()
     ensures bytes { (p : Paging) (m : Held) (old new : List ℕ) (h at : ℕ) (x : Placed)
         (bytes : List ℕ)
@@ -49,8 +52,8 @@ pub fn words_after_a_write()
         → IsSlotImage p (insert m h (record { place = x.place; bytes = bytes })) new }
 {}
 
-/// A free clears the object's slot, or moves the slot of another object there and clears that
-/// one's.
+/// A free clears the object's slot, or moves the words of another object's slot there and clears
+/// them at their old place.
 pub fn words_after_a_free()
     ensures still { (p : Paging) (m : Held) (old new : List ℕ) (h : ℕ) (x : Placed)
         → IsPaging p → IsSound p m → IsSlotImage p m old → get m h ≡ Some x
@@ -67,9 +70,9 @@ pub fn words_after_a_free()
         → IsSlotImage p (insert (remove m h) q (record { place = x.place; bytes = y.bytes })) new }
 {}
 
-/// A resize to another class writes the new slot while the old one is still there. Then it clears
-/// the old slot, or moves the slot of another object there. `spare` is any number that isn't in
-/// use.
+/// A resize to another class writes the new slot while the old one is still there: `mid` are the words
+/// in between. Then it clears the old slot, or moves the words of another object's slot there. `spare`
+/// is any number that no object has: in between, the copy is an object of this number.
 pub fn words_after_a_resize()
     ensures still { (p : Paging) (m : Held) (old mid new : List ℕ) (h a spare : ℕ) (x : Placed)
         (bytes : List ℕ)
@@ -112,7 +115,8 @@ pub fn words_show_what_is_held()
         → AreStorable m → held_at words at ≡ m }
 {}
 
-/// The objects that words and addresses determine have these addresses, and bytes.
+/// The objects that words and addresses determine (`held_at`) have these addresses and the bytes in
+/// the words, and each number of their contents is a byte.
 pub fn what_stands_at_places()
     ensures places { (words : List ℕ) (at : FinMap nat_cmp ℕ) → places (held_at words at) ≡ at }
     ensures found { (words : List ℕ) (at : FinMap nat_cmp ℕ) (h : ℕ) (x : Placed)
@@ -122,7 +126,8 @@ pub fn what_stands_at_places()
         → get (held_at words at) h ≡ Some x → AreBytes x.bytes }
 {}
 
-/// Each step leaves objects that words can represent.
+/// Adding, moving or removing an object leaves objects that words can represent (`AreStorable`),
+/// and resized or written contents are bytes.
 pub fn objects_stay_storable()
     ensures comes { (m : Held) (h : ℕ) (x : Placed) → AreStorable m → h < 2 ^ 32 → AreBytes x.bytes
         → AreStorable (insert m h x) }

@@ -1,4 +1,4 @@
--- The words after each call, and the bytes that are read from them.
+-- For `words_after_each_call` and `bytes_are_read_where_they_stand`.
 use Rattle.std.proofs.Common.{◌≡◌, ◌≢◌, ℕ, zero, suc, ◌+◌, ◌-◌, ◌*◌, ◌/◌, ◌%◌, ◌<◌, ◌≤◌, List, Option, Some, None, length, get_or, replicate, take, drop, arith}
 use Rattle.std.proofs.Common.{sym, ◌∙◌, ap, refl, subst, inl, inr, length-drop}
 use Rattle.std.specs.Prelude.{◌⊎◌, min}
@@ -26,7 +26,7 @@ use Rattle.slice_model.proofs.Occupied.{beside, job_class}
 use Rattle.slice_model.proofs.SliceWords.{carried, cleared, words_ended, words_to_carry, words_to_clear}
 use Rattle.slice_model.proofs.WordAddresses.{AreApart, kept_apart, not_done, not_outside, own_words_at, where_word, word_done, word_left, word_of_other}
 
--- the object that a job carries is of the class of its slot
+-- the object that a job moves is of the class of the job's slot
 pub mover_class : (p : Paging) (m : Held) (j : Job) → IsJobOf p m j → (k : JobSlot) (h : ℕ) (x : Placed) → j ≡ Move h k → get m h ≡ Some x
     → class_at p x ≡ k.class
 mover_class p m Idle is k h x e there = absurd (let e' : Idle ≡ Move h k = e in cc)
@@ -149,7 +149,7 @@ apart_zero : (a n b m i : ℕ) → IsDisjoint a n b m → i < n → 0 < m → a 
 apart_zero a n b m i (inl l) u v e = omega arith
 apart_zero a n b m i (inr r) u v e = omega arith
 
--- a job carries no object that isn't there
+-- a job moves only live objects
 no_mover : (p : Paging) (m : Held) (h : ℕ) → get m h ≡ None → (j : Job) → IsJobOf p m j → (k : JobSlot) → j ≡ Move h k → ⊥
 no_mover p m h none Idle is k e = (let e' : Idle ≡ Move h k = e in cc)
 no_mover p m h none (Clear f) is k e = (let e' : Clear f ≡ Move h k = e in cc)
@@ -160,7 +160,7 @@ no_mover p m h none (Move q f) is k e = (
     let z : Some o.0 ≡ None = sym o.1 ∙ ap (get m) a ∙ none in
     cc)
 
--- zeros are put at a place
+-- an object of zeros is added at a: its header is written
 module _ (p : Paging) (m : Held) (j : Job) (is_job : IsJobOf p m j) (words words' : List ℕ) (has : HasWords p (record { held = m; job = j }) words)
     (h n a : ℕ) (unused : get m h ≡ None) (size : 0 < slot_for p n) (apart : AreApart p (insert m h (zeros_at a n)) (job_slot j))
     (re : Rewrites words words' (record { from = a; count = 1 }) (λ _. header_word h n)) where
@@ -340,7 +340,7 @@ module _ (plan : Plan) (ok : IsPlan plan) (old : Sliced) (kept : IsKept plan old
         ]) beyond;
   }
 
--- a byte is read from its word, wherever that lies
+-- a byte is read from its word, at the word's present address
 pub byte_there : (plan : Plan) → IsPlan plan → (s : Sliced) → IsKept plan s → (words : List ℕ) → HasWords plan.paging s words
     → (h : ℕ) (x : Placed) → get s.held h ≡ Some x → AreBytes x.bytes → (k : ℕ) → k < length x.bytes → byte_read s.job words h x k ≡ get_or x.bytes k 0
 byte_there plan ok s kept words has h x there bytes k lt =

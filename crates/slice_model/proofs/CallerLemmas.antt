@@ -1,5 +1,4 @@
--- What upper crates may cite: places beside a job, what is kept, room, the words, and one map.
-pub use Rattle.slice_model.proofs.Slots.{less_where_vacant}
+-- The lemmas that other crates' proofs cite: places beside a job, kept rules, room, words, orders, and one map. Declares nothing itself.
 pub use Rattle.slice_model.proofs.Occupied.{placeholder_class, no_placeholder, get_beside, some_beside, inserted_beside, job_class, beside, slot_class, slot_there}
 pub use Rattle.slice_model.proofs.Occupied.{on_more, place_is_free, free_is_place, lacking_is_no_place, no_place_is_lacking, place_or_none}
 pub use Rattle.slice_model.proofs.KeptSteps.{IsAlike, moved_away, changed_places, other_than, job_stays, slot_stays}
@@ -16,6 +15,5 @@ pub use Rattle.slice_model.proofs.Results.{slice_there, free_answered}
 pub use Rattle.slice_model.proofs.JobSlices.{followed_once, slices_idle, slices_split, slot_advanced}
 pub use Rattle.slice_model.proofs.PendingTime.{begun_fresh, begun_once}
 pub use Rattle.slice_model.proofs.OrderOnce.{one_free, one_malloc, one_slice, one_write, order_happens}
-pub use Rattle.slice_model.proofs.FirstOrder.{first_is_order}
 pub use Rattle.slice_model.proofs.OrderThere.{can_give, can_remove, can_slice, order_kept}
 pub use Rattle.slice_model.proofs.SparePage.{ceil_one_more, sum_one_more}

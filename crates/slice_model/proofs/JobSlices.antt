@@ -1,4 +1,4 @@
--- How many slices a job takes.
+-- For the laws on the slices of one job: the number of slices that end it.
 use Rattle.std.proofs.Common.{◌≡◌, ◌≢◌, ℕ, zero, suc, ◌+◌, ◌-◌, ◌*◌, ◌%◌, ◌<◌, ◌≤◌, List, [], ◌∷◌, Some, None, arith, sym, ◌∙◌, ap, refl, subst, inl, inr}
 use Rattle.std.specs.Prelude.{◌⊎◌, Ok, Err}
 use Rattle.std.proofs.lemmas.Nat.{div-add-mod'}
@@ -18,7 +18,7 @@ use Rattle.slice_model.specs.Runs.{Event, Happens, Runs, Turn, Working, is_step,
 use Rattle.slice_model.proofs.Occupied.{job_class, no_placeholder}
 use Rattle.slice_model.proofs.KeptSteps.{kept_slice, two_is_last}
 
--- n words take this number of slices of a quantum: one fewer is too few
+-- n words take `ceil_div n q` slices of q words: one slice fewer does not do them all
 pub ceil_bounds : (n q : ℕ) → 0 < n → 1 ≤ q → (k : ℕ) × (ceil_div n q ≡ suc k) × (k * q < n) × (n ≤ k * q + q)
 ceil_bounds n q some one = go (ceil_div n q) refl
   where
@@ -51,7 +51,7 @@ slot_advanced (Clear g) k d e = (let f : g ≡ k = (let e' : Some g ≡ Some k =
 slot_advanced (Move q g) k d e = (let f : g ≡ k = (let e' : Some g ≡ Some k = e in cc) in ap (λ (z : JobSlot). Some (record z { done = d })) f)
 
 module _ (plan : Plan) where
-  -- a slice if more than a quantum is left
+  -- a slice does a quantum if more words than that are left
   slice_goes_on : (old new : Sliced) (k : JobSlot) → job_slot old.job ≡ Some k → k.done + plan.quantum < slot_words plan.paging k.class → IsSlice plan old new
       → new ≡ record old { job = advanced old.job (k.done + plan.quantum) }
   slice_goes_on old new k e more slice = go (rw e at slice)
@@ -63,7 +63,7 @@ module _ (plan : Plan) where
       go (inl on) = on.whole ∙ ap (λ d. record old { job = advanced old.job d }) all
       go (inr done) = absurd (let a = done.all in omega arith)
 
-  -- a slice if no more is left
+  -- a slice ends the job if at most a quantum is left
   slice_ends : (old new : Sliced) (k : JobSlot) → job_slot old.job ≡ Some k → slot_words plan.paging k.class ≤ k.done + plan.quantum → IsSlice plan old new
       → Ends plan.paging old.held k new
   slice_ends old new k e few slice = go (rw e at slice)
@@ -82,7 +82,7 @@ module _ (plan : Plan) where
     refl,
   )
 
-  -- some slices in a row, before the end
+  -- n slices in a row, before the job's end, do n quanta
   slices_go_on : (n : ℕ) (old new : Sliced) (k : JobSlot) → job_slot old.job ≡ Some k → k.done + n * plan.quantum < slot_words plan.paging k.class
       → AreSlices plan n old new → new ≡ record old { job = advanced old.job (k.done + n * plan.quantum) }
   slices_go_on zero old new k e more same =
@@ -207,7 +207,7 @@ module _ (plan : Plan) where
             done g (inl (_, whole)) once = rw whole refl
             done g (inr c) once = absurd (once c.two)
 
--- what isn't a slice leaves a pending job as it is
+-- a call that isn't a slice doesn't change a pending job
 stays_pending : (plan : Plan) (old : Working) (event : Event) (new : Working) → Happens plan old event new → old.state.job ≢ Idle
     → ((is_step event ≡ 0) × (new.state.job ≡ old.state.job)) ⊎ ((is_step event ≡ 1) × IsSlice plan old.state new.state)
 stays_pending plan old (Malloc n (Ok h)) new is pending = inl (refl, (let w = is.gives.placed in rw w refl))
@@ -223,7 +223,7 @@ stays_pending plan old (Read part count (Err e)) new is pending = inl (refl, (le
 not_idle : (j : Job) (k : JobSlot) → job_slot j ≡ Some k → j ≢ Idle
 not_idle j k e idle = (let e' : None ≡ Some k = sym (ap job_slot idle) ∙ e in cc)
 
--- a run before the end of its first job
+-- a list of calls before the end of the pending job does a quantum for each slice in it
 pub runs_go_on : (plan : Plan) (turns : List Turn) (old new : Working) (k : JobSlot) → job_slot old.state.job ≡ Some k
     → k.done + steps_in turns * plan.quantum < slot_words plan.paging k.class → Runs plan old turns new
     → new.state.job ≡ advanced old.state.job (k.done + steps_in turns * plan.quantum)

@@ -1,4 +1,4 @@
--- Each step keeps what every state keeps.
+-- For the laws that each call keeps the rules (`IsKept`).
 use Rattle.std.proofs.Common.{◌≡◌, ◌≢◌, ℕ, ◌+◌, ◌-◌, ◌*◌, ◌<◌, ◌≤◌, List, Option, Some, None, length, replicate, arith, sym, ◌∙◌, ap, refl, subst, inl, inr}
 use Rattle.std.proofs.lemmas.Bool.{cases_eq, cases_lt}
 use Rattle.std.proofs.lemmas.List.{length-replicate}
@@ -17,12 +17,12 @@ use Rattle.slice_model.specs.State.{Plan, IsPlan, JobSlot, Job, Sliced, IsJobOf,
 use Rattle.slice_model.specs.Steps.{Ends, GivesObject, IsSlice, RemovesObject, SliceOf, Vacates, done_after, fresh_slot}
 use Rattle.slice_model.proofs.Occupied.{get_beside, inserted_beside, job_class, no_placeholder, place_is_free, placeholder_class}
 
--- a sound arrangement with as many objects of each class on each page
+-- n is sound, and has as many objects of each class on each page as m
 pub record IsAlike (p : Paging) (m n : Held) : Type 0 where
   pub sound : IsSound p n
   pub counts : (c page : ℕ) → objects_on p n c page ≡ objects_on p m c page
 
--- another object of the class takes the place of one that is removed
+-- an object of the same class is put at the address of one that is removed
 exchange : (p : Paging) (m : Held) (h : ℕ) (x : Placed) → get m h ≡ Some x → (q : ℕ) (bytes : List ℕ) → get (remove m h) q ≡ None
     → class_at p (record { place = x.place; bytes = bytes }) ≡ class_at p x → IsSound p m
     → IsAlike p m (insert (remove m h) q (record { place = x.place; bytes = bytes }))
@@ -133,7 +133,7 @@ module _ (p : Paging) (P : ℕ) where
         let third = exchange p second_map (P + 1) g g2 P bytes P2 refl second.sound in
         subst (IsAlike p (insert m P f)) third_map (alike_then p _ _ _ (alike_then p _ _ _ first second) third)
 
--- a job stays one if its object stays in its class
+-- a job stays valid if every object stays live and in its class
 pub job_stays : (p : Paging) (m n : Held) (j : Job) → ((q : ℕ) (y : Placed) → get m q ≡ Some y
     → (z : Placed) × (get n q ≡ Some z) × (class_at p z ≡ class_at p y))
     → IsJobOf p m j → IsJobOf p n j
@@ -141,7 +141,7 @@ job_stays p m n Idle stays is = tt
 job_stays p m n (Clear k) stays is = is
 job_stays p m n (Move h k) stays is = (let o = is.1 in let z = stays h o.0 o.1 in (is.0, (z.0, z.1, z.2 ∙ o.2)))
 
--- a job's slot keeps its address, however much of it is done
+-- the placeholder is the same, however many words of the job are done
 pub slot_stays : (plan : Plan) (m : Held) (j : Job) (d : ℕ) → with_slot plan m (job_slot (advanced j d)) ≡ with_slot plan m (job_slot j)
 slot_stays plan m Idle d = refl
 slot_stays plan m (Clear k) d = refl
@@ -153,7 +153,7 @@ job_goes_on p m Idle d lt is = tt
 job_goes_on p m (Clear k) d lt is = record { class = is.class; under_way = lt k refl }
 job_goes_on p m (Move h k) d lt is = (record { class = is.0.class; under_way = lt k refl }, is.1)
 
--- what kind a page is, by whether it counts
+-- if a page counts as partly full, it has an object and a free slot; below, if a page with an object doesn't count, it is full
 part_shown : (n s : ℕ) → one (part_full n s) ≡ 1 → (0 < n) × (n < s)
 part_shown n s is = elim (cases_lt 0 n) [
   | inr none ↦ absurd (let z = part_empty n s (omega arith) in omega arith)
@@ -188,7 +188,7 @@ module _ (plan : Plan) (ok : IsPlan plan) where
         sound = subst (IsSound plan.paging) (inserted_beside plan old.held (job_slot old.job) asked.number (zeros_at g.place asked.length) g.in_range) sound;
       })
 
-  -- other bytes of an object, as many
+  -- a write: an object gets other bytes of the same number
   pub kept_write : (old : Sliced) → IsKept plan old → (h : ℕ) (x : Placed) → get old.held h ≡ Some x → (bytes : List ℕ) → length bytes ≡ length x.bytes
       → IsKept plan (record old { held = insert old.held h (record { place = x.place; bytes = bytes }) })
   kept_write old kept h x there bytes len =

@@ -1,4 +1,3 @@
-pub mod Slots
 pub mod Occupied
 pub mod KeptSteps
 pub mod Beside
@@ -15,6 +14,5 @@ pub mod PendingTime
 pub mod Results
 pub mod OneWords
 pub mod OrderOnce
-pub mod FirstOrder
 pub mod OrderThere
 pub mod CallerLemmas

@@ -1,4 +1,4 @@
--- The arrangement with the job's slot as one more object, and the places that it leaves.
+-- For `places_are_those_beside_the_job`: the arrangement with the job's placeholder as one more object, and its free places.
 use Rattle.std.proofs.Common.{◌≡◌, ◌≢◌, ℕ, false, ◌+◌, ◌-◌, ◌*◌, ◌/◌, ◌<◌, ◌≤◌, Option, Some, None, length, get_or}
 use Rattle.std.proofs.Common.{replicate, arith, sym, ◌∙◌, ap, refl, inl, inr}
 use Rattle.std.specs.Prelude.{◌⊎◌, nat_le}
@@ -19,8 +19,7 @@ use Rattle.page_model.proofs.CallerLemmas.{on_yes, standing, objects_on-inserted
 use Rattle.slice_model.specs.State.{Plan, IsPlan, JobSlot, Job, Sliced, IsUnderWay, IsJobOf, IsKept, IsUsable, IsFreePage, NoPlace, IsPlaceFor, job_slot}
 use Rattle.slice_model.specs.State.{occupied, placeholder, with_slot, Idle, Clear, Move}
 use Rattle.cf_lemmas.proofs.Searches.{search_below}
-use Rattle.page_model.proofs.CallerLemmas.{IsOpen, IsVacant, vacant_where_less, open_counts, open_page}
-use Rattle.slice_model.proofs.Slots.{less_where_vacant}
+use Rattle.page_model.proofs.CallerLemmas.{IsOpen, IsVacant, less_where_vacant, vacant_where_less, open_counts, open_page}
 
 -- the placeholder of a slot is of its class
 pub placeholder_class : (p : Paging) → IsPaging p → (k : JobSlot) → k.class < classes p → class_at p (placeholder p k) ≡ k.class
@@ -60,12 +59,12 @@ no_placeholder plan m numbers = go (get m plan.proxies) refl
     go None e = refl
     go (Some x) e = absurd (let l = numbers plan.proxies x e in omega arith)
 
--- an object keeps its number with a job's slot beside it
+-- the placeholder takes no object's number
 pub get_beside : (plan : Plan) (m : Held) (o : Option JobSlot) (h : ℕ) → h < plan.proxies → get (with_slot plan m o) h ≡ get m h
 get_beside plan m None h lt = refl
 get_beside plan m (Some k) h lt = get_insert_other m plan.proxies (placeholder plan.paging k) h (omega arith)
 
--- with the job's slot there are the objects and its placeholder
+-- each object of the arrangement with the placeholder is an object of m or the placeholder
 pub some_beside : (plan : Plan) (m : Held) (o : Option JobSlot) (q : ℕ) (y : Placed) → get (with_slot plan m o) q ≡ Some y
     → (get m q ≡ Some y) ⊎ ((k : JobSlot) × (o ≡ Some k) × (q ≡ plan.proxies) × (placeholder plan.paging k ≡ y))
 some_beside plan m None q y there = inl there
@@ -74,7 +73,7 @@ some_beside plan m (Some k) q y there = elim (some_inserted m plan.proxies (plac
   | inr (_, was) ↦ inl was
 ]
 
--- an object that is added is added beside the job's slot too
+-- adding an object and adding the placeholder can be exchanged
 pub inserted_beside : (plan : Plan) (m : Held) (o : Option JobSlot) (h : ℕ) (x : Placed) → h < plan.proxies
     → insert (with_slot plan m o) h x ≡ with_slot plan (insert m h x) o
 inserted_beside plan m None h x lt = refl
@@ -88,13 +87,13 @@ inserted_beside plan m (Some k) h x lt = equal_maps _ _ (λ q. elim (cases_eq q 
   ]
 ])
 
--- a job's slot is of a class
+-- the slot of a pending job has a class and words yet to do
 pub job_class : (p : Paging) (m : Held) (j : Job) → IsJobOf p m j → (k : JobSlot) → job_slot j ≡ Some k → IsUnderWay p k
 job_class p m Idle is k e = absurd (let e' : None ≡ Some k = e in cc)
 job_class p m (Clear g) is k e = (let same : g ≡ k = (let e' : Some g ≡ Some k = e in cc) in rw same at is)
 job_class p m (Move h g) is k e = (let same : g ≡ k = (let e' : Some g ≡ Some k = e in cc) in rw same at is.0)
 
--- an object of the class on the page counts there
+-- a page with an object of the class has at least one
 some_on : (p : Paging) (m : Held) (c page q : ℕ) (y : Placed) → get m q ≡ Some y → page_of p y.place ≡ page → class_at p y ≡ c → 0 < objects_on p m c page
 some_on p m c page q y there on is =
     let less = objects_on-left p m q y there c is in
@@ -111,7 +110,7 @@ module _ (plan : Plan) (ok : IsPlan plan) (s : Sliced) (kept : IsKept plan s) wh
   fresh : get s.held plan.proxies ≡ None
   fresh = no_placeholder plan s.held kept.numbers
 
-  -- what an object is there still is
+  -- each object is in the arrangement with the placeholder too
   pub beside : (h : ℕ) (x : Placed) → get s.held h ≡ Some x → get (occupied plan s) h ≡ Some x
   beside h x there = get_beside plan s.held (job_slot s.job) h (kept.numbers h x there) ∙ there
 
@@ -138,7 +137,7 @@ module _ (plan : Plan) (ok : IsPlan plan) (s : Sliced) (kept : IsKept plan s) wh
       ≡ objects_on p s.held k.class page + 1 = rw yes at i in omega arith) in
       rw e more
 
-  -- an address that is neither an object's nor the job's holds nothing
+  -- an address that is neither an object's nor the job slot's is vacant in the arrangement with the placeholder
   vacant : (a : ℕ) → ((q : ℕ) (y : Placed) → get s.held q ≡ Some y → y.place ≢ a) → ((k : JobSlot) → job_slot s.job ≡ Some k → k.address ≢ a) → IsVacant all a
   vacant a empty unheld q y there at = elim (some_beside plan s.held (job_slot s.job) q y there) [
     | inl was ↦ empty q y was at
@@ -155,7 +154,7 @@ module _ (plan : Plan) (ok : IsPlan plan) (s : Sliced) (kept : IsKept plan s) wh
       record {
         within = u.slot.page;
         some = some;
-        less = less_where_vacant p ok.paging c u.slot.class (page_of p a) u.slot.page all kept.sound some a u.slot refl (vacant a u.empty u.unheld);
+        less = less_where_vacant p ok.paging c all kept.sound a u.slot (vacant a u.empty u.unheld);
       }
 
   -- a vacant slot is usable if an object of its class lies on its page
@@ -186,7 +185,7 @@ module _ (plan : Plan) (ok : IsPlan plan) (s : Sliced) (kept : IsKept plan s) wh
       let some = o.some in
       (address_of p c page free.0, usable_of c (address_of p c page free.0) at.0 free.2 (rw on some))
 
-  -- a free page holds nothing at all
+  -- a free page has no object in the arrangement with the placeholder
   bare : (page : ℕ) → IsFreePage p s page → count_on p all page ≡ 0
   bare page f = elim (cases_lt 0 (count_on p all page)) [
     | inr none ↦ omega arith

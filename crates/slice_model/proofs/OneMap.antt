@@ -1,4 +1,4 @@
--- The calls of all tasks are those of one map of objects.
+-- For `calls_of_all_tasks_are_those_of_one_map`.
 use Rattle.std.proofs.Common.{◌≡◌, ℕ, ◌+◌, ◌<◌, ◌≤◌, List, [], ◌∷◌, Option, Some, None, length, get_or, replicate, take, drop, arith, sym, ◌∙◌, ap, refl, subst}
 use Rattle.std.proofs.Common.{inl, inr, length-drop}
 use Rattle.std.specs.Prelude.{Ok, Err}
@@ -21,7 +21,7 @@ use Rattle.slice_model.specs.Words.{HasWords}
 use Rattle.slice_model.proofs.KeptSteps.{kept_begun, kept_malloc, kept_slice, kept_write}
 use Rattle.slice_model.proofs.CallWords.{byte_there, words_begun, words_given, words_sliced, words_written}
 
--- an object that is carried keeps its bytes
+-- an object that gets a new address keeps its bytes
 objects_carried : (m : Held) (q a c : ℕ) (new : Sliced) → Carries m q a c new → objects new.held ≡ objects m
 objects_carried m q a c new is =
     let w = is.whole in
@@ -44,7 +44,7 @@ objects_begun : (m : Held) (h a c : ℕ) (moved : Option ℕ) (new : Sliced) →
 objects_begun m h a c None new is = rw is (map_values-remove (λ (x : Placed). x.bytes) m h)
 objects_begun m h a c (Some q) new is = objects_carried (remove m h) q a c new is ∙ map_values-remove (λ (x : Placed). x.bytes) m h
 
--- a list of bytes is determined by its bytes
+-- a list of which each byte is that of a range of v is that range
 part_is : (v out : List ℕ) (at count : ℕ) → at + count ≤ length v → length out ≡ count → ((k : ℕ) → k < count → get_or out k 0 ≡ get_or v (at + k) 0)
     → out ≡ take count (drop at v)
 part_is v out at count fits len each =
@@ -53,7 +53,7 @@ part_is v out at count fits len each =
     same_number_lists out (take count (drop at v)) (omega arith) (λ k lt.
     each k (omega arith) ∙ sym (get_or-take count (drop at v) k 0 (omega arith) ∙ get_or-drop at v k 0))
 
--- every object of the map is of bytes
+-- each object of the map holds numbers below 256
 abbrev AllBytes : Objects → Type 0
 AllBytes o = (h : ℕ) (v : List ℕ) → get o h ≡ Some v → AreBytes v
 
@@ -139,7 +139,7 @@ module _ (plan : Plan) (ok : IsPlan plan) where
         },
       )
 
-  -- one call
+  -- one call does to the map of objects what `HappensOnMap` says
   pub call_on_map : (old : Working) (event : Event) (new : Working) → IsConsistent plan old → Happens plan old event new
       → HappensOnMap (objects old.state.held) event (objects new.state.held) × IsConsistent plan new
   call_on_map old (Malloc bytes (Ok h)) new good is = malloc_on_map old bytes h new good is

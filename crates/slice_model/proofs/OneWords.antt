@@ -1,9 +1,9 @@
--- What a call does to the words of the region leaves no choice.
-use Rattle.std.proofs.Common.{◌≡◌, ◌≢◌, ℕ, ◌+◌, List, Some, length, get_or, sym, ◌∙◌, subst, inl, inr}
+-- For `an_order_leaves_no_choice_beside_a_job`: two equal calls leave the same words.
+use Rattle.std.proofs.Common.{◌≡◌, ◌≢◌, ℕ, ◌+◌, List, length, get_or, sym, ◌∙◌, subst, inl, inr}
 use Rattle.std.specs.Prelude.{◌⊎◌}
 use Rattle.std.proofs.lemmas.Bool.{cases_eq}
 use Rattle.std.proofs.lemmas.Grind.{same_number_lists}
-use Rattle.std.specs.FinMap.{get}
+use Rattle.cf_lemmas.proofs.Maps.{found_once}
 use Rattle.cf_lemmas.proofs.Searches.{search_below}
 use Rattle.page_model.specs.Held.{Held, Placed}
 use Rattle.page_model.specs.Image.{MovesWords, Rewrites, WordRange}
@@ -27,10 +27,6 @@ moves_once old new other run to a b long = same_number_lists new other long (λ 
     | inr out ↦ a.others w out beyond ∙ sym (b.others w out beyond)
   ]
 ])
-
--- an object has one value
-pub found_once : (m : Held) (q : ℕ) (x y : Placed) → get m q ≡ Some x → get m q ≡ Some y → x ≡ y
-found_once m q x y a b = (let e : Some x ≡ Some y = sym a ∙ b in cc)
 
 pub does_once : (m : Held) (j : Job) (n : ℕ) (old new other : List ℕ) → DoesWords m j n old new → DoesWords m j n old other → length new ≡ length other
     → new ≡ other

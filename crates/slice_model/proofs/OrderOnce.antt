@@ -1,11 +1,11 @@
--- A call in order has one outcome.
+-- For `an_order_leaves_no_choice_beside_a_job`: two equal calls that follow an order have the same outcome.
 use Rattle.std.proofs.Common.{◌≡◌, ℕ, ◌+◌, ◌/◌, ◌%◌, ◌≤◌, List, ◌∷◌, Option, Some, None, length, take, drop, arith, refl, sym, ◌∙◌, ap, subst, inl, inr}
 use Rattle.std.specs.Prelude.{Result, Ok, Err}
 use Rattle.std.specs.FinMap.{get, insert, remove}
 use Rattle.cf_base.specs.declared.answers.AccessFault.{AccessFault}
 use Rattle.cf_base.specs.declared.answers.AccessFault.TheVariants as access
 use Rattle.cf_base.specs.declared.answers.Handle.{Handle}
-use Rattle.cf_lemmas.proofs.Maps.{get_insert_other}
+use Rattle.cf_lemmas.proofs.Maps.{found_once, get_insert_other}
 use Rattle.page_model.specs.Arrangement.{IsSound, class_at}
 use Rattle.page_model.specs.Bytes.{written}
 use Rattle.page_model.specs.Held.{Held, Objects, Placed, objects}
@@ -13,8 +13,7 @@ use Rattle.page_model.specs.Image.{Rewrites, header_word}
 use Rattle.page_model.specs.Order.{Order}
 use Rattle.page_model.specs.Paging.{Paging}
 use Rattle.page_model.specs.Steps.{Moves, zeros_at}
-use Rattle.page_model.proofs.CallerLemmas.{malloc_once}
-use Rattle.page_model.proofs.Following.{mover_once}
+use Rattle.page_model.proofs.CallerLemmas.{malloc_once, mover_once}
 use Rattle.slice_model.specs.State.{Plan, IsPlan, JobSlot, Sliced, IsKept, Idle, Move, job_slot, occupied, placeholder, with_slot}
 use Rattle.slice_model.specs.Steps.{Carries, Ends, IsSlice, RemovesObject, SliceOf, Vacates, fresh_slot}
 use Rattle.slice_model.specs.Runs.{Event, Happens, HappensOnMap, IsConsistent, IsOutOfReach, Part, Working, Writes, Malloc, Free, Step, Write, Read, words_of_slice}
@@ -26,11 +25,11 @@ use Rattle.slice_model.specs.declared.answers.SliceRefusal.{SliceRefusal}
 use Rattle.slice_model.proofs.KeptSteps.{kept_begun, other_than}
 use Rattle.slice_model.proofs.Occupied.{no_placeholder}
 use Rattle.slice_model.proofs.OneMap.{call_on_map}
-use Rattle.slice_model.proofs.OneWords.{does_once, found_once, rewrites_once, rewritten_once}
+use Rattle.slice_model.proofs.OneWords.{does_once, rewrites_once, rewritten_once}
 use Rattle.slice_model.proofs.Results.{freed_or_faulty, one_fault}
 use Rattle.slice_model.proofs.RoomBeside.{given_or_refused, one_cause}
 
--- a call in order is a call
+-- a call that follows an order does what a call does (`Happens`)
 pub order_happens : (plan : Plan) (old : Working) (event : Event) (new : Working) (was now : Order) → HappensInOrder plan old event new was now
     → Happens plan old event new
 order_happens plan old (Malloc bytes (Ok h)) new was now is = is.mallocs
@@ -41,7 +40,7 @@ order_happens plan old Step new was now is = is.slices
 order_happens plan old (Write part bytes answer) new was now is = is.0
 order_happens plan old (Read part count answer) new was now is = is.0
 
--- an object that is carried leaves one state
+-- two moves of the same object to the same slot begin with the same state
 carries_once : (m : Held) (q r a c : ℕ) (s t : Sliced) → q ≡ r → Carries m q a c s → Carries m r a c t → s ≡ t
 carries_once m q r a c s t same x y =
     let one : x.object ≡ y.object = found_once m r x.object y.object (subst (λ n. get m n ≡ Some x.object) same x.found) y.found in
@@ -53,7 +52,7 @@ vacated_once : (m : Held) (a c : ℕ) (moved : Option ℕ) (s t : Sliced) → Va
 vacated_once m a c None s t x y = x ∙ sym y
 vacated_once m a c (Some q) s t x y = carries_once m q q a c s t refl x y
 
--- a free moves one object, or none
+-- two frees that follow the same order move the same object, or none
 moved_once : (p : Paging) (m : Held) → IsSound p m → (x : Placed) (o : Order) (moved other : Option ℕ) → Moves p m x moved → Moves p m x other
     → MovesNext p m o (class_at p x) moved → MovesNext p m o (class_at p x) other → moved ≡ other
 moved_once p m sound x o None None a b s t = refl
@@ -62,7 +61,7 @@ moved_once p m sound x o (Some q) None a b s t = absurd (b a.0)
 moved_once p m sound x o (Some q) (Some r) a b (y, there, first) (z, here, second) =
     ap Some (mover_once p m sound o (class_at p x) q r y z there here first second)
 
--- a free begins one job
+-- two frees of the same object that follow the same order begin the same job
 pub removed_once : (plan : Plan) (s : Sliced) (h : ℕ) (a b : Sliced) (o : Order) → IsKept plan s → (r : RemovesObject plan s h a) (u : RemovesObject plan s h b)
     → MovesNext plan.paging s.held o (class_at plan.paging r.freed) r.moved → MovesNext plan.paging s.held o (class_at plan.paging u.freed) u.moved
     → r.begun ≡ u.begun
@@ -81,20 +80,14 @@ removed_once plan s h a b o kept r u first second =
 same_working : (a b : Working) → a.state ≡ b.state → a.words ≡ b.words → a ≡ b
 same_working a b state words = λ i. record { state = state i; words = words i }
 
-same_handle : (a b : Handle) → a.0 ≡ b.0 → a ≡ b
-same_handle a b e = λ i. record { 0 = e i }
-
--- a part of a map's object is within it, or out of reach by one cause
+-- object `part.number` has n bytes from byte `part.from` on; below, else a read or a write has exactly one fault
 abbrev IsWithin : Objects → Part → ℕ → Type 0
 IsWithin o part n = (v : List ℕ) × (get o part.number ≡ Some v) × (part.from + n ≤ length v)
-
-one_value : (o : Objects) (h : ℕ) (v u : List ℕ) → get o h ≡ Some v → get o h ≡ Some u → v ≡ u
-one_value o h v u a b = (let e : Some v ≡ Some u = sym a ∙ b in cc)
 
 not_both : (o : Objects) (part : Part) (n : ℕ) → IsWithin o part n → (e : AccessFault) → IsOutOfReach o part n e → ⊥
 not_both o part n (v, there, fits) access.Unknown none = (let e : Some v ≡ None = sym there ∙ none in cc)
 not_both o part n (v, there, fits) access.Range (u, here, past) =
-    let same = ap length (one_value o part.number v u there here) in
+    let same = ap length (found_once o part.number v u there here) in
     omega arith
 
 one_reach : (o : Objects) (part : Part) (n : ℕ) (e f : AccessFault) → IsOutOfReach o part n e → IsOutOfReach o part n f → e ≡ f
@@ -116,7 +109,7 @@ write_answers o part bytes (Some e) (Some f) new other x y = ap Some (one_reach 
 read_answers : (o : Objects) (part : Part) (n : ℕ) (r s : Result (List ℕ) AccessFault) (new other : Objects) → HappensOnMap o (Read part n r) new
     → HappensOnMap o (Read part n s) other → r ≡ s
 read_answers o part n (Ok out) (Ok text) new other (v, there, fits, is, _) (u, here, fit, are, _) =
-    ap Ok (is ∙ ap (λ w. take n (drop part.from w)) (one_value o part.number v u there here) ∙ sym are)
+    ap Ok (is ∙ ap (λ w. take n (drop part.from w)) (found_once o part.number v u there here) ∙ sym are)
 read_answers o part n (Ok out) (Err f) new other (v, there, fits, is, _) y = absurd (not_both o part n (v, there, fits) f y.0)
 read_answers o part n (Err e) (Ok text) new other x (v, there, fits, is, _) = absurd (not_both o part n (v, there, fits) e x.0)
 read_answers o part n (Err e) (Err f) new other x y = ap Err (one_reach o part n e f x.0 y.0)
@@ -164,7 +157,7 @@ module _ (plan : Plan) (ok : IsPlan plan) where
         → SliceFollows plan s.held (job_slot s.job) b.job was next → (a ≡ b) × (now ≡ next)
     slice_once x f y g = slice_of (job_slot s.job) refl x f y g
 
-  -- with its words
+  -- a slice with its words
   slid_once : (old a b : Working) (was now next : Order) → IsKept plan old.state → SlicesInOrder plan old a was now → SlicesInOrder plan old b was next
       → length a.words ≡ length b.words → (a ≡ b) × (now ≡ next)
   slid_once old a b was now next kept x y long =
@@ -188,7 +181,7 @@ module _ (plan : Plan) (ok : IsPlan plan) where
       subst (λ at. Rewrites old.words b.words (record { from = at; count = 1 }) (λ _. header_word h.0 bytes)) (sym place)
       (subst (λ n. Rewrites old.words b.words (record { from = f.place; count = 1 }) (λ _. header_word n bytes)) (sym number) y.mallocs.words) in
       let words = rewrites_once old.words a.words b.words (record { from = g.place; count = 1 }) (λ _. header_word h.0 bytes) x.mallocs.words again long in
-      (same_handle h q number, same_working a b state words, order)
+      ((λ i. record { 0 = number i }), same_working a b state words, order)
 
   -- the slice of a free
   freed_slices : (old : Working) (h : ℕ) (new : Working) (was now : Order) → (x : FreesInOrder plan old h new was now)

@@ -1,12 +1,13 @@
--- Each call beside a job can follow an order, and leaves an order of the new state.
+-- For the laws that each call can follow an order, and leaves an order of the new state.
 use Rattle.std.proofs.Common.{◌≡◌, ◌≢◌, ℕ, ◌+◌, ◌-◌, ◌*◌, ◌<◌, ◌≤◌, List, ◌∷◌, Option, Some, None, length, replicate, arith, refl, sym, ◌∙◌, ap, subst, inl, inr}
 use Rattle.std.specs.Prelude.{Ok, Err}
 use Rattle.std.specs.List.{Contains}
 use Rattle.std.proofs.lemmas.Bool.{cases_eq, cases_lt}
 use Rattle.std.specs.FinMap.{get, insert, len, remove}
 use Rattle.cf_base.specs.Classes.{need}
-use Rattle.cf_lemmas.proofs.Maps.{get_inserted, get_insert_other, get_removed, get_remove_other, len_fresh, len_rebound, remove_fresh}
+use Rattle.cf_lemmas.proofs.Maps.{found_once, get_inserted, get_insert_other, get_removed, get_remove_other, len_fresh, len_rebound, remove_fresh}
 use Rattle.cf_lemmas.proofs.Searches.{len_without}
+use Rattle.cf_lemmas.proofs.Members.{contains_cases, contains_tail, distinct_cons, distinct_head, distinct_tail}
 use Rattle.page_model.specs.Arrangement.{IsSound, LacksRoom, class_at, objects_on}
 use Rattle.page_model.specs.Bytes.{written}
 use Rattle.page_model.specs.Held.{Held, Placed}
@@ -14,9 +15,7 @@ use Rattle.page_model.specs.Order.{FreeFollows, IsNextToMove, IsOrderOf, MallocF
 use Rattle.page_model.specs.Paging.{Paging, class_for, classes, page_of, slot_words, slots_of}
 use Rattle.page_model.specs.Steps.{Moves, Request, without, zeros_at}
 use Rattle.page_model.proofs.CallerLemmas.{can_free, can_malloc, class_fits, length-written, malloc_once, mover_is_other, objects_on-exchanged, order_in_place}
-use Rattle.page_model.proofs.NumberLists.{front_once, head_once, head_or_tail, in_tail, tail_once}
-use Rattle.page_model.proofs.OrderLists.{pages_listed, pages_same, renumbered}
-use Rattle.page_model.proofs.OrderNumbers.{numbers_spare, order_is, spare_same}
+use Rattle.page_model.proofs.CallerLemmas.{numbers_spare, order_is, pages_listed, renumbered, spare_same, still_listed}
 use Rattle.slice_model.specs.State.{Plan, IsPlan, IsPlaceFor, JobSlot, Job, Sliced, IsKept, Idle, Clear, Move, advanced, job_slot, occupied, placeholder, with_slot}
 use Rattle.slice_model.specs.Steps.{Ends, GivesObject, IsRefusedBy, IsSlice, RemovesObject, SliceOf, Vacates, done_after, fresh_slot}
 use Rattle.slice_model.specs.Runs.{Event, Part, Working, Writes, Malloc, Free, Step, Write, Read}
@@ -24,18 +23,17 @@ use Rattle.slice_model.specs.Ordered.{EndFollows, FreesInOrder, HappensInOrder, 
 use Rattle.slice_model.specs.declared.answers.SliceRefusal.{SliceRefusal}
 use Rattle.slice_model.proofs.KeptSteps.{changed_places, kept_begun, moved_away, must_is_two, other_than, same_elsewhere, slot_stays, two_is_must}
 use Rattle.slice_model.proofs.Occupied.{free_is_place, get_beside, inserted_beside, job_class, lacking_is_no_place, no_placeholder, placeholder_class, some_beside}
-use Rattle.slice_model.proofs.OneWords.{found_once}
 use Rattle.slice_model.proofs.OrderOnce.{removed_once, slice_once}
 use Rattle.slice_model.proofs.RoomBeside.{answered}
 
--- another arrangement with the same counts and the same free numbers
+-- an order of m is one of n, if both have the same counts by class and page, and the same free numbers
 alike_order : (p : Paging) (m n : Held) (limit : ℕ) (o : Order) → ((c g : ℕ) → objects_on p n c g ≡ objects_on p m c g)
     → ((q : ℕ) → get m q ≡ None → get n q ≡ None) → len n ≡ len m → IsOrderOf p m limit o → IsOrderOf p n limit o
 alike_order p m n limit o counts none long is =
-    order_is p n limit o (pages_same p n m o counts (pages_listed p m limit o is))
+    order_is p n limit o (still_listed p n m o counts (pages_listed p m limit o is))
     (spare_same n m limit o.spare none long (numbers_spare p m limit o is))
 
--- without the last number, which is the next one
+-- if the spare number listed next is the largest, the order without it is one for a smaller limit
 one_less : (p : Paging) (m : Held) (limit : ℕ) (o : Order) → IsOrderOf p m (limit + 1) (record o { spare = limit ∷ o.spare }) → IsOrderOf p m limit o
 one_less p m limit o is = record {
   pool = is.pool;
@@ -44,11 +42,11 @@ one_less p m limit o is = record {
   not_full = is.not_full;
   not_full_once = is.not_full_once;
   spare = λ h there. (
-      let was = is.spare h (in_tail h limit o.spare there) in
+      let was = is.spare h (contains_tail h limit o.spare there) in
       let lt = was.0 in
-      let ne : h ≢ limit = λ e. head_once limit o.spare is.spare_once (subst (λ q. Contains o.spare q) e there) in
+      let ne : h ≢ limit = λ e. distinct_head limit o.spare is.spare_once (subst (λ q. Contains o.spare q) e there) in
       (below h limit lt ne, was.1));
-  spare_once = tail_once limit o.spare is.spare_once;
+  spare_once = distinct_tail limit o.spare is.spare_once;
   spare_all = (let all = is.spare_all in omega arith);
 }
   where
@@ -61,17 +59,17 @@ freed_order : (p : Paging) (m n : Held) (limit : ℕ) (o : Order) (h : ℕ) (x :
     → len n ≡ len m → IsOrderOf p m limit o → IsOrderOf p n (limit + 1) (record o { spare = h ∷ o.spare })
 freed_order p m n limit o h x found lt counts gone none long is =
     order_is p n (limit + 1) (record o { spare = h ∷ o.spare })
-    (renumbered p n o (h ∷ o.spare) (pages_same p n m o counts (pages_listed p m limit o is)))
+    (renumbered p n o (h ∷ o.spare) (still_listed p n m o counts (pages_listed p m limit o is)))
     (record {
-      below = λ g there. elim (head_or_tail g h o.spare there) [
+      below = λ g there. elim (contains_cases g h o.spare there) [
         | inl e ↦ (rw e (let l = lt in omega arith), rw e gone)
         | inr later ↦ (let was = is.spare g later in let l = was.0 in (omega arith, none g was.0 was.1))
       ];
-      once = front_once h o.spare (λ there. (let z : Some x ≡ None = sym found ∙ (is.spare h there).1 in cc)) is.spare_once;
+      once = distinct_cons h o.spare (λ there. (let z : Some x ≡ None = sym found ∙ (is.spare h there).1 in cc)) is.spare_once;
       all = (let a = is.spare_all in omega arith);
     })
 
--- the numbers beside a job
+-- the spare numbers while a job is pending
 module _ (plan : Plan) (m : Held) (none : get m plan.proxies ≡ None) where
   few_beside : (o : Option JobSlot) → len m < plan.proxies → len (with_slot plan m o) < numbers_beside plan o
   few_beside None few = few
@@ -184,7 +182,7 @@ module _ (plan : Plan) (ok : IsPlan plan) where
     of_class : class_at plan.paging stand ≡ k.class
     of_class = placeholder_class plan.paging ok.paging k class
 
-    -- another object is carried to the slot
+    -- another job follows, which moves an object to the slot
     module _ (q : ℕ) (y : Placed) (there : get m q ≡ Some y) (y_class : class_at plan.paging y ≡ k.class) where
       abbrev z : Placed
       z = record { place = k.address; bytes = y.bytes }

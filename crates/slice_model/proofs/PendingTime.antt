@@ -1,4 +1,4 @@
--- How many slices pass until no job is pending, with mallocs between.
+-- For `each_malloc_between_prolongs_a_job_once`: the number of slices until no job is pending, with mallocs in between.
 use Rattle.std.proofs.Common.{◌≡◌, ◌≢◌, ℕ, ◌+◌, ◌-◌, ◌*◌, ◌<◌, ◌≤◌, List, [], ◌∷◌, Option, Some, None, length, replicate, arith, sym, ◌∙◌, ap, refl, subst, inl, inr}
 use Rattle.std.specs.Prelude.{◌⊎◌, Ok, Err, nat_eq, if◌then◌else◌}
 use Rattle.std.proofs.lemmas.Bool.{cases_eq}
@@ -25,11 +25,11 @@ use Rattle.slice_model.proofs.OneMap.{call_on_map, run_on_map}
 use Rattle.slice_model.proofs.SparePage.{ceil_more}
 
 module _ (plan : Plan) (ok : IsPlan plan) where
-  -- the slices of a slot of class c
+  -- the number of slices of a whole slot of class c
   abbrev whole : ℕ → ℕ
   whole c = ceil_div (slot_words plan.paging c) plan.quantum
 
-  -- those of the job that follows, if the class has a second partly full page
+  -- the number of slices of the job that follows: those of a whole slot if the class has a second partly full page, else 0
   abbrev next : Held → ℕ → ℕ
   next m c = if nat_eq (not_full_pages plan.paging m c) 2 then whole c else 0
 
@@ -160,7 +160,7 @@ module _ (plan : Plan) (ok : IsPlan plan) where
       let m : most + 0 * whole c ≡ most = omega arith in
       rw (d, m) (subst (λ (w : Working). InTime c done most w.state) (sym same) time)
 
-  -- a call that isn't a free that is done
+  -- a call other than a successful free
   call_within : (c done most : ℕ) (old : Working) (event : Event) (new : Working) → IsConsistent plan old → Happens plan old event new
       → is_done_free event ≡ 0 → InTime c done most old.state
       → InTime c (done + is_step event) (most + is_malloc_of plan c event * whole c) new.state
@@ -256,7 +256,7 @@ module _ (plan : Plan) (ok : IsPlan plan) where
   begun_fresh m a c None begun is = (a, ap (λ (s : Sliced). job_slot s.job) is)
   begun_fresh m a c (Some q) begun is = (is.object.place, ap (λ (s : Sliced). job_slot s.job) is.whole)
 
-  -- it is the only one if nothing comes between
+  -- the job of a free, right after it begins, takes at most the slices of a whole slot; no other job follows
   begun_within : (m : Held) → IsKept plan (record { held = m; job = Idle }) → (h : ℕ) (x : Placed) → get m h ≡ Some x → (moved : Option ℕ)
       → Moves plan.paging m x moved → (begun : Sliced) → Vacates (remove m h) x.place (class_at plan.paging x) moved begun
       → InTime (class_at plan.paging x) 0 (whole (class_at plan.paging x)) begun

@@ -1,4 +1,4 @@
--- Each free and each slice has a result.
+-- For `a_free_has_one_answer` and `a_slice_can_always_be_done`: each free and each slice has a result.
 use Rattle.std.proofs.Common.{◌≡◌, ◌≢◌, ℕ, Option, Some, None, arith, sym, ◌∙◌, ap, refl, subst, inl, inr}
 use Rattle.std.specs.Prelude.{◌⊎◌}
 use Rattle.std.proofs.lemmas.Bool.{cases_eq, cases_lt}

@@ -1,17 +1,17 @@
--- Free space by arithmetic beside a job: what is refused, and that each malloc has one result.
-use Rattle.std.proofs.Common.{◌≡◌, ℕ, ◌+◌, ◌<◌, ◌≤◌, Option, Some, None, arith, ◌∙◌, refl, subst, inl, inr}
-use Rattle.std.specs.Prelude.{◌⊎◌, nat_eq, option_map}
+-- For the laws on refusals of a malloc: free space by arithmetic while a job is pending, and the one result of each malloc.
+use Rattle.std.proofs.Common.{◌≡◌, ℕ, ◌+◌, ◌<◌, ◌≤◌, Option, Some, None, arith, refl, subst, inl, inr}
+use Rattle.std.specs.Prelude.{◌⊎◌, nat_eq}
 use Rattle.std.proofs.lemmas.Bool.{cases_lt}
 use Rattle.std.specs.FinMap.{get, insert, len}
 use Rattle.cf_base.specs.Classes.{need}
-use Rattle.cf_lemmas.proofs.MapValues.{get-map_values, map_values-insert}
+use Rattle.cf_lemmas.proofs.MapValues.{map_values-insert}
 use Rattle.cf_lemmas.proofs.Ranges.{one, sum_le}
 use Rattle.page_model.specs.Arrangement.{live, pages_needed_with}
 use Rattle.page_model.specs.Counts.{ceil_div}
 use Rattle.page_model.specs.Held.{Held, Objects, Placed, objects}
 use Rattle.page_model.specs.Paging.{IsPaging, Paging, class_for, classes, slots_of, page_of}
 use Rattle.page_model.specs.Steps.{Request, zeros_at}
-use Rattle.page_model.proofs.CallerLemmas.{ceil_mono, class_fits, lacks_room_at_one, live_added}
+use Rattle.page_model.proofs.CallerLemmas.{bytes_missing, ceil_mono, class_fits, lacks_room_at_one, live_added}
 use Rattle.slice_model.specs.State.{Plan, IsPlan, JobSlot, Sliced, IsKept, IsFreePage, IsPlaceFor, IsUsable, NoPlace}
 use Rattle.slice_model.specs.State.{job_slot, occupied, placeholder, with_slot, Idle}
 use Rattle.slice_model.specs.Steps.{GivesObject, IsRefusedBy}
@@ -33,13 +33,8 @@ needed_beside : (plan : Plan) → IsPlan plan → (m : Held) → get m plan.prox
 needed_beside plan ok m none None n = omega arith
 needed_beside plan ok m none (Some k) n =
     let e = map_values-insert (λ (x : Placed). x.bytes) m plan.proxies (placeholder plan.paging k) in
-    let none' : get (objects m) plan.proxies ≡ None = get-map_values (λ (x : Placed). x.bytes) m plan.proxies ∙ gone (get m plan.proxies) none in
     rw e (needed_le plan.paging ok.paging (objects m) (insert (objects m) plan.proxies (placeholder plan.paging k).bytes) n
-    (λ c. (let l = live_added plan.paging (objects m) plan.proxies (placeholder plan.paging k).bytes c none' in omega arith)))
-  where
-    gone : (o : Option Placed) → o ≡ None → option_map (λ (x : Placed). x.bytes) o ≡ None
-    gone None e = refl
-    gone (Some x) e = absurd (let e' : Some x ≡ None = e in cc)
+    (λ c. (let l = live_added plan.paging (objects m) plan.proxies (placeholder plan.paging k).bytes c (bytes_missing m plan.proxies none) in omega arith)))
 
 module _ (plan : Plan) (ok : IsPlan plan) (s : Sliced) (kept : IsKept plan s) (n : ℕ) (fits : need n ≤ plan.paging.page_words) where
   abbrev c : ℕ
@@ -48,14 +43,14 @@ module _ (plan : Plan) (ok : IsPlan plan) (s : Sliced) (kept : IsKept plan s) (n
   lt : class_for plan.paging n < classes plan.paging
   lt = class_fits plan.paging ok.paging n fits
 
-  -- if the sum is over there is no place
+  -- if the objects and the new one need more pages than the heap has, there is no place
   pub over_is_no_place : plan.paging.pages < pages_needed_with plan.paging (objects s.held) n → NoPlace plan.paging s (class_for plan.paging n)
   over_is_no_place over =
       let more = needed_beside plan ok s.held (no_placeholder plan s.held kept.numbers) (job_slot s.job) n in
       lacking_is_no_place plan ok s kept (class_for plan.paging n)
       ((lacks_room_at_one plan.paging ok.paging ok.ones (occupied plan s) kept.sound n lt).1 (omega arith))
 
-  -- so if there is a place it isn't
+  -- if there is a place, the objects and the new one need at most the heap's pages
   pub place_is_within : (a : ℕ) → IsPlaceFor plan.paging s (class_for plan.paging n) a → pages_needed_with plan.paging (objects s.held) n ≤ plan.paging.pages
   place_is_within a f = elim (cases_lt plan.paging.pages (pages_needed_with plan.paging (objects s.held) n)) [
     | inr within ↦ within

@@ -1,4 +1,4 @@
--- The words after a slice, and once a slot is vacant.
+-- For `words_after_each_call`: the words after a slice, and when a job begins.
 use Rattle.std.proofs.Common.{◌≡◌, ℕ, ◌+◌, ◌-◌, ◌<◌, ◌≤◌, List, Some, None, length, get_or, arith, sym, ◌∙◌, ap, refl, subst, inl, inr}
 use Rattle.std.proofs.lemmas.Bool.{cases_eq, cases_lt}
 use Rattle.std.specs.FinMap.{get, insert, remove}

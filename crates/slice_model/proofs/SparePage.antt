@@ -1,23 +1,23 @@
--- One more object needs one more page at most; so if a page is spare, the job's slot is no cause to wait.
-use Rattle.std.proofs.Common.{◌≡◌, ℕ, zero, suc, ◌+◌, ◌-◌, ◌*◌, ◌/◌, ◌%◌, ◌<◌, ◌≤◌, Option, Some, None, length, arith, refl, ◌∙◌, ap, subst, inl, inr}
-use Rattle.std.specs.Prelude.{nat_eq, sum_by, option_map}
+-- For `a_spare_page_never_waits`: one more object needs at most one more page, so with a spare page no malloc is refused as `Busy`.
+use Rattle.std.proofs.Common.{◌≡◌, ℕ, zero, suc, ◌+◌, ◌-◌, ◌*◌, ◌/◌, ◌%◌, ◌<◌, ◌≤◌, Option, Some, None, length, arith, ◌∙◌, ap, subst, inl, inr}
+use Rattle.std.specs.Prelude.{nat_eq, sum_by}
 use Rattle.std.specs.List.{range_with_len}
 use Rattle.std.proofs.lemmas.Bool.{cases_eq}
 use Rattle.std.proofs.lemmas.List.Sums.{sum_by-cons}
 use Rattle.std.proofs.lemmas.Nat.{div-add-mod', div-mul-add}
 use Rattle.std.proofs.Math.Nat.{mod-lt}
 use Rattle.std.specs.FinMap.{get, insert}
-use Rattle.cf_lemmas.proofs.MapValues.{get-map_values, map_values-insert}
+use Rattle.cf_lemmas.proofs.MapValues.{map_values-insert}
 use Rattle.cf_lemmas.proofs.Ranges.{one, sum_le}
 use Rattle.cf_lemmas.proofs.Tests.{eq_no, eq_yes}
 use Rattle.page_model.specs.Arrangement.{live, pages_needed_with}
 use Rattle.page_model.specs.Counts.{ceil_div}
 use Rattle.page_model.specs.Held.{Held, Objects, Placed, objects}
 use Rattle.page_model.specs.Paging.{IsPaging, Paging, class_for, classes, slots_of}
-use Rattle.page_model.proofs.CallerLemmas.{ceil_mono, live_added, slots_some}
+use Rattle.page_model.proofs.CallerLemmas.{bytes_missing, ceil_mono, live_added, slots_some}
 use Rattle.slice_model.specs.State.{Plan, IsPlan, JobSlot, with_slot, placeholder}
 
--- m more are one more of m
+-- m more objects need exactly one more page of m slots
 pub ceil_more : (x m : ℕ) → 0 < m → ceil_div (x + m) m ≡ ceil_div x m + 1
 ceil_more x m pos =
     let e : (x + (m - 1)) / m * m + (x + (m - 1)) % m ≡ x + (m - 1) = div-add-mod' (x + (m - 1)) m in
@@ -76,11 +76,6 @@ pub needed_with_slot : (plan : Plan) → IsPlan plan → (m : Held) → get m pl
 needed_with_slot plan ok m none None n = omega arith
 needed_with_slot plan ok m none (Some k) n =
     let e = map_values-insert (λ (x : Placed). x.bytes) m plan.proxies (placeholder plan.paging k) in
-    let none' : get (objects m) plan.proxies ≡ None = get-map_values (λ (x : Placed). x.bytes) m plan.proxies ∙ gone (get m plan.proxies) none in
     rw e (needed_one_more plan.paging ok.paging (objects m) (insert (objects m) plan.proxies (placeholder plan.paging k).bytes) n
     (class_for plan.paging (length (placeholder plan.paging k).bytes))
-    (λ c. live_added plan.paging (objects m) plan.proxies (placeholder plan.paging k).bytes c none'))
-  where
-    gone : (o : Option Placed) → o ≡ None → option_map (λ (x : Placed). x.bytes) o ≡ None
-    gone None e = refl
-    gone (Some x) e = absurd (let e' : Some x ≡ None = e in cc)
+    (λ c. live_added plan.paging (objects m) plan.proxies (placeholder plan.paging k).bytes c (bytes_missing m plan.proxies none)))

@@ -1,4 +1,4 @@
--- A malloc that had to wait is done once no job is pending.
+-- For `a_waiting_malloc_is_served_after_the_slices`: a malloc that was refused as `Busy` is done once no job is pending.
 use Rattle.std.proofs.Common.{◌≡◌, ℕ, zero, suc, arith, sym, ◌∙◌, ap, refl, inl, inr}
 use Rattle.std.specs.FinMap.{len}
 use Rattle.page_model.specs.Arrangement.{pages_needed_with}

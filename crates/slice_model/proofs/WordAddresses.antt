@@ -45,7 +45,7 @@ where_word (Move q k) h x i = elim (cases_eq q h) [
   ]
 ]
 
--- the job fixes which
+-- the job and the word's number determine which of the two
 pub word_of_other : (q h : ℕ) (k : JobSlot) (x : Placed) (i : ℕ) → q ≢ h → word_at (Move q k) h x i ≡ x.place + i
 word_of_other q h k x i ne = (let f = eq_no q h ne in rw f)
 
@@ -148,7 +148,7 @@ module _ (plan : Plan) (ok : IsPlan plan) (m : Held) (j : Job) (kept : IsKept pl
   pub object_within : (h : ℕ) (x : Placed) → get m h ≡ Some x → x.place + slot_for plan.paging (length x.bytes) ≤ plan.paging.pages * plan.paging.page_words
   object_within h x there = slot_inside p (class_at p x) x.place (object_slot h x there)
 
-  -- so is the job's
+  -- the job's slot is one of its class, within the region
   pub job_at : (k : JobSlot) → job_slot j ≡ Some k → IsSlotAt plan.paging k.class k.address
   job_at k e = subst (λ c. IsSlotAt p c k.address) (slot_class plan ok s kept k e)
       (kept.sound.slots plan.proxies (placeholder p k) (slot_there plan ok s kept k e))

@@ -1,4 +1,4 @@
--- Runs over the calls of several tasks, on a sliced heap with its words, and on one map of objects.
+-- Lists of calls of several tasks: what they do to a sliced heap with its words, and to one map of objects.
 use Rattle.std.specs.Prelude.{◌≡◌, ℕ, ◌+◌, ◌-◌, ◌/◌, ◌%◌, ◌<◌, ◌≤◌, List, [], ◌∷◌, Option, Some, None, Result}
 use Rattle.std.specs.Prelude.{Ok, Err, if◌then◌else◌, length, nat_eq, slice_index, take, drop, replicate, min}
 use Rattle.std.specs.FinMap.{get, insert, remove}
@@ -17,7 +17,7 @@ use Rattle.slice_model.specs.declared.answers.SliceRefusal.{SliceRefusal}
 use Rattle.slice_model.specs.declared.answers.SliceFault.{SliceFault}
 use Rattle.slice_model.specs.declared.answers.SliceFault.TheVariants as fault
 
--- some bytes of an object: its number, and the first of them
+-- where a read or a write begins: the object's number, and the first byte
 pub record Part : Type 0 where
   pub number : ℕ
   pub from : ℕ
@@ -40,27 +40,27 @@ pub record Working : Type 0 where
   pub state : Sliced
   pub words : List ℕ
 
--- the words of a slice of this job
+-- the number of words that the next slice of this job does
 abbrev pub words_of_slice : Plan → Option JobSlot → ℕ
 words_of_slice plan None = 0
 words_of_slice plan (Some k) = min plan.quantum (slot_words plan.paging k.class - k.done)
 
--- the object is added, and its header is written at its address
+-- a malloc that is done: the object is added, and its header is written at its address
 pub record Mallocs (plan : Plan) (old : Working) (asked : Request) (new : Working) : Type 0 where
   pub gives : GivesObject plan old.state asked new.state
   pub words : Rewrites old.words new.words (record { from = gives.place; count = 1 }) (λ _. header_word asked.number asked.length)
 
--- the object is removed, and the first slice of its job is done
+-- a free that is done: the object is removed, and the first slice of its job clears or moves words
 pub record Frees (plan : Plan) (old : Working) (h : ℕ) (new : Working) : Type 0 where
   pub removes : RemovesObject plan old.state h new.state
   pub words : DoesWords removes.begun.held removes.begun.job (words_of_slice plan (job_slot removes.begun.job)) old.words new.words
 
--- a slice of the job is done
+-- a slice: the state's next, and the words that it clears or moves
 pub record Slices (plan : Plan) (old new : Working) : Type 0 where
   pub slice : IsSlice plan old.state new.state
   pub words : DoesWords old.state.held old.state.job (words_of_slice plan (job_slot old.state.job)) old.words new.words
 
--- bytes of the object are written, in the words that hold one of them, wherever these lie
+-- a write that is done: the object gets the bytes, and each word that holds one of them is rewritten at its present address
 pub record Writes (old : Working) (part : Part) (bytes : List ℕ) (new : Working) : Type 0 where
   pub object : Placed
   pub found : get old.state.held part.number ≡ Some object
@@ -72,7 +72,7 @@ pub record Writes (old : Working) (part : Part) (bytes : List ℕ) (new : Workin
   pub words : RewritesObject old.state.job part.number object (written object.bytes part.from bytes)
       (record { from = 1 + part.from / 8; count = (part.from % 8 + length bytes + 7) / 8 }) old.words new.words
 
--- bytes of the object are read from the words that hold them, wherever these lie
+-- a read that is done: each byte is read from the word that holds it, at its present address
 pub record Reads (old : Working) (part : Part) (count : ℕ) (out : List ℕ) : Type 0 where
   pub object : Placed
   pub found : get old.state.held part.number ≡ Some object
@@ -80,12 +80,12 @@ pub record Reads (old : Working) (part : Part) (count : ℕ) (out : List ℕ) : 
   pub size : length out ≡ count
   pub bytes : (k : ℕ) → k < count → slice_index out k ≡ byte_read old.state.job old.words part.number object (part.from + k)
 
--- the object isn't live, or the bytes pass its end
+-- the cause of each refusal of a read or write of n bytes: the object isn't live, or the bytes pass its end
 abbrev pub IsOutOfReach : Objects → Part → ℕ → AccessFault → Type 0
 IsOutOfReach o part count access.Unknown = get o part.number ≡ None
 IsOutOfReach o part count access.Range = (v : List ℕ) × (get o part.number ≡ Some v) × (length v < part.from + count)
 
--- what a call does to a heap at work
+-- what each call, with this result, does to the state and the words
 abbrev pub Happens : Plan → Working → Event → Working → Type 0
 Happens plan old (Malloc bytes (Ok h)) new = Mallocs plan old (record { number = h.0; length = bytes }) new
 Happens plan old (Malloc bytes (Err e)) new = IsRefusedBy plan old.state bytes e × (new ≡ old)
@@ -102,7 +102,7 @@ abbrev pub Runs : Plan → Working → List Turn → Working → Type 0
 Runs plan old [] new = new ≡ old
 Runs plan old (turn ∷ rest) new = (mid : Working) × Happens plan old turn.event mid × Runs plan mid rest new
 
--- how many calls of a run are slices
+-- 1 for a slice, 0 for every other call
 abbrev pub is_step : Event → ℕ
 is_step (Malloc bytes answer) = 0
 is_step (Free h answer) = 0
@@ -110,11 +110,12 @@ is_step Step = 1
 is_step (Write part bytes answer) = 0
 is_step (Read part count answer) = 0
 
+-- the number of slices in a list of calls
 abbrev pub steps_in : List Turn → ℕ
 steps_in [] = 0
 steps_in (turn ∷ rest) = is_step turn.event + steps_in rest
 
--- how many calls of a run are frees that are done
+-- 1 for a free that was not refused, 0 for every other call
 abbrev pub is_done_free : Event → ℕ
 is_done_free (Malloc bytes answer) = 0
 is_done_free (Free h None) = 1
@@ -123,11 +124,12 @@ is_done_free Step = 0
 is_done_free (Write part bytes answer) = 0
 is_done_free (Read part count answer) = 0
 
+-- the number of frees in a list of calls that were not refused
 abbrev pub frees_in : List Turn → ℕ
 frees_in [] = 0
 frees_in (turn ∷ rest) = is_done_free turn.event + frees_in rest
 
--- how many are mallocs of class c that are done
+-- 1 for a malloc of class c that was not refused, 0 for every other call
 abbrev pub is_malloc_of : Plan → ℕ → Event → ℕ
 is_malloc_of plan c (Malloc bytes (Ok h)) = if nat_eq (class_for plan.paging bytes) c then 1 else 0
 is_malloc_of plan c (Malloc bytes (Err e)) = 0
@@ -136,15 +138,16 @@ is_malloc_of plan c Step = 0
 is_malloc_of plan c (Write part bytes answer) = 0
 is_malloc_of plan c (Read part count answer) = 0
 
+-- the number of mallocs of class c in a list of calls that were not refused
 abbrev pub mallocs_in : Plan → ℕ → List Turn → ℕ
 mallocs_in plan c [] = 0
 mallocs_in plan c (turn ∷ rest) = is_malloc_of plan c turn.event + mallocs_in plan c rest
 
--- the object is live, and stays
+-- object h is live
 abbrev pub IsLive : Objects → ℕ → Type 0
 IsLive o h = (v : List ℕ) × (get o h ≡ Some v)
 
--- What the same call does to one map of objects, which knows of no task, no address and no job. A refused call and a slice change nothing.
+-- What each call, with this result, does to one map from numbers to bytes, without tasks, addresses and jobs. A refused call and a slice change nothing.
 abbrev pub HappensOnMap : Objects → Event → Objects → Type 0
 HappensOnMap old (Malloc bytes (Ok h)) new = (get old h.0 ≡ None) × (new ≡ insert old h.0 (replicate bytes 0))
 HappensOnMap old (Malloc bytes (Err e)) new = new ≡ old
@@ -159,11 +162,12 @@ HappensOnMap old (Read part count (Ok out)) new = (v : List ℕ) × (get old par
     × (out ≡ take count (drop part.from v)) × (new ≡ old)
 HappensOnMap old (Read part count (Err e)) new = IsOutOfReach old part count e × (new ≡ old)
 
+-- what a list of calls, one after the other, does to one map
 abbrev pub RunsOnMap : Objects → List Turn → Objects → Type 0
 RunsOnMap old [] new = new ≡ old
 RunsOnMap old (turn ∷ rest) new = (mid : Objects) × HappensOnMap old turn.event mid × RunsOnMap mid rest new
 
--- Between two calls: what every state keeps, and its words.
+-- The invariant between two calls: the state keeps the rules, the words are those of the state, and each object holds bytes.
 pub record IsConsistent (plan : Plan) (w : Working) : Type 0 where
   pub kept : IsKept plan w.state
   pub words : HasWords plan.paging w.state w.words

@@ -1,4 +1,4 @@
--- The state of a heap whose frees leave their long work in slices: its objects, and at most one pending job.
+-- The state of a sliced heap: its objects, and at most one pending job.
 use Rattle.std.specs.Prelude.{◌≡◌, ◌≢◌, ℕ, ◌+◌, ◌-◌, ◌*◌, ◌<◌, ◌≤◌, ◌⊎◌, ⊤, Option, Some, None, replicate}
 use Rattle.std.specs.FinMap.{get, insert}
 pub use Rattle.slice_model.specs.declared.job_slot.JobSlot.{JobSlot}
@@ -6,13 +6,13 @@ use Rattle.page_model.specs.Held.{Held, Placed}
 use Rattle.page_model.specs.Paging.{Paging, IsPaging, AreOne, classes, slot_words, slots_of, page_of}
 use Rattle.page_model.specs.Arrangement.{IsSound, IsSlotAt, class_at, objects_on, count_on, not_full_pages}
 
--- the pages, how many objects may live, and the words of one slice
+-- the settings of a sliced heap: pages and classes, the number of proxies, and the quantum in words
 pub record Plan : Type 0 where
   pub paging : Paging
   pub proxies : ℕ
   pub quantum : ℕ
 
--- every class may have one partly full page, and a slice does at least one word
+-- the settings are valid: each class has bound 1, and the quantum is at least one word
 pub record IsPlan (plan : Plan) : Type 0 where
   pub paging : IsPaging plan.paging
   pub ones : AreOne plan.paging
@@ -35,44 +35,46 @@ job_slot Idle = None
 job_slot (Clear k) = Some k
 job_slot (Move h k) = Some k
 
--- the same job, with n words done
+-- the job, with d of its words done
 abbrev pub advanced : Job → ℕ → Job
 advanced Idle d = Idle
 advanced (Clear k) d = Clear (record k { done = d })
 advanced (Move h k) d = Move h (record k { done = d })
 
--- the words left of a job
+-- the number of words that the job of this slot has yet to do; 0 if no job is pending
 abbrev pub left_of_slot : Paging → Option JobSlot → ℕ
 left_of_slot p None = 0
 left_of_slot p (Some k) = slot_words p k.class - k.done
 
+-- the number of words that the job of this state has yet to do
 abbrev pub left_of : Plan → Sliced → ℕ
 left_of plan s = left_of_slot plan.paging (job_slot s.job)
 
--- the placeholder of the job in its slot: zeros that fill a slot of its class
+-- the placeholder: an object of zeros that fills the job's slot
 abbrev pub placeholder : Paging → JobSlot → Placed
 placeholder p k = record { place = k.address; bytes = replicate (8 * (slot_words p k.class - 1)) 0 }
 
--- the objects, and at the job's slot its placeholder, under the first number that no object can have
+-- the objects, with the job's placeholder as one more, under the first number that no object can have
 abbrev pub with_slot : Plan → Held → Option JobSlot → Held
 with_slot plan m None = m
 with_slot plan m (Some k) = insert m plan.proxies (placeholder plan.paging k)
 
+-- the objects of a state, with the placeholder of its job as one more
 abbrev pub occupied : Plan → Sliced → Held
 occupied plan s = with_slot plan s.held (job_slot s.job)
 
--- the job's slot is of a class, and some of its words are left
+-- the class of the job's slot is one of the heap's, and some of its words are still to do
 pub record IsUnderWay (p : Paging) (k : JobSlot) : Type 0 where
   pub class : k.class < classes p
   pub under_way : k.done < slot_words p k.class
 
--- a job clears a slot, or moves a live object of the slot's class
+-- the job, if there is one, has words to do, and an object that it moves is live and of the slot's class
 abbrev pub IsJobOf : Paging → Held → Job → Type 0
 IsJobOf p m Idle = ⊤
 IsJobOf p m (Clear k) = IsUnderWay p k
 IsJobOf p m (Move h k) = IsUnderWay p k × ((x : Placed) × (get m h ≡ Some x) × (class_at p x ≡ k.class))
 
--- What every state keeps: with the job's slot as one more object the arrangement is sound.
+-- The rules of every state: with the job's placeholder as one more object the arrangement is sound.
 pub record IsKept (plan : Plan) (s : Sliced) : Type 0 where
   pub numbers : (h : ℕ) (x : Placed) → get s.held h ≡ Some x → h < plan.proxies
   pub job : IsJobOf plan.paging s.held s.job
@@ -104,12 +106,13 @@ pub record NoPlace (p : Paging) (s : Sliced) (c : ℕ) : Type 0 where
   pub unusable : (a : ℕ) → ¬ IsUsable p s c a
   pub taken : (page : ℕ) → ¬ IsFreePage p s page
 
--- an object of class c gets this address: of a usable slot, or if there is none of a slot of a free page
+-- a malloc of class c may use the slot at a: it is usable, or no slot is usable and its page is free
 pub record IsPlaceFor (p : Paging) (s : Sliced) (c a : ℕ) : Type 0 where
   pub slot : IsSlotAt p c a
   pub choice : IsUsable p s c a ⊎ (((b : ℕ) → ¬ IsUsable p s c b) × IsFreePage p s (page_of p a))
 
--- What the objects alone are like beside a job: the slot's page is of its class, and has but one slot free if a second page is partly full.
+-- The rules for the objects without the placeholder, while a job holds slot k: the objects on the slot's page are of its class; if two pages of that
+-- class are partly full, the job's slot is the only free one on its page.
 pub record LieBeside (p : Paging) (m : Held) (k : JobSlot) : Type 0 where
   pub address : (h : ℕ) (x : Placed) → get m h ≡ Some x → x.place ≢ k.address
   pub class : (h : ℕ) (x : Placed) → get m h ≡ Some x → page_of p x.place ≡ page_of p k.address → class_at p x ≡ k.class

@@ -1,4 +1,4 @@
--- The words of the region beside a job that is half done.
+-- The words of the region, also while a job is half done.
 use Rattle.std.specs.Prelude.{◌≡◌, ◌≢◌, ℕ, ◌+◌, ◌-◌, ◌/◌, ◌%◌, ◌<◌, List, Some, ⊤, length, slice_index, if◌then◌else◌, nat_eq, nat_le, ◌&&◌}
 use Rattle.std.specs.FinMap.{get}
 use Rattle.page_model.specs.Held.{Held, Placed}
@@ -25,27 +25,27 @@ pub record HasWords (p : Paging) (s : Sliced) (words : List ℕ) : Type 0 where
   pub done : (k : JobSlot) → job_slot s.job ≡ Some k → (i : ℕ) → i < k.done → slice_index words (k.address + i) ≡ 0
   pub zeros : (w : ℕ) → ((h : ℕ) (x : Placed) → get s.held h ≡ Some x → IsOutsideOf (slot_for p) x w) → IsOutsideJob p s.job w → slice_index words w ≡ 0
 
--- w is none of the words from the first one yet to do to the end of a slot at a
+-- in a slot at a, w is none of the words that the job has yet to do
 abbrev pub IsBehind : Paging → JobSlot → ℕ → ℕ → Type 0
 IsBehind p k a w = IsOutside (a + k.done) (slot_words p k.class - k.done) w
 
--- w is none of the words that a job leaves open: of a slot that is cleared those yet to do, of an object in motion those yet to do in both slots
+-- w is none of the words that a job leaves open: those yet to clear, or those yet to move, in the job's slot and at the object's address
 abbrev pub IsClosed : Paging → Held → Job → ℕ → Type 0
 IsClosed p m Idle w = ⊤
 IsClosed p m (Clear k) w = IsBehind p k k.address w
 IsClosed p m (Move h k) w = IsBehind p k k.address w × ((x : Placed) → get m h ≡ Some x → IsBehind p k x.place w)
 
--- n words of the job are done in the region: they are cleared, or moved from the job's slot to the object's address
+-- what a slice of n words does to the region: the job's next n words are cleared, or moved from its slot to the object's address
 abbrev pub DoesWords : Held → Job → ℕ → List ℕ → List ℕ → Type 0
 DoesWords m Idle n old new = new ≡ old
 DoesWords m (Clear k) n old new = Clears old new (record { from = k.address + k.done; count = n })
 DoesWords m (Move h k) n old new = (x : Placed) × (get m h ≡ Some x) × MovesWords old new (record { from = k.address + k.done; count = n }) (x.place + k.done)
 
--- the words of object h in the part become those of the bytes v, wherever they lie, and every other word stays
+-- the words of object h in this range become those of the bytes v, each at its present address, and every other word is unchanged
 pub record RewritesObject (j : Job) (h : ℕ) (x : Placed) (v : List ℕ) (part : WordRange) (old new : List ℕ) : Type 0 where
   pub within : (i : ℕ) → i < part.count → slice_index new (word_at j h x (part.from + i)) ≡ object_word h v (part.from + i)
   pub others : (w : ℕ) → ((i : ℕ) → i < part.count → word_at j h x (part.from + i) ≢ w) → slice_index new w ≡ slice_index old w
 
--- byte k of an object, read from the word that holds it
+-- byte k of an object, read from the word that holds it at its present address
 abbrev pub byte_read : Job → List ℕ → ℕ → Placed → ℕ → ℕ
 byte_read j words h x k = byte_of (k % 8) (slice_index words (word_at j h x (1 + k / 8)))

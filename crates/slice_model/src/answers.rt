@@ -1,4 +1,4 @@
-//! Why a call of a sliced heap is refused.
+//! The refusals of the calls of a sliced heap.
 
 /// Why a malloc was refused, in the order in which the causes are tested.
 #[derive(Clone, Copy, Debug, PartialEq, Eq)]
@@ -7,9 +7,9 @@ pub enum SliceRefusal {
     Size,
     /// Every proxy is in use.
     Proxy,
-    /// With the new object the pages that are needed are more than there are.
+    /// The objects and the new one need more pages than the heap has, by arithmetic.
     Space,
-    /// The only room left is what a pending job still holds.
+    /// The pages would be enough, but the slot that a pending job holds leaves no free slot for the object.
     Busy,
 }
 

@@ -1,4 +1,4 @@
-//! How many slices a job takes.
+//! Laws on the number of slices after which a job has ended.
 ghost use Rattle.std.specs.Prelude.{ℕ, ◌≡◌, ◌+◌, ◌-◌, ◌*◌, ◌<◌, ◌≤◌, List, None, Some};
 ghost use Rattle.std.specs.FinMap.{get};
 ghost use Rattle.page_model.specs.Arrangement.{class_at};
@@ -9,15 +9,16 @@ ghost use Rattle.slice_model.specs.Runs.{Free, Happens, IsConsistent, Runs, Step
 ghost use Rattle.slice_model.specs.State.{Idle, IsKept, IsPlan, JobSlot, Plan, Sliced, advanced, job_slot};
 ghost use Rattle.slice_model.specs.Steps.{AreSlices, GivesObject, IsOver, WantsSlot};
 
-/// Each slice does a quantum of the job, and whatever else is called between leaves the job as it is.
+/// Each slice does a quantum of the job's words, and no other call changes the job, until all its words
+/// are done.
 pub fn a_job_advances_by_its_slices()
     ensures { (plan : Plan) (turns : List Turn) (old new : Working) (k : JobSlot) → job_slot old.state.job ≡ Some k
         → k.done + steps_in turns * plan.quantum < slot_words plan.paging k.class → Runs plan old turns new
         → new.state.job ≡ advanced old.state.job (k.done + steps_in turns * plan.quantum) }
 {}
 
-/// A job, a chained one too, ends after its words left over the quantum, rounded up, in slices, whatever
-/// else is called in between.
+/// A job, also one that follows another, ends after a number of slices: the words left to do, divided
+/// by the quantum and rounded up. Other calls in between change nothing about this.
 pub fn a_job_ends_after_its_words_over_the_quantum()
     ensures { (plan : Plan) (turns : List Turn) (old mid new : Working) (k : JobSlot) → IsPlan plan
         → job_slot old.state.job ≡ Some k → k.done < slot_words plan.paging k.class → Runs plan old turns mid
@@ -25,17 +26,17 @@ pub fn a_job_ends_after_its_words_over_the_quantum()
         → Happens plan mid Step new → IsOver k new.state.job }
 {}
 
-/// If nothing else is called in between, at most one more job follows: no job is pending after the
-/// slices of both.
+/// If nothing but slices is called, at most one more job follows: no job is pending after the slices of
+/// the pending job and those of one more whole slot of its class.
 pub fn slices_alone_end_every_job()
     ensures { (plan : Plan) (old new : Sliced) (k : JobSlot) → IsPlan plan → IsKept plan old → job_slot old.job ≡ Some k
         → AreSlices plan (ceil_div (slot_words plan.paging k.class - k.done) plan.quantum + ceil_div (slot_words plan.paging k.class) plan.quantum) old new
         → new.job ≡ Idle }
 {}
 
-/// After a successful free and before the next one, no job is pending once the slices number those of
-/// the free's slot, its own first one included, and that number again for each malloc of the class in
-/// between.
+/// Let s be the number of slices of a whole slot of the freed object's class. After a successful free
+/// and before the next one, no job is pending after s slices, of which the free does the first, and s
+/// more for each malloc of this class in between.
 pub fn each_malloc_between_prolongs_a_job_once()
     ensures { (plan : Plan) (old freed new : Working) (h : ℕ) (x : Placed) (turns : List Turn) → IsPlan plan → IsConsistent plan old
         → get old.state.held h ≡ Some x → Happens plan old (Free h None) freed → Runs plan freed turns new → frees_in turns ≡ 0
@@ -43,7 +44,7 @@ pub fn each_malloc_between_prolongs_a_job_once()
         → new.state.job ≡ Idle }
 {}
 
-/// A malloc that waits for a pending job can be served after the slices of that job and those of one
+/// A malloc that is refused as `Busy` can be done after the slices of the pending job and those of one
 /// more whole slot of the job's class, if nothing else is called in between.
 pub fn a_waiting_malloc_is_served_after_the_slices()
     ensures { (plan : Plan) (old new : Sliced) (bytes : ℕ) (k : JobSlot) → IsPlan plan → IsKept plan old

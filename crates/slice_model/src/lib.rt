@@ -1,6 +1,6 @@
-//! A heap whose frees leave their long work in slices: its state, its steps, its words while a job
-//! is half done, and the calls of several tasks. The public functions do nothing: each one's
-//! contract is a law of these definitions.
+//! The model of the sliced heap, in which a free leaves its long work as a job, done in slices: the
+//! state, the calls, the words while a job is half done, and the calls of several tasks. The public
+//! functions do nothing: each one's contract is a law of these definitions.
 #![tactic(auto)]
 
 mod answers;

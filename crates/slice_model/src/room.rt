@@ -1,4 +1,4 @@
-//! When a malloc and a free are refused beside a pending job.
+//! Laws on when a malloc and a free are refused, also while a job is pending.
 ghost use Rattle.std.specs.Prelude.{ℕ, ◌≡◌, ◌≢◌, ◌<◌, ◌≤◌, ◌⊎◌, ◌↔◌, Option, Some};
 ghost use Rattle.std.specs.FinMap.{get};
 ghost use Rattle.cf_base.specs.Classes.{need};
@@ -11,14 +11,13 @@ ghost use Rattle.slice_model.specs.Steps.{GivesObject, IsFaultOf, IsRefusedBy, I
 ghost use Rattle.slice_model.specs.declared.answers.SliceFault.{SliceFault};
 ghost use Rattle.slice_model.specs.declared.answers.SliceRefusal.{SliceRefusal};
 
-/// A malloc has to wait only if a job is pending: without one, there is no place only if the pages
-/// needed are more than there are.
+/// A malloc is refused as `Busy` only if a job is pending.
 pub fn a_malloc_waits_for_a_job_alone()
     ensures { (plan : Plan) (s : Sliced) (bytes : ℕ) → IsPlan plan → IsKept plan s → WantsSlot plan s bytes → s.job ≢ Idle }
 {}
 
-/// If a slot is usable, or a page free, the pages that are needed with the new object are at most
-/// those that there are.
+/// If a slot of the class is usable or a page is free, the objects and the new one need at most the
+/// pages that the heap has, by arithmetic.
 pub fn a_place_is_within_the_sum()
     ensures slot { (plan : Plan) (s : Sliced) (bytes a : ℕ) → IsPlan plan → IsKept plan s → need bytes ≤ plan.paging.page_words
         → IsUsable plan.paging s (class_for plan.paging bytes) a
@@ -28,20 +27,22 @@ pub fn a_place_is_within_the_sum()
         → pages_needed_with plan.paging (objects s.held) bytes ≤ plan.paging.pages }
 {}
 
-/// There is no place if and only if the pages are too few with the job's slot as one more object.
+/// There is no slot for a malloc if and only if the objects, the job's placeholder and the new object
+/// need more pages than the heap has.
 pub fn a_malloc_waits_exactly_by_arithmetic()
     ensures { (plan : Plan) (s : Sliced) (bytes : ℕ) → IsPlan plan → IsKept plan s → need bytes ≤ plan.paging.page_words
         → NoPlace plan.paging s (class_for plan.paging bytes)
         ↔ (plan.paging.pages < pages_needed_with plan.paging (objects (occupied plan s)) bytes) }
 {}
 
-/// If there is a page more than are needed, no malloc has to wait.
+/// If the objects and the new one need fewer pages than the heap has, the malloc is not refused as
+/// `Busy`.
 pub fn a_spare_page_never_waits()
     ensures { (plan : Plan) (s : Sliced) (bytes : ℕ) → IsPlan plan → IsKept plan s
         → pages_needed_with plan.paging (objects s.held) bytes < plan.paging.pages → ¬ WantsSlot plan s bytes }
 {}
 
-/// Each malloc is done, or refused by just one cause.
+/// Each malloc is either done or refused, and refused for exactly one cause.
 pub fn a_malloc_has_one_answer()
     ensures some { (plan : Plan) (s : Sliced) (bytes : ℕ) → IsPlan plan → IsKept plan s
         → ((e : SliceRefusal) × IsRefusedBy plan s bytes e)
@@ -51,7 +52,7 @@ pub fn a_malloc_has_one_answer()
         → GivesObject plan s asked new → ¬ IsRefusedBy plan s asked.length e }
 {}
 
-/// Each free is done, or refused by just one cause.
+/// Each free is either done or refused, and refused for exactly one cause.
 pub fn a_free_has_one_answer()
     ensures some { (plan : Plan) (s : Sliced) (h : ℕ) → IsPlan plan → IsKept plan s
         → ((e : SliceFault) × IsFaultOf s h e) ⊎ ((new : Sliced) × RemovesObject plan s h new) }
@@ -59,7 +60,7 @@ pub fn a_free_has_one_answer()
     ensures done { (plan : Plan) (s : Sliced) (h : ℕ) (new : Sliced) (e : SliceFault) → RemovesObject plan s h new → ¬ IsFaultOf s h e }
 {}
 
-/// A slice can always be done.
+/// A slice is never refused: from every state that keeps the rules there is a next one.
 pub fn a_slice_can_always_be_done()
     ensures { (plan : Plan) (s : Sliced) → IsPlan plan → IsKept plan s → (new : Sliced) × IsSlice plan s new }
 {}

@@ -5,8 +5,8 @@ ghost use Rattle.page_model.specs.Held.{objects};
 ghost use Rattle.slice_model.specs.Runs.{Event, Happens, HappensOnMap, IsConsistent, Runs, RunsOnMap, Turn, Working};
 ghost use Rattle.slice_model.specs.State.{Idle, IsPlan, Plan};
 
-/// Over every list of calls of several tasks, with slices of the jobs anywhere in between, mallocs,
-/// frees, reads and writes are those of one map of objects: so a read returns the bytes last
+/// In every list of calls of several tasks, with slices anywhere in between, the mallocs, frees, reads
+/// and writes do what they would do to one map from numbers to bytes: so a read returns the bytes last
 /// written, also of an object in motion. The heap and its words stay consistent.
 pub fn calls_of_all_tasks_are_those_of_one_map()
     ensures { (plan : Plan) (old : Working) (turns : List Turn) (new : Working) → IsPlan plan → IsConsistent plan old
@@ -14,7 +14,7 @@ pub fn calls_of_all_tasks_are_those_of_one_map()
         → RunsOnMap (objects old.state.held) turns (objects new.state.held) × IsConsistent plan new }
 {}
 
-/// Without objects and without a job, words of zeros are consistent.
+/// A heap without objects and without a job, whose words are zeros, is consistent.
 pub fn an_empty_heap_is_consistent()
     ensures { (plan : Plan) (n : ℕ) → IsConsistent plan (record { state = record { held = empty; job = Idle }; words = replicate n 0 }) }
 {}

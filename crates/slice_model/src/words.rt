@@ -11,9 +11,9 @@ ghost use Rattle.slice_model.specs.State.{Idle, IsKept, IsPlan, JobSlot, Move, P
 ghost use Rattle.slice_model.specs.Steps.{GivesObject, IsSlice, RemovesObject};
 ghost use Rattle.slice_model.specs.Words.{DoesWords, HasWords, IsClosed, RewritesObject, byte_read};
 
-/// Without a job the words are the image of the objects. With one this holds of every word that the
-/// job does not hold open; and the words of an object in motion that have still to move are in the
-/// job's slot.
+/// If no job is pending, the words are the image of the objects. If one is, each word that is not left
+/// open by the job (`IsClosed`) is that of the image; and the words of an object in motion that are
+/// not moved yet are in the job's slot.
 pub fn words_are_the_image_but_for_the_job()
     ensures idle { (p : Paging) (m : Held) (words : List ℕ)
         → HasWords p (record { held = m; job = Idle }) words ↔ IsSlotImage p m words }
@@ -26,8 +26,8 @@ pub fn words_are_the_image_but_for_the_job()
         → slice_index words (k.address + i) ≡ slice_index clean (x.place + i) }
 {}
 
-/// A malloc writes a header, a free and a slice do words of the job, and a write changes the words
-/// that hold one of its bytes, wherever these lie: then the words are those of the new state.
+/// After a malloc that writes a header, a free or a slice that clears or moves the next words of the
+/// job, and a write to the words that hold its bytes, the words are those of the new state.
 pub fn words_after_each_call()
     ensures malloc { (plan : Plan) (old : Sliced) (words after : List ℕ) (asked : Request) (new : Sliced) → IsPlan plan → IsKept plan old
         → HasWords plan.paging old words → (g : GivesObject plan old asked new)
@@ -49,8 +49,8 @@ pub fn words_after_each_call()
         (record old { held = insert old.held h (record { place = x.place; bytes = written x.bytes at bytes }) }) after }
 {}
 
-/// A byte of an object is read from the word that holds it, wherever that lies: of an object in
-/// motion in the half that the job has done, or in the one that it has yet to do.
+/// The byte that is read from the word at `word_at` is the object's byte: for an object in motion this
+/// word is in its new slot if the job has moved it, else in the job's slot.
 pub fn bytes_are_read_where_they_stand()
     ensures { (plan : Plan) (s : Sliced) (words : List ℕ) (h : ℕ) (x : Placed) (k : ℕ) → IsPlan plan → IsKept plan s
         → HasWords plan.paging s words → get s.held h ≡ Some x → AreBytes x.bytes → k < length x.bytes

@@ -1,29 +1,12 @@
--- Steps one after the other, and what the searches of lists take.
-use Rattle.std.proofs.Common.{◌≡◌, ℕ, ◌+◌, ◌*◌, ◌/◌, ◌^◌, ◌<◌, ◌≤◌, List, Option, Some, None, arith, sym, ap, ◌∙◌, subst, inl, inr}
-use Rattle.std.proofs.lemmas.Bool.{cases_eq, cases_lt}
+-- The steps of calls one after the other, and of the searches of lists.
+use Rattle.std.proofs.Common.{◌≡◌, ℕ, ◌+◌, ◌*◌, ◌/◌, ◌<◌, ◌≤◌, List, Option, Some, None, arith, sym, ap, ◌∙◌, subst, inl, inr}
+use Rattle.std.proofs.lemmas.Bool.{cases_eq}
 use Rattle.step_ledger.specs.Counting.{RoseBy, RoseAtMost}
 use Rattle.block_model.specs.Costs.{group_steps, list_steps}
 use Rattle.tag_blocks.specs.ListHeads.{IsFirstFrom}
 use Rattle.tag_blocks.proofs.ThreadLemmas.{chosen, other}
 
--- the count rose twice
-pub then_by : (old mid new m n : ℕ) → RoseBy old mid m → RoseBy mid new n → RoseBy old new (m + n)
-then_by old mid new m n a b = record {
-  kept = (let x = a.kept in let y = b.kept in omega arith);
-  bound = (let x = a.bound in let y = b.bound in omega arith);
-  exact = λ fits. (let x = a.exact (omega arith) in let y = b.exact (omega arith) in omega arith);
-  capped = λ small past. elim (cases_lt (old + m) (2 ^ 64)) [
-    | inl lt ↦ (let x = a.exact lt in b.capped (omega arith) (omega arith))
-    | inr ge ↦ (
-        let x = a.capped small ge in
-        elim (cases_lt (mid + n) (2 ^ 64)) [ inl lt ↦ (let y = b.exact lt in omega arith) | inr le ↦ b.capped (omega arith) le ])
-  ];
-}
-
--- the count didn't rise
-pub at_rest : (old : ℕ) → RoseBy old old 0
-at_rest old = record { kept = omega arith; bound = omega arith; exact = λ fits. omega arith; capped = λ small past. omega arith }
-
+-- the same number of steps, with the sum last
 pub by_same : (old new m n : ℕ) → RoseBy old new m → m ≡ n → RoseBy old new n
 by_same old new m n r e = subst (λ k. RoseBy old new k) e r
 

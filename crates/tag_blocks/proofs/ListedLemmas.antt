@@ -1,4 +1,4 @@
--- The free lists that are shown are lists of the blocks.
+-- The free lists that the words and the heads determine contain exactly the free blocks (`AreListsOf`).
 use Rattle.std.proofs.Common.{◌≡◌, ℕ, List, length, refl, sym, ◌∙◌, subst}
 use Rattle.std.specs.Prelude.{nat_eq}
 use Rattle.std.specs.List.{Contains, IsDistinct}

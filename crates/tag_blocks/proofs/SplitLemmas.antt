@@ -107,7 +107,7 @@ module _ (rule : FreeLists) (count : ℕ) (p : Fields) (v : Tagged) (kept : IsVa
         others = λ b o i owned j low high. cut.others b o i owned j low high ∙ turned.others b o i owned j low high;
       }
 
-      -- what the push of the rest takes
+      -- the steps of pushing the rest on its list
       pub split_steps : rest_list < length heads
           → push_steps (get_or heads rest_list 0) ≡ pushed_steps (list_length rule (seen after).blocks (rule.bucket (size - need)))
       split_steps within = cutting_steps rule count mid (seen mid) mid_kept refl at need some used cuttable size mid_size

@@ -1,9 +1,9 @@
--- The heads of the free lists, and how two levels of bitmaps mark those that have one. No public clause cites this module.
+-- The heads of the free lists, and how two levels of bitmaps mark the lists that have one. No public clause cites this module.
 use Rattle.std.specs.Prelude.{◌≡◌, ◌≢◌, ℕ, ◌+◌, ◌*◌, ◌^◌, ◌<◌, ◌≤◌, ◌==◌, not, List, length, Option, Some, None, cond, slice_index, slice_index_or}
 use Rattle.std.specs.Int.{bit_at}
 pub use Rattle.block_model.specs.FreeOrder.{no_block}
 
--- the head of a list, if it is a list
+-- the head of a list; `no_block` if the list is empty, or if there is no such list
 abbrev pub head_of : List ℕ → ℕ → ℕ
 head_of heads list = slice_index_or heads list no_block
 
@@ -21,25 +21,25 @@ pub record AreMarkedCells (heads lists groups : List ℕ) : Type 0 where
   pub lists_long : length lists ≡ 32
   pub groups_long : length groups ≡ 1
 
--- a list with a head, and no list between the start and it has one
+-- the list has a head, and no list from `start` on has one before it
 pub record IsFirst (heads : List ℕ) (start list : ℕ) : Type 0 where
   pub within : list < length heads
   pub from : start ≤ list
   pub some : head_of heads list ≢ no_block
   pub before : (k : ℕ) → start ≤ k → k < list → head_of heads k ≡ no_block
 
--- the first list with a head from the start on, if any
+-- the result is the first list with a head from `start` on, or none if no list has one there
 abbrev pub IsFirstFrom : List ℕ → ℕ → Option ℕ → Type 0
 IsFirstFrom heads start (Some list) = IsFirst heads start list
 IsFirstFrom heads start None = (k : ℕ) → start ≤ k → head_of heads k ≡ no_block
 
--- a list with a head, and no list after it has one
+-- the list has a head, and no list after it has one
 pub record IsLastAt (heads : List ℕ) (list : ℕ) : Type 0 where
   pub within : list < length heads
   pub some : head_of heads list ≢ no_block
   pub behind : (k : ℕ) → list < k → head_of heads k ≡ no_block
 
--- the last list with a head, if any
+-- the result is the last list with a head, or none if no list has one
 abbrev pub IsLast : List ℕ → Option ℕ → Type 0
 IsLast heads (Some list) = IsLastAt heads list
 IsLast heads None = (k : ℕ) → head_of heads k ≡ no_block

@@ -1,4 +1,4 @@
-use Rattle.slice_model.proofs.FirstOrder.{first_is_order}
+use Rattle.page_model.proofs.CallerLemmas.{first_is_order}
 use Rattle.slice_model.proofs.order.rising_numbers_are_an_order.Goals as goal
 
 pub returns : goal.returns

@@ -1,6 +1,7 @@
 use Rattle.std.proofs.Common.{◌≡◌, ◌+◌, length, arith, ap, ◌∙◌}
 use Rattle.block_model.specs.Costs.{before_steps}
-use Rattle.tag_blocks.proofs.CostLemmas.{by_same, then_by}
+use Rattle.step_ledger.proofs.CallerLemmas.{rose_both}
+use Rattle.tag_blocks.proofs.CostLemmas.{by_same}
 use Rattle.tag_blocks.proofs.JoinLemmas.{join_sizes, join_many, join_listed, join_some, join_kept, join_others, join_turns}
 use Rattle.tag_blocks.proofs.JoinLemmas.{join_lists}
 use Rattle.tag_blocks.proofs.blocks.TagBlocks.join.Goals as goal
@@ -98,8 +99,8 @@ returns-clause-steps g c =
     let end = c.args.start + (c.args.first + c.args.second) in
     let next : before_steps end (length c.write-2.new.region) ≡ before_steps end (length c.self.inside.region) =
     ap (before_steps end) (c.write-2.ensures.len ∙ c.write.ensures.len ∙ c.clear.ensures.len ∙ c.unlink.ensures.words) in
-    rw (← c.self.view_is) (by_same _ _ _ _ (then_by _ _ _ _ _ c.read-header.ensures.steps (then_by _ _ _ _ _ c.unlink.ensures.steps
-    (then_by _ _ _ _ _ c.clear.ensures.steps (then_by _ _ _ _ _ c.write.ensures.steps (then_by _ _ _ _ _ c.write-2.ensures.steps
+    rw (← c.self.view_is) (by_same _ _ _ _ (rose_both _ _ _ _ _ c.read-header.ensures.steps (rose_both _ _ _ _ _ c.unlink.ensures.steps
+    (rose_both _ _ _ _ _ c.clear.ensures.steps (rose_both _ _ _ _ _ c.write.ensures.steps (rose_both _ _ _ _ _ c.write-2.ensures.steps
     c.set_before.ensures.steps))))) (omega (arith, next)))
 
 pub returns-clause-lists : goal.returns-clause-lists

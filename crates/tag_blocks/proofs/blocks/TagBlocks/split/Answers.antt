@@ -1,7 +1,8 @@
 use Rattle.std.proofs.Common.{◌≡◌, ◌+◌, ◌-◌, length, arith, ap, ◌∙◌}
 use Rattle.block_model.specs.Costs.{before_steps}
 use Rattle.tag_blocks.proofs.ClaimLemmas.{claim_counts, claim_listed, claim_size}
-use Rattle.tag_blocks.proofs.CostLemmas.{by_same, then_by}
+use Rattle.step_ledger.proofs.CallerLemmas.{rose_both}
+use Rattle.tag_blocks.proofs.CostLemmas.{by_same}
 use Rattle.tag_blocks.proofs.SplitLemmas.{split_sizes, split_linked, split_kept, split_turns, split_steps}
 use Rattle.tag_blocks.proofs.SplitLemmas.{split_lists}
 use Rattle.tag_blocks.proofs.ListedLemmas.{seen_listed}
@@ -154,9 +155,9 @@ returns-clause-steps g c =
     _ _ _ c.push.ensures.heads long c.bucket-list-2.ensures pushed (omega (arith, below, c.bucket-list-2.ensures, c.self.invariant.as_many)) in
     let next : before_steps (c.args.at + c.args.header.size) (length c.write-3.new.region) ≡ before_steps (c.args.at + c.args.header.size) (length c.self.inside.region) =
     ap (before_steps (c.args.at + c.args.header.size)) (c.write-3.ensures.len ∙ c.write-2.ensures.len ∙ c.write.ensures.len ∙ c.unlink.ensures.words) in
-    rw (← c.self.view_is) (by_same _ _ _ _ (then_by _ _ _ _ _ c.unlink.ensures.steps (then_by _ _ _ _ _ c.write.ensures.steps
-    (then_by _ _ _ _ _ c.write-2.ensures.steps (then_by _ _ _ _ _ c.write-3.ensures.steps
-    (then_by _ _ _ _ _ c.set_before.ensures.steps c.push.ensures.steps))))) (omega (arith, last, next)))
+    rw (← c.self.view_is) (by_same _ _ _ _ (rose_both _ _ _ _ _ c.unlink.ensures.steps (rose_both _ _ _ _ _ c.write.ensures.steps
+    (rose_both _ _ _ _ _ c.write-2.ensures.steps (rose_both _ _ _ _ _ c.write-3.ensures.steps
+    (rose_both _ _ _ _ _ c.set_before.ensures.steps c.push.ensures.steps))))) (omega (arith, last, next)))
 
 pub returns-clause-lists : goal.returns-clause-lists
 returns-clause-lists g c =
