@@ -5,8 +5,8 @@ ghost use Rattle.block_model.proofs.CallerLemmas.{half_fit_lawful};
 use block_model::half_fit;
 use tag_blocks::Buckets;
 
-/// Half-Fit (1995): a free list for each power of two. A need is searched from the first list on in
-/// which each block has its words.
+/// Half-Fit (1995): a free list for each power of two. The search for a block of `need` words begins at
+/// the first list in which every block has at least `need` words.
 #[derive(Drop)]
 pub struct HalfFitBuckets;
 

@@ -1,15 +1,15 @@
-//! The manager.
+//! The Half-Fit manager.
 ghost use Rattle.std.specs.Prelude.{refl};
 ghost use Rattle.cf_base.specs.declared.kind.Kind.TheVariants.{HalfFit};
 
 use crate::buckets::HalfFitBuckets;
 use cf_base::Kind;
-use tag_heap::{TagHeap, Yardstick};
+use tag_heap::{FitPolicy, TagHeap};
 
 /// The manager with the free lists of Half-Fit (1995).
 pub type HalfFitHeap = TagHeap<HalfFitBuckets>;
 
-impl Yardstick for HalfFitBuckets {
+impl FitPolicy for HalfFitBuckets {
     ghost kind = { HalfFit };
 
     fn kind() -> Kind {

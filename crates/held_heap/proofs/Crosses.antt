@@ -1,4 +1,4 @@
--- What a place owns names no thread.
+-- The memory that a place owns belongs to no thread, so that a place may go to another one.
 use base.Shift.{Keyless}
 use denote.Param.Send.{IsSend}
 use denote.RattleType.{RattleType}

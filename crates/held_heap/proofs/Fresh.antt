@@ -24,12 +24,12 @@ fresh_from_closed kind s old new is opened promise rules =
       steps = refl;
     }
 
--- what holds at `Ok` holds where a value was taken out
+-- a clause on `Ok` holds if `ok()` returned a value
 pub at_ok : {T E : Type 0} (r : Result T E) (P : Type 0) → OnOk r P → (o : Option T) → o ≡ result_ok r → (t : T) → o ≡ Some t → P
 at_ok (Ok u) P p o e t f = p
 at_ok (Err x) P p o e t f = absurd (let z : None ≡ Some t = sym e ∙ f in cc)
 
--- a box with a value, if there is one, has what the value has
+-- a property of the boxed value is one of the box that `ok()` returned, if it returned one
 pub in_box : {B V E : Type 0} (r : Result B E) (value : B → V) (v : V) (P : V → Type 0) → P v → IfOk r (λ b. value b ≡ v) → (o : Option B) → o ≡ result_ok r
     → IfSome o (λ b. P (value b))
 in_box (Ok b) value v P p is o e = subst (λ q. IfSome q (λ b. P (value b))) (sym e) (subst P (sym is) p)

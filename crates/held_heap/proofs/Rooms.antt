@@ -1,4 +1,4 @@
--- A room by the two clauses of a manager with pages.
+-- For `room_within`: its clause follows from the two clauses of `has_room` of a manager with pages.
 use Rattle.std.specs.Prelude.{ℕ, Result, Ok, Err, IfOk, IfErr}
 use Rattle.cf_base.specs.declared.answers.Refusal.{Refusal}
 use Rattle.cf_model.specs.State.{HeapState}

@@ -1,4 +1,4 @@
--- The steps of the calls of a manager: the most of each, exact for a read, a write and a length.
+-- The calls of a manager with their steps: the most of each call, exact for a read, a write and a length.
 use Rattle.std.specs.Prelude.{◌≡◌, ℕ, ◌+◌, IsTrue, List, Option, Result, length}
 use Rattle.step_ledger.specs.Counting.{RoseAtMost, RoseBy}
 use Rattle.cf_base.specs.declared.answers.Handle.{Handle}
@@ -31,7 +31,7 @@ pub record IsOpenOf (of_kind : Kind) (s : HeapState) : Type 0 where
   pub open_now : IsTrue s.is_open
   pub kind : s.kind ≡ of_kind
 
--- a malloc of these bytes, with the count of steps before and after
+-- a malloc of this many bytes; `from` and `to` are the ledger's steps before and after it
 pub record IsMalloc (most : Bounds) (old : HeapState) (bytes : ℕ) (answer : Result Handle Refusal) (new : HeapState) (from to : ℕ) : Type 0 where
   pub step : IsMallocStep old bytes answer new
   pub ordered : IsOrderedMalloc old bytes answer new
@@ -40,7 +40,7 @@ pub record IsMalloc (most : Bounds) (old : HeapState) (bytes : ℕ) (answer : Re
   pub bound : RoseAtMost from to (most.malloc answer)
   pub cost : to ≡ from + new.cost
 
--- a free of this number
+-- a free of this handle's number
 pub record IsFree (most : Bounds) (old : HeapState) (number : ℕ) (answer : Result Freed NotLive) (new : HeapState) (from to : ℕ) : Type 0 where
   pub step : IsFreeStep old number answer new
   pub ordered : IsOrderedFree old number answer new
@@ -49,7 +49,7 @@ pub record IsFree (most : Bounds) (old : HeapState) (number : ℕ) (answer : Res
   pub bound : RoseAtMost from to (most.free answer)
   pub cost : to ≡ from + new.cost
 
--- a resize of a number to a length
+-- a resize of an object to a new length
 pub record IsResize (most : Bounds) (old : HeapState) (asked : Request) (answer : Result Resized ResizeFault) (new : HeapState) (from to : ℕ) : Type 0 where
   pub step : IsResizeStep old asked answer new
   pub ordered : IsOrderedResize old asked answer new
@@ -57,14 +57,14 @@ pub record IsResize (most : Bounds) (old : HeapState) (asked : Request) (answer 
   pub same : StaysOpen old new
   pub bound : RoseAtMost from to (most.resize asked.length answer)
 
--- a write of these bytes to this part of an object
+-- a write of these bytes into object `part.number`, from byte `part.from` on
 pub record IsWrite (most : Bounds) (old : HeapState) (part : Part) (bytes : List ℕ) (answer : Result (Unit {0}) AccessFault) (new : HeapState) (from to : ℕ) : Type 0 where
   pub step : IsWriteStep old part bytes answer new
   pub rules : KeepsRules new
   pub same : StaysOpen old new
   pub exact : RoseBy from to (most.access part.from (length bytes) answer)
 
--- a read of this part of an object into the caller's bytes
+-- a read of the bytes of object `part.number` from byte `part.from` on; `before` and `after` are the caller's bytes
 pub record IsRead (most : Bounds) (s : HeapState) (part : Part) (before : List ℕ) (answer : Result (Unit {0}) AccessFault) (after : List ℕ) (from to : ℕ) : Type 0 where
   pub read : IsReadAnswer s part before answer after
   pub rules : KeepsRules s

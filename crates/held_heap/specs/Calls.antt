@@ -1,4 +1,4 @@
--- What a call on an open heap returns and writes for its caller, and what it does to the heap.
+-- Each call of the C library on an open heap: its code, the values that it writes for its caller (`before` and `after` it), and its step of the heap.
 use Rattle.std.specs.Prelude.{◌≡◌, ℕ, ℤ, pos, List, Option, Some, None, Result, Ok, Err}
 use Rattle.cf_base.specs.Settings.{Profile}
 use Rattle.cf_base.specs.declared.answers.Handle.{Handle}
@@ -25,26 +25,26 @@ use Rattle.held_heap.specs.declared.answers.NphFreed.{NphFreed}
 use Rattle.held_heap.specs.declared.answers.NphResized.{NphResized}
 use Rattle.held_heap.specs.declared.answers.NphHeapTotals.{NphHeapTotals}
 
--- an open heap without objects, under these settings, in its opening order, and a ledger at 0
+-- a heap that was just opened with these settings: it has no objects and the opening order, and its step count is 0
 pub record IsFreshHeap (kind : Kind) (p : Profile) (new : HeldState) : Type 0 where
   pub words : IsOpeningWords kind p new.heap.words
   pub whole : new.heap ≡ ordered_heap kind p new.heap.words (Some (opening_order kind p))
   pub rules : KeepsRules new.heap
   pub steps : new.steps ≡ 0
 
--- the number that the caller has after a malloc: the handle, or what it was
+-- the caller's number after a malloc: the handle, or after a refusal the number before
 abbrev pub malloc_number : ℕ → Result Handle Refusal → ℕ
 malloc_number before (Ok h) = h.0
 malloc_number before (Err e) = before
 
--- a malloc of these bytes; the ledger has its steps
+-- a malloc of this many bytes; `new.steps` are its steps
 pub record IsMallocCall (most : Bounds) (old : HeldState) (bytes before : ℕ) (code : ℤ) (after : ℕ) (new : HeldState) : Type 0 where
   pub answer : Result Handle Refusal
   pub by_code : code ≡ malloc_code answer
   pub by_number : after ≡ malloc_number before answer
   pub call : IsMalloc most old.heap bytes answer new.heap 0 new.steps
 
--- what the caller has after a free
+-- the caller's structure after a free; unchanged after a refusal
 abbrev pub freed_shown : NphFreed → Result Freed NotLive → NphFreed
 freed_shown before (Ok f) = record { slot_words = f.slot_words; moved = moved_number f.moved }
 freed_shown before (Err e) = before
@@ -56,54 +56,54 @@ pub record IsFreeCall (most : Bounds) (old : HeldState) (number : ℕ) (before :
   pub by_freed : after ≡ freed_shown before answer
   pub call : IsFree most old.heap number answer new.heap 0 new.steps
 
--- what the caller has after a resize
+-- the caller's structure after a resize; unchanged after a refusal
 abbrev pub resized_shown : NphResized → Result Resized ResizeFault → NphResized
 resized_shown before (Ok done) = record { old_slot_words = done.old_slot_words; slot_words = done.slot_words; moved = moved_number done.moved }
 resized_shown before (Err e) = before
 
--- a resize of this number to these bytes
+-- a resize of this number to this many bytes
 pub record IsResizeCall (most : Bounds) (old : HeldState) (number bytes : ℕ) (before : NphResized) (code : ℤ) (after : NphResized) (new : HeldState) : Type 0 where
   pub answer : Result Resized ResizeFault
   pub by_code : code ≡ resize_code answer
   pub by_resized : after ≡ resized_shown before answer
   pub call : IsResize most old.heap (record { number = number; length = bytes }) answer new.heap 0 new.steps
 
--- a write of these bytes
+-- a write of these bytes into object `number`, from byte `from` on
 pub record IsWriteCall (most : Bounds) (old : HeldState) (number from : ℕ) (bytes : List ℕ) (code : ℤ) (new : HeldState) : Type 0 where
   pub answer : Result (Unit {0}) AccessFault
   pub by_code : code ≡ access_code answer
   pub call : IsWrite most old.heap (record { number = number; from = from }) bytes answer new.heap 0 new.steps
 
--- a read into the caller's bytes; the heap stays
+-- a read of object `number`, from byte `from` on, into the caller's bytes; the heap is unchanged
 pub record IsReadCall (most : Bounds) (old : HeldState) (number from : ℕ) (before : List ℕ) (code : ℤ) (after : List ℕ) (new : HeldState) : Type 0 where
   pub answer : Result (Unit {0}) AccessFault
   pub by_code : code ≡ access_code answer
   pub call : IsRead most old.heap (record { number = number; from = from }) before answer after 0 new.steps
   pub kept : new.heap ≡ old.heap
 
--- the code of a number that may be absent
+-- the code of a length that may be absent: 0, or 4 (`UNKNOWN`)
 abbrev pub found_code : Option ℕ → ℤ
 found_code (Some n) = pos 0
 found_code None = pos 4
 
--- the number; without one what the caller had
+-- the caller's number after a length: the length, or the number before if there is none
 abbrev pub found_number : Option ℕ → ℕ → ℕ
 found_number (Some n) before = n
 found_number None before = before
 
--- the length of this object; the heap stays
+-- a call for the length of object `number`; the heap is unchanged
 pub record IsLengthCall (most : Bounds) (old : HeldState) (number before : ℕ) (code : ℤ) (after : ℕ) (new : HeldState) : Type 0 where
   pub by_code : code ≡ found_code (length_of old.heap number)
   pub by_length : after ≡ found_number (length_of old.heap number) before
   pub kept : new.heap ≡ old.heap
   pub exact : RoseBy 0 new.steps (most.length (length_of old.heap number))
 
--- the code of a room
+-- the code of `has_room`: that of a malloc
 abbrev pub room_code : Result (Unit {0}) Refusal → ℤ
 room_code (Ok u) = pos 0
 room_code (Err e) = malloc_code (Err e)
 
--- the room for an object of these bytes; the heap stays
+-- a call that asks whether a malloc of this many bytes would be refused; the heap is unchanged
 pub record IsRoomCall (most : Bounds) (old : HeldState) (bytes : ℕ) (code : ℤ) (new : HeldState) : Type 0 where
   pub answer : Result (Unit {0}) Refusal
   pub by_code : code ≡ room_code answer
@@ -111,7 +111,7 @@ pub record IsRoomCall (most : Bounds) (old : HeldState) (bytes : ℕ) (code : �
   pub kept : new.heap ≡ old.heap
   pub bound : RoseAtMost 0 new.steps (most.room answer)
 
--- the code of the figures of a class
+-- the code of a call for the figures of a class: 4 (`UNKNOWN`) if there is no such class
 abbrev pub figures_code : HeapState → ℕ → ℤ
 figures_code s class = code (figures_in s class)
   where
@@ -119,7 +119,7 @@ figures_code s class = code (figures_in s class)
     code (Some f) = pos 0
     code None = pos 4
 
--- the figures of a class; without such a class what the caller had
+-- the caller's structure after a call for the figures of a class; unchanged if there is no such class
 abbrev pub figures_shown : HeapState → ℕ → NphClass → NphClass
 figures_shown s class before = shown (figures_in s class)
   where
@@ -127,27 +127,27 @@ figures_shown s class before = shown (figures_in s class)
     shown (Some f) = record { slot_words = f.slot_words; slots = f.slots; live = f.live; pages = f.pages; not_full = f.not_full }
     shown None = before
 
--- the figures of the whole heap
+-- the structure with the figures of the whole heap
 abbrev pub totals_shown : HeapState → NphHeapTotals
 totals_shown s = shown (totals_in s.kind s)
   where
     shown : Totals → NphHeapTotals
     shown t = record { asked = t.asked; taken = t.taken; held = t.held; live = t.live; used = t.used; free = t.free; largest = t.largest }
 
--- the figures of a class; nothing changes, so the steps stay those of the call before
+-- a call for the figures of a class; it changes nothing, and counts no steps: `steps` is still that of the call before
 pub record IsFiguresCall (old : HeldState) (class : ℕ) (before : NphClass) (code : ℤ) (after : NphClass) (new : HeldState) : Type 0 where
   pub by_code : code ≡ figures_code old.heap class
   pub by_figures : after ≡ figures_shown old.heap class before
   pub kept : new ≡ old
 
--- the figures of the whole heap; the heap stays
+-- a call for the figures of the whole heap; the heap is unchanged
 pub record IsTotalsCall (most : Bounds) (old : HeldState) (code : ℤ) (after : NphHeapTotals) (new : HeldState) : Type 0 where
   pub by_code : code ≡ pos 0
   pub by_totals : after ≡ totals_shown old.heap
   pub kept : new.heap ≡ old.heap
   pub bound : RoseAtMost 0 new.steps (most.totals (totals_in old.heap.kind old.heap))
 
--- the steps of the last call; nothing changes
+-- a call for the steps of the last call that counts steps; it changes nothing
 pub record IsStepsCall (old : HeldState) (code : ℤ) (after : ℕ) (new : HeldState) : Type 0 where
   pub by_code : code ≡ pos 0
   pub by_steps : after ≡ old.steps

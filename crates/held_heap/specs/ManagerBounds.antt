@@ -1,4 +1,4 @@
--- The steps of the calls of each manager.
+-- The most steps of the calls of each manager.
 use Rattle.std.specs.Prelude.{ℕ, ◌+◌, ◌*◌, Option, Some, None}
 use Rattle.cf_base.specs.declared.kind.Kind.{Kind}
 use Rattle.page_model.specs.Order.{word_steps}
@@ -6,12 +6,12 @@ use Rattle.held_heap.specs.Bounds.{Bounds}
 use Rattle.paged_heap.specs.Costs as pages
 use Rattle.tag_heap.specs.Costs as blocks
 
--- a length with pages: the proxy, and the header with its block
+-- a length with pages: the proxy and, if the handle is live, the header, for the non-moving kind with its block
 abbrev pub length_steps : Kind → Option ℕ → ℕ
 length_steps kind (Some n) = 1 + word_steps kind
 length_steps kind None = 1
 
--- with pages
+-- the most steps of each call of a kind with pages
 abbrev pub page_bounds : Kind → Bounds
 page_bounds kind = record {
   malloc = λ answer. pages.malloc_steps kind;
@@ -23,7 +23,7 @@ page_bounds kind = record {
   totals = λ totals. 0;
 }
 
--- with blocks; a resize is refused once the proxy is read, and the totals visit each free block
+-- the most steps of each call of a kind with blocks; a resize is refused after at most 1 step, and the totals visit each free block
 abbrev pub block_bounds : Bounds
 block_bounds = record {
   malloc = blocks.malloc_steps;

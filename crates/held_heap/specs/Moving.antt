@@ -1,4 +1,4 @@
--- An open heap of the moving manager, as a place owns it.
+-- The machine type of an open heap of the moving manager, which a place owns.
 use denote.RattleType.{RattleType}
 use Rattle.moving_heap.specs.contracts.manager.MovingHeap.{the_row}
 use Rattle.moving_heap.specs.contracts.manager.MovingHeapManager.TheImpl.{ghosts}

@@ -1,4 +1,4 @@
--- An open heap of the non-moving manager, as a place owns it.
+-- The machine type of an open heap of the non-moving manager, which a place owns.
 use denote.RattleType.{RattleType}
 use Rattle.nonmoving_heap.specs.contracts.manager.NonMovingHeap.{the_row}
 use Rattle.nonmoving_heap.specs.contracts.manager.NonMovingHeapManager.TheImpl.{ghosts}

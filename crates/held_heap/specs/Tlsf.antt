@@ -1,15 +1,15 @@
--- An open heap of the TLSF manager, as a place owns it.
+-- The machine type of an open heap of the TLSF manager, which a place owns.
 use denote.RattleType.{RattleType}
 use Rattle.tag_heap.specs.contracts.manager.TagHeap as heap
 use Rattle.tag_heap.specs.contracts.manager.TagHeapManager.TheImpl as manager
 use Rattle.tlsf_heap.specs.contracts.buckets.TlsfBuckets.{the_row}
 use Rattle.tlsf_heap.specs.contracts.buckets.TlsfBucketsBuckets.TheImpl as buckets
-use Rattle.tlsf_heap.specs.contracts.heap.TlsfBucketsYardstick.TheImpl as yardstick
+use Rattle.tlsf_heap.specs.contracts.heap.TlsfBucketsFitPolicy.TheImpl as policy
 use Rattle.held_heap.specs.contracts.held.Held as held
 use Rattle.held_heap.specs.contracts.offered.TagHeapOffered.TheImpl as offered
 
 abbrev pub open_heap : RattleType
 open_heap = held.the_row
-    (heap.the_row the_row yardstick.ghosts buckets.ghosts)
-    (offered.ghosts the_row yardstick.ghosts offered.no_dict buckets.ghosts offered.no_dict offered.no_dict)
-    (manager.ghosts the_row yardstick.ghosts manager.no_dict buckets.ghosts manager.no_dict manager.no_dict)
+    (heap.the_row the_row policy.ghosts buckets.ghosts)
+    (offered.ghosts the_row policy.ghosts offered.no_dict buckets.ghosts offered.no_dict offered.no_dict)
+    (manager.ghosts the_row policy.ghosts manager.no_dict buckets.ghosts manager.no_dict manager.no_dict)

@@ -1,6 +1,7 @@
-//! What a call writes for its caller. The header repeats these types.
+//! The structures that calls fill for their C caller. The header `norphuen.h` declares the same types.
 
-/// A free: the words of the freed slot or block, and the handle of the object that moved to its address.
+/// The result of a free: the words of the freed slot or block, and the handle of the object that moved to its
+/// address, or `NONE`.
 #[repr(C)]
 #[derive(Clone, Copy, Drop)]
 pub struct NphFreed {
@@ -8,7 +9,8 @@ pub struct NphFreed {
     pub moved: u32,
 }
 
-/// A resize: the words of the slot before and after, and the handle of the other object that moved.
+/// The result of a resize: the words of the slot before and after, and the handle of the other object that
+/// moved, or `NONE`.
 #[repr(C)]
 #[derive(Clone, Copy, Drop)]
 pub struct NphResized {
@@ -17,7 +19,8 @@ pub struct NphResized {
     pub moved: u32,
 }
 
-/// A size class: the words of a slot, the slots of a page, the live objects, the pages, and the partly full ones.
+/// The figures of a size class: the words of a slot, the slots of a page, and the numbers of live objects,
+/// pages and partly full pages.
 #[repr(C)]
 #[derive(Clone, Copy, Drop)]
 pub struct NphClass {
@@ -28,8 +31,8 @@ pub struct NphClass {
     pub not_full: u32,
 }
 
-/// The whole heap: bytes asked for, taken and held; live objects; pages or blocks in use and free; the largest free
-/// one in words.
+/// The figures of the whole heap: bytes asked for, taken and held; live objects; pages or blocks in use and
+/// free; the words of the largest free page or block.
 #[repr(C)]
 #[derive(Clone, Copy, Drop)]
 pub struct NphHeapTotals {

@@ -1,4 +1,4 @@
-//! An open heap with its ledger.
+//! An open heap with the step count of its last call, as the C library calls it.
 ghost use Rattle.std.specs.Prelude.{◌≡◌, IfSome};
 ghost use Rattle.cf_base.specs.Settings.{profile_of};
 
@@ -11,8 +11,8 @@ use std::marker::Model;
 use std::rt::Memory;
 use step_ledger::Meter;
 
-/// An open heap, and the steps of its last call. Each call has a ledger of its own, so that the
-/// compiler keeps the count in a register.
+/// An open heap, and the steps of the last call that counts steps. Each such call has a ledger of its
+/// own, so that the compiler keeps the count in a register.
 #[derive(Drop)]
 pub struct Held<H: Offered> {
     heap: H,
@@ -36,7 +36,7 @@ impl<H: Offered> Model for Held<H> {
 impl<H: Offered> Held<H> {
     ghost use Rattle.held_heap.specs.Calls.{IsFiguresCall, IsFreeCall, IsFreshHeap, IsLengthCall, IsMallocCall, IsReadCall, IsResizeCall, IsRoomCall, IsStepsCall, IsTotalsCall, IsWriteCall};
 
-    /// A heap without objects, in memory of its own; none if out of memory.
+    /// Opens a heap without objects, in a block of its own; none if out of memory.
     pub fn open(memory: Memory, s: &Settings) -> Option<Box<Held<H>>>
         ensures { IfSome result (λ b. IsFreshHeap H.of_kind (profile_of s.now) b.value) }
     {
@@ -88,7 +88,7 @@ impl<H: Offered> Held<H> {
         }
     }
 
-    /// Gives an object a length of `bytes` bytes. Writes into `resized` the words of its slot before and
+    /// Changes an object's length to `bytes` bytes. Writes into `resized` the words of its slot before and
     /// after, and the handle of the other object that moved, or `NONE`. Returns a code of `codes.rt`;
     /// after a refusal `resized` is unchanged.
     pub fn resize(&mut self, handle: u32, bytes: u32, resized: &mut NphResized) -> i32
@@ -160,7 +160,7 @@ impl<H: Offered> Held<H> {
         }
     }
 
-    /// The code that a malloc of `bytes` bytes would return now.
+    /// Returns the code that a malloc of `bytes` bytes would return now.
     pub fn has_room(&mut self, bytes: u32) -> i32
         ensures { IsRoomCall H.most self.old bytes result self.new }
     {
@@ -173,6 +173,8 @@ impl<H: Offered> Held<H> {
         }
     }
 
+    /// Writes the figures of a class into `figures`; counts no steps. Returns `UNKNOWN` if there is no such
+    /// class; `figures` is unchanged then.
     pub fn figures(&mut self, class: u32, figures: &mut NphClass) -> i32
         ensures { IsFiguresCall self.old class figures.old result figures.new self.new }
     {
@@ -191,6 +193,7 @@ impl<H: Offered> Held<H> {
         }
     }
 
+    /// Writes the figures of the whole heap into `totals`.
     pub fn totals(&mut self, totals: &mut NphHeapTotals) -> i32
         ensures { IsTotalsCall H.most self.old result totals.new self.new }
     {
@@ -209,7 +212,7 @@ impl<H: Offered> Held<H> {
         DONE
     }
 
-    /// The steps of the last call.
+    /// Writes the steps of the last call that counts steps into `steps`.
     pub fn last_steps(&mut self, steps: &mut u64) -> i32
         ensures { IsStepsCall self.old result steps.new self.new }
     {

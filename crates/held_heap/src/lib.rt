@@ -1,5 +1,5 @@
-//! A heap at an address, for callers in other languages: a call returns a code, and writes its numbers through
-//! references.
+//! A heap behind a pointer, for callers in C and other languages: a call returns a code, and writes its other
+//! results through references.
 #![tactic(auto)]
 
 mod answers;

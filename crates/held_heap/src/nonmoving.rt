@@ -18,7 +18,7 @@ use std::rt::Memory;
 
 type Open = Held<NonMovingHeap>;
 
-/// An address, and the open heap in a block of its own there; or null.
+/// The address of a block that holds an open heap, which the place owns; or null, and nothing.
 #[repr(C)]
 #[derive(Drop)]
 pub struct Place {
@@ -35,6 +35,7 @@ unsafe impl Send for Place {}
 impl Place {
     ghost use Rattle.held_heap.specs.NonMovingLoan.{LendsPlace};
 
+    /// Returns the place with the null pointer, for a closed heap.
     fn nowhere() -> Place
         ensures { result.held ≡ None }
     {
@@ -43,12 +44,14 @@ impl Place {
         }
     }
 
+    /// Takes the block of an open heap out of its box.
     fn of(b: Box<Open>) -> Place
         ensures { result.held ≡ Some b.value }
     {
         place_of(Unboxed::new(b))
     }
 
+    /// Returns the box of the open heap, so that dropping it frees the block.
     fn into_box(self, alloc: Global) -> Box<Open>
         requires { IsSome self.held }
         ensures { self.held ≡ Some result.value }
@@ -66,6 +69,7 @@ impl Place {
     }
 }
 
+/// Keeps the address of an unboxed heap as a place.
 fn place_of(u: Unboxed<Open, Global>) -> Place
     ensures { result.held ≡ Some u.value }
 {
@@ -75,6 +79,7 @@ fn place_of(u: Unboxed<Open, Global>) -> Place
     }
 }
 
+/// Returns the heap at a place as an unboxed value of this allocator.
 fn unboxed_of(p: Place, alloc: Global) -> Unboxed<Open, Global>
     requires { IsSome p.held }
     ensures { p.held ≡ Some result.value }
@@ -86,7 +91,8 @@ fn unboxed_of(p: Place, alloc: Global) -> Unboxed<Open, Global>
     }
 }
 
-/// A heap, open or not. One that is dropped without a close keeps its memory.
+/// A heap, open or closed, at an address that C owns. Call `close` before it is dropped: a drop does not free
+/// the memory of an open heap.
 #[repr(C)]
 #[derive(Drop)]
 pub struct NphHeap {
@@ -97,10 +103,10 @@ pub struct NphHeap {
 
 impl NphHeap {
     ghost use Rattle.cf_base.specs.declared.kind.Kind.TheVariants.{NonMoving};
-    ghost use Rattle.held_heap.specs.Handles.{IsOpenCall};
-    ghost use Rattle.held_heap.specs.NonMovingHandle.{LendsHeap, held_in};
+    ghost use Rattle.held_heap.specs.AtPlace.{IsOpenCall};
+    ghost use Rattle.held_heap.specs.NonMovingPlace.{LendsHeap, held_in};
 
-    /// Whether the heap is open.
+    /// Returns whether the heap is open.
     pub fn is_open(&self) -> bool
         ensures { result ≡ is_some (held_in self.now) }
     {
@@ -116,7 +122,9 @@ impl NphHeap {
         self.place.lend()
     }
 
-    /// Opens an empty heap with these settings. Only this call takes memory.
+    /// Opens a heap without objects, with these settings. Returns `DONE`; else, with nothing changed, `OPEN`
+    /// if the heap is open already, the code of the first setting out of range, or `MEMORY`. Of these calls
+    /// it alone allocates.
     pub fn open(&mut self, memory: Memory, pages: u32, page_bytes: u32, k: u32, proxies: u32) -> i32
         ensures { IsOpenCall NonMoving (held_in self.old) pages page_bytes k proxies result (held_in self.new) }
     {
@@ -136,7 +144,7 @@ impl NphHeap {
         }
     }
 
-    /// Returns the memory; does nothing if the heap isn't open.
+    /// Closes the heap and frees its memory; does nothing if the heap isn't open.
     pub fn close(&mut self, memory: Memory)
         ensures { held_in self.new ≡ None }
     {

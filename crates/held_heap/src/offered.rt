@@ -1,4 +1,4 @@
-//! The managers that the library offers, each with the bounds of its own calls.
+//! The managers that the C library offers, each with the most steps of its own calls.
 ghost use Rattle.std.specs.Prelude.{◌≡◌, ◌^◌, ◌≤◌, IsTrue};
 ghost use Rattle.cf_base.specs.declared.kind.Kind.{Kind};
 ghost use Rattle.cf_base.specs.declared.kind.Kind.TheVariants.{Moving, NonMoving};
@@ -15,32 +15,36 @@ use moving_heap::MovingHeap;
 use nonmoving_heap::NonMovingHeap;
 use std::alloc::Global;
 use step_ledger::Steps;
-use tag_heap::{TagHeap, Yardstick};
+use tag_heap::{FitPolicy, TagHeap};
 
-/// A manager with the bounds of its own calls.
+/// A manager with the most steps of its own calls. The calls named `_within` are those of `Manager`, with
+/// these bounds in place of the ones for all kinds.
 pub trait Offered: Manager {
-    /// The kind.
+    /// The kind of this manager.
     ghost of_kind: { Kind };
 
-    /// The most steps of each call.
+    /// The most steps of each call, by its result.
     ghost most: { Bounds };
 
-    /// A closed manager, which takes no memory.
+    /// Returns a closed manager, which has allocated nothing.
     fn new_closed(alloc: Global) -> Self
         ensures { Self.state result ≡ closed_state of_kind };
 
+    /// Does what `Manager::malloc` does, in at most this manager's steps.
     fn malloc_within(&mut self, bytes: u32, steps: &mut Steps) -> Result<Handle, Refusal>
         requires open { IsTrue (Self.state self.old).is_open }
         requires kind { (Self.state self.old).kind ≡ of_kind }
         requires room { steps.old ≤ 2 ^ 63 }
         ensures { IsMalloc most (Self.state self.old) bytes result (Self.state self.new) steps.old steps.new };
 
+    /// Does what `Manager::free` does, in at most this manager's steps.
     fn free_within(&mut self, h: Handle, steps: &mut Steps) -> Result<Freed, NotLive>
         requires open { IsTrue (Self.state self.old).is_open }
         requires kind { (Self.state self.old).kind ≡ of_kind }
         requires room { steps.old ≤ 2 ^ 63 }
         ensures { IsFree most (Self.state self.old) h.0 result (Self.state self.new) steps.old steps.new };
 
+    /// Does what `Manager::resize` does, in at most this manager's steps.
     fn resize_within(
         &mut self,
         h: Handle,
@@ -52,6 +56,7 @@ pub trait Offered: Manager {
         requires room { steps.old ≤ 2 ^ 63 }
         ensures { IsResize most (Self.state self.old) (record { number = h.0; length = bytes }) result (Self.state self.new) steps.old steps.new };
 
+    /// Does what `Manager::write` does, in exactly this manager's steps.
     fn write_within(
         &mut self,
         h: Handle,
@@ -64,6 +69,7 @@ pub trait Offered: Manager {
         requires room { steps.old ≤ 2 ^ 63 }
         ensures { IsWrite most (Self.state self.old) (record { number = h.0; from = at }) bytes.now result (Self.state self.new) steps.old steps.new };
 
+    /// Does what `Manager::read` does, in exactly this manager's steps.
     fn read_within(
         &self,
         h: Handle,
@@ -76,13 +82,13 @@ pub trait Offered: Manager {
         requires room { steps.old ≤ 2 ^ 63 }
         ensures { IsRead most (Self.state self.now) (record { number = h.0; from = at }) out.old result out.new steps.old steps.new };
 
-    /// How many bytes the object has; none if the handle isn't live.
+    /// The number of bytes of an object; none if the handle isn't live.
     fn length_within(&self, h: Handle, steps: &mut Steps) -> Option<u32>
         requires { IsTrue (Self.state self.now).is_open }
         ensures value { result ≡ length_of (Self.state self.now) h.0 }
         ensures exact { RoseBy steps.old steps.new (most.length result) };
 
-    /// The refusal that a malloc of `bytes` bytes would return now, else `Ok`.
+    /// Returns what a malloc of `bytes` bytes would return now, without the handle: `Ok`, or its refusal.
     fn room_within(&self, bytes: u32, steps: &mut Steps) -> Result<(), Refusal>
         requires { IsTrue (Self.state self.now).is_open }
         ensures answer { IsRoomAnswer (Self.state self.now) bytes result }
@@ -213,7 +219,7 @@ impl Offered for NonMovingHeap {
     }
 }
 
-impl<B: Yardstick> Offered for TagHeap<B> {
+impl<B: FitPolicy> Offered for TagHeap<B> {
     ghost of_kind = { B.kind };
 
     ghost most = { block_bounds };

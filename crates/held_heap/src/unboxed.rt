@@ -5,7 +5,7 @@ ghost use Rattle.std_alloc.specs.Box.Ownership.{box_owns};
 use std::alloc::Allocator;
 use std::marker::Model;
 
-/// A value in a block of its own, which the allocator may free.
+/// A value in a block that this allocator allocated and may free.
 pub(crate) struct Unboxed<T, A: Allocator> {
     pub(crate) alloc: A,
     pub(crate) at: *mut T,
@@ -17,6 +17,7 @@ impl<T, A: Allocator> Model for Unboxed<T, A> {
 }
 
 impl<T: Drop, A: Allocator> Unboxed<T, A> {
+    /// Takes a box apart.
     pub(crate) fn new(value: Box<T, A>) -> Unboxed<T, A>
         ensures { result.value ≡ value.value }
     {
@@ -24,6 +25,7 @@ impl<T: Drop, A: Allocator> Unboxed<T, A> {
         Unboxed { alloc, at }
     }
 
+    /// Puts the box together again.
     pub(crate) fn boxed(self) -> Box<T, A>
         ensures { result.value ≡ self.value }
     {

@@ -1,4 +1,4 @@
--- The slices of a cycle leave the objects as they are, and enough of them leave no job.
+-- For `next_frame`: the slices of a cycle change no object's bytes, and after enough of them no job is pending.
 use Rattle.std.proofs.Common.{◌≡◌, ◌≢◌, ℕ, zero, suc, ◌+◌, ◌-◌, ◌*◌, ◌≤◌, Option, Some, None, arith, sym, ◌∙◌, ap, refl, subst, replicate}
 use Rattle.std.specs.Prelude.{Ok}
 use Rattle.std.specs.FinMap.{get, insert}

@@ -1,4 +1,4 @@
--- An object that was just made is written with no refusal, and has the bytes.
+-- For `store`: a write into an object that was just made is not refused, and the object has the bytes.
 use Rattle.std.proofs.Common.{◌≡◌, ℕ, ◌+◌, ◌-◌, ◌≤◌, List, [], ◌∷◌, ◌++◌, Some, length, take, drop, replicate, arith, sym, ◌∙◌, ap, refl}
 use Rattle.std.specs.Prelude.{Result, Ok, Err, None, IfOk, OnOk}
 use Rattle.std.specs.Result.{result_ok}

@@ -1,4 +1,5 @@
-//! A control loop: each cycle replaces a frame, within a budget of steps that is known beforehand.
+//! A control loop on the sliced heap: each cycle frees a frame (an object of its data) and makes the
+//! next, in at most a number of steps that is known beforehand.
 ghost use Rattle.std.specs.Prelude.{◌≡◌, ◌≢◌, ◌+◌, ◌*◌, ◌≤◌, IsTrue, IfErr, IfOk, Err};
 ghost use Rattle.page_model.specs.Counts.{ceil_div};
 ghost use Rattle.slice_model.specs.declared.answers.SliceRefusal.TheVariants.{Busy};
@@ -14,18 +15,18 @@ use slice_model::{
 use sliced_heap::SlicedHeap;
 use step_ledger::Steps;
 
-/// Why a cycle has no new frame.
+/// The cause if a cycle has no new frame.
 #[derive(Clone, Copy, Debug, PartialEq, Eq)]
 pub enum Missed {
-    /// The last frame was not freed; nothing has changed.
+    /// The free of the last frame was refused; nothing has changed.
     Free(SliceFault),
-    /// The last frame was freed, and no new one was made.
+    /// The last frame was freed, and the malloc of the new one was refused.
     Malloc(SliceRefusal),
 }
 
-/// One cycle: it frees the last frame, makes `slices` steps for the job that the free left, and makes
-/// the next frame, of `bytes` zeros. Every other object keeps its bytes. If `slices` is at least twice
-/// the slices of a page, no frame is missed because a job is pending.
+/// Does one cycle: frees the last frame, calls `step` `slices` times for the job that the free left,
+/// and makes the next frame, of `bytes` zeros. The bytes of every other object are unchanged. If
+/// `slices` is at least twice the number of slices of a page, the malloc is never refused as `Busy`.
 pub fn next_frame(
     heap: &mut SlicedHeap,
     last: Handle,

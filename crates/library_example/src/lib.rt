@@ -1,5 +1,5 @@
-//! The heap as a library: a caller's code, and what the caller can promise by the contracts of `Manager` alone; and a
-//! control loop on the sliced heap.
+//! Examples of the heap as a library: callers whose own contracts are proved from those of `Manager` alone,
+//! and a control loop on the sliced heap.
 #![tactic(auto)]
 
 mod control_loop;
@@ -17,7 +17,8 @@ use moving_heap::MovingHeap;
 use std::alloc::Global;
 use step_ledger::Meter;
 
-/// Two pages of 512 bytes, k = 1, at most eight objects, one of them made. None where out of memory.
+/// Opens a moving heap of two pages of 512 bytes, with bound k = 1 and eight proxies, and makes one object,
+/// which begins with the bytes ca fe. None if out of memory.
 pub fn first_object(rt: &HostRuntime, alloc: Global) -> Option<(MovingHeap, Handle)>
     ensures { IfSome result (λ r. HoldsOne r.0 r.1.0 (0xca ∷ 0xfe ∷ [])) }
 {
@@ -28,7 +29,8 @@ pub fn first_object(rt: &HostRuntime, alloc: Global) -> Option<(MovingHeap, Hand
     Some((heap, object))
 }
 
-/// Makes an object of 176 bytes on any manager, and writes its first two.
+/// Makes an object of 176 bytes on any manager, and writes its first two bytes. Fails if the malloc is
+/// refused.
 pub fn store<M: Manager>(
     heap: &mut M,
     bytes: &[u8; 2],
@@ -46,7 +48,8 @@ pub fn store<M: Manager>(
     Ok(object)
 }
 
-/// Reads the first two bytes of an object, and frees it.
+/// Reads the first two bytes of an object, and frees it. Fails if the handle is not live or the object
+/// has fewer than two bytes.
 pub fn take_out<M: Manager>(
     heap: &mut M,
     object: Handle,

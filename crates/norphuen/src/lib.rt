@@ -1,17 +1,20 @@
-//! The moving manager as a library for C. Each export has the clause of the call that it makes.
+//! The moving manager as a library for C. `include/norphuen.h` says what each export does. Its contract is
+//! that of the call of `held_heap` that it makes. While the heap is closed, each export but `nph_open` and
+//! `nph_close` returns `CLOSED` and changes nothing (`OnOpen`).
 #![tactic(auto)]
 
 ghost use Rattle.std.specs.Prelude.{◌≡◌, None};
 ghost use Rattle.cf_base.specs.declared.kind.Kind.TheVariants.{Moving};
 ghost use Rattle.held_heap.specs.Calls.{IsFiguresCall, IsFreeCall, IsLengthCall, IsMallocCall, IsReadCall, IsResizeCall, IsRoomCall, IsStepsCall, IsTotalsCall, IsWriteCall};
-ghost use Rattle.held_heap.specs.Handles.{IsOpenCall, OnOpen};
-ghost use Rattle.held_heap.specs.MovingHandle.{held_in};
+ghost use Rattle.held_heap.specs.AtPlace.{IsOpenCall, OnOpen};
+ghost use Rattle.held_heap.specs.MovingPlace.{held_in};
 ghost use Rattle.held_heap.specs.ManagerBounds.{page_bounds};
 
 use held_heap::moving::NphHeap;
 use held_heap::{CLOSED, NphClass, NphFreed, NphHeapTotals, NphResized};
 use std::rt::Memory;
 
+/// Opens the heap with these settings (`NphHeap::open`).
 #[unsafe(no_mangle)]
 pub extern "C" fn nph_open(
     heap: &mut NphHeap,
@@ -26,6 +29,7 @@ pub extern "C" fn nph_open(
     heap.open(memory, pages, page_bytes, k, proxies)
 }
 
+/// Closes the heap and frees its memory; does nothing if it is closed.
 #[unsafe(no_mangle)]
 pub extern "C" fn nph_close(heap: &mut NphHeap, memory: Memory)
     ensures { held_in heap.new ≡ None }
@@ -33,6 +37,7 @@ pub extern "C" fn nph_close(heap: &mut NphHeap, memory: Memory)
     heap.close(memory);
 }
 
+/// Makes an object of `bytes` zeros and writes its handle (`Held::malloc`).
 #[unsafe(no_mangle)]
 pub extern "C" fn nph_malloc(heap: &mut NphHeap, bytes: u32, handle: &mut u32) -> i32
     ensures { OnOpen (held_in heap.old) result (held_in heap.new) (handle.new ≡ handle.old)
@@ -45,6 +50,7 @@ pub extern "C" fn nph_malloc(heap: &mut NphHeap, bytes: u32, handle: &mut u32) -
     }
 }
 
+/// Frees an object, and writes its slot words and the object that moved (`Held::free`).
 #[unsafe(no_mangle)]
 pub extern "C" fn nph_free(heap: &mut NphHeap, handle: u32, freed: &mut NphFreed) -> i32
     ensures { OnOpen (held_in heap.old) result (held_in heap.new) (freed.new ≡ freed.old)
@@ -57,6 +63,7 @@ pub extern "C" fn nph_free(heap: &mut NphHeap, handle: u32, freed: &mut NphFreed
     }
 }
 
+/// Changes an object's length to `bytes` bytes (`Held::resize`).
 #[unsafe(no_mangle)]
 pub extern "C" fn nph_resize(
     heap: &mut NphHeap,
@@ -74,6 +81,7 @@ pub extern "C" fn nph_resize(
     }
 }
 
+/// Writes `bytes` into an object, from its byte `at` on (`Held::write`).
 #[unsafe(no_mangle)]
 pub extern "C" fn nph_write(heap: &mut NphHeap, handle: u32, at: u32, bytes: &[u8]) -> i32
     ensures { OnOpen (held_in heap.old) result (held_in heap.new) (Unit {0})
@@ -86,6 +94,7 @@ pub extern "C" fn nph_write(heap: &mut NphHeap, handle: u32, at: u32, bytes: &[u
     }
 }
 
+/// Fills `out` with bytes of an object, from its byte `at` on (`Held::read`).
 #[unsafe(no_mangle)]
 pub extern "C" fn nph_read(heap: &mut NphHeap, handle: u32, at: u32, out: &mut [u8]) -> i32
     ensures { OnOpen (held_in heap.old) result (held_in heap.new) (out.new ≡ out.old)
@@ -98,6 +107,7 @@ pub extern "C" fn nph_read(heap: &mut NphHeap, handle: u32, at: u32, out: &mut [
     }
 }
 
+/// Writes the object's length in bytes (`Held::length`).
 #[unsafe(no_mangle)]
 pub extern "C" fn nph_length(heap: &mut NphHeap, handle: u32, bytes: &mut u32) -> i32
     ensures { OnOpen (held_in heap.old) result (held_in heap.new) (bytes.new ≡ bytes.old)
@@ -110,6 +120,7 @@ pub extern "C" fn nph_length(heap: &mut NphHeap, handle: u32, bytes: &mut u32) -
     }
 }
 
+/// Returns the code that a malloc of `bytes` bytes would return now (`Held::has_room`).
 #[unsafe(no_mangle)]
 pub extern "C" fn nph_has_room(heap: &mut NphHeap, bytes: u32) -> i32
     ensures { OnOpen (held_in heap.old) result (held_in heap.new) (Unit {0})
@@ -122,6 +133,7 @@ pub extern "C" fn nph_has_room(heap: &mut NphHeap, bytes: u32) -> i32
     }
 }
 
+/// Writes the figures of a class (`Held::figures`).
 #[unsafe(no_mangle)]
 pub extern "C" fn nph_figures(heap: &mut NphHeap, class: u32, figures: &mut NphClass) -> i32
     ensures { OnOpen (held_in heap.old) result (held_in heap.new) (figures.new ≡ figures.old)
@@ -134,6 +146,7 @@ pub extern "C" fn nph_figures(heap: &mut NphHeap, class: u32, figures: &mut NphC
     }
 }
 
+/// Writes the figures of the whole heap (`Held::totals`).
 #[unsafe(no_mangle)]
 pub extern "C" fn nph_totals(heap: &mut NphHeap, totals: &mut NphHeapTotals) -> i32
     ensures { OnOpen (held_in heap.old) result (held_in heap.new) (totals.new ≡ totals.old)
@@ -146,6 +159,7 @@ pub extern "C" fn nph_totals(heap: &mut NphHeap, totals: &mut NphHeapTotals) -> 
     }
 }
 
+/// Writes the steps of the last call that counts steps (`Held::last_steps`).
 #[unsafe(no_mangle)]
 pub extern "C" fn nph_last_steps(heap: &mut NphHeap, steps: &mut u64) -> i32
     ensures { OnOpen (held_in heap.old) result (held_in heap.new) (steps.new ≡ steps.old)

@@ -1,8 +1,6 @@
 -- What the calls cost, by the rule of the free lists and by the kind.
-use Rattle.std.proofs.Common.{◌≡◌, ℕ, ◌+◌, ◌-◌, ◌^◌, ◌<◌, ◌≤◌, List, Option, Some, None, Result, Ok, Err, arith, refl, ◌∙◌, ap, inl, inr}
+use Rattle.std.proofs.Common.{◌≡◌, ℕ, ◌+◌, ◌-◌, ◌≤◌, List, Option, Some, None, Result, Ok, Err, arith, refl, ◌∙◌, ap}
 use Rattle.std.specs.Prelude.{IfSome}
-use Rattle.std.proofs.lemmas.Bool.{cases_lt}
-use Rattle.step_ledger.specs.Counting.{RoseAtMost, RoseBy}
 use Rattle.cf_base.specs.Classes.{need}
 use Rattle.cf_base.specs.declared.answers.Handle.{Handle}
 use Rattle.cf_base.specs.declared.answers.Refusal.{Refusal}
@@ -19,13 +17,6 @@ use Rattle.cf_model.specs.State.{HeapState}
 use Rattle.tag_heap.specs.Costs.{malloc_steps}
 use Rattle.tag_heap.specs.Choices.{MallocChooses}
 use Rattle.tag_heap.specs.Heap.{Heap, order_of, state_of}
-
--- a count that is too low to saturate rose by exactly n
-pub rose_is : (old new n most : ℕ) → old ≤ 2 ^ 63 → most < 2 ^ 62 → RoseBy old new n → RoseAtMost old new most → new ≡ old + n
-rose_is old new n most small few by at = elim (cases_lt (old + n) (2 ^ 64)) [
-  | inl fits ↦ by.exact fits
-  | inr past ↦ absurd (let e = by.capped (omega arith) past in let l = at.bound in omega arith)
-]
 
 -- the cost of a call is the difference of the counts after and before it
 pub cost_is : (old mid count before n : ℕ) → mid ≡ old + n → before ≡ old → count ≡ mid → count - before ≡ n

@@ -16,7 +16,7 @@ use Rattle.tag_heap.specs.Heap.{Heap, IsValid, held_in, state_of}
 use Rattle.tag_heap.proofs.Preserved.{held_many, read_is}
 use Rattle.tag_heap.proofs.ReadLemmas.{bytes_few}
 
--- the counts that a heap keeps give its figures
+-- the counts that a heap keeps are its figures
 pub totals_described : (k : Kind) (h : Heap) → IsValid k h → ◌≡◌ {A = Totals} (record {
   live = len h.proxies.places;
   asked = h.asked;

@@ -112,7 +112,7 @@ module _ {k : Kind} (h : Heap) (v : IsValid k h) (q a : ℕ) (some : get h.proxi
     rest = record { kind = refl; opened = refl; profile = refl; bounds = refl };
   }
 
-  -- the block that is left is the first of its list, and the number is the next
+  -- the block that the free leaves becomes the first of its list, and its number the first free one
   pub leaves_order : t.lists ≡ lists_released (free_lists_of k) (listed h.tagged) a → order_of freed ≡ record (order_of h) {
     not_full = lists_released (free_lists_of k) (listed h.tagged) a;
     spare = q ∷ h.proxies.free;

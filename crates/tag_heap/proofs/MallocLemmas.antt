@@ -156,7 +156,7 @@ module _ {k : Kind} (rule : FreeLists) (h : Heap) (v : IsValid k h) (q n a : ℕ
     whole = becomes_state given grown becomes k;
   }
 
-  -- the number and the block are those that were to be used next
+  -- the number and the block are those that were next in the order
   pub chooses : rule ≡ free_lists_of k → h.proxies.free ≡ q ∷ (with_place h.proxies q a).free → next_block rule h.tagged.lists (need n + 1) ≡ Some a
       → t.lists ≡ lists_carved rule (listed h.tagged) (needed + 1) a
       → CarvesInOrder (state_of k h) (record { number = q; length = n }) a (state_of k given) (order_of h) (order_of given)
@@ -179,7 +179,7 @@ module _ (k : Kind) (is : IsTiled k) (h : Heap) (v : IsValid k h) (n : ℕ) (fit
   pub wants_proxy : len h.proxies.places ≡ h.proxies.limit → WantsProxy (state_of k h) n
   wants_proxy all = record { fits = fits; all = held_many h v ∙ all ∙ v.numbers }
 
-  -- no block serves
+  -- no free block may serve the need
   pub wants_space : (rule : FreeLists) → rule ≡ free_lists_of k → len h.proxies.places ≢ h.proxies.limit → (needed : ℕ) → needed ≡ need n
       → LacksBlock rule h.tagged.blocks (needed + 1) → WantsSpace (state_of k h) n
   wants_space rule lists some needed needed_is lacking = record {

@@ -12,7 +12,7 @@ use Rattle.page_model.specs.Held.{Held, Placed, objects, places}
 use Rattle.page_model.specs.Bytes.{AreBytes, byte_of, bytes_at, written}
 use Rattle.page_model.specs.Figures.{asked_bytes}
 use Rattle.page_model.specs.Image.{IsOutside, header_word, object_word}
-use Rattle.page_model.proofs.CallerLemmas.{asked_added, asked_taken, byte_of_object, inserted_there, length-written, object_word_small}
+use Rattle.page_model.proofs.CallerLemmas.{asked_added, asked_taken, byte_of_object, length-written, object_word_small, rewritten_places}
 use Rattle.page_model.proofs.CallerLemmas.{written_are_bytes, written_before, written_behind, written_inside}
 use Rattle.block_model.specs.FreeOrder.{AreListsOf}
 use Rattle.block_model.specs.Tiling.{size_at, size_of, used_words}
@@ -131,10 +131,6 @@ module _ {k : Kind} (h : Heap) (v : IsValid k h) (q at a : ℕ) (part : List ℕ
       let other : p ≢ q = λ is. away (sym own.2 ∙ ap (λ (x : Placed). x.place) (some_placed own.0 was (sym own.1 ∙ ap (get (held_in h)) is ∙ l.found))) in
       rw (get_insert_other (held_in h) q now p other) refl)
 
-  same_places : places changed ≡ places (held_in h)
-  same_places = map_values-insert (λ (x : Placed). x.place) (held_in h) q now
-      ∙ inserted_there (places (held_in h)) q a (get-map_values (λ (x : Placed). x.place) (held_in h) q ∙ ap (option_map (λ (x : Placed). x.place)) l.found)
-
   same_asked : asked_bytes (objects changed) ≡ asked_bytes (objects (held_in h))
   same_asked =
       let b : get (objects (held_in h)) q ≡ Some old = get-map_values (λ (x : Placed). x.bytes) (held_in h) q
@@ -163,7 +159,7 @@ module _ {k : Kind} (h : Heap) (v : IsValid k h) (q at a : ℕ) (part : List ℕ
     tags = tags;
     lists = lists_now;
     words_long = o.long ∙ v.words_long;
-    places = places_are h v ∙ sym same_places;
+    places = places_are h v ∙ sym (rewritten_places (held_in h) q was now l.found refl);
     bytes = bytes_now;
     owned = subst (AreOwned changed) (sym blocks) (owned_replaced (held_in h) h.tagged.blocks q was now v.owned l.found refl size);
     contents = contents_now;

@@ -7,7 +7,7 @@ use Rattle.page_model.specs.Bytes.{bytes_at}
 use Rattle.cf_model.specs.Steps.{Part, IsFault}
 use Rattle.tag_heap.specs.Heap.{Heap, held_in, state_of}
 
--- the object has its block at the address, and `count` bytes from the part's first on
+-- the object's block is at the address, and the object has `count` bytes from the part's first byte on
 pub record Lies (h : Heap) (part : Part) (count place : ℕ) : Type 0 where
   pub found : get (held_in h) part.number ≡ Some (record { place = place; bytes = bytes_at h.tagged.words (place + 1) })
   pub within : part.from + count ≤ length (bytes_at h.tagged.words (place + 1))

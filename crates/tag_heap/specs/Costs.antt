@@ -13,43 +13,44 @@ use Rattle.cf_model.specs.Families.{free_lists_of, list_count_of}
 use Rattle.cf_model.specs.State.{HeapState}
 use Rattle.word_bytes.specs.Overwriting.{words_with}
 
--- a malloc that is refused, at most
+-- the most steps of a refused malloc
 abbrev pub refused_steps : Refusal → ℕ
 refused_steps refusal.Size = 0
 refused_steps refusal.Proxy = 0
 refused_steps refusal.Space = 2
 
--- a test whether a malloc would be served, at most
+-- the most steps of a test whether a malloc would be refused
 abbrev pub room_steps : Result Unit Refusal → ℕ
 room_steps (Ok done) = 4
 room_steps (Err e) = refused_steps e
 
--- The test whether a malloc would be served: a block is searched for, if neither the size nor the proxies are a cause. A refused malloc takes no other step.
+-- The steps of a test whether a malloc would be refused: those of the search for a block, if neither the size nor the proxies are a cause. A refused malloc
+-- costs the same steps.
 abbrev pub search_steps : HeapState → ℕ → Result ℕ Refusal → ℕ
 search_steps s bytes (Ok place) = find_steps (free_lists_of s.kind) (list_count_of s.kind) s.tiling (block_need bytes) (Some place)
 search_steps s bytes (Err e) = block_malloc_cost s bytes (Err e) s
 
--- the length of an object: its proxy is read, and its header
+-- the steps of finding the length of an object: its proxy is read, and its header
 abbrev pub length_steps : Option ℕ → ℕ
 length_steps None = 1
 length_steps (Some bytes) = 2
 
--- a malloc, at most
+-- the most steps of a malloc
 abbrev pub malloc_steps : Result Handle Refusal → ℕ
 malloc_steps (Ok handle) = 25
 malloc_steps (Err e) = refused_steps e
 
--- a read or a write that is refused
+-- the steps of a refused read or write
 abbrev pub fault_steps : AccessFault → ℕ
 fault_steps access.Unknown = 1
 fault_steps access.Range = 2
 
--- the search for bytes of an object: its proxy is read, and then its length
+-- the steps of finding bytes of an object: its proxy is read, and then its length
 abbrev pub found_steps : Result ℕ AccessFault → ℕ
 found_steps (Ok place) = 2
 found_steps (Err e) = fault_steps e
 
--- a read or a write of `count` bytes from byte `from` of an object on: its words that hold one of them are touched
+-- the steps of a read or a write of `count` bytes from byte `from` of an object on: each word that holds one of them is touched
 abbrev pub access_steps : ℕ → ℕ → Result Unit AccessFault → ℕ
 access_steps from count (Ok done) = 2 + words_with (from % 8) count
 access_steps from count (Err e) = fault_steps e

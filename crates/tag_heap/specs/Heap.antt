@@ -69,15 +69,16 @@ abbrev pub state_in : Kind → Option Heap → HeapState
 state_in kind None = closed_state kind
 state_in kind (Some h) = state_of kind h
 
--- its invariant if it is open
+-- the invariant of a heap that may be closed: the rules, if it is open
 abbrev pub IsKeptIn : Kind → Option Heap → Type 0
 IsKeptIn kind None = Unit {0}
 IsKeptIn kind (Some h) = KeepsRules (state_of kind h)
 
--- its parts, as nested pairs
+-- the fields of a heap as nested pairs
 abbrev pub HeapParts : Type 0
 HeapParts = Settings × (List ℕ × (List Block × (List (List ℕ) × (Proxies × (ℕ × (ℕ × ℕ))))))
 
+-- the encoding of a heap by these pairs
 abbrev pub heap_code : Coded Heap
 heap_code = code_by HeapParts
     (coded× settings.the_row.coded (coded× (coded_list coded_ℕ)

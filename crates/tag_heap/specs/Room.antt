@@ -12,7 +12,7 @@ use Rattle.cf_model.specs.State.{HeapState}
 use Rattle.cf_model.specs.Steps.{IsRefusedBy}
 use Rattle.tag_heap.specs.Heap.{Heap, state_of}
 
--- a malloc of `bytes` bytes has no cause to be refused, or this one
+-- a malloc of `bytes` bytes has no cause to be refused, or has this cause
 abbrev pub IsRoomAnswer : HeapState → ℕ → Result Unit Refusal → Type 0
 IsRoomAnswer s bytes (Ok done) = (e : Refusal) → ¬ IsRefusedBy s bytes e
 IsRoomAnswer s bytes (Err e) = IsRefusedBy s bytes e
@@ -33,7 +33,7 @@ pub record HasRoom (rule : FreeLists) (h : Heap) (bytes place : ℕ) : Type 0 wh
   pub found : Finds rule h.tagged.blocks (need bytes + 1) place
   pub next : next_block rule h.tagged.lists (need bytes + 1) ≡ Some place
 
--- such a block, or the cause of a refusal
+-- the result is such a block, or the cause of a refusal
 abbrev pub IsRoom : FreeLists → Kind → Heap → ℕ → Result ℕ Refusal → Type 0
 IsRoom rule kind h bytes (Ok place) = HasRoom rule h bytes place
 IsRoom rule kind h bytes (Err e) = IsRefusedBy (state_of kind h) bytes e

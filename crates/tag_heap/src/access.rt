@@ -9,14 +9,15 @@ ghost use Rattle.tag_heap.specs.Costs.{access_steps, found_steps, length_steps};
 ghost use Rattle.tag_heap.specs.Heap.{state_of};
 ghost use Rattle.tag_heap.specs.Room.{length_of};
 
+use crate::fit_policy::FitPolicy;
 use crate::open_heap::OpenHeap;
-use crate::yardstick::Yardstick;
 use cf_base::{AccessFault, Handle, ResizeFault};
 use step_ledger::Steps;
 use word_bytes::Header;
 
-impl<B: Yardstick> OpenHeap<B> {
-    /// The first word of the object's block; none if the handle isn't live.
+impl<B: FitPolicy> OpenHeap<B> {
+    /// The address of the object, the first word of its block; none if the handle isn't live. Costs
+    /// one step.
     pub(crate) fn place(&self, h: Handle, steps: &mut Steps) -> Option<u32>
         ensures value { result ≡ place_of (state_of B.kind self.now) h.0 }
         ensures steps { RoseBy steps.old steps.new 1 }
@@ -37,7 +38,8 @@ impl<B: Yardstick> OpenHeap<B> {
         }
     }
 
-    /// Fills `out` with the bytes of an object, from byte `at` on.
+    /// Fills `out` with the bytes of an object, from byte `at` on. Fails as `find` does, and then
+    /// leaves `out` unchanged.
     pub(crate) fn read(
         &self,
         h: Handle,
@@ -55,7 +57,8 @@ impl<B: Yardstick> OpenHeap<B> {
         Ok(())
     }
 
-    /// Writes bytes into an object from byte `at` on.
+    /// Writes bytes into an object from byte `at` on. Fails as `find` does, and then changes
+    /// nothing.
     pub(crate) fn write(
         &mut self,
         h: Handle,
@@ -73,7 +76,8 @@ impl<B: Yardstick> OpenHeap<B> {
         Ok(())
     }
 
-    /// The address of the object, if it has `count` bytes from byte `at` on.
+    /// The address of the object, if it has `count` bytes from byte `at` on. Fails with `Unknown`
+    /// if the handle isn't live, else with `Range` if the object is shorter.
     fn find(&self, h: Handle, at: u32, count: usize, steps: &mut Steps) -> Result<u32, AccessFault>
         ensures found { IsFound B.kind self.now (record { number = h.0; from = at }) count result }
         ensures steps { RoseBy steps.old steps.new (found_steps result) }

@@ -4,14 +4,14 @@ ghost use Rattle.step_ledger.specs.Counting.{RoseAtMost};
 ghost use Rattle.cf_model.specs.Answers.{block_totals, usage_of};
 ghost use Rattle.tag_heap.specs.Heap.{state_of};
 
+use crate::fit_policy::FitPolicy;
 use crate::open_heap::OpenHeap;
-use crate::yardstick::Yardstick;
 use cf_base::Totals;
 use cf_model::Usage;
 use step_ledger::Steps;
 
-impl<B: Yardstick> OpenHeap<B> {
-    /// The figures of the whole heap. The last free list is searched for the largest free block.
+impl<B: FitPolicy> OpenHeap<B> {
+    /// The figures of the whole heap. Searches the last free list that isn't empty for the largest free block.
     pub(crate) fn totals(&self, steps: &mut Steps) -> Totals
         ensures value { result ≡ block_totals (state_of B.kind self.now) }
         ensures bound { RoseAtMost steps.old steps.new (3 + 2 * result.free) }
@@ -27,7 +27,7 @@ impl<B: Yardstick> OpenHeap<B> {
         }
     }
 
-    /// What the heap uses.
+    /// The bytes that the heap uses: asked, taken and held.
     pub(crate) fn usage(&self) -> Usage
         ensures { result ≡ usage_of (block_totals (state_of B.kind self.now)) }
     {

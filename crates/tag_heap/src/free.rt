@@ -1,4 +1,4 @@
-//! Frees.
+//! The free of an open heap.
 ghost use Rattle.std.specs.Prelude.{◌≡◌, ◌+◌, ◌^◌, ◌≤◌};
 ghost use Rattle.step_ledger.specs.Counting.{RoseAtMost, RoseBy};
 ghost use Rattle.cf_model.specs.Costs.{block_free_bound};
@@ -9,15 +9,15 @@ ghost use Rattle.cf_model.specs.Steps.{IsFreeStep, StaysOpen};
 ghost use Rattle.tag_heap.specs.Choices.{FreeChooses};
 ghost use Rattle.tag_heap.specs.Heap.{state_of};
 
+use crate::fit_policy::FitPolicy;
 use crate::open_heap::OpenHeap;
-use crate::yardstick::Yardstick;
 use cf_base::{Freed, Handle, NotLive};
 use step_ledger::Steps;
 use word_bytes::Header;
 
-impl<B: Yardstick> OpenHeap<B> {
-    /// Removes an object. The block that it leaves is the first of its list, and its number is the next
-    /// to be used. Keeps the cost.
+impl<B: FitPolicy> OpenHeap<B> {
+    /// Removes an object, and counts the steps in `cost`. The block that it leaves becomes the first of
+    /// its list, and its number the first free one. Refused if the handle isn't live.
     pub(crate) fn free(&mut self, h: Handle, steps: &mut Steps) -> Result<Freed, NotLive>
         requires { steps.old ≤ 2 ^ 63 }
         ensures same { StaysOpen (state_of B.kind self.old) (state_of B.kind self.new) }

@@ -1,14 +1,14 @@
 //! The body of the two managers with blocks: each object has a block of its own, with boundary tags. A
-//! `Yardstick` chooses the free lists of TLSF (2004) or those of Half-Fit (1995).
+//! `FitPolicy` chooses the free lists of TLSF (2004) or those of Half-Fit (1995).
 #![tactic(auto)]
 
 mod access;
 mod figures;
+mod fit_policy;
 mod free;
 mod malloc;
 mod manager;
 mod open_heap;
-mod yardstick;
 
+pub use fit_policy::FitPolicy;
 pub use manager::TagHeap;
-pub use yardstick::Yardstick;

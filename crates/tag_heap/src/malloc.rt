@@ -1,4 +1,4 @@
-//! Mallocs.
+//! The malloc of an open heap.
 ghost use Rattle.std.specs.Prelude.{◌≡◌, ◌+◌, ◌^◌, ◌≤◌};
 ghost use Rattle.step_ledger.specs.Counting.{RoseAtMost, RoseBy};
 ghost use Rattle.cf_model.specs.ExactCosts.{block_malloc_cost};
@@ -10,15 +10,15 @@ ghost use Rattle.tag_heap.specs.Costs.{malloc_steps, room_steps, search_steps};
 ghost use Rattle.tag_heap.specs.Heap.{state_of};
 ghost use Rattle.tag_heap.specs.Room.{IsRoom, IsRoomAnswer, done_by};
 
+use crate::fit_policy::FitPolicy;
 use crate::open_heap::OpenHeap;
-use crate::yardstick::Yardstick;
 use cf_base::{Handle, Refusal, need_of};
 use step_ledger::Steps;
 use word_bytes::Header;
 
-impl<B: Yardstick> OpenHeap<B> {
-    /// Adds an object of `bytes` bytes, all zero, under the next number and in the next block. Keeps the
-    /// cost.
+impl<B: FitPolicy> OpenHeap<B> {
+    /// Adds an object of `bytes` bytes, all zero, under the first free number and in the next block of
+    /// the order, and counts the steps in `cost`.
     pub(crate) fn malloc(&mut self, bytes: u32, steps: &mut Steps) -> Result<Handle, Refusal>
         requires { steps.old ≤ 2 ^ 63 }
         ensures same { StaysOpen (state_of B.kind self.old) (state_of B.kind self.new) }
@@ -61,7 +61,8 @@ impl<B: Yardstick> OpenHeap<B> {
         Ok(handle)
     }
 
-    /// The free block that a malloc of `bytes` bytes would take, or why it would be refused.
+    /// The address of the free block that a malloc of `bytes` bytes would take, or why the malloc
+    /// would be refused.
     pub(crate) fn room(&self, bytes: u32, steps: &mut Steps) -> Result<u32, Refusal>
         ensures room { IsRoom B.rule B.kind self.now bytes result }
         ensures answer { IsRoomAnswer (state_of B.kind self.now) bytes (done_by result) }

@@ -12,8 +12,8 @@ ghost use Rattle.tag_heap.specs.Costs.{access_steps, length_steps, malloc_steps,
 ghost use Rattle.tag_heap.specs.Heap.{state_of};
 ghost use Rattle.tag_heap.specs.Room.{IsRoomAnswer, length_of};
 
+use crate::fit_policy::FitPolicy;
 use crate::open_heap::OpenHeap;
-use crate::yardstick::Yardstick;
 use cf_base::{
     AccessFault, Figures, Freed, Handle, Kind, NotLive, OutOfMemory, Refusal, ResizeFault, Resized,
     Settings, Totals,
@@ -23,14 +23,15 @@ use std::alloc::Global;
 use std::marker::Model;
 use step_ledger::Steps;
 
-/// The manager with the blocks of a yardstick. It promises an order, open or closed.
+/// The manager with blocks, whose free lists a `FitPolicy` chooses. It promises an order, open or
+/// closed.
 #[derive(Drop)]
-pub struct TagHeap<B: Yardstick> {
+pub struct TagHeap<B: FitPolicy> {
     alloc: Global,
     inner: Option<OpenHeap<B>>,
 }
 
-impl<B: Yardstick> Model for TagHeap<B> {
+impl<B: FitPolicy> Model for TagHeap<B> {
     ghost use Rattle.cf_model.specs.State.{HeapState, state_code};
 
     ghost Value = { HeapState };
@@ -44,8 +45,8 @@ impl<B: Yardstick> Model for TagHeap<B> {
     ghost invariant = { λ h. IsKeptIn B.kind h.inner };
 }
 
-impl<B: Yardstick> TagHeap<B> {
-    /// A closed manager, which takes no memory.
+impl<B: FitPolicy> TagHeap<B> {
+    /// A closed manager, which allocates nothing.
     pub fn closed(alloc: Global) -> TagHeap<B>
         ensures { result ≡ closed_state B.kind }
     {
@@ -71,7 +72,7 @@ impl<B: Yardstick> TagHeap<B> {
         self.open().length(h, steps)
     }
 
-    /// What is open.
+    /// The open heap.
     fn open(&self) -> &OpenHeap<B>
         requires { IsTrue self.now.is_open }
         ensures { state_of B.kind result.now ≡ self.now }
@@ -83,7 +84,7 @@ impl<B: Yardstick> TagHeap<B> {
     }
 }
 
-impl<B: Yardstick> Manager for TagHeap<B> {
+impl<B: FitPolicy> Manager for TagHeap<B> {
     ghost state = { λ h. h };
 
     fn kind(&self) -> Kind {
@@ -234,6 +235,7 @@ impl<B: Yardstick> Manager for TagHeap<B> {
     }
 
     fn figures(&self, _c: u32) -> Option<Figures> {
+        // For its contract: a heap with blocks has no size classes.
         let _open = self.open();
         None
     }

@@ -8,16 +8,17 @@ ghost use Rattle.cf_model.specs.Rules.{KeepsRules};
 ghost use Rattle.cf_model.specs.Steps.{IsEmptyHeap};
 ghost use Rattle.tag_heap.specs.Heap.{state_of};
 
-use crate::yardstick::Yardstick;
+use crate::fit_policy::FitPolicy;
 use cf_base::{OutOfMemory, Settings};
 use proxy_table::ProxyTable;
 use std::alloc::Global;
 use std::marker::Model;
 use tag_blocks::TagBlocks;
 
-/// An open heap. `asked` are the bytes of all objects, and `used_words` the words of all used blocks.
+/// An open heap. `asked` are the bytes of all objects, `used_words` the words of all used blocks, and
+/// `cost` the steps of the last malloc or free.
 #[derive(Drop)]
-pub(crate) struct OpenHeap<B: Yardstick> {
+pub(crate) struct OpenHeap<B: FitPolicy> {
     pub(crate) settings: Settings,
     pub(crate) blocks: TagBlocks<B>,
     pub(crate) proxies: ProxyTable,
@@ -26,7 +27,7 @@ pub(crate) struct OpenHeap<B: Yardstick> {
     pub(crate) cost: u64,
 }
 
-impl<B: Yardstick> Model for OpenHeap<B> {
+impl<B: FitPolicy> Model for OpenHeap<B> {
     ghost use Rattle.tag_heap.specs.Heap.{Heap, IsValid, heap_code};
 
     ghost Value = { Heap };
@@ -45,8 +46,8 @@ impl<B: Yardstick> Model for OpenHeap<B> {
     }) };
 }
 
-impl<B: Yardstick> OpenHeap<B> {
-    /// A heap without objects. It alone takes memory.
+impl<B: FitPolicy> OpenHeap<B> {
+    /// A heap without objects. Only this call allocates.
     pub(crate) fn new(alloc: Global, s: &Settings) -> Result<OpenHeap<B>, OutOfMemory>
         ensures empty { IfOk result (λ h. IsEmptyHeap B.kind s.now (state_of B.kind h)) }
         ensures rules { IfOk result (λ h. KeepsRules (state_of B.kind h)) }

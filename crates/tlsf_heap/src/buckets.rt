@@ -6,7 +6,8 @@ use block_model::tlsf;
 use tag_blocks::Buckets;
 
 /// TLSF (2004): a free list for each size below 16 words, and 16 for each power of two from there on.
-/// A need is rounded up to the least size of a list before it is searched.
+/// A need is rounded up before the search, so that every block of the first searched list is large
+/// enough.
 #[derive(Drop)]
 pub struct TlsfBuckets;
 

@@ -1,15 +1,15 @@
-//! The manager.
+//! The TLSF manager.
 ghost use Rattle.std.specs.Prelude.{refl};
 ghost use Rattle.cf_base.specs.declared.kind.Kind.TheVariants.{Tlsf};
 
 use crate::buckets::TlsfBuckets;
 use cf_base::Kind;
-use tag_heap::{TagHeap, Yardstick};
+use tag_heap::{FitPolicy, TagHeap};
 
 /// The manager with the free lists of TLSF (2004).
 pub type TlsfHeap = TagHeap<TlsfBuckets>;
 
-impl Yardstick for TlsfBuckets {
+impl FitPolicy for TlsfBuckets {
     ghost kind = { Tlsf };
 
     fn kind() -> Kind {

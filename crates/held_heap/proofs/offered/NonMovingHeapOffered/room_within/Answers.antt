@@ -1,4 +1,4 @@
--- A refusal has its cause, and without one there is none.
+-- `has_room` is refused exactly if a refusal has a cause.
 use Rattle.held_heap.proofs.Rooms.{room_by_result}
 use Rattle.held_heap.proofs.offered.NonMovingHeapOffered.room_within.Goals as goal
 

@@ -13,14 +13,14 @@ use Rattle.tag_heap.specs.contracts.manager.TagHeapManager.TheImpl as manager
 use Rattle.tag_heap.proofs.manager.TagHeap.TheSendSync.{the_send as heap}
 use Rattle.tlsf_heap.specs.contracts.buckets.TlsfBuckets as tlsf
 use Rattle.tlsf_heap.specs.contracts.buckets.TlsfBucketsBuckets.TheImpl as buckets
-use Rattle.tlsf_heap.specs.contracts.heap.TlsfBucketsYardstick.TheImpl as yardstick
+use Rattle.tlsf_heap.specs.contracts.heap.TlsfBucketsFitPolicy.TheImpl as policy
 
 heap-send : IsSend open_heap
 heap-send = held
-    (tag_heap.the_row tlsf.the_row yardstick.ghosts buckets.ghosts)
-    (offered.ghosts tlsf.the_row yardstick.ghosts offered.no_dict buckets.ghosts offered.no_dict offered.no_dict)
-    (manager.ghosts tlsf.the_row yardstick.ghosts manager.no_dict buckets.ghosts manager.no_dict manager.no_dict)
-    (heap tlsf.the_row yardstick.ghosts buckets.ghosts)
+    (tag_heap.the_row tlsf.the_row policy.ghosts buckets.ghosts)
+    (offered.ghosts tlsf.the_row policy.ghosts offered.no_dict buckets.ghosts offered.no_dict offered.no_dict)
+    (manager.ghosts tlsf.the_row policy.ghosts manager.no_dict buckets.ghosts manager.no_dict manager.no_dict)
+    (heap tlsf.the_row policy.ghosts buckets.ghosts)
 
 pub send : IsSend the_row
 send =

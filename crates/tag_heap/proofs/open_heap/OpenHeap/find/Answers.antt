@@ -17,7 +17,7 @@ returns-then-length-count-clause-found g c = rw (← c.self.view_is) (
     let long = bytes_long c.self.inside.blocks.words (c.in-Some.place + 1) in
     let tag = c.tag_of.ensures.value in
     let e = c.unpack-length.ensures.length in
-    passes _ c.self.invariant c.args.h.0 c.in-Some.place (sym c.in-Some.ensures.found) g.B.Yardstick.kind c.args.at c.args.count
+    passes _ c.self.invariant c.args.h.0 c.in-Some.place (sym c.in-Some.ensures.found) g.B.FitPolicy.kind c.args.at c.args.count
     (elim c.then-length-count.branch [
       | then-length-count-via-then-length-count w ↦ (let lt = w.if-length-count.true in omega arith)
       | then-length-count-via-else-length-count+then-length-count-2 w ↦ (let le = w.if-length-count.false in let lt = w.if-length-count-2.true in omega arith)

@@ -1,6 +1,7 @@
 use Rattle.std.proofs.Common.{◌∷◌, arith, refl, sym, ap, ◌∙◌, subst}
 use Rattle.std.proofs.lemmas.Result.{err_from_is_err_and}
-use Rattle.tag_blocks.proofs.CostLemmas.{by_same, then_by}
+use Rattle.step_ledger.proofs.CallerLemmas.{rose_both}
+use Rattle.tag_blocks.proofs.CostLemmas.{by_same}
 use Rattle.proxy_table.specs.Proxies.{AreBelowLimit, Proxies}
 use Rattle.tag_heap.proofs.ByKind.{lists_of_kind}
 use Rattle.tag_heap.proofs.CostLemmas.{malloc_cost_is}
@@ -17,7 +18,7 @@ returns-in_err-place-clause-step g c =
     rw (p.1, p.2) (cause, refl)
 
 pub returns-in_err-place-clause-rules : goal.returns-in_err-place-clause-rules
-returns-in_err-place-clause-rules g c = rw (← c.self.view_is) (rules _ c.self.invariant g.met.B.Yardstick.tiled)
+returns-in_err-place-clause-rules g c = rw (← c.self.view_is) (rules _ c.self.invariant g.met.B.FitPolicy.tiled)
 
 pub unreachable-requires : goal.unreachable-requires
 unreachable-requires g c =
@@ -31,7 +32,7 @@ overflow_add-self g c =
     r.fits c.in-Some.ensures.fresh c.in-Some.ensures.within
     r.few _ c.need_of-words.result c.pack.result c.need_of-words.ensures c.pack.ensures
     c.carve_at.ensures.carved c.carve_at.ensures.len c.carve_at.ensures.kept
-    (lists_of_kind _ _ _ _ g.met.B.Yardstick.lists g.met.B.Yardstick.count c.carve_at.ensures.listed)
+    (lists_of_kind _ _ _ _ g.met.B.FitPolicy.lists g.met.B.FitPolicy.count c.carve_at.ensures.listed)
     (subst AreBelowLimit c.in-Some.ensures.places c.in-Some.ensures.kept) c.carve_at.result c.carve_at.ensures.size in omega arith)
 
 pub overflow_add-self-2 : goal.overflow_add-self-2
@@ -45,7 +46,7 @@ invariant_of-self g c =
     r.fits c.in-Some.ensures.fresh c.in-Some.ensures.within
     r.few _ c.need_of-words.result c.pack.result c.need_of-words.ensures c.pack.ensures
     c.carve_at.ensures.carved c.carve_at.ensures.len c.carve_at.ensures.kept
-    (lists_of_kind _ _ _ _ g.met.B.Yardstick.lists g.met.B.Yardstick.count c.carve_at.ensures.listed)
+    (lists_of_kind _ _ _ _ g.met.B.FitPolicy.lists g.met.B.FitPolicy.count c.carve_at.ensures.listed)
     (subst AreBelowLimit c.in-Some.ensures.places c.in-Some.ensures.kept) c.carve_at.result c.carve_at.ensures.size)
 
 pub returns-clause-step : goal.returns-clause-step
@@ -56,9 +57,9 @@ returns-clause-step g c =
     r.fits c.in-Some.ensures.fresh c.in-Some.ensures.within
     r.few _ c.need_of-words.result c.pack.result c.need_of-words.ensures c.pack.ensures
     c.carve_at.ensures.carved c.carve_at.ensures.len c.carve_at.ensures.kept
-    (lists_of_kind _ _ _ _ g.met.B.Yardstick.lists g.met.B.Yardstick.count c.carve_at.ensures.listed)
+    (lists_of_kind _ _ _ _ g.met.B.FitPolicy.lists g.met.B.FitPolicy.count c.carve_at.ensures.listed)
     (subst AreBelowLimit c.in-Some.ensures.places c.in-Some.ensures.kept) c.carve_at.result c.carve_at.ensures.size
-    g.met.B.Yardstick.tiled g.met.B.Yardstick.lists)
+    g.met.B.FitPolicy.tiled g.met.B.FitPolicy.lists)
 
 pub returns-clause-rules : goal.returns-clause-rules
 returns-clause-rules g c =
@@ -68,9 +69,9 @@ returns-clause-rules g c =
     r.fits c.in-Some.ensures.fresh c.in-Some.ensures.within
     r.few _ c.need_of-words.result c.pack.result c.need_of-words.ensures c.pack.ensures
     c.carve_at.ensures.carved c.carve_at.ensures.len c.carve_at.ensures.kept
-    (lists_of_kind _ _ _ _ g.met.B.Yardstick.lists g.met.B.Yardstick.count c.carve_at.ensures.listed)
+    (lists_of_kind _ _ _ _ g.met.B.FitPolicy.lists g.met.B.FitPolicy.count c.carve_at.ensures.listed)
     (subst AreBelowLimit c.in-Some.ensures.places c.in-Some.ensures.kept) c.carve_at.result c.carve_at.ensures.size
-    g.met.B.Yardstick.tiled)
+    g.met.B.FitPolicy.tiled)
 
 pub carve_at-requires-clause-found : goal.carve_at-requires-clause-found
 carve_at-requires-clause-found g c =
@@ -89,8 +90,8 @@ pub returns-clause-exact : goal.returns-clause-exact
 returns-clause-exact g c =
     let took = rw (← c.self.view_is) at c.in_ok-place.ensures.steps in
     let there = sym (place_described c.carve_at.new.self.words _ c.in-Some.handle.0) ∙ c.in-Some.ensures.live in
-    rw (← c.self.view_is, there) (by_same _ _ _ _ (then_by _ _ _ _ _ took (then_by _ _ _ _ _ c.in-Some.ensures.steps c.carve_at.ensures.steps)) (
-    malloc_cost_is g.B.Yardstick.kind _ _ g.met.B.Yardstick.lists g.met.B.Yardstick.count c.args.bytes c.need_of-words.result c.need_of-words.ensures
+    rw (← c.self.view_is, there) (by_same _ _ _ _ (rose_both _ _ _ _ _ took (rose_both _ _ _ _ _ c.in-Some.ensures.steps c.carve_at.ensures.steps)) (
+    malloc_cost_is g.B.FitPolicy.kind _ _ g.met.B.FitPolicy.lists g.met.B.FitPolicy.count c.args.bytes c.need_of-words.result c.need_of-words.ensures
     _ _ _ c.in_ok-place.place))
 
 pub returns-in_err-place-clause-choice : goal.returns-in_err-place-clause-choice
@@ -107,7 +108,7 @@ returns-clause-choice g c =
     r.fits c.in-Some.ensures.fresh c.in-Some.ensures.within
     r.few _ c.need_of-words.result c.pack.result c.need_of-words.ensures c.pack.ensures
     c.carve_at.ensures.carved c.carve_at.ensures.len c.carve_at.ensures.kept
-    (lists_of_kind _ _ _ _ g.met.B.Yardstick.lists g.met.B.Yardstick.count c.carve_at.ensures.listed)
+    (lists_of_kind _ _ _ _ g.met.B.FitPolicy.lists g.met.B.FitPolicy.count c.carve_at.ensures.listed)
     (subst AreBelowLimit c.in-Some.ensures.places c.in-Some.ensures.kept) c.carve_at.result c.carve_at.ensures.size
-    g.met.B.Yardstick.lists (c.in-Some.ensures.first ∙ ap (λ (p : Proxies). c.in-Some.handle.0 ∷ p.free) c.in-Some.ensures.places)
+    g.met.B.FitPolicy.lists (c.in-Some.ensures.first ∙ ap (λ (p : Proxies). c.in-Some.handle.0 ∷ p.free) c.in-Some.ensures.places)
     r.next c.carve_at.ensures.lists)

@@ -11,4 +11,4 @@ returns-clause-value g c = rw (
   c.from.ensures,
   c.from-2.ensures,
 ) (
-    totals_described g.B.Yardstick.kind _ c.self.invariant)
+    totals_described g.B.FitPolicy.kind _ c.self.invariant)

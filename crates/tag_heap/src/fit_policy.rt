@@ -1,4 +1,4 @@
-//! A kind of manager with blocks.
+//! The fit policy of a manager with blocks.
 ghost use Rattle.std.specs.Prelude.{◌≡◌};
 ghost use Rattle.cf_base.specs.declared.kind.Kind.{Kind};
 ghost use Rattle.cf_model.specs.Families.{IsTiled, free_lists_of, list_count_of};
@@ -6,8 +6,9 @@ ghost use Rattle.cf_model.specs.Families.{IsTiled, free_lists_of, list_count_of}
 use cf_base::Kind;
 use tag_blocks::Buckets;
 
-/// A kind of manager with blocks: the rule of its free lists is that of the kind.
-pub trait Yardstick: Buckets + Drop {
+/// The fit policy of a kind of manager with blocks: its `Buckets` say which free list holds a block and
+/// which one serves a request, by the rule of that kind. TLSF and Half-Fit differ in nothing else.
+pub trait FitPolicy: Buckets + Drop {
     /// The kind.
     ghost kind: { Kind };
 
@@ -21,6 +22,6 @@ pub trait Yardstick: Buckets + Drop {
     // Its free lists are those of the rule.
     ghost lists: { Self.rule ≡ free_lists_of kind };
 
-    // It has as many free lists as the kind.
+    // Its number of free lists is that of the kind.
     ghost count: { Self.COUNT ≡ list_count_of kind };
 }

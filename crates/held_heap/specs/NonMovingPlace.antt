@@ -1,16 +1,16 @@
--- The heap at a caller's address.
+-- The heap behind a caller's `NphHeap`.
 use Rattle.std.specs.Prelude.{Option, refl, true}
 use Rattle.std.specs.Borrow.{Fml, Lends, MutBor}
 use Rattle.held_heap.specs.HeldState.{HeldState}
-use Rattle.held_heap.specs.Tlsf.{open_heap}
-use Rattle.held_heap.specs.TlsfLoan.{with_heap}
-use Rattle.held_heap.specs.declared.tlsf.NphHeap.{NphHeap}
-use Rattle.held_heap.specs.contracts.tlsf.NphHeap.{the_row}
+use Rattle.held_heap.specs.NonMoving.{open_heap}
+use Rattle.held_heap.specs.NonMovingLoan.{with_heap}
+use Rattle.held_heap.specs.declared.nonmoving.NphHeap.{NphHeap}
+use Rattle.held_heap.specs.contracts.nonmoving.NphHeap.{the_row}
 
--- an open heap, or none
+-- the open heap; none while it is closed
 abbrev pub held_in : NphHeap → Option HeldState
 held_in n = n.place.held
 
--- at its end the borrow r leaves its heap at the address
+-- when the borrow r ends, the heap that it leaves is the open heap of s
 abbrev pub LendsHeap : MutBor NphHeap → MutBor HeldState → Fml
 LendsHeap s r = Lends the_row open_heap s r (λ h. record { place = with_heap s.now.place h; is_open = true; shown = refl })
