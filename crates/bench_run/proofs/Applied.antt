@@ -1,4 +1,4 @@
--- Commands that were applied, one more of them.
+-- The loop of a bench applies the commands of a seed, one more in each turn.
 use Rattle.std.proofs.Common.{◌≡◌, ◌∙◌, ◌+◌, ◌-◌, ◌<◌, ◌≤◌, ◌++◌, ℕ, suc, cond, List, [], ◌∷◌, map, Option, Some, refl, sym, ap, ap₂, subst, arith}
 use Rattle.std.proofs.Common.{append_assoc, append-nil}
 use Rattle.std.proofs.lemmas.List.{map-append}
@@ -15,7 +15,7 @@ use Rattle.script_reader.specs.Items.{Item, asks}
 use Rattle.script_reader.specs.declared.command.Command.{Command}
 use Rattle.bench_run.specs.Bench.{IsAppliedTo, is_good, is_refusal}
 
--- one more command was given
+-- the generator returned one more command of the seed
 pub given_more : (all done : List Command) (at next n i : ℕ) (command : Command) → i < n
     → ((m : ℕ) → generated at (suc m) ≡ command ∷ generated next m) → all ≡ done ++ generated at (n - i)
     → all ≡ (done ++ command ∷ []) ++ generated next (n - (i + 1))
@@ -24,7 +24,7 @@ given_more all done at next n i command lt gives given =
     given ∙ ap (λ m. done ++ generated at m) left ∙ ap (λ l. done ++ l) (gives (n - (i + 1)))
     ∙ sym (append_assoc done (command ∷ []) (generated next (n - (i + 1))))
 
--- all were given
+-- after the last turn the generator has returned all commands
 pub given_all : (all done : List Command) (at n i : ℕ) → n ≤ i → all ≡ done ++ generated at (n - i) → done ≡ all
 given_all all done at n i past given =
     let left : n - i ≡ 0 = omega (arith, past) in
@@ -55,7 +55,7 @@ module _ (old mid new : RunState) (done : List Command) (command : Command) (rep
         ∙ sym (sum_by_push (λ r. cond (is_refusal (outcome_of r)) 1 0) a.replies reply);
   }
 
--- the commands that were applied are all
+-- after the last turn all commands were applied
 pub applied_all : (old new : RunState) (done all : List Command) (ok refused : ℕ) → done ≡ all → IsAppliedTo old done new ok refused
     → IsAppliedTo old all new ok refused
 applied_all old new done all ok refused same a = subst (λ (commands : List Command). IsAppliedTo old commands new ok refused) same a

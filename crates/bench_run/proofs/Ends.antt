@@ -62,7 +62,7 @@ figures_from count ok refused totals moves = record {
   moves = moves;
 }
 
--- the numbers are those of the run
+-- the numbers that the bench prints are those of its run
 pub shown_figures : (count ok refused moves : ℕ) (totals : Totals) (replies : List Reply) (to : RunState) → ok ≡ good_ones replies
     → refused ≡ refusals replies → totals ≡ totals_in to.heap.kind to.heap → moves ≡ to.session.moves
     → figures_from count ok refused totals moves ≡ figures_of count replies to

@@ -19,6 +19,7 @@ use Rattle.script_loop.specs.OneManager.{LacksOne}
 use Rattle.script_reader.specs.Items.{Item, asks, starts}
 use Rattle.script_reader.specs.declared.command.Command.{Command}
 
+-- whether a command had the outcome `Good`, and below `Refused`; a bench counts both
 abbrev pub is_good : Outcome → Bool
 is_good Good = true
 is_good outcome = false
@@ -42,7 +43,7 @@ bench_settings = profile_from 64 16384 1 4096
 abbrev pub bench_items : ℕ → ℕ → List Item
 bench_items seed count = starts bench_settings ∷ map (λ c. asks c) (generated seed count)
 
--- The run over the generated script: the replies to its commands, and its end. That of the `heap` line is `ok`, and isn't counted.
+-- The run over the generated script: the replies to its commands, and its end. The reply to the `heap` line, `ok`, isn't among them.
 pub record BenchRun (kind : Kind) (seed count : ℕ) (end : RunState) : Type 0 where
   pub replies : List Reply
   pub run : Run kind None (bench_items seed count) (said (codes "ok") ∷ replies) (Some end)
@@ -58,21 +59,22 @@ figures_of count replies end = record {
   moves = end.session.moves;
 }
 
--- their line
+-- the line of these numbers
 abbrev pub bench_line : BenchFigures → List ℕ
 bench_line f = with_number (codes "bench commands ") f.commands ++ (with_number (codes " ok ") f.ok ++ (with_number (codes " refused ") f.refused
     ++ (with_number (codes " live ") f.live ++ (with_number (codes " pages ") f.pages ++ with_number (codes " moves ") f.moves))))
 
+-- the text that a bench prints: the line of its numbers
 abbrev pub bench_text : ℕ → List Reply → RunState → List ℕ
 bench_text count replies end = led [] (said (bench_line (figures_of count replies end)))
 
--- the text was written, or a prefix of it, by the status
+-- `Done`: the text was written; `WriteFault`: a prefix of it was; no other status occurs
 abbrev pub IsWritten : Status → Option (List ℕ) → List ℕ → Option (List ℕ) → Type 0
 IsWritten Done before text after = after ≡ appended before text
 IsWritten WriteFault before text after = (front : List ℕ) × (lost : List ℕ) × (text ≡ front ++ lost) × (after ≡ appended before front)
 IsWritten status before text after = ⊥
 
--- the run was made, and its line was written, or a prefix of it
+-- the bench ran, and its line was written, or a prefix of the line if the sink failed
 pub record PrintsBench (status : Status) (seed count : ℕ) (from to : RunState) (before after : Option (List ℕ)) : Type 0 where
   pub run : BenchRun from.heap.kind seed count to
   pub written : IsWritten status before (bench_text count run.replies to) after
@@ -87,7 +89,7 @@ abbrev pub EndsBench : Status → ℕ → ℕ → RunState → RunState → Opti
 EndsBench OutOfMemory seed count from to before after = LacksBench from to before after
 EndsBench status seed count from to before after = PrintsBench status seed count from to before after
 
--- the commands were applied, and this many of the replies are good and refusals
+-- the commands were applied; `ok` of the replies are good, and `refused` are refusals
 pub record IsAppliedTo (old : RunState) (commands : List Command) (new : RunState) (ok refused : ℕ) : Type 0 where
   pub replies : List Reply
   pub run : Run old.heap.kind (Some old) (map (λ c. asks c) commands) replies (Some new)

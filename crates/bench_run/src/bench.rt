@@ -17,8 +17,8 @@ use generator::Generator;
 use step_ledger::Meter;
 
 /// Opens the manager as `heap 64 16384 1 4096` does, applies the first `count` commands of the seed,
-/// whose replies are dropped, and writes the one line with the numbers. `OutOfMemory` comes
-/// before anything else, and `WriteFault` only if the sink failed.
+/// drops their replies, and writes one line with the numbers. `OutOfMemory` if the manager can't be
+/// opened, and then nothing is written; `WriteFault` if the sink failed.
 pub fn run_bench<H: Manager, K: Sink>(
     rt: &HostRuntime,
     session: &mut Session,

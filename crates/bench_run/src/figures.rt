@@ -20,7 +20,7 @@ pub struct BenchFigures {
 }
 
 impl BenchFigures {
-    /// Writes their line, in one piece: `Done`, or `WriteFault` if the sink failed.
+    /// Writes the line of the numbers in one call of the sink: `Done`, or `WriteFault` if the sink failed.
     pub(crate) fn put<K: Sink>(&self, sink: &mut K) -> Status
         ensures written { IsWritten result (K.written sink.old) (led [] (said (bench_line self.now))) (K.written sink.new) }
         ensures grows { K.faults sink.old ≤ K.faults sink.new }

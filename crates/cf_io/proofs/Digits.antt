@@ -1,4 +1,4 @@
--- Decimal digits, one after the other.
+-- For `leading_number` and `number_of`: the decimal digits at the start of a text, read one by one.
 use Rattle.std.proofs.Common.{◌≡◌, ◌∙◌, ◌<◌, ◌≤◌, ◌+◌, ◌-◌, ◌*◌, ◌&&◌, if◌then◌else◌, nat_le, not, Bool, List, ℕ, None, Some, true, false, refl, ap, sym, take}
 use Rattle.std.proofs.Common.{length, get_or, arith, inl, inr}
 use Rattle.std.proofs.Common.{Option, min, option_map}
@@ -15,7 +15,7 @@ use Rattle.std.proofs.lemmas.Str.Parse.{digits_value-take-le}
 use Rattle.std.proofs.lemmas.Bool.{cases_lt, false≢true, lt-leb, not-true}
 use Rattle.cf_io.specs.Numbers.{digits_first, is_digit, leading_number, number_in}
 
--- what follows from a text that spells a number
+-- the text spells the number n: its bytes are digits, at least one, and the value fits 32 bits
 pub record Spells (text : List ℕ) (n : ℕ) : Type 0 where
   pub some : 0 < length text
   pub digits : list_all is_digit text ≡ true
@@ -44,7 +44,7 @@ passes text i v value large =
     let over : nat_le (digits_value 10 text) 4294967295 ≡ false = lt-leb _ _ (omega (arith, digits_value-take-le 10 text i (omega arith), value, large)) in
     rw over (sym (ap (λ b. if b then Some (digits_value 10 text) else None) (and-false _)))
 
--- a byte before one up to which all are digits is a digit
+-- if the first i bytes are digits, each of them is one
 digit_before : (text : List ℕ) (i k : ℕ) → i ≤ length text → list_all is_digit (take i text) ≡ true → k < i → is_digit (get_or text k 0) ≡ true
 digit_before text i k within all below = go (is_digit (get_or text k 0)) refl
   where
@@ -55,31 +55,31 @@ digit_before text i k within all below = go (is_digit (get_or text k 0)) refl
         let no = list_all_at is_digit (take i text) k 0 inside (ap is_digit (get_or-take i text k 0 below) ∙ isnt) in
         absurd (false≢true (sym no ∙ all))
 
--- a text with another byte than digits spells no number
+-- a text with a byte that isn't a digit spells no number
 pub other_byte : (text : List ℕ) (k : ℕ) → k < length text → is_digit (get_or text k 0) ≡ false → number_in text ≡ None
 other_byte text k inside isnt = rw (list_all_at is_digit text k 0 inside isnt) (rw and-false refl)
 
 pub digits_within : (text : List ℕ) → digits_first text ≤ length text
 digits_within text = prefix_len-le-length (λ b. not (not (is_digit b))) text
 
--- the byte after the first digits is none
+-- the byte after the first digits is no digit
 pub digits_stop : (text : List ℕ) → digits_first text < length text → is_digit (get_or text (digits_first text) 0) ≡ false
 digits_stop text inside = not-true _ (passes_at_first (λ b. not (is_digit b)) text 0 inside)
 
--- the first digits end where digits do
+-- if the first i bytes are digits and the next byte isn't, there are i first digits
 pub digits_end : (text : List ℕ) (i : ℕ) → i ≤ length text → list_all is_digit (take i text) ≡ true
     → (i < length text → is_digit (get_or text i 0) ≡ false) → digits_first text ≡ i
 digits_end text i within all ends =
     position_or_len_is (λ b. not (is_digit b)) text i 0 within (λ k below. ap not (digit_before text i k within all below)) (λ inside. ap not (ends inside))
 
--- and are no fewer than those that were seen
+-- and there are at least i first digits if the first i bytes are digits
 digits_least : (text : List ℕ) (i : ℕ) → i ≤ length text → list_all is_digit (take i text) ≡ true → i ≤ digits_first text
 digits_least text i within all = elim (cases_lt (digits_first text) i) [
   | inl below ↦ absurd (false≢true (sym (digits_stop text (omega arith)) ∙ digit_before text i (digits_first text) within all below))
   | inr above ↦ above
 ]
 
--- the first digits spell too large a number
+-- if the first i bytes are digits and spell more than 2^32 - 1, the text has no leading number
 pub first_passes : (text : List ℕ) (i v : ℕ) → i ≤ length text → list_all is_digit (take i text) ≡ true → v ≡ digits_value 10 (take i text) → 4294967295 < v
     → None ≡ leading_number text
 first_passes text i v within all value large =
@@ -87,7 +87,7 @@ first_passes text i v within all value large =
     let same : take i (take n text) ≡ take i text = take-take i n text (digits_least text i within all) in
     ap (option_map (λ m. (m, n))) (passes (take n text) i v (value ∙ ap (digits_value 10) (sym same)) large)
 
--- the first digits spell this number
+-- if the first i bytes are digits and the next byte isn't, the first digits spell their value, which fits 32 bits
 pub first_spell : (text : List ℕ) (i v : ℕ) → 0 < i → i ≤ length text → list_all is_digit (take i text) ≡ true
     → (i < length text → is_digit (get_or text i 0) ≡ false) → v ≡ digits_value 10 (take i text) → v ≤ 4294967295 → Some (v, i) ≡ leading_number text
 first_spell text i v some within all ends value fits =
@@ -100,11 +100,11 @@ first_spell text i v some within all ends value fits =
     }) in
     rw (digits_end text i within all ends, is) refl
 
--- no digit comes first
+-- a text that begins with no digit has no leading number
 pub first_none : (text : List ℕ) → (0 < length text → is_digit (get_or text 0 0) ≡ false) → None ≡ leading_number text
 first_none text ends = rw (digits_end text 0 (omega arith) refl ends) refl
 
--- what the first digits show of a whole text
+-- the leading number is the one that the first digits spell
 pub first_shown : (text : List ℕ) (v n : ℕ) → Some (v, n) ≡ leading_number text → (n ≡ digits_first text) × (number_in (take n text) ≡ Some v)
 first_shown text v n shown = go (number_in (take (digits_first text) text)) refl shown
   where
@@ -129,7 +129,7 @@ whole_other text v n shown below =
     let e = (first_shown text v n shown).0 in
     sym (other_byte text (digits_first text) (omega (arith, e)) (digits_stop text (omega (arith, e))))
 
--- a value that stays just past the largest number, one digit on
+-- the value that the loop keeps, at most 2^32, after one digit more
 pub value_grows : (text : List ℕ) (i v w : ℕ) → i < length text → is_digit (get_or text i 0) ≡ true → v ≡ min (digits_value 10 (take i text)) 4294967296
     → w ≡ min (10 * v + (get_or text i 0 - 48)) 4294967296 → w ≡ min (digits_value 10 (take (i + 1) text)) 4294967296
 value_grows text i v w inside digit value grown =

@@ -1,4 +1,4 @@
--- Pieces that are put or taken one after the other.
+-- For `put_all`: bytes that are written one after the other.
 use Rattle.std.proofs.Common.{◌≡◌, ◌++◌, ◌∙◌, List, ℕ, Option, None, Some, refl, ap, sym, ◌+◌, append_assoc, take, drop}
 use Rattle.std.proofs.Math.Seq.{take-add}
 use Rattle.cf_io.specs.Feeds.{appended}

@@ -1,4 +1,4 @@
--- For the layers above: the bytes of a line, and what is put chunk by chunk.
+-- For the layers above: the bytes of a line, and lines that are written in parts.
 use Rattle.std.proofs.Common.{◌≡◌, ◌∙◌, ℕ, ◌+◌, ◌<◌, ◌≤◌, ◌^◌, ◌++◌, List, [], ◌∷◌, Option, refl, ap, sym, append_assoc, append-nil, subst, arith, length, lit<}
 use Rattle.std.specs.Prelude.{Result, Ok, Err, decimal}
 use Rattle.std.specs.Result.{IsOk}
@@ -14,7 +14,7 @@ use Rattle.cf_io.specs.Texts.{Reply, led, said}
 pub decimal_short : (n : ℕ) → n < 2 ^ 64 → length (decimal n) ≤ 20
 decimal_short n fits = length-decimal-le 20 n (lit< tt) (omega (arith, fits)) fits
 
--- a reply of one line
+-- the bytes of a reply of one line
 pub led_said : (lead text : List ℕ) → led lead (said text) ≡ (lead ++ text) ++ 10 ∷ []
 led_said lead text = append-nil (lead ++ (text ++ 10 ∷ [])) ∙ sym (append_assoc lead text (10 ∷ []))
 
@@ -27,28 +27,28 @@ led-append lead (text ∷ rest) more =
 abbrev Written : Type 0
 Written = Option (List ℕ)
 
--- the first piece is whole, and then the second one is put
+-- the first bytes were written whole, then the second ones, whole or in part: together that is a write of both
 pub puts_then : {T : Type 0} (w x y : Written) (a b : List ℕ) (r : Result T Failed) → x ≡ appended w a → Puts x b r y → Puts w (a ++ b) r y
 puts_then w x y a b (Ok u) first next = next ∙ ap (λ (o : Written). appended o b) first ∙ appended_then w a b
 puts_then w x y a b (Err e) first (front, lost, parts, is) =
     (a ++ front, lost, ap (λ xs. a ++ xs) parts ∙ sym (append_assoc a front lost), is ∙ ap (λ (o : Written). appended o front) first ∙ appended_then w a front)
 
--- the first piece is cut
+-- only a prefix of the first bytes was written: that is a prefix of both
 pub puts_cut : (w y : Written) (a b : List ℕ) (e : Failed) → Puts {T = Unit {0}} w a (Err e) y → Puts {T = Unit {0}} w (a ++ b) (Err e) y
 puts_cut w y a b e (front, lost, parts, is) = (front, lost ++ b, ap (λ xs. xs ++ b) parts ∙ append_assoc front lost b, is)
 
--- a line that was built after its lead
+-- writing a line that begins with its lead is writing a reply of this one line
 pub puts_line : {T : Type 0} (w y : Written) (lead text line : List ℕ) (r : Result T Failed) → line ≡ lead ++ text → Puts w (line ++ 10 ∷ []) r y
     → Puts w (led lead (said text)) r y
 puts_line {T = T} w y lead text line r is put =
     let P : List ℕ → Type 0 = λ bytes. Puts {T = T} w bytes r y in
     subst P (ap (λ (l : List ℕ). l ++ 10 ∷ []) is ∙ sym (led_said lead text)) put
 
--- three texts after a lead
+-- a line that three texts were appended to, after its lead
 pub three : (lead l m n o a b c : List ℕ) → l ≡ lead → m ≡ l ++ a → n ≡ m ++ b → o ≡ n ++ c → o ≡ lead ++ (a ++ (b ++ c))
 three lead l m n o a b c first second third fourth = rw (fourth, third, second, first) (simp append_assoc)
 
--- five texts after a lead
+-- a line that five texts were appended to, after its lead
 pub five : (lead l m n o p q a b c d e : List ℕ) → l ≡ lead → m ≡ l ++ a → n ≡ m ++ b → o ≡ n ++ c → p ≡ o ++ d → q ≡ p ++ e
     → q ≡ lead ++ (a ++ (b ++ (c ++ (d ++ e))))
 five lead l m n o p q a b c d e first second third fourth fifth sixth = rw (sixth, fifth, fourth, third, second, first) (simp append_assoc)

@@ -1,10 +1,10 @@
--- What a line holds.
+-- The bytes of a line, and what a push does to them.
 use Rattle.std.specs.Prelude.{◌≡◌, ◌<◌, ◌≤◌, ◌+◌, ◌++◌, ℕ, List, length, Result, Ok, Err}
 use Rattle.std.specs.Int.{w64, to_be_bytes}
 use Rattle.hex.specs.Hex.{encode_lower}
 use Rattle.cf_io.specs.declared.line.Full.{Full}
 
--- how many bytes a line may hold
+-- the most bytes that a line holds
 abbrev pub line_room : ℕ
 line_room = 9000
 
@@ -12,7 +12,7 @@ line_room = 9000
 abbrev pub word_text : ℕ → List ℕ
 word_text v = encode_lower (to_be_bytes w64 v)
 
--- the text follows what the line held; or it did not fit, and the line is unchanged
+-- the text was appended to the line; or, at an error, it did not fit, and the line is unchanged
 abbrev pub Pushes : {T : Type 0} → List ℕ → List ℕ → Result T Full → List ℕ → Type 0
 Pushes old text (Ok u) new = (new ≡ old ++ text) × (length old + length text ≤ line_room)
 Pushes old text (Err e) new = (new ≡ old) × (line_room < length old + length text)

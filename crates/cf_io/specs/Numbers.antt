@@ -17,6 +17,6 @@ number_in text = if not (length text == 0) && list_all is_digit text && nat_le (
 abbrev pub digits_first : List ℕ → ℕ
 digits_first text = position_or_len (λ b. not (is_digit b)) text
 
--- the number that these digits spell, and how many they are; none if they spell no number
+-- the number that the digits at the start of the text spell, and how many digits; none if they spell no number
 abbrev pub leading_number : List ℕ → Option (ℕ × ℕ)
 leading_number text = option_map (λ n. (n, digits_first text)) (number_in (take (digits_first text) text))

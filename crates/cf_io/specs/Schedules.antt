@@ -1,9 +1,9 @@
--- What the calls of a device in memory do.
+-- Which calls of a source or sink in memory fail, and how many bytes the others move at most.
 use Rattle.std.specs.Prelude.{ℕ, Bool, true, false, ◌==◌, List, length, min, max, slice_index, nat_lt, if◌then◌else◌}
 use Rattle.std.specs.List.{list_any}
 use Rattle.cf_io.specs.Feeds.{one_more}
 
--- the most bytes of each call, the calls that fail, the number of the next call, how many failed, and whether the last one did
+-- the most bytes of each call, the numbers of the calls that fail, the number of the next call, how many calls failed, and whether the last one failed
 pub record Schedule : Type 0 where
   pub cuts : List ℕ
   pub fails : List ℕ
@@ -11,22 +11,22 @@ pub record Schedule : Type 0 where
   pub faults : ℕ
   pub failed : Bool
 
--- no call was made yet
+-- a schedule before its first call
 abbrev pub planned : List ℕ → List ℕ → Schedule
 planned cuts fails = record { cuts = cuts; fails = fails; call = 0; faults = 0; failed = false }
 
--- whether the next call is one of those that fail
+-- whether the schedule lists the next call as one that fails
 abbrev pub is_due : Schedule → Bool
 is_due s = list_any (λ j. j == s.call) s.fails
 
--- how many bytes the next call moves if n could be: at most its cut, or 1 if that is 0
+-- how many bytes the next call moves if n could be moved: at most its cut, or at most 1 if the cut is 0
 abbrev pub count_moved : Schedule → ℕ → ℕ
 count_moved s n = if nat_lt s.call (length s.cuts) then min n (max 1 (slice_index s.cuts s.call)) else n
 
--- the next call failed
+-- the schedule after a call that failed
 abbrev pub gone_wrong : Schedule → Schedule
 gone_wrong s = record s { call = one_more s.call; faults = one_more s.faults; failed = true }
 
--- the next call went well
+-- the schedule after a call that did not fail
 abbrev pub gone_well : Schedule → Schedule
 gone_well s = record s { call = one_more s.call; failed = false }

@@ -8,19 +8,19 @@ pub record MemSink : Type 0 where
   pub room : ℕ
   pub schedule : Schedule
 
--- no call was made yet
+-- an empty sink with room for `room` bytes, before its first call
 abbrev pub mem_sink : ℕ → List ℕ → List ℕ → MemSink
 mem_sink room cuts fails = record { written = []; room = room; schedule = planned cuts fails }
 
--- whether the next call fails, with these bytes: by plan, or since there is no room for any of them
+-- whether the next call, with these bytes, fails: by the schedule, or since there are bytes and no room is left
 abbrev pub put_fails : MemSink → List ℕ → Bool
 put_fails s bytes = is_due s.schedule || (s.room == 0 && not (length bytes == 0))
 
--- how many of these bytes the next call would take
+-- how many of these bytes the next call writes if it does not fail
 abbrev pub put_count : MemSink → List ℕ → ℕ
 put_count s bytes = count_moved s.schedule (min (length bytes) s.room)
 
--- what the next call returns: none if it fails
+-- the number of bytes that the next call returns; none if it fails
 abbrev pub put_answer : MemSink → List ℕ → Option ℕ
 put_answer s bytes = if put_fails s bytes then None else Some (put_count s bytes)
 

@@ -3,7 +3,7 @@ use Rattle.std.specs.Prelude.{ℕ, ◌≡◌, ◌%◌, EachIndex, slice_index, �
 use Rattle.cf_io.specs.Feeds.{last_count, one_more}
 use Rattle.cf_io.specs.Schedules.{Schedule, is_due, count_moved, gone_well, gone_wrong, planned}
 
--- a source that never fails: the bytes left, how many were given, and how often it was asked
+-- a source that never fails: the bytes left, how many it returned, and how many calls it had
 pub record SureSource : Type 0 where
   pub left : List ℕ
   pub given : ℕ
@@ -15,24 +15,26 @@ pub record MemSource : Type 0 where
   pub given : ℕ
   pub schedule : Schedule
 
--- a source that returns its piece over and over: the piece, its next byte, how many bytes it returned, and how often it was asked
+-- a source that returns its pattern over and over: the pattern, its next byte, how many bytes it returned, and how many calls it had
 pub record LoopSource : Type 0 where
-  pub piece : List ℕ
+  pub pattern : List ℕ
   pub at : ℕ
   pub given : ℕ
   pub calls : ℕ
 
--- no call was made yet
+-- a source of these bytes, before its first call
 abbrev pub sure_source : List ℕ → SureSource
 sure_source bytes = record { left = bytes; given = 0; calls = 0 }
 
+-- a source of these bytes that fails by this schedule, before its first call
 abbrev pub mem_source : List ℕ → List ℕ → List ℕ → MemSource
 mem_source bytes cuts fails = record { left = bytes; given = 0; schedule = planned cuts fails }
 
+-- a source of this pattern, before its first call
 abbrev pub loop_source : List ℕ → LoopSource
-loop_source piece = record { piece = piece; at = 0; given = 0; calls = 0 }
+loop_source pattern = record { pattern = pattern; at = 0; given = 0; calls = 0 }
 
--- n more were returned, until the last value of a u64
+-- the count of returned bytes after n more, saturated at the last value of a u64
 abbrev pub more_given : ℕ → ℕ → ℕ
 more_given given n = min (given + n) last_count
 
@@ -44,15 +46,15 @@ filled n bytes buf = take n bytes ++ drop n buf
 abbrev pub sure_count : SureSource → ℕ → ℕ
 sure_count s room = min room (length s.left)
 
--- the source after n bytes were given
+-- the source after a call that returned n bytes
 abbrev pub sure_after : SureSource → ℕ → SureSource
 sure_after s n = record { left = drop n s.left; given = more_given s.given n; calls = one_more s.calls }
 
--- how many bytes the next call would return into a buffer of this length
+-- how many bytes the next call returns into a buffer of this length if it does not fail
 abbrev pub mem_count : MemSource → ℕ → ℕ
 mem_count s room = count_moved s.schedule (min room (length s.left))
 
--- what the next call returns: none if it fails
+-- the number of bytes that the next call returns; none if it fails
 abbrev pub mem_answer : MemSource → ℕ → Option ℕ
 mem_answer s room = if is_due s.schedule then None else Some (mem_count s room)
 
@@ -65,10 +67,10 @@ mem_after s room = if is_due s.schedule then record s { schedule = gone_wrong s.
 abbrev pub mem_buffer : MemSource → List ℕ → List ℕ
 mem_buffer s buf = if is_due s.schedule then buf else filled (mem_count s (length buf)) s.left buf
 
--- the buffer holds the piece over and over, from its byte `at` on
+-- the buffer holds the pattern over and over, from its byte `at` on
 abbrev pub Loops : List ℕ → ℕ → List ℕ → Type 0
-Loops piece at buf = EachIndex buf (λ k. slice_index buf k ≡ slice_index piece ((at + k) % length piece))
+Loops pattern at buf = EachIndex buf (λ k. slice_index buf k ≡ slice_index pattern ((at + k) % length pattern))
 
--- the source after n bytes were given
+-- the source after a call that returned n bytes
 abbrev pub loop_after : LoopSource → ℕ → LoopSource
-loop_after s n = record s { at = (s.at + n) % length s.piece; given = more_given s.given n; calls = one_more s.calls }
+loop_after s n = record s { at = (s.at + n) % length s.pattern; given = more_given s.given n; calls = one_more s.calls }

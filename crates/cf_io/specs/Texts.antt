@@ -1,4 +1,4 @@
--- What replies are made of.
+-- Replies, as lines and as bytes.
 use Rattle.std.specs.Prelude.{ℕ, List, [], ◌∷◌, ◌++◌, decimal}
 
 -- a reply: its lines, without their line feeds

@@ -12,8 +12,8 @@ use crate::source::Source;
 use cf_base::Failed;
 use std::io::{Read, Write};
 
-/// Takes from a reader of std. What is left is not observable; each error of the reader counts as
-/// a failure.
+/// A source that reads from a reader of std. Its bytes left are not observable. Each error of the
+/// reader is a fault.
 #[derive(Drop)]
 pub struct StdSource<T> {
     reader: T,
@@ -80,8 +80,9 @@ impl<T: Read> Source for StdSource<T> {
     }
 }
 
-/// Puts to a writer of std, and flushes what it put. What was written is not observable; an error
-/// of the writer or of its flush counts as a failure, and so does a writer that takes nothing.
+/// A sink that writes to a writer of std, and flushes after each write. Its bytes written are not
+/// observable. A call fails if the write or the flush fails, or if the writer takes none of one or
+/// more bytes.
 #[derive(Drop)]
 pub struct StdSink<T> {
     writer: T,
@@ -104,7 +105,8 @@ impl<T> StdSink<T> {
     }
 }
 
-/// Writes once, then flushes. None if either fails, or if no byte was taken.
+/// Writes once, then flushes. Returns how many bytes the writer took; none if the write or the
+/// flush fails, or if the writer takes none of one or more bytes.
 fn write_and_flush<T: Write>(writer: &mut T, bytes: &[u8]) -> Option<usize>
     ensures within { IfSome result (λ n. n ≤ length bytes.now) }
     ensures some { 0 < length bytes.now → IfSome result (λ n. 0 < n) }

@@ -1,4 +1,4 @@
-//! Where bytes come from and go to, the buffer of a line, and numbers in text.
+//! Sources and sinks of bytes, the buffer of a line, and numbers in text.
 #![tactic(auto)]
 
 mod devices;

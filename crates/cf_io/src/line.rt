@@ -7,10 +7,10 @@ use arrayvec::ArrayVec;
 use itoa::Buffer;
 use std::marker::Model;
 
-/// How many bytes a line may hold.
+/// The most bytes that a line holds.
 pub const LINE_ROOM: usize = 9_000;
 
-/// The line has no room for the text.
+/// The error of a push: the line has no room for the text.
 #[derive(Clone, Copy, Debug, PartialEq, Eq)]
 pub struct Full;
 

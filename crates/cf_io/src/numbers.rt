@@ -2,6 +2,7 @@
 ghost use Rattle.std.specs.Prelude.{◌≡◌, ◌≤◌, IfSome, length};
 ghost use Rattle.cf_io.specs.Numbers.{leading_number as digits_before, number_in};
 
+/// The last value of a u32.
 const LARGEST: u64 = 4_294_967_295;
 
 /// The number that the digits at the start of a text spell, leading zeros accepted, and the number

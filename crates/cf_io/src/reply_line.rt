@@ -1,4 +1,4 @@
-//! One line of a reply: it is built whole, and then put in one piece.
+//! Builds one line of a reply in a buffer, and then writes it as a whole.
 ghost use Rattle.std.specs.Prelude.{◌≡◌, ◌+◌, ◌<◌, ◌≤◌, ◌++◌, ◌∷◌, [], OnErr, length, OnOk};
 ghost use Rattle.cf_io.specs.Feeds.{FailsLast, Puts};
 ghost use Rattle.cf_io.specs.Lines.{line_room};
@@ -9,10 +9,10 @@ use crate::sink::Sink;
 use crate::writing::put_all;
 use cf_base::Failed;
 
-/// The most bytes that lead a line.
+/// The most bytes of a line's lead.
 pub const MOST_LEAD: usize = 8;
 
-/// Begins a line with its lead.
+/// Empties the line, then appends its lead.
 pub fn begin_line(line: &mut Line, lead: &[u8])
     requires { length lead.now ≤ 8 }
     ensures { line.new ≡ lead.now }
@@ -21,7 +21,7 @@ pub fn begin_line(line: &mut Line, lead: &[u8])
     line.push(lead).unwrap();
 }
 
-/// Appends a text that the line has room for.
+/// Appends a text. The line must have room for it.
 pub fn push_text(line: &mut Line, text: &[u8])
     requires { length line.old + length text.now ≤ line_room }
     ensures { line.new ≡ line.old ++ text.now }
@@ -29,7 +29,8 @@ pub fn push_text(line: &mut Line, text: &[u8])
     line.push(text).unwrap();
 }
 
-/// Appends a text and a number in decimal, which has at most 20 digits.
+/// Appends a text and a number in decimal. The line must have room for the text and 20 digits, the
+/// most that a number has.
 pub fn push_field(line: &mut Line, text: &[u8], n: u64)
     requires { length line.old + (length text.now + 20) ≤ line_room }
     ensures text { line.new ≡ line.old ++ with_number text.now n }
@@ -39,7 +40,8 @@ pub fn push_field(line: &mut Line, text: &[u8], n: u64)
     line.push_number(n).unwrap();
 }
 
-/// Ends the line with a line feed, and puts it. At `Failed` a prefix of it was put.
+/// Appends a line feed to the line, and writes the line to the sink. If the sink fails, it returns
+/// `Failed`, and a prefix of the line was written.
 pub fn put_line<K: Sink>(line: &mut Line, out: &mut K) -> Result<(), Failed>
     requires { length line.old < line_room }
     ensures puts { Puts (K.written out.old) (line.old ++ 10 ∷ []) result (K.written out.new) }

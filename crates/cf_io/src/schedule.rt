@@ -1,10 +1,11 @@
-//! What the calls of a device in memory do.
+//! Which calls of a source or sink in memory fail, and how many bytes the others move at most.
 ghost use Rattle.std.specs.Prelude.{◌≡◌, ◌≤◌};
 ghost use Rattle.cf_io.specs.Schedules.{gone_well, gone_wrong, is_due, count_moved, planned};
 
 use std::marker::Model;
 
-/// Which calls of a device fail, and how many bytes each of the others moves at most.
+/// Which calls of a source or sink fail, by number (`fails`), and the most bytes that each other
+/// call moves (`cuts`). It also counts the calls and the faults.
 #[derive(Drop)]
 pub struct Schedule {
     cuts: Vec<usize>,
@@ -36,7 +37,7 @@ impl Schedule {
         }
     }
 
-    /// Whether the next call is one of those that fail.
+    /// Returns whether the schedule lists the next call as one that fails.
     pub fn is_due(&self) -> bool
         ensures { result ≡ is_due self.now }
     {

@@ -10,19 +10,20 @@ pub trait Sink {
     /// The bytes written, if they are observable.
     ghost written: { Self → Option (List ℕ) };
 
-    /// How often it has failed; this never falls.
+    /// How many of its calls failed; this never falls.
     ghost faults: { Self → ℕ };
 
     /// Whether its last call failed.
     ghost last_failed: { Self → Bool };
 
-    /// Appends a prefix of the bytes and returns how many: at least one, if there are any. A call that does
-    /// not fail leaves the count of failures as it was.
+    /// Writes a prefix of the bytes and returns its length: at least one byte, if there are any. A call
+    /// that fails leaves `written` unchanged and adds one to `faults`, which saturates. A call that
+    /// does not fail leaves `faults` unchanged.
     fn put(&mut self, bytes: &[u8]) -> Result<usize, Failed>
         ensures grows { faults self.old ≤ faults self.new }
         ensures within { IfOk result (λ n. n ≤ length bytes.now) }
         ensures some { 0 < length bytes.now → IfOk result (λ n. 0 < n) }
-        ensures piece { IfOk result (λ n. written self.new ≡ appended (written self.old) (take n bytes.now)) }
+        ensures puts { IfOk result (λ n. written self.new ≡ appended (written self.old) (take n bytes.now)) }
         ensures same { OnOk result (faults self.new ≡ faults self.old) }
         ensures last { last_failed self.new ≡ is_err result }
         ensures failed { OnErr result ((faults self.new ≡ one_more (faults self.old))

@@ -9,7 +9,7 @@ use cf_base::{Failed, OutOfMemory};
 use std::alloc::Global;
 use std::marker::Model;
 
-/// Takes everything, and nothing of it is observable.
+/// A sink that drops all bytes and never fails. Its bytes written are not observable.
 #[derive(Clone, Copy, Debug)]
 pub struct NullSink;
 
@@ -27,12 +27,12 @@ impl Sink for NullSink {
     }
 }
 
-/// Keeps what is put, while it has room, and fails by a schedule.
+/// A sink that keeps the bytes in memory while it has room for them, and fails by a schedule.
 ///
 /// Its calls are numbered from 0; the number, and the count of the calls that failed, stay at
-/// `2^64 - 1` once they reach it. Call j fails if and only if j is in `fails`, or there is no room
-/// left for any byte of a piece. Else it takes at most its room, and at most `max(1, cuts[j])` bytes
-/// if j is below the length of `cuts`.
+/// `2^64 - 1` once they reach it. Call j fails if and only if j is in `fails`, or it has bytes to
+/// write and no room is left. Else it writes the bytes that it has room for, at most
+/// `max(1, cuts[j])` of them if j is below the length of `cuts`.
 #[derive(Drop)]
 pub struct MemSink {
     bytes: Vec<u8>,
@@ -71,7 +71,7 @@ impl MemSink {
         }
     }
 
-    /// What was put.
+    /// The bytes written so far.
     pub fn written(&self) -> &[u8]
         ensures { result.now ≡ self.now.written }
     {

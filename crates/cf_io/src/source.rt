@@ -10,25 +10,26 @@ pub trait Source {
     /// The bytes left, if they are observable.
     ghost rest: { Self → Option (List ℕ) };
 
-    /// How many bytes it has handed out; this saturates at the last value of a u64.
+    /// How many bytes it has returned; this saturates at the last value of a u64.
     ghost given: { Self → ℕ };
 
-    /// How often it was asked for bytes; this saturates at the last value of a u64.
+    /// How many calls of `take` it had; this saturates at the last value of a u64.
     ghost calls: { Self → ℕ };
 
-    /// How often it has failed; this never falls.
+    /// How many of its calls failed; this never falls.
     ghost faults: { Self → ℕ };
 
     /// Whether its last call failed.
     ghost last_failed: { Self → Bool };
 
-    /// Fills the start of the buffer and returns how many bytes. For a buffer that isn't empty, 0
-    /// means the end of the input. A call that does not fail leaves the count of failures as it was.
+    /// Reads bytes into the start of the buffer and returns how many. If the buffer isn't empty, 0
+    /// means the end of the input. A call that fails leaves `rest` and `given` unchanged and adds
+    /// one to `faults`, which saturates. A call that does not fail leaves `faults` unchanged.
     fn take(&mut self, buf: &mut [u8]) -> Result<usize, Failed>
         ensures once { calls self.new ≡ one_more (calls self.old) }
         ensures grows { faults self.old ≤ faults self.new }
         ensures within { IfOk result (λ n. n ≤ length buf.new) }
-        ensures piece { IfOk result (λ n. rest self.old ≡ preceded (take n buf.new) (rest self.new)) }
+        ensures chunk { IfOk result (λ n. rest self.old ≡ preceded (take n buf.new) (rest self.new)) }
         ensures counted { IfOk result (λ n. given self.new ≡ min (given self.old + n) last_count) }
         ensures end { 0 < length buf.old → IfOk result (λ n. n ≡ 0 → IsSpent (rest self.old)) }
         ensures same { OnOk result (faults self.new ≡ faults self.old) }

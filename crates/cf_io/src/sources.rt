@@ -10,7 +10,7 @@ use crate::source::Source;
 use cf_base::Failed;
 use std::marker::Model;
 
-/// Returns its bytes and never fails; what is left is observable.
+/// A source in memory that never fails. Its bytes left are observable.
 #[derive(Drop)]
 pub struct SureSource {
     bytes: Vec<u8>,
@@ -56,7 +56,8 @@ impl Source for SureSource {
     ghost last_failed = { λ _. false };
 
     fn take(&mut self, buf: &mut [u8]) -> Result<usize, Failed>
-        // It returns the bytes that fit and are left, and nothing else changes.
+        // It returns the bytes that are left, or the first of them if not all fit the buffer. The
+        // rest of the buffer stays.
         ensures sure { result ≡ Ok (sure_count self.old (length buf.old)) }
         ensures source { self.new ≡ sure_after self.old (sure_count self.old (length buf.old)) }
         ensures buffer { buf.new ≡ filled (sure_count self.old (length buf.old)) self.old.left buf.old }
@@ -70,7 +71,7 @@ impl Source for SureSource {
     }
 }
 
-/// Returns its bytes, and fails by a schedule; what is left is observable.
+/// A source in memory that fails by a schedule. Its bytes left are observable.
 ///
 /// Its calls are numbered from 0; the number, and the count of the calls that failed, stay at
 /// `2^64 - 1` once they reach it. Call j fails if and only if j is in `fails`. Else it returns the bytes
@@ -140,11 +141,11 @@ impl Source for MemSource {
     }
 }
 
-/// Returns its piece over and over, fills each buffer, and never fails. It never ends, so what is left
-/// is not observable.
+/// A source that fills each buffer with its pattern, over and over, and never fails. Its input never
+/// ends, so no list is its bytes left, and they are not observable.
 #[derive(Drop)]
 pub struct LoopSource {
-    piece: Vec<u8>,
+    pattern: Vec<u8>,
     at: usize,
     given: u64,
     calls: u64,
@@ -156,19 +157,19 @@ impl Model for LoopSource {
 
     ghost Value = { View };
 
-    ghost view = { λ s. record { piece = s.piece.items; at = s.at; given = s.given; calls = s.calls } };
+    ghost view = { λ s. record { pattern = s.pattern.items; at = s.at; given = s.given; calls = s.calls } };
 
-    ghost invariant = { λ s. s.at < length s.piece.items };
+    ghost invariant = { λ s. s.at < length s.pattern.items };
 }
 
 impl LoopSource {
-    /// A source of this piece, which isn't empty.
-    pub fn new(piece: Vec<u8>) -> LoopSource
-        requires { 0 < length piece.items }
-        ensures { result ≡ loop_source piece.items }
+    /// A source of this pattern, which must not be empty.
+    pub fn new(pattern: Vec<u8>) -> LoopSource
+        requires { 0 < length pattern.items }
+        ensures { result ≡ loop_source pattern.items }
     {
         LoopSource {
-            piece,
+            pattern,
             at: 0,
             given: 0,
             calls: 0,
@@ -191,16 +192,16 @@ impl Source for LoopSource {
         ensures full { result ≡ Ok (length buf.old) }
         ensures source { self.new ≡ loop_after self.old (length buf.old) }
         ensures within { IfOk result (λ n. n ≤ length buf.new) }
-        ensures buffer { Loops self.old.piece self.old.at buf.new }
+        ensures buffer { Loops self.old.pattern self.old.at buf.new }
     {
-        self.at = fill_over(&self.piece, self.at, buf);
+        self.at = fill_over(&self.pattern, self.at, buf);
         self.given = self.given.saturating_add(buf.len() as u64);
         self.calls = self.calls.saturating_add(1);
         Ok(buf.len())
     }
 }
 
-/// Fills the start of the buffer with the first n of these bytes.
+/// Copies the first n of these bytes to the start of the buffer.
 fn hand(bytes: &[u8], n: usize, buf: &mut [u8])
     requires some { n ≤ length bytes.now }
     requires room { n ≤ length buf.old }
@@ -209,32 +210,32 @@ fn hand(bytes: &[u8], n: usize, buf: &mut [u8])
     buf[..n].copy_from_slice(&bytes[..n]);
 }
 
-/// Fills the buffer with the piece over and over, from its byte `at` on, and returns the piece's next
-/// byte.
-fn fill_over(piece: &[u8], at: usize, buf: &mut [u8]) -> usize
-    requires { at < length piece.now }
-    ensures next { result ≡ (at + length buf.old) % length piece.now }
-    ensures buffer { Loops piece.now at buf.new }
+/// Fills the buffer with the pattern over and over, from its byte `at` on, and returns the index in the
+/// pattern of the byte that is next.
+fn fill_over(pattern: &[u8], at: usize, buf: &mut [u8]) -> usize
+    requires { at < length pattern.now }
+    ensures next { result ≡ (at + length buf.old) % length pattern.now }
+    ensures buffer { Loops pattern.now at buf.new }
 {
     let mut next = at;
     let mut full = 0;
-    'pieces: while full < buf.len() {
-        let n = (buf.len() - full).min(piece.len() - next);
-        copy_part(piece, next, n, buf, full);
+    'copies: while full < buf.len() {
+        let n = (buf.len() - full).min(pattern.len() - next);
+        copy_part(pattern, next, n, buf, full);
         full += n;
         next += n;
-        if next == piece.len() {
+        if next == pattern.len() {
             next = 0;
         }
     }
     next
 }
 
-/// Copies n bytes of the piece, from its byte `from` on, over those of the buffer from `to` on.
-fn copy_part(piece: &[u8], from: usize, n: usize, buf: &mut [u8], to: usize)
-    requires some { from + n ≤ length piece.now }
+/// Copies n bytes of the pattern, from its byte `from` on, over those of the buffer from `to` on.
+fn copy_part(pattern: &[u8], from: usize, n: usize, buf: &mut [u8], to: usize)
+    requires some { from + n ≤ length pattern.now }
     requires room { to + n ≤ length buf.old }
-    ensures { buf.new ≡ take to buf.old ++ take n (drop from piece.now) ++ drop (to + n) buf.old }
+    ensures { buf.new ≡ take to buf.old ++ take n (drop from pattern.now) ++ drop (to + n) buf.old }
 {
-    buf[to..to + n].copy_from_slice(&piece[from..from + n]);
+    buf[to..to + n].copy_from_slice(&pattern[from..from + n]);
 }

@@ -1,12 +1,12 @@
-//! Writing whole pieces.
+//! Writes all of some bytes to a sink, by one call or more.
 ghost use Rattle.std.specs.Prelude.{◌≡◌, ◌≤◌, OnErr, OnOk};
 ghost use Rattle.cf_io.specs.Feeds.{FailsLast, Puts};
 
 use crate::sink::Sink;
 use cf_base::Failed;
 
-/// Hands over all the bytes, then what is left, until all are taken. At `Failed` a prefix of the
-/// bytes was appended.
+/// Calls `put` with the bytes, then with the bytes left, until the sink has written all. If a call
+/// fails, it returns `Failed`, and a prefix of the bytes was written.
 pub fn put_all<K: Sink>(sink: &mut K, bytes: &[u8]) -> Result<(), Failed>
     ensures grows { K.faults sink.old ≤ K.faults sink.new }
     ensures puts { Puts (K.written sink.old) bytes.now result (K.written sink.new) }

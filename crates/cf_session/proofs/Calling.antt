@@ -18,7 +18,7 @@ use Rattle.run_model.specs.Texts.{said, with_number}
 use Rattle.run_model.specs.Replies.{steps_text}
 use Rattle.cf_session.specs.Apply.{run_at}
 
--- if no id is live, no object is
+-- if no id is live, no object is live
 module _ (session : SessionState) (heap : HeapState) (tied : AreTied session heap) (none : session.ids ≡ empty) where
   no_object : (o : Option Placed) (q : ℕ) → get heap.held q ≡ o → o ≡ None
   no_object None q is = refl
@@ -31,7 +31,7 @@ module _ (session : SessionState) (heap : HeapState) (tied : AreTied session hea
   pub none_held : heap.held ≡ empty
   none_held = equal_maps heap.held empty (λ q. no_object (get heap.held q) q refl ∙ sym (get-empty nat_cmp q))
 
--- and the other way round
+-- if no object is live, no id is live
 module _ (session : SessionState) (heap : HeapState) (tied : AreTied session heap) (none : heap.held ≡ empty) where
   no_id : (o : Option ℕ) (id : ℕ) → get session.ids id ≡ o → o ≡ None
   no_id None id is = refl

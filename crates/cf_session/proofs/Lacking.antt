@@ -1,4 +1,4 @@
--- The commands that no branch of its own takes.
+-- The commands that `answer` has no branch for.
 use Rattle.std.proofs.Common.{◌≡◌, ℕ, List, Bor, refl}
 use Rattle.std.specs.Prelude.{codes}
 use Rattle.script_reader.specs.Owned.{owned_command}
@@ -8,7 +8,7 @@ use Rattle.run_model.specs.Sessions.{RunState}
 use Rattle.run_model.specs.Steps.{Step}
 use Rattle.run_model.specs.Texts.{said}
 
--- the reply to each of them is `none`
+-- the reply to each such command is `none`
 pub lacking : (run : RunState) (c : CommandRef)
     → ((id bytes : ℕ) → c ≡ borrowed.Malloc id bytes → ⊥) → ((id : ℕ) → c ≡ borrowed.Free id → ⊥)
     → ((id at : ℕ) (bytes : Bor (List ℕ)) → c ≡ borrowed.Write id at bytes → ⊥) → ((id at len : ℕ) → c ≡ borrowed.Read id at len → ⊥)

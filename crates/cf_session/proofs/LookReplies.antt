@@ -44,7 +44,7 @@ pub read_said : (s : HeapState) (part : Part) (count : ℕ) (bytes : List ℕ) �
     → read_text (get s.held part.number) part.from count ≡ codes "=" ++ encode_lower bytes
 read_said s part count bytes r = rw r.found (read_within r.object part.from count r.within ∙ ap (λ (b : List ℕ). codes "=" ++ encode_lower b) (sym r.value))
 
--- and to a refused read
+-- the reply to a refused read
 pub fault_said : (s : HeapState) (part : Part) (count : ℕ) (fault : AccessFault) → IsFault s part count fault
     → write_text (Err fault) ≡ read_text (get s.held part.number) part.from count
 fault_said s part count access.Unknown none = rw none refl

@@ -39,7 +39,7 @@ use Rattle.cf_session.specs.declared.outcome.Outcome.{Outcome}
 use Rattle.cf_session.specs.declared.outcome.Outcome.TheVariants.{Good, Other}
 use Rattle.cf_session.specs.declared.short.Short.{Short}
 
--- a step of a run that goes on is a turn
+-- a step of a run in progress is a turn
 turn : (old new : RunState) (c : Command) (reply : Reply) → IsGoing old → Step old c reply new → Turn old c reply new
 turn old new c reply going step = record { step = step; bounds = step_meets_bounds old new c reply going step }
 
@@ -163,20 +163,20 @@ put_bare w y lead text seen r none is put =
     puts_line w y lead text text r (ap (λ (l : List ℕ). l ++ text) (sym (nil_from_length lead none)))
     (subst (λ (s : List ℕ). Puts w s r y) is put)
 
--- and of one after its lead
+-- the line of a short reply after its lead
 pub put_after : (w y : Bytes) (lead text seen before line : List ℕ) (r : Result Unit Failed) → before ≡ lead → line ≡ before ++ seen → seen ≡ text ++ 10 ∷ []
     → Puts w line r y → Puts w (led lead (said text)) r y
 put_after w y lead text seen before line r begun pushed is put =
     puts_line w y lead text (lead ++ text) r refl
     (subst (λ (s : List ℕ). Puts w s r y) (pushed ∙ ap₂ (λ (b s : List ℕ). b ++ s) begun is ∙ sym (append_assoc lead text (10 ∷ []))) put)
 
--- a run that goes on does so after an answer
+-- a run in progress is in progress after a command was answered, whole or in part
 pub applied_going : (old new : RunState) (c : Command) (lead : List ℕ) (w y : Bytes) (answer : Result Outcome Failed) → IsGoing old
     → Applies (at old w) (record { command = c; lead = lead }) answer (at new y) → IsGoing new
 applied_going old new c lead w y (Ok outcome) going a = step_going old new c a.0.reply going a.0.turn.step
 applied_going old new c lead w y (Err e) going a = step_going old new c a.reply going a.turn.step
 
--- a session that is consistent with an open heap that keeps its rules is in a run that goes on
+-- a session that is consistent with an open heap that keeps its rules makes a run in progress
 pub going_before : (inside session : SessionState) (heap : HeapState) → IsTrue heap.is_open → KeepsRules heap → inside ≡ session
     → AreTied session heap → IsGoing (run_at inside heap)
 going_before inside session heap opened rules same tied =

@@ -14,7 +14,7 @@ use Rattle.run_model.specs.Texts.{Reply}
 abbrev pub run_at : SessionState → HeapState → RunState
 run_at session heap = record { session = session; heap = heap }
 
--- the same, and the bytes written by then
+-- the run of a session and its manager, and the bytes written by then
 abbrev pub moment_at : SessionState → HeapState → Option (List ℕ) → Moment
 moment_at session heap written = record { run = run_at session heap; written = written }
 
@@ -23,7 +23,7 @@ abbrev pub outcome_in : List ℕ → Outcome
 outcome_in text = if bytes_eq text (codes "ok") || starts_with nat_eq text (codes "=") then Good
     else (if starts_with nat_eq text (codes "refused") then Refused else Other)
 
--- the outcome by the first line of a reply
+-- the outcome of a command, by the first line of its reply
 abbrev pub outcome_of : Reply → Outcome
 outcome_of [] = Other
 outcome_of (text ∷ rest) = outcome_in text
@@ -33,7 +33,7 @@ abbrev pub Applies : Moment → Asked → Result Outcome Failed → Moment → T
 Applies old asked (Ok outcome) new = (a : IsAnswered old asked new) × (outcome ≡ outcome_of a.reply)
 Applies old asked (Err failed) new = IsCutShort old asked new
 
--- the reply was written, and this is the outcome; or the sink failed
+-- the result of writing a reply: the outcome, or `Failed` if the sink failed
 abbrev pub IsEnded : {T : Type 0} → Result T Failed → Outcome → Result Outcome Failed → Type 0
 IsEnded (Ok u) outcome answer = answer ≡ Ok outcome
 IsEnded (Err failed) outcome answer = answer ≡ Err failed

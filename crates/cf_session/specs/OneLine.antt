@@ -28,7 +28,7 @@ abbrev pub HasRoom : List ℕ → OneLine → Type 0
 HasRoom line (reply.Short short) = Unit {0}
 HasRoom line (reply.Written outcome) = length line < line_room
 
--- the text was put after its lead, with its outcome; or a prefix of it was put
+-- the text was put after its lead, and the result is its outcome; or the sink failed, and a prefix was put
 pub record IsPut (text lead : List ℕ) (before : Option (List ℕ)) (answer : Result Outcome Failed) (after : Option (List ℕ)) : Type 0 where
   pub written : Result Unit Failed
   pub puts : Puts before (led lead (said text)) written after

@@ -1,4 +1,4 @@
--- The session of the records. No public clause cites this module.
+-- The fields of a session as contracts see them. No public clause cites this module.
 use Rattle.cf_model.specs.State.{HeapState}
 use Rattle.run_model.specs.Sessions.{RunState, SessionState}
 use Rattle.cf_session.specs.Apply.{run_at}

@@ -4,7 +4,7 @@ use Rattle.cf_session.specs.declared.short.Short.{Short}
 use Rattle.cf_session.specs.declared.short.Short.TheVariants.{Done, Live, Unknown, Range, Lacking, Busy, Full}
 use Rattle.cf_session.specs.declared.short.Short.TheVariants.{RefusedSize, RefusedProxy, RefusedSpace, RefusedSum, RefusedUsed}
 
--- the text, without its line feed
+-- the text of a short reply, without its line feed
 abbrev pub short_text : Short → List ℕ
 short_text Done = codes "ok"
 short_text Live = codes "live"

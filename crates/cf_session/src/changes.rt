@@ -1,4 +1,5 @@
-//! The commands that change objects: each calls the heap and returns its reply.
+//! The commands that change objects: each calls the heap and returns the reply to print. A malloc, free or
+//! resize sets `counters.bound` to its step bound, which command `steps` prints.
 ghost use Rattle.std.specs.Prelude.{◌≡◌, ◌^◌, ◌≤◌, IsTrue, Err};
 ghost use Rattle.cf_session.specs.Records.{run_with, session_of};
 ghost use Rattle.cf_session.specs.Short.{short_text};
@@ -14,7 +15,8 @@ use cf_base::ResizeFault;
 use cf_model::Manager;
 use step_ledger::Steps;
 
-/// `m`: makes an object for an id that isn't live.
+/// `m`: makes an object of `bytes` bytes for an id that isn't live. Else, or if the heap refuses it, the
+/// reply shows why.
 pub(crate) fn malloc<H: Manager>(
     records: &mut Records,
     heap: &mut H,
@@ -40,7 +42,7 @@ pub(crate) fn malloc<H: Manager>(
     }
 }
 
-/// `f`: frees the object of a live id.
+/// `f`: frees the object of an id; `unknown` if the id isn't live.
 pub(crate) fn free<H: Manager>(
     records: &mut Records,
     heap: &mut H,
@@ -65,7 +67,8 @@ pub(crate) fn free<H: Manager>(
     Short::Done
 }
 
-/// `w`: writes bytes into the object of a live id.
+/// `w`: writes bytes into the object of an id, from byte `at` on; `unknown` if the id isn't live, `range` if
+/// they would pass the end of the object.
 pub(crate) fn write<H: Manager>(
     records: &Records,
     heap: &mut H,
@@ -88,7 +91,8 @@ pub(crate) fn write<H: Manager>(
     }
 }
 
-/// `z`: changes the length of a live id's object.
+/// `z`: changes the length of an id's object to `bytes` bytes; `unknown` if the id isn't live. If the heap
+/// refuses it, the reply shows why.
 pub(crate) fn resize<H: Manager>(
     records: &mut Records,
     heap: &mut H,
@@ -129,7 +133,8 @@ fn resize_fault_reply(fault: ResizeFault) -> Short
     }
 }
 
-/// `k`: sets the bound of one class, while no id is live.
+/// `k`: sets the bound of the class with slots of `slot_words` words; `none` if an id is live or no class has
+/// such slots.
 pub(crate) fn set_bound<H: Manager>(
     records: &Records,
     heap: &mut H,

@@ -1,4 +1,4 @@
-//! One command, and its reply.
+//! Does one command and writes its reply.
 ghost use Rattle.std.specs.Prelude.{◌≡◌, ◌^◌, ◌≤◌, OnErr, length, OnOk};
 ghost use Rattle.cf_io.specs.Feeds.{FailsLast};
 ghost use Rattle.cf_session.specs.Apply.{Applies, moment_at};
@@ -20,15 +20,16 @@ use frag_report::{frag_line, walk_lines};
 use script_reader::CommandRef;
 use step_ledger::Steps;
 
-/// Does the command and writes its reply: each line, after the lead, in one call of the sink. `r` reads
-/// bytes into `room` and writes their digits into `text`.
-// One match, so that the compiler inlines the one branch for a caller that knows the command.
+/// Does the command and writes its reply. Each line follows `lead`, and is written in one call of the
+/// sink. If the sink fails, the result is `Failed`: the command has taken effect, and a prefix of its reply
+/// was written. Only `r` uses `buffer`, for the bytes read, and `text`, for the line of its reply.
+// All commands are in one match: where a caller's command is known, the compiler inlines its branch alone.
 pub(crate) fn answer<H: Manager, K: Sink>(
     records: &mut Records,
     heap: &mut H,
     c: CommandRef,
     lead: &[u8],
-    room: &mut [u8],
+    buffer: &mut [u8],
     text: &mut [u8],
     line: &mut Line,
     out: &mut K,
@@ -37,10 +38,10 @@ pub(crate) fn answer<H: Manager, K: Sink>(
     requires going { IsGoing (run_with records.old (H.state heap.old)) }
     requires formed { IsWellFormed (owned_command c) }
     requires lead { length lead.now ≤ 8 }
-    requires place { length room.old ≡ 4096 }
+    requires buffer { length buffer.old ≡ 4096 }
     requires text { length text.old ≡ 8202 }
     requires room { steps.old ≤ 2 ^ 63 }
-    ensures answers { Applies (moment_at (session_of records.old) (H.state heap.old) (K.written out.old))
+    ensures step { Applies (moment_at (session_of records.old) (H.state heap.old) (K.written out.old))
         (record { command = owned_command c.entry; lead = lead.now })
         result (moment_at (session_of records.new) (H.state heap.new) (K.written out.new)) }
     ensures grows { K.faults out.old ≤ K.faults out.new }
@@ -57,7 +58,7 @@ pub(crate) fn answer<H: Manager, K: Sink>(
         }
         CommandRef::Read { id, at, len } => {
             read(
-                records, heap, id, at, len, room, text, lead, line, out, steps,
+                records, heap, id, at, len, buffer, text, lead, line, out, steps,
             )
         }
         CommandRef::Resize { id, bytes } => {

@@ -20,14 +20,15 @@ use cf_io::{Line, Sink, begin_line, push_field, put_all};
 use cf_model::Manager;
 use step_ledger::Steps;
 
-/// `r`: puts the bytes of a live id's object from `at` on, in hexadecimal.
+/// `r`: puts `len` bytes of an id's object from byte `at` on, in hexadecimal; `unknown` if the id isn't live,
+/// `range` if they would pass the end of the object.
 pub(crate) fn read<H: Manager, K: Sink>(
     records: &Records,
     heap: &H,
     id: u16,
     at: u32,
     len: u16,
-    room: &mut [u8],
+    buffer: &mut [u8],
     text: &mut [u8],
     lead: &[u8],
     line: &mut Line,
@@ -37,7 +38,7 @@ pub(crate) fn read<H: Manager, K: Sink>(
     requires open { IsTrue (H.state heap.now).is_open }
     requires room { steps.old ≤ 2 ^ 63 }
     requires few { len ≤ 4096 }
-    requires place { length room.old ≡ 4096 }
+    requires buffer { length buffer.old ≡ 4096 }
     requires text { length text.old ≡ 8202 }
     requires lead { length lead.now ≤ 8 }
     ensures shown { IsPut (read_text (object_of (run_with records.now (H.state heap.now)) id) at len) lead.now
@@ -53,7 +54,7 @@ pub(crate) fn read<H: Manager, K: Sink>(
         heap,
         h,
         at,
-        &mut room[..len as usize],
+        &mut buffer[..len as usize],
         text,
         lead,
         line,
@@ -62,12 +63,13 @@ pub(crate) fn read<H: Manager, K: Sink>(
     )
 }
 
-/// Puts the bytes of an object from `at` on, until `room` is full.
+/// Puts the bytes of an object from byte `at` on, as many as `buffer` has, in hexadecimal; `range` if they
+/// would pass the end of the object.
 fn read_part<H: Manager, K: Sink>(
     heap: &H,
     h: Handle,
     at: u32,
-    room: &mut [u8],
+    buffer: &mut [u8],
     text: &mut [u8],
     lead: &[u8],
     line: &mut Line,
@@ -76,35 +78,35 @@ fn read_part<H: Manager, K: Sink>(
 ) -> Result<Outcome, Failed>
     requires open { IsTrue (H.state heap.now).is_open }
     requires room { steps.old ≤ 2 ^ 63 }
-    requires few { length room.old ≤ 4096 }
+    requires few { length buffer.old ≤ 4096 }
     requires text { length text.old ≡ 8202 }
     requires lead { length lead.now ≤ 8 }
-    ensures shown { IsPut (read_text (map.get (H.state heap.now).held h.0) at (length room.old)) lead.now
+    ensures shown { IsPut (read_text (map.get (H.state heap.now).held h.0) at (length buffer.old)) lead.now
         (K.written out.old) result (K.written out.new) }
     ensures grows { K.faults out.old ≤ K.faults out.new }
     ensures same { OnOk result (K.faults out.new ≡ K.faults out.old) }
     ensures failed { OnErr result (FailsLast (K.faults out.old) (K.faults out.new) (K.last_failed out.new)) }
 {
-    match heap.read(h, at, room, steps) {
+    match heap.read(h, at, buffer, steps) {
         Ok(()) => {
-            let n = spell_bytes(text, lead, room);
+            let n = spell_bytes(text, lead, buffer);
             ended(put_all(out, &text[..n]), Outcome::Good)
         }
         Err(fault) => put_short_line(fault_reply(fault), lead, line, out),
     }
 }
 
-/// Writes the lead, `=`, the bytes in hexadecimal and a line feed at the start of `room`, and returns
+/// Writes the lead, `=`, the bytes in hexadecimal and a line feed at the start of `text`, and returns
 /// their length.
-fn spell_bytes(room: &mut [u8], lead: &[u8], bytes: &[u8]) -> usize
-    requires room { length room.old ≡ 8202 }
+fn spell_bytes(text: &mut [u8], lead: &[u8], bytes: &[u8]) -> usize
+    requires text { length text.old ≡ 8202 }
     requires few { length bytes.now ≤ 4096 }
     requires lead { length lead.now ≤ 8 }
-    ensures within { result ≤ length room.new }
-    ensures text { take result room.new ≡ led lead.now (said (codes "=" ++ encode_lower bytes.now)) }
+    ensures within { result ≤ length text.new }
+    ensures text { take result text.new ≡ led lead.now (said (codes "=" ++ encode_lower bytes.now)) }
 {
     let count = 2 * bytes.len();
-    let (head, rest) = room.split_at_mut(lead.len());
+    let (head, rest) = text.split_at_mut(lead.len());
     head.copy_from_slice(lead);
     let (mark, rest) = rest.split_at_mut(1);
     mark[0] = b'=';
@@ -114,7 +116,7 @@ fn spell_bytes(room: &mut [u8], lead: &[u8], bytes: &[u8]) -> usize
     lead.len() + count + 2
 }
 
-/// `q`: writes the first word of a live id's slot or block.
+/// `q`: writes the address of an id's object, in words; `unknown` if the id isn't live.
 pub(crate) fn place<H: Manager>(
     records: &Records,
     heap: &H,
@@ -141,7 +143,8 @@ pub(crate) fn place<H: Manager>(
     }
 }
 
-/// `b`: writes the physical block of block i of a live id's object.
+/// `b`: writes the physical block of block i of an id's object. `unknown` if the id isn't live; else `none`
+/// unless the kind is non-moving; else `range` if the object has no block i.
 pub(crate) fn block<H: Manager>(
     records: &Records,
     heap: &H,
@@ -173,7 +176,7 @@ pub(crate) fn block<H: Manager>(
     }
 }
 
-/// `p`: writes a word of the region.
+/// `p`: writes a word of the region in hexadecimal; `range` past the region.
 pub(crate) fn peek<H: Manager>(
     heap: &H,
     word: u32,
@@ -195,7 +198,8 @@ pub(crate) fn peek<H: Manager>(
     }
 }
 
-/// `steps`: writes the cost of the last call; with pages also its bound, and what moved.
+/// `steps`: writes the steps of the last malloc, free or resize; with pages also their bound, how many
+/// objects moved, and the words of their slots.
 pub(crate) fn put_steps_line<H: Manager>(
     records: &Records,
     heap: &H,

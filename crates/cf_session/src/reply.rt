@@ -11,7 +11,7 @@ use crate::short::{OneLine, Short};
 use cf_base::Failed;
 use cf_io::{Line, Sink, begin_line, push_text, put_all, put_line};
 
-/// The outcome, if the reply was written.
+/// The outcome if the reply was written, else `Failed`.
 pub fn ended(written: Result<(), Failed>, outcome: Outcome) -> Result<Outcome, Failed>
     ensures { IsEnded written outcome result }
 {
@@ -21,7 +21,8 @@ pub fn ended(written: Result<(), Failed>, outcome: Outcome) -> Result<Outcome, F
     }
 }
 
-/// Puts a reply of one line: a short one, or the text on the line after the lead.
+/// Puts a reply of one line: a short one after the lead, or `line`, which has the lead and the text. `Failed`
+/// if the sink failed; a prefix was put.
 pub(crate) fn put_reply<K: Sink>(
     reply: OneLine,
     lead: &[u8],
@@ -42,7 +43,7 @@ pub(crate) fn put_reply<K: Sink>(
     }
 }
 
-/// Puts a short reply after the lead.
+/// Puts a short reply after the lead, and returns its outcome. `Failed` if the sink failed; a prefix was put.
 pub(crate) fn put_short_line<K: Sink>(
     short: Short,
     lead: &[u8],
@@ -72,7 +73,7 @@ fn put_short<K: Sink>(short: Short, lead: &[u8], line: &mut Line, out: &mut K) -
     put_all(out, short.text_line())
 }
 
-/// Puts a short reply after the lead in one chunk.
+/// Puts a short reply after the lead in one chunk, built in `line`.
 fn put_led<K: Sink>(short: Short, lead: &[u8], line: &mut Line, out: &mut K) -> Result<(), Failed>
     requires { length lead.now ≤ 8 }
     ensures puts { Puts (K.written out.old) (led lead.now (said (short_text short))) result (K.written out.new) }

@@ -27,15 +27,16 @@ const MOST: usize = 4_096;
 /// The most bytes of the reply to a read: a lead, `=`, two digits for each byte, and a line feed.
 const MOST_TEXT: usize = 8_202;
 
-/// The ids of one manager's objects, and the counters of its calls.
+/// The ids of one manager's objects, the counters of its calls, and buffers for replies. It answers the
+/// commands of a script.
 #[derive(Drop)]
 pub struct Session {
     meter: Meter,
     records: Records,
     line: Line,
-    /// The buffer of a read.
-    room: [u8; MOST],
-    /// The buffer of its reply.
+    /// The bytes that a read returns.
+    buffer: [u8; MOST],
+    /// The line of the reply to a read.
     text: [u8; MOST_TEXT],
 }
 
@@ -59,7 +60,7 @@ impl Session {
             meter: Meter::new(rt),
             records: Records::new(alloc)?,
             line: Line::new(),
-            room: [0; MOST],
+            buffer: [0; MOST],
             text: [0; MOST_TEXT],
         })
     }
@@ -78,7 +79,7 @@ impl Session {
         requires tied { AreTied self.old (H.state heap.old) }
         requires formed { IsWellFormed c.now }
         requires lead { length lead.now ≤ 8 }
-        ensures answers { Applies (moment_at self.old (H.state heap.old) (K.written out.old))
+        ensures step { Applies (moment_at self.old (H.state heap.old) (K.written out.old))
             (record { command = c.now; lead = lead.now })
             result (moment_at self.new (H.state heap.new) (K.written out.new)) }
         ensures tied { AreTied self.new (H.state heap.new) }
@@ -103,7 +104,7 @@ impl Session {
         requires tied { AreTied self.old (H.state heap.old) }
         requires formed { IsWellFormed (owned_command c) }
         requires lead { length lead.now ≤ 8 }
-        ensures answers { Applies (moment_at self.old (H.state heap.old) (K.written out.old))
+        ensures step { Applies (moment_at self.old (H.state heap.old) (K.written out.old))
             (record { command = owned_command c.entry; lead = lead.now })
             result (moment_at self.new (H.state heap.new) (K.written out.new)) }
         ensures tied { AreTied self.new (H.state heap.new) }
@@ -121,7 +122,7 @@ impl Session {
             heap,
             c,
             lead,
-            &mut self.room,
+            &mut self.buffer,
             &mut self.text,
             &mut self.line,
             out,

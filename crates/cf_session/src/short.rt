@@ -10,7 +10,7 @@ use crate::outcome::Outcome;
 use cf_base::{AccessFault, Refusal};
 use cf_io::{Line, push_text};
 
-/// A reply of one line: a short text, or the text on the line with its outcome.
+/// A reply of one line: a short reply, or the outcome of a reply that is on the line already.
 #[derive(Clone, Copy)]
 pub(crate) enum OneLine {
     Short(Short),
@@ -56,7 +56,7 @@ impl Short {
         }
     }
 
-    /// The outcome by the first bytes of the text.
+    /// The outcome that the first bytes of the text show.
     pub(crate) fn outcome(self) -> Outcome
         ensures { result ≡ outcome_in (short_text self) }
     {

@@ -1,4 +1,4 @@
--- The lines of the classes, one class more.
+-- The lines of the classes below c, and then of one class more.
 use Rattle.std.proofs.Common.{◌≡◌, ◌∙◌, ℕ, zero, suc, ◌+◌, ◌-◌, ◌<◌, ◌++◌, List, [], ◌∷◌, Bool, true, false, cond, Option, refl, ap, sym, subst, arith}
 use Rattle.std.proofs.Common.{◌≤◌, Some, None, inl, inr, nat_lt}
 use Rattle.std.proofs.lemmas.Bool.{cases_lt}
@@ -30,7 +30,7 @@ range_from a (suc n) m =
 pub one_class_more : (c : ℕ) → range_with_len 0 (c + 1) ≡ range_with_len 0 c ++ c ∷ []
 one_class_more c = let here : 0 + c ≡ c = omega arith in range_from 0 c 1 ∙ ap (λ k. range_with_len 0 c ++ k ∷ []) here
 
--- a class that is there, and one that is past the last
+-- if class c has figures, it is one of the n classes
 pub class_there : (c n : ℕ) (f x : Figures) → Some f ≡ cond (nat_lt c n) (Some x) None → (c < n) × (f ≡ x)
 class_there c n f x is = elim (cases_lt c n) [
   | inl lt ↦ (let e : Some f ≡ Some x = is ∙ ap (λ b. cond b (Some x) None) (lt_yes c n lt) in (lt, cc))

@@ -10,11 +10,11 @@ use Rattle.page_model.specs.Paging.{Paging}
 use Rattle.run_model.specs.Reports.{class_line}
 use Rattle.run_model.specs.Texts.{Reply, said}
 
--- the lines of those classes of a list that have live objects
+-- a line for each class of the list that has live objects
 abbrev pub lines_of : Paging → Held → List ℕ → Reply
 lines_of p m classes = map (λ c. class_line (figures_of p m c)) (filter (λ c. not (nat_eq (live p (objects m) c) 0)) classes)
 
--- the lines of the classes below c
+-- a line for each class below c that has live objects
 abbrev pub classes_below : Paging → Held → ℕ → Reply
 classes_below p m c = lines_of p m (range_with_len 0 c)
 

@@ -1,4 +1,5 @@
-//! The reports on a heap.
+//! The reports on a heap. Each line begins with `lead`: in mode `compare` the name of the manager's kind, else
+//! no bytes.
 ghost use Rattle.std.specs.Prelude.{◌≡◌, ◌≤◌, IsTrue, OnErr, length, OnOk};
 ghost use Rattle.cf_io.specs.Feeds.{FailsLast, Puts};
 ghost use Rattle.cf_base.specs.declared.answers.Totals.{Totals};
@@ -61,7 +62,8 @@ pub fn frag_line<H: Manager, K: Sink>(
     put_frag(&usage, lead, line, out)
 }
 
-/// Puts the report on classes and pages.
+/// Puts the report on classes and pages: a line for each class with live objects, then the last line.
+/// `Failed` if the sink failed; a prefix of the report was put.
 fn put_pages<H: Manager, K: Sink>(
     heap: &H,
     totals: &Totals,
@@ -91,7 +93,8 @@ fn put_pages<H: Manager, K: Sink>(
     }
 }
 
-/// Puts a line for each class with live objects, in rising order.
+/// Puts a line for each class with live objects, in rising order. `Failed` if the sink failed; a prefix
+/// of the lines was put.
 fn put_classes<H: Manager, K: Sink>(
     heap: &H,
     lead: &[u8],
@@ -119,7 +122,8 @@ fn put_classes<H: Manager, K: Sink>(
     Ok(())
 }
 
-/// Puts the line of a class after the lead, if the class has live objects.
+/// Puts the line of a class after the lead, if the class has live objects. `Failed` if the sink failed;
+/// a prefix of the line was put.
 pub fn put_class<K: Sink>(
     figures: &Figures,
     lead: &[u8],
@@ -145,7 +149,7 @@ pub fn put_class<K: Sink>(
 }
 
 /// Puts the last line of a report on pages after the lead: the live objects, the pages in use, the
-/// free pages.
+/// free pages. `Failed` if the sink failed; a prefix of the line was put.
 pub fn put_total<K: Sink>(
     live: u32,
     used: u64,
@@ -168,7 +172,8 @@ pub fn put_total<K: Sink>(
     put_line(line, out)
 }
 
-/// Puts the report on blocks.
+/// Puts the report on blocks: how many are used, how many are free, and the words of the largest free
+/// one. `Failed` if the sink failed; a prefix of the line was put.
 fn put_blocks<K: Sink>(
     totals: &Totals,
     lead: &[u8],
@@ -189,7 +194,8 @@ fn put_blocks<K: Sink>(
     put_line(line, out)
 }
 
-/// Puts the report on the bytes asked for, taken and held.
+/// Puts the line on the bytes asked for, taken and held. `Failed` if the sink failed; a prefix of the
+/// line was put.
 fn put_frag<K: Sink>(usage: &Usage, lead: &[u8], line: &mut Line, out: &mut K) -> Result<(), Failed>
     requires { length lead.now ≤ 8 }
     ensures puts { (totals : Totals) → usage_of totals ≡ usage.now

@@ -65,7 +65,7 @@ numbers_short (n ∷ rest) are =
     let e = length-append (decimal n) (after_spaces (map decimal rest)) in
     omega arith
 
--- one more token at the end
+-- one more token at the end of a line
 after_push : (ts : List (List ℕ)) (t : List ℕ) → after_spaces (ts ++ t ∷ []) ≡ after_spaces ts ++ (32 ∷ t)
 after_push [] t = append-nil (32 ∷ t)
 after_push (u ∷ ts) t = ap (λ l. (32 ∷ u) ++ l) (after_push ts t) ∙ sym (append_assoc (32 ∷ u) (after_spaces ts) (32 ∷ t))

@@ -17,7 +17,7 @@ bytes_asked word = word / 2 ^ 16 % (if word / 2 ^ 32 % 8 == 0 then 16384 else 10
 abbrev pub one_of_eight : ℕ → ℕ
 one_of_eight word = word / 2 ^ 12 % 8
 
--- the command of a word: of eight, three make an object, two free one, one writes the word's own eight bytes, and two read eight bytes
+-- the command of a word, by one of eight cases: three make an object, two free one, one writes the word's own eight bytes, and two read eight bytes
 abbrev pub command_of_word : ℕ → Command
 command_of_word word =
     if nat_lt (one_of_eight word) 3 then Malloc (id_named word) (bytes_asked word)

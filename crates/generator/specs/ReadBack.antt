@@ -17,7 +17,7 @@ IsShort n = n ≤ 65535
 abbrev pub IsWord : ℕ → Type 0
 IsWord n = n ≤ 4294967295
 
--- the fields of the command fit their types; those of every command of a program do
+-- the command's fields fit the types of the code's `Command`, as those of every value of that type do
 abbrev pub FitsTypes : Command → Type 0
 FitsTypes (Malloc id bytes) = IsShort id × IsWord bytes
 FitsTypes (Free id) = IsShort id
@@ -32,7 +32,7 @@ FitsTypes (Quota task pages) = IsWord pages
 FitsTypes (Need task bytes count) = IsWord bytes × IsWord count
 FitsTypes command = ⊤
 
--- a command that a program may hold and a script may have
+-- a command that both a value of the code's type and a line of a script may hold
 pub record IsCommand (c : Command) : Type 0 where
   pub formed : IsWellFormed c
   pub typed : FitsTypes c

@@ -46,7 +46,7 @@ object_length m h n x live some =
     let same : live.0 ≡ x = cc in
     sym (live.2 ∙ ap (λ (y : Placed). length y.bytes) same)
 
--- the bytes of a part are those of the object
+-- the bytes that a read of `count` bytes returns are those of the object
 pub chunk_is : (s : HeapState) (part : Part) (count : ℕ) (out : List ℕ) (x : Placed) → get s.held part.number ≡ Some x → ReadsBytes s part count out
     → out ≡ take count (drop part.from x.bytes)
 chunk_is s part count out x some reads =

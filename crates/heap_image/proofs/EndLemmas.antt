@@ -23,7 +23,7 @@ use Rattle.heap_image.proofs.StageLemmas.{broken_then, field_breaks, passes_part
 abbrev Reading : Type 0
 Reading = List ℕ → Decoded
 
--- readings that are the same
+-- two readings that decode all bytes alike: the second decodes what is left of the first
 pub passes_same : (T U : Reading) (had : Feed) → ((bytes : List ℕ) → T bytes ≡ U bytes) → Passes T had had U
 passes_same T U had same = record { taken = []; took = takes_nothing had; shows = same }
 
@@ -45,7 +45,7 @@ nothing_fresh s none id = ap (λ (o : Objects). get o id) none ∙ get-empty nat
 pub nothing_counts : (s : RunState) → objects_of s ≡ empty → len (objects_of s) ≡ 0
 nothing_counts s none = ap len none ∙ len-empty nat_cmp (List ℕ)
 
--- one more entry
+-- one more entry was read
 module _ (p q : Profile) (count i next at : ℕ) (had mid left : Feed) (old new : RunState) (e : Entry) (lt : i < count) (same : q ≡ p)
     (before : Passes (entries_decoded p count at_first) had mid (entries_decoded p (count - i) (reached_in old next at)))
     (entry : (go : Reached → List ℕ → Decoded) → EntryBy (λ bytes. entry_decoded q (reached_in old next at) bytes go) go old (reached_in old next at) mid
@@ -84,7 +84,7 @@ module _ (p q : Profile) (count i next at : ℕ) (had mid left : Feed) (old new 
       let least = (entry go).2 in
       ap len entry_leads.objects ∙ len_fresh (objects_of old) e.id (entry go).0 (fresh e.id least) ∙ ap (λ k. k + 1) n
 
--- an entry was not read
+-- an entry wasn't read: the load ends there
 pub entry_ends : (p q : Profile) (count i next at : ℕ) (had mid left : Feed) (old new : RunState) (f : LoadFault) → i < count → q ≡ p → old.heap.profile ≡ p
     → Passes (entries_decoded p count at_first) had mid (entries_decoded p (count - i) (reached_in old next at))
     → ((go : Reached → List ℕ → Decoded) → EntryBy (λ bytes. entry_decoded q (reached_in old next at) bytes go) go old (reached_in old next at) mid (Err f)

@@ -51,7 +51,7 @@ module _ (p : Profile) (r : Reached) (go : Reached → List ℕ → Decoded) whe
       ∙ field_read_2 id (number_bytes w32 (length v) ++ (v ++ rest)) (breaks_in p r 0) (λ id. nat_le r.next id) (λ id rest. length_decoded p r id rest go)
       (le_yes r.next id next) low ∙ length_read id v rest small room
 
--- no entry is left, and one more
+-- decoding entries: without a further one, and with one more
 pub entries_end : (p : Profile) (r : Reached) → entries_decoded p 0 r [] ≡ whole p r.objects
 unfolding entries_decoded end_decoded
 entries_end p r = refl

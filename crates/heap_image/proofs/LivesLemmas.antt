@@ -1,4 +1,4 @@
--- What lives has an image, and equal objects have one.
+-- The live objects of a heap have an image, and equal objects have the same image.
 use Rattle.std.proofs.Common.{◌≡◌, ◌∙◌, ◌+◌, ◌*◌, ◌≤◌, ℕ, List, Option, Some, None, length, refl, ap, sym, subst, arith}
 use Rattle.std.specs.Prelude.{option_map}
 use Rattle.std.specs.List.{range_with_len}
@@ -38,12 +38,12 @@ pub needed_within : (p : Profile) (bounds : List ℕ) (m : Held) → pages_neede
     → used_pages (paging_of p Words bounds) m + free_pages (paging_of p Words bounds) m ≡ p.pages → pages_needed (image_paging p) (objects m) ≤ p.pages
 needed_within p bounds m less all = (let same = needed_any p bounds (objects m) in omega arith)
 
--- objects that count alike need as many pages
+-- objects that count alike need equally many pages
 pub needed_alike : (p : Paging) (m n : Objects) → CountAlike m n → pages_needed p n ≡ pages_needed p m
 unfolding pages_needed live
 needed_alike p m n alike = sum_same _ _ (range_with_len 0 (classes p)) (λ c. ap (λ n. ceil_div n (slots_of p c)) (alike.sums _))
 
--- the bytes of an id are those of its object by number
+-- the bytes under an id are those of the object that its number names
 pub objects_of_is : (s : RunState) → AreTied s.session s.heap → (id : ℕ) → get (objects_of s) id ≡ bytes_of s id
 objects_of_is s tied id = go (get s.session.ids id) refl
   where

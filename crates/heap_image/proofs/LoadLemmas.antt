@@ -81,7 +81,7 @@ nothing_counted : (p : Profile) → count_decoded p [] ≡ cut (breaks_behind p 
 unfolding count_decoded
 nothing_counted p = refl
 
--- no memory was found
+-- an allocation failed at the opening, after the settings were read
 pub settings_lack : (from to : RunState) (had left : Feed) (s : Settings) → ReadsSettings 16 decoded had left s → IsClosed from.heap to.heap
     → to.session ≡ from.session → LoadsBy from had (Err fault.OutOfMemory) left to
 settings_lack from to had left s q closed session = record {
@@ -129,7 +129,7 @@ module _ (from to : RunState) (settings : Settings) (q : Profile) (had mid left 
           (subst (λ (p : Option Profile). HoldsRead from p ends.0.objects to) (sym ends.1) ends.4) (shows_then _ _ had mid left passes ends.0 ends.2)
       by fault.OutOfMemory ends = absurd ends
 
--- the number of objects was read, and then they
+-- a first part was read, and a further reading ended the load: so the whole reading ended it
 pub ends_then : (T U : Reading) (p : Profile) (had mid left : Feed) (r : Result Unit LoadFault) (to : RunState) → Passes T had mid U
     → EndsBy U p mid r left to → EndsBy T p had r left to
 ends_then T U p had mid left (Ok u) to passes ends = (ends.0, shows_then T U had mid left passes _ ends.1, ends.2, ends.3)
@@ -137,7 +137,7 @@ ends_then T U p had mid left (Err (fault.Bad at)) to passes ends = (ends.0, ends
 ends_then T U p had mid left (Err fault.Read) to passes ends = (ends.0, ends.1, shows_then T U had mid left passes ends.0 ends.2, ends.3, ends.4)
 ends_then T U p had mid left (Err fault.OutOfMemory) to passes ends = absurd ends
 
--- the number of objects was not read
+-- the number of objects wasn't read: the heap holds no objects
 module _ (T : Reading) (p : Profile) (had left : Feed) (s : RunState) (loading : IsLoading s) (profile : s.heap.profile ≡ p) (none : objects_of s ≡ empty) where
   holds : (t : Decoded) → t.objects ≡ empty → HoldsObjects p t.objects s
   holds t is = record { loading = loading; profile = profile; objects = none ∙ sym is }

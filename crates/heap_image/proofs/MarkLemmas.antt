@@ -41,7 +41,7 @@ pub field_then : (bad : Decoded) (test : ℕ → Bool) (go : ℕ → List ℕ �
 field_then bad test go n at count had mid left r reads good q =
     settings_then _ (go n) reads.0 4 count had mid left r reads.1 reads.3 (field_shows w32 bad test go had mid at n reads good) q
 
--- the settings go on to the objects
+-- after the settings, `count_decoded` decodes the number of objects and the entries
 pub settings_pass_on : (n : ℕ) (T : List ℕ → Decoded) (had left : Feed) (s : Settings) → ReadsSettings n T had left s
     → Passes T had left (count_decoded (profile_of s))
 settings_pass_on n T had left s q = record { taken = q.taken; took = q.took; shows = q.shows }

@@ -6,16 +6,16 @@ use Rattle.run_model.specs.Sessions.{Ids, RunState, SessionState, counted}
 use Rattle.heap_image.specs.Heaps.{objects_of}
 use Rattle.heap_image.specs.declared.fault.LoadFault.{LoadFault}
 
--- mallocs and writes move no object: the step bound is that of a malloc, if there was one
+-- the session after mallocs and writes, which move no object: its step bound is that of a malloc, if there was one
 abbrev pub after_mallocs : SessionState → Bool → Ids → SessionState
 after_mallocs s some ids = record s { ids = ids; bound = if some then 64 else s.bound }
 
--- a free after mallocs: the object that it moved counts
+-- a free after mallocs: if it moved an object, the move is counted
 pub record CountsFree (old new : SessionState) : Type 0 where
   pub freed : Freed
   pub counts : new ≡ counted (record old { ids = new.ids; bound = 96 + 2 * freed.slot_words }) freed.moved freed.slot_words
 
--- there were only mallocs and writes; or one free came last, of the object that was cut or could not be read
+-- the counters after a load that failed: there were only mallocs and writes; or the last command freed the object whose bytes were cut or couldn't be read
 abbrev pub CountsStop : SessionState → SessionState → Type 0
 CountsStop old new = ((some : Bool) × (new ≡ after_mallocs old some new.ids)) ⊎ CountsFree old new
 

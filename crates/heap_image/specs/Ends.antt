@@ -11,7 +11,7 @@ use Rattle.heap_image.specs.Stages.{ReadsAs, ReadsBroken}
 use Rattle.heap_image.specs.declared.fault.LoadFault.{LoadFault}
 use Rattle.heap_image.specs.declared.fault.LoadFault.TheVariants as fault
 
--- all objects were read and are held; or those before the field that breaks, or before the source failed, are held
+-- all objects were read, and the heap holds them; or it holds those before the field that breaks a rule, or those read before the source failed
 abbrev pub EndsBy : (List ℕ → Decoded) → Profile → Feed → Result Unit LoadFault → Feed → RunState → Type 0
 EndsBy reading p had (Ok u) left to = (o : Objects) × ReadsAs reading had left (whole p o) × IsSpent left.rest × HoldsObjects p o to
 EndsBy reading p had (Err (fault.Bad at)) left to =
@@ -20,7 +20,7 @@ EndsBy reading p had (Err fault.Read) left to =
     (t : Decoded) × (t.settings ≡ Some p) × ReadsAs reading had left t × BreaksNoRule t × HoldsObjects p t.objects to
 EndsBy reading p had (Err fault.OutOfMemory) left to = ⊥
 
--- the source ended; or it had a byte; or it failed
+-- what `read_end` found, by its result: the source had ended; or it had a byte more; or it failed
 abbrev pub EndRead : ℕ → Feed → Result Unit LoadFault → Feed → Type 0
 EndRead at had (Ok u) left = Takes [] had left × IsSpent left.rest
 EndRead at had (Err (fault.Bad b)) left = (b ≡ at) × ((byte : ℕ) × Takes (byte ∷ []) had left)

@@ -12,15 +12,15 @@ use Rattle.transcript_laws.specs.Histories.{objects_by_id}
 use Rattle.heap_image.specs.Decoded.{image_paging}
 use Rattle.heap_image.specs.Image.{image_of}
 
--- the objects by id
+-- the live objects of a run by id
 abbrev pub objects_of : RunState → Objects
 objects_of s = objects_by_id s.session.ids (objects s.heap.held)
 
--- the image under the settings of a heap
+-- the image of these objects under the settings p
 abbrev pub image_under : Profile → Objects → List ℕ
 image_under p objects = image_of p.pages (8 * p.page_words) p.proxies objects
 
--- the image of what is live
+-- the image of a run's live objects, under the settings of its heap
 abbrev pub heap_image : RunState → List ℕ
 heap_image s = image_under s.heap.profile (objects_of s)
 

@@ -15,20 +15,20 @@ number_of_bytes w bytes = from_le_bytes w bytes
 abbrev pub mark : List ℕ
 mark = codes "CFI1"
 
--- an object: its id, its length, and its bytes
+-- the entry of an object: its id in two bytes, its length in four, and its bytes
 abbrev pub entry_of : ℕ → List ℕ → List ℕ
 entry_of id v = number_bytes w16 id ++ (number_bytes w32 (length v) ++ v)
 
--- objects one after the other, each written as it is by its id and its bytes
+-- the texts of objects one after the other, each the `text` of an id and its bytes
 abbrev pub texts_of : (ℕ → List ℕ → List ℕ) → List (ℕ × List ℕ) → List ℕ
 texts_of text [] = []
 texts_of text (e ∷ es) = text e.0 e.1 ++ texts_of text es
 
--- each as an entry
+-- the entries of objects, one after the other
 abbrev pub entries_of : List (ℕ × List ℕ) → List ℕ
 entries_of es = texts_of entry_of es
 
--- the mark, the settings, and how many objects there are
+-- the first 20 bytes of an image: the mark, the settings, and how many objects there are
 abbrev pub header_of : ℕ → ℕ → ℕ → ℕ → List ℕ
 header_of pages page_bytes proxies count =
     mark ++ (number_bytes w32 pages ++ (number_bytes w32 page_bytes ++ (number_bytes w32 proxies ++ number_bytes w32 count)))

@@ -27,31 +27,31 @@ abbrev pub TakesNoMore : List ℕ → List ℕ → Bool → Type 0
 TakesNoMore taken more true = more ≡ []
 TakesNoMore taken more false = LastBreaks decoded taken
 
--- a session and a manager of kind Moving go on, and every bound is 1
+-- a run on a manager of kind Moving is in progress, and every bound is 1
 pub record IsLoading (s : RunState) : Type 0 where
   pub going : IsGoing s
   pub kind : s.heap.kind ≡ Moving
   pub ones : AreOne (paging_in s.heap)
 
--- they hold just these objects by id, under these settings
+-- such a run has exactly these live objects by id, under these settings
 pub record HoldsObjects (p : Profile) (o : Objects) (s : RunState) : Type 0 where
   pub loading : IsLoading s
   pub profile : s.heap.profile ≡ p
   pub objects : objects_of s ≡ o
 
--- without settings nothing changed; with settings they hold the objects that were read
+-- if the settings weren't read, nothing changed; else the heap holds the objects that were read
 abbrev pub HoldsRead : RunState → Option Profile → Objects → RunState → Type 0
 HoldsRead from None o to = to ≡ from
 HoldsRead from (Some p) o to = HoldsObjects p o to
 
--- the bytes taken are an image of these settings, nothing follows, and what it holds is held
+-- the bytes taken are an image with these settings, no byte follows it, and the heap holds its objects
 pub record LoadsAll (taken more : List ℕ) (settings : Settings) (to : RunState) : Type 0 where
   pub ended : more ≡ []
   pub objects : Objects
   pub reads : decoded taken ≡ whole (profile_of settings) objects
   pub holds : HoldsObjects (profile_of settings) objects to
 
--- the bytes are no image, none was taken past the field that breaks, and the objects before it are held
+-- the bytes are no image, none was taken past the field that breaks a rule, and the heap holds the objects before that field
 pub record LoadsBroken (from : RunState) (taken more : List ℕ) (at : ℕ) (to : RunState) : Type 0 where
   pub shown : Decoded
   pub reads : decoded taken ≡ shown
@@ -60,7 +60,7 @@ pub record LoadsBroken (from : RunState) (taken more : List ℕ) (at : ℕ) (to 
   pub no_more : TakesNoMore taken more shown.is_cut
   pub holds : HoldsRead from shown.settings shown.objects to
 
--- the bytes taken break no rule, and the objects in them are held
+-- the bytes taken break no rule, and the heap holds the objects of their whole entries
 pub record LoadsInPart (from : RunState) (taken : List ℕ) (to : RunState) : Type 0 where
   pub shown : Decoded
   pub reads : decoded taken ≡ shown
@@ -76,7 +76,7 @@ pub record LoadsNothing (from : RunState) (taken : List ℕ) (to : RunState) : T
   pub few : length taken ≡ 16
   pub lacks : LacksOne from to
 
--- by the result: what the bytes taken, and those that follow them, are, and what is held
+-- what a load did, by its result: what the bytes taken and those after them are, and which objects the heap holds
 abbrev pub IsLoaded : RunState → List ℕ → List ℕ → Result Settings LoadFault → RunState → Type 0
 IsLoaded from taken more (Ok settings) to = LoadsAll taken more settings to
 IsLoaded from taken more (Err (fault.Bad at)) to = LoadsBroken from taken more at to

@@ -17,7 +17,7 @@ use Rattle.heap_image.specs.declared.fault.LoadFault.TheVariants as fault
 use Rattle.heap_image.specs.declared.fields_in.Filled.{Filled}
 use Rattle.heap_image.specs.declared.fields_in.Filled.TheVariants as filled
 
--- What was taken of a source, by a reading of it.
+-- The bytes taken of a source decode to t by `reading`.
 pub record ReadsAs (reading : List ℕ → Decoded) (had left : Feed) (t : Decoded) : Type 0 where
   pub taken : List ℕ
   pub took : Takes taken had left
@@ -33,12 +33,12 @@ abbrev pub StopsAt : (List ℕ → Decoded) → List ℕ → Decoded → Feed �
 StopsAt reading taken t left true = IsSpent left.rest
 StopsAt reading taken t left false = BreaksAtLast reading taken t
 
--- What was taken of a source, up to the end of the field that breaks.
+-- The bytes taken of a source decode to t by `reading`, and none was taken past the field that breaks a rule.
 pub record ReadsBroken (reading : List ℕ → Decoded) (had left : Feed) (t : Decoded) : Type 0 where
   pub shows : ReadsAs reading had left t
   pub stops : StopsAt reading shows.taken t left t.is_cut
 
--- a part of a reading was taken, and another reading decodes the rest
+-- the bytes taken are the first that `reading` decodes, and `go` decodes the rest
 pub record Passes (reading : List ℕ → Decoded) (had left : Feed) (go : List ℕ → Decoded) : Type 0 where
   pub taken : List ℕ
   pub took : Takes taken had left
@@ -89,7 +89,7 @@ abbrev pub SettingsBy : ℕ → (List ℕ → Decoded) → Feed → Result Setti
 SettingsBy n reading had (Ok s) left = ReadsSettings n reading had left s
 SettingsBy n reading had (Err e) left = StopsBy None empty reading had e left
 
--- a run goes on, with these objects
+-- the run stays in progress under its settings, and its live objects by id are these
 pub record LeadsTo (old new : RunState) (o : Objects) : Type 0 where
   pub loading : IsLoading new
   pub profile : new.heap.profile ≡ old.heap.profile

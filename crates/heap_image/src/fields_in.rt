@@ -19,7 +19,8 @@ pub(crate) enum Filled {
     Failed,
 }
 
-/// Fills the buffer, however the source cuts its bytes.
+/// Fills the buffer from the source, whatever its chunks, until it is full, the input ends or the source
+/// fails.
 pub(crate) fn fill<S: Source>(source: &mut S, buffer: &mut [u8]) -> Filled
     ensures fills { Fills (feed_at (S.rest source.old) (S.given source.old)) buffer.new result (feed_at (S.rest source.new) (S.given source.new)) }
     ensures grows { S.faults source.old ≤ S.faults source.new }
@@ -41,7 +42,8 @@ pub(crate) fn fill<S: Source>(source: &mut S, buffer: &mut [u8]) -> Filled
     Filled::Whole
 }
 
-/// Reads a number of 16 bits at this offset.
+/// Reads a number of 16 bits at this offset. Fails with `Bad` if the input ends within it, and with `Read` if
+/// the source failed.
 pub(crate) fn read_u16<S: Source>(source: &mut S, at: u64) -> Result<u16, LoadFault>
     ensures reads { ReadsNumber w16 at (feed_at (S.rest source.old) (S.given source.old)) result (feed_at (S.rest source.new) (S.given source.new)) }
     ensures grows { S.faults source.old ≤ S.faults source.new }
@@ -56,7 +58,8 @@ pub(crate) fn read_u16<S: Source>(source: &mut S, at: u64) -> Result<u16, LoadFa
     }
 }
 
-/// Reads a number of 32 bits at this offset.
+/// Reads a number of 32 bits at this offset. Fails with `Bad` if the input ends within it, and with `Read` if
+/// the source failed.
 pub(crate) fn read_u32<S: Source>(source: &mut S, at: u64) -> Result<u32, LoadFault>
     ensures reads { ReadsNumber w32 at (feed_at (S.rest source.old) (S.given source.old)) result (feed_at (S.rest source.new) (S.given source.new)) }
     ensures grows { S.faults source.old ≤ S.faults source.new }

@@ -56,7 +56,8 @@ pub fn load<S: Source, H: Manager>(
     }
 }
 
-/// Loads the objects, from their number on, into a heap that holds none.
+/// Reads the number of objects and the entries, and loads them into a heap without objects. Fails as
+/// `load` does.
 fn load_objects<S: Source, H: Manager>(
     source: &mut S,
     heap: &mut H,
@@ -84,7 +85,7 @@ fn load_objects<S: Source, H: Manager>(
     load_entries(source, heap, session, count)
 }
 
-/// Loads `count` entries, and checks that nothing follows.
+/// Loads `count` entries, and checks that the source then ends. Fails as `load` does.
 fn load_entries<S: Source, H: Manager>(
     source: &mut S,
     heap: &mut H,
@@ -102,11 +103,11 @@ fn load_entries<S: Source, H: Manager>(
     ensures same { result ≢ Err LoadFault.Read → S.faults source.new ≡ S.faults source.old }
     ensures failed { result ≡ Err LoadFault.Read → FailsLast (S.faults source.old) (S.faults source.new) (S.last_failed source.new) }
 {
-    let mut room = [0; CHUNK];
+    let mut buffer = [0; CHUNK];
     let mut next = 0;
     let mut at = 20;
     'entries: for i in 0..count {
-        match read_entry(source, heap, session, next, at, &mut room) {
+        match read_entry(source, heap, session, next, at, &mut buffer) {
             Ok(entry) => {
                 next = entry.id as u32 + 1;
                 at += 6 + entry.length as u64;
@@ -117,7 +118,8 @@ fn load_entries<S: Source, H: Manager>(
     read_end(source, at)
 }
 
-/// Sees that the source ended at this offset.
+/// Checks that the source ends at this offset. Fails with `Bad` if it returns another byte, and with `Read`
+/// if it failed.
 fn read_end<S: Source>(source: &mut S, at: u64) -> Result<(), LoadFault>
     ensures end { EndRead at (feed_at (S.rest source.old) (S.given source.old)) result (feed_at (S.rest source.new) (S.given source.new)) }
     ensures grows { S.faults source.old ≤ S.faults source.new }

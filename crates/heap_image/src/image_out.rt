@@ -1,4 +1,4 @@
-//! Writing what lives in a heap as an image.
+//! Writes the live objects of a heap as an image.
 ghost use Rattle.std.specs.Prelude.{◌≡◌, ◌^◌, ◌<◌, ◌≤◌, ◌*◌, IsTrue, OnErr, Some, length, OnOk};
 ghost use Rattle.std.specs.FinMap as map;
 ghost use Rattle.cf_base.specs.declared.kind.Kind.TheVariants.{Moving};
@@ -28,7 +28,7 @@ impl ObjectWriter for Entries {
         heap: &H,
         id: u16,
         h: Handle,
-        room: &mut [u8],
+        buffer: &mut [u8],
         line: &mut Line,
         out: &mut K,
         meter: &mut Meter,
@@ -41,7 +41,7 @@ impl ObjectWriter for Entries {
             Ok(()) => {}
             Err(failed) => return Err(failed),
         }
-        put_bytes(heap, h, n, room, out, meter)
+        put_bytes(heap, h, n, buffer, out, meter)
     }
 }
 
@@ -76,7 +76,8 @@ pub fn save<H: Manager, K: Sink>(
     put_objects(&Entries, heap, session, &mut line, out, meter)
 }
 
-/// Writes the mark, the settings, and the number of objects.
+/// Writes the mark, the settings, and the number of objects. `Failed` if the sink failed; a prefix was
+/// written.
 fn put_header<K: Sink>(s: &Settings, live: u32, line: &mut Line, out: &mut K) -> Result<(), Failed>
     ensures puts { Puts (K.written out.old) (header_of s.now.pages (8 * s.now.page_words) s.now.proxies live)
         result (K.written out.new) }
@@ -111,18 +112,18 @@ pub fn length_of<H: Manager>(heap: &H, h: Handle, meter: &mut Meter) -> u32
     (header >> 32) as u32
 }
 
-/// Writes the `n` bytes of an object, chunk by chunk.
+/// Writes the `n` bytes of an object, chunk by chunk. `Failed` if the sink failed; a prefix was written.
 fn put_bytes<H: Manager, K: Sink>(
     heap: &H,
     h: Handle,
     n: u32,
-    room: &mut [u8],
+    buffer: &mut [u8],
     out: &mut K,
     meter: &mut Meter,
 ) -> Result<(), Failed>
     requires open { IsTrue (H.state heap.now).is_open }
     requires live { (x : Placed) × (map.get (H.state heap.now).held h.0 ≡ Some x) × (n ≡ length x.bytes) }
-    requires place { length room.old ≡ 4096 }
+    requires buffer { length buffer.old ≡ 4096 }
     ensures puts { (x : Placed) → map.get (H.state heap.now).held h.0 ≡ Some x
         → Puts (K.written out.old) x.bytes result (K.written out.new) }
     ensures grows { K.faults out.old ≤ K.faults out.new }
@@ -132,7 +133,7 @@ fn put_bytes<H: Manager, K: Sink>(
     let mut at = 0;
     'chunks: while at < n {
         let count = (n - at).min(CHUNK as u32);
-        let chunk = &mut room[..count as usize];
+        let chunk = &mut buffer[..count as usize];
         meter.lap();
         match heap.read(h, at, chunk, meter.steps()) {
             Ok(()) => {}

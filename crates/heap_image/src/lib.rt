@@ -1,4 +1,4 @@
-//! Heap images: what lives in a heap as canonical bytes, and back.
+//! Heap images: writes the live objects of a heap as canonical bytes, and loads them back.
 #![tactic(auto)]
 
 mod fault;

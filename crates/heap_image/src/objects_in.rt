@@ -30,19 +30,20 @@ pub(crate) struct Entry {
     pub length: u32,
 }
 
-/// Reads an entry at this offset, whose id is `next` at least, and makes its object.
+/// Reads an entry at this offset, whose id is `next` at least, and makes its object. Fails with `Bad` or
+/// `Read` as `load` does, and then the objects are as before.
 pub(crate) fn read_entry<S: Source, H: Manager>(
     source: &mut S,
     heap: &mut H,
     session: &mut Session,
     next: u32,
     at: u64,
-    room: &mut [u8],
+    buffer: &mut [u8],
 ) -> Result<Entry, LoadFault>
     requires loading { IsLoading (run_at session.old (H.state heap.old)) }
     requires fresh { (id : ℕ) → next ≤ id → map.get (objects_of (run_at session.old (H.state heap.old))) id ≡ None }
     requires few { map.len (objects_of (run_at session.old (H.state heap.old))) < (H.state heap.old).profile.proxies }
-    requires place { length room.old ≡ 4096 }
+    requires buffer { length buffer.old ≡ 4096 }
     requires offset { at < 2 ^ 60 }
     ensures entry { (go : Reached → List ℕ → Decoded) → EntryBy (λ bytes. entry_decoded (H.state heap.old).profile
         (reached_in (run_at session.old (H.state heap.old)) next at) bytes go) go
@@ -61,10 +62,10 @@ pub(crate) fn read_entry<S: Source, H: Manager>(
     if (id as u32) < next {
         return Err(LoadFault::Bad { at });
     }
-    read_object(source, heap, session, id, next, at, room)
+    read_object(source, heap, session, id, next, at, buffer)
 }
 
-/// Reads the length of the object of an id and its bytes, and makes the object.
+/// Reads the length of the object of an id and its bytes, and makes the object. Fails as `read_entry` does.
 fn read_object<S: Source, H: Manager>(
     source: &mut S,
     heap: &mut H,
@@ -72,13 +73,13 @@ fn read_object<S: Source, H: Manager>(
     id: u16,
     next: u32,
     at: u64,
-    room: &mut [u8],
+    buffer: &mut [u8],
 ) -> Result<Entry, LoadFault>
     requires loading { IsLoading (run_at session.old (H.state heap.old)) }
     requires rises { next ≤ id }
     requires fresh { map.get (objects_of (run_at session.old (H.state heap.old))) id ≡ None }
     requires few { map.len (objects_of (run_at session.old (H.state heap.old))) < (H.state heap.old).profile.proxies }
-    requires place { length room.old ≡ 4096 }
+    requires buffer { length buffer.old ≡ 4096 }
     requires offset { at < 2 ^ 60 }
     ensures entry { (go : Reached → List ℕ → Decoded) → EntryBy (λ bytes. length_decoded (H.state heap.old).profile
         (reached_in (run_at session.old (H.state heap.old)) next at) id bytes go) go
@@ -97,13 +98,13 @@ fn read_object<S: Source, H: Manager>(
     if !make_object(heap, session, id, n) {
         return Err(LoadFault::Bad { at: at + 2 });
     }
-    match fill_object(source, heap, session, id, n, at + 6, room) {
+    match fill_object(source, heap, session, id, n, at + 6, buffer) {
         Ok(()) => Ok(Entry { id, length: n }),
         Err(fault) => Err(fault),
     }
 }
 
-/// Makes an object of zeros, if it fits a page and there is a page or a slot for it.
+/// Makes an object of `n` zeros. False if it fits no page, or there is no page or slot for it.
 fn make_object<H: Manager>(heap: &mut H, session: &mut Session, id: u16, n: u32) -> bool
     requires loading { IsLoading (run_at session.old (H.state heap.old)) }
     requires fresh { map.get (objects_of (run_at session.old (H.state heap.old))) id ≡ None }
@@ -137,7 +138,8 @@ fn is_good(outcome: Outcome) -> bool
     }
 }
 
-/// Fills an object of n zeros. Frees it again if its bytes are cut or can't be read.
+/// Fills an object of `n` zeros with bytes from the source. Fails with `Bad` if the input ends before, and
+/// with `Read` if the source failed; then it frees the object.
 fn fill_object<S: Source, H: Manager>(
     source: &mut S,
     heap: &mut H,
@@ -145,11 +147,11 @@ fn fill_object<S: Source, H: Manager>(
     id: u16,
     n: u32,
     at: u64,
-    room: &mut [u8],
+    buffer: &mut [u8],
 ) -> Result<(), LoadFault>
     requires loading { IsLoading (run_at session.old (H.state heap.old)) }
     requires made { map.get (objects_of (run_at session.old (H.state heap.old))) id ≡ Some (replicate n 0) }
-    requires place { length room.old ≡ 4096 }
+    requires buffer { length buffer.old ≡ 4096 }
     ensures fills { FillsObject n at (run_at session.old (H.state heap.old)) id (feed_at (S.rest source.old) (S.given source.old)) result (feed_at (S.rest source.new) (S.given source.new))
         (run_at session.new (H.state heap.new)) }
     ensures counts { OnOk result (session.new ≡ session.old) }
@@ -161,7 +163,7 @@ fn fill_object<S: Source, H: Manager>(
     let mut done = 0;
     'chunks: while done < n {
         let count = (n - done).min(CHUNK as u32);
-        let chunk = &mut room[..count as usize];
+        let chunk = &mut buffer[..count as usize];
         match fill(source, chunk) {
             Filled::Whole => {}
             Filled::Cut => {

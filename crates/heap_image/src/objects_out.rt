@@ -1,4 +1,4 @@
-//! Writing the objects that live in a heap, one after another.
+//! Writes the live objects of a heap, one after another.
 ghost use Rattle.std.specs.Prelude.{◌≡◌, ◌≤◌, ℕ, List, IsTrue, OnErr, Some, length, OnOk};
 ghost use Rattle.std.specs.FinMap as map;
 ghost use Rattle.cf_base.specs.declared.kind.Kind.TheVariants.{Moving};
@@ -21,19 +21,19 @@ pub(crate) const CHUNK: usize = 4_096;
 /// How many ids there are.
 const IDS: u32 = 65_536;
 
-/// Writes one object of a heap of kind Moving: as an entry of an image, say, or as lines of a script.
+/// How to write one object of a heap of kind Moving: as an entry of an image, or as lines of a script.
 pub trait ObjectWriter {
     /// What an object is written as, by its id and its bytes.
     ghost text: { ℕ → List ℕ → List ℕ };
 
-    /// Writes an object under its id. `room` is a buffer for up to 4,096 of its bytes. Returns `Failed`
+    /// Writes an object under its id. `buffer` takes up to 4,096 of its bytes at a time. Returns `Failed`
     /// only if the sink failed; then a prefix was written.
     fn put_object<H: Manager, K: Sink>(
         &self,
         heap: &H,
         id: u16,
         h: Handle,
-        room: &mut [u8],
+        buffer: &mut [u8],
         line: &mut Line,
         out: &mut K,
         meter: &mut Meter,
@@ -41,7 +41,7 @@ pub trait ObjectWriter {
         requires moving { (H.state heap.now).kind ≡ Moving }
         requires open { IsTrue (H.state heap.now).is_open }
         requires live { (x : Placed) × (map.get (H.state heap.now).held h.0 ≡ Some x) }
-        requires place { length room.old ≡ 4096 }
+        requires buffer { length buffer.old ≡ 4096 }
         ensures puts { (x : Placed) → map.get (H.state heap.now).held h.0 ≡ Some x
             → Puts (K.written out.old) (text id x.bytes) result (K.written out.new) }
         ensures grows { K.faults out.old ≤ K.faults out.new }
@@ -70,12 +70,12 @@ pub fn put_objects<W: ObjectWriter, H: Manager, K: Sink>(
 {
     // Ids have 16 bits.
     let _first = session.handle(0);
-    let mut room = [0; CHUNK];
+    let mut buffer = [0; CHUNK];
     'ids: for id in 0..IDS {
         let Some(h) = session.handle(id as u16) else {
             continue;
         };
-        match writer.put_object(heap, id as u16, h, &mut room, line, out, meter) {
+        match writer.put_object(heap, id as u16, h, &mut buffer, line, out, meter) {
             Ok(()) => {}
             Err(failed) => return Err(failed),
         }

@@ -13,7 +13,8 @@ use crate::fields_in::{Filled, fill, read_u32};
 use cf_base::Settings;
 use cf_io::Source;
 
-/// Reads the mark and the settings, which have the bound 1.
+/// Reads the mark and the settings, and gives these the bound 1. Fails with `Bad` if a field breaks a rule or
+/// is cut, and with `Read` if the source failed.
 pub(crate) fn read_settings<S: Source>(source: &mut S) -> Result<Settings, LoadFault>
     ensures settings { SettingsBy 16 decoded (feed_at (S.rest source.old) (S.given source.old)) result (feed_at (S.rest source.new) (S.given source.new)) }
     ensures grows { S.faults source.old ≤ S.faults source.new }
@@ -46,7 +47,7 @@ fn are_pages(pages: u32) -> bool
     (1..=4096).contains(&pages)
 }
 
-/// Reads the settings from the pages on.
+/// Reads the pages, the bytes of a page and the proxies, and makes the settings. Fails as `read_settings` does.
 fn read_pages<S: Source>(source: &mut S) -> Result<Settings, LoadFault>
     ensures settings { SettingsBy 12 pages_decoded (feed_at (S.rest source.old) (S.given source.old)) result (feed_at (S.rest source.new) (S.given source.new)) }
     ensures grows { S.faults source.old ≤ S.faults source.new }
@@ -63,7 +64,7 @@ fn read_pages<S: Source>(source: &mut S) -> Result<Settings, LoadFault>
     read_page_bytes(source, pages)
 }
 
-/// Reads the settings from the bytes of a page on.
+/// Reads the bytes of a page and the proxies, and makes the settings. Fails as `read_settings` does.
 fn read_page_bytes<S: Source>(source: &mut S, pages: u32) -> Result<Settings, LoadFault>
     requires pages { IsTrue (is_within 1 4096 pages) }
     ensures settings { SettingsBy 8 (page_bytes_decoded pages) (feed_at (S.rest source.old) (S.given source.old)) result (feed_at (S.rest source.new) (S.given source.new)) }
@@ -81,7 +82,7 @@ fn read_page_bytes<S: Source>(source: &mut S, pages: u32) -> Result<Settings, Lo
     }
 }
 
-/// Reads the proxies, and makes the settings.
+/// Reads the proxies, and makes the settings. Fails as `read_settings` does.
 fn read_proxies<S: Source>(
     source: &mut S,
     pages: u32,

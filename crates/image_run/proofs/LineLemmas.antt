@@ -1,4 +1,4 @@
--- Lines that are built field by field are those of commands.
+-- The lines that the code builds field by field are the lines of commands.
 use Rattle.std.proofs.Common.{◌≡◌, ◌∙◌, ◌++◌, List, [], ◌∷◌, ℕ, Option, ap, sym, subst, append_assoc, append-nil}
 use Rattle.std.specs.Prelude.{Result, codes, decimal}
 use Rattle.cf_base.specs.declared.answers.Failed.{Failed}
@@ -9,7 +9,7 @@ use Rattle.generator.specs.ReadBack.{heap_line}
 use Rattle.hex.specs.Hex.{encode_lower}
 use Rattle.script_reader.specs.declared.command.Command.TheVariants.{Malloc, Write}
 
--- other bytes that are the same
+-- bytes that were put, written as equal bytes
 pub puts_same : (w y : Option (List ℕ)) (a b : List ℕ) (r : Result (Unit {0}) Failed) → a ≡ b → Puts w a r y → Puts w b r y
 puts_same w y a b r is put = subst (λ (bytes : List ℕ). Puts w bytes r y) is put
 

@@ -81,7 +81,7 @@ module _ (from to : Settled RunState) (call : Effects) where
           let e : None ≡ Some s.state.heap.profile = ap (option_map profile_of) (sym kept) ∙ on.1 in
           absurd cc
 
-  -- a `heap` line came: the run goes on, and the manager has its settings
+  -- after a `heap` line the run is in progress, and the manager has the settings of the line
   pub opened : (settings : Settings) → MeetsOutcome (with_settings one_manager) from call to → call.status ≡ Done → to.settings ≡ Some settings → from.settings ≡ None
       → IsGoing to.state × (to.state.heap.profile ≡ profile_of settings)
   opened settings met done some unset =
@@ -100,7 +100,7 @@ module _ (from to : Settled RunState) (call : Effects) where
             ap (λ (t : Settled RunState). t.state.heap.profile) stands ∙ same,
           )
 
--- the image of a run that goes on
+-- a run in progress is saved as the image of its objects
 pub saved_going : (s : RunState) → IsGoing s → saved s ≡ heap_image s
 saved_going s going = ap (λ b. if b then heap_image s else []) going.opened
 

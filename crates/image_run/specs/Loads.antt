@@ -1,4 +1,4 @@
--- An image is loaded, and the script that makes what it holds is written.
+-- An image is loaded, and the script that makes its objects is written.
 use Rattle.std.specs.Prelude.{◌≡◌, ℕ, List, [], Option, Result, Ok, Err, codes}
 use Rattle.cf_base.specs.declared.settings.Settings.{Settings}
 use Rattle.cf_base.specs.declared.status.Status.{Status}
@@ -38,6 +38,6 @@ EndsLoadBy OutOfMemory from call to = LoadsIn from call (Err fault.OutOfMemory) 
 EndsLoadBy WriteFault from call to = (result : Result Settings LoadFault) × LoadsIn from call result to × IsCutOff result call.before to call.after
 EndsLoadBy status from call to = ⊥
 
--- how an image that is loaded may end
+-- how a call that loads an image may end
 abbrev pub EndsLoad : RunState → Effects → RunState → Type 0
 EndsLoad from call to = EndsLoadBy call.status from call to

@@ -10,36 +10,36 @@ use Rattle.run_model.specs.Sessions.{IsGoing, RunState}
 use Rattle.script_loop.specs.OneManager.{one_manager}
 use Rattle.script_loop.specs.ScriptOutcome.{Effects, MeetsOutcome}
 
--- what the end of a run is saved as: nothing if no `heap` line opened the manager
+-- the bytes that a run is saved as: the image of its objects, or no bytes if no `heap` line opened the manager
 abbrev pub saved : RunState → List ℕ
 saved s = if s.heap.is_open then heap_image s else []
 
--- how the script ended: the sink can fail after its end alone
+-- the status of the script: the sink can fail only after the script's end, when the image is written
 abbrev pub script_status : Status → Status
 script_status WriteFault = Done
 script_status status = status
 
--- the script alone, whose replies nobody sees
+-- the effects of the script alone: its replies are dropped, as by a sink that isn't observable
 abbrev pub unseen : Effects → Effects
 unseen call = record call { before = None; after = None; status = script_status call.status }
 
--- just a prefix of the bytes was written
+-- only a prefix of the bytes was written
 abbrev pub WritesPrefix : Option (List ℕ) → List ℕ → Option (List ℕ) → Type 0
 WritesPrefix before bytes after = (front : List ℕ) × (lost : List ℕ) × (bytes ≡ front ++ lost) × (after ≡ appended before front)
 
--- by how the call ended, these bytes were written, or a prefix of them, or nothing
+-- what was written, by the status: these bytes, a prefix of them, or nothing
 abbrev pub WritesAtEnd : Status → Option (List ℕ) → List ℕ → Option (List ℕ) → Type 0
 WritesAtEnd Done before bytes after = after ≡ appended before bytes
 WritesAtEnd WriteFault before bytes after = WritesPrefix before bytes after
 WritesAtEnd status before bytes after = after ≡ before
 
--- a run that can be saved is in progress, and its objects have an image under the settings with the bound 1
+-- the run is in progress on a manager of kind Moving, and its objects have an image under its settings with the bound 1
 pub record CanBeSaved (s : RunState) : Type 0 where
   pub going : IsGoing s
   pub kind : s.heap.kind ≡ Moving
   pub have : HaveImage (at_bound_one s.heap.profile) (objects_of s)
 
--- how a script that is saved may end
+-- how a call that saves the objects of a script may end
 pub record EndsSave (from : RunState) (call : Effects) (to : RunState) : Type 0 where
   pub script : MeetsOutcome one_manager from (unseen call) to
   pub written : WritesAtEnd call.status call.before (saved to) call.after

@@ -1,4 +1,4 @@
--- The script that makes what lives in a heap.
+-- The script that makes the live objects of a heap.
 use Rattle.std.specs.Prelude.{ℕ, zero, suc, ◌+◌, ◌*◌, ◌++◌, List, [], ◌∷◌, length, take, drop}
 use Rattle.std.specs.FinMap.{entries}
 use Rattle.std.specs.Int.{div_ceil}
@@ -40,6 +40,6 @@ opening_line p = heap_line p.pages (8 * p.page_words) 1 p.proxies
 abbrev pub script_under : Profile → Objects → List ℕ
 script_under p objects = opening_line p ++ lines_of (commands_of (entries objects))
 
--- the script that makes what is live
+-- the script that makes the live objects of a run
 abbrev pub heap_script : RunState → List ℕ
 heap_script s = script_under s.heap.profile (objects_of s)

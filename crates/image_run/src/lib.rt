@@ -1,4 +1,5 @@
-//! A script to an image of what it leaves, and an image to the script that makes what it holds.
+//! From a script to an image of the objects that it leaves, and from an image to the script that makes its
+//! objects.
 #![tactic(auto)]
 
 mod load;

@@ -1,4 +1,4 @@
-//! Writing the script that makes what lives in a heap.
+//! Writes the script that makes the live objects of a heap.
 ghost use Rattle.std.specs.Prelude.{◌≡◌, ◌≤◌, IsTrue, OnErr, Some, length, OnOk};
 ghost use Rattle.std.specs.FinMap as map;
 ghost use Rattle.cf_base.specs.declared.kind.Kind.TheVariants.{Moving};
@@ -33,7 +33,7 @@ impl ObjectWriter for Lines {
         heap: &H,
         id: u16,
         h: Handle,
-        room: &mut [u8],
+        buffer: &mut [u8],
         line: &mut Line,
         out: &mut K,
         meter: &mut Meter,
@@ -43,7 +43,7 @@ impl ObjectWriter for Lines {
             Ok(()) => {}
             Err(failed) => return Err(failed),
         }
-        put_writes(heap, id, h, n, room, line, out, meter)
+        put_writes(heap, id, h, n, buffer, line, out, meter)
     }
 }
 
@@ -102,20 +102,20 @@ fn put_malloc<K: Sink>(id: u16, n: u32, line: &mut Line, out: &mut K) -> Result<
     put_line(line, out)
 }
 
-/// Writes the lines that write the `n` bytes of an object, chunk by chunk.
+/// Writes `w` lines for the `n` bytes of an object, at most 4,096 bytes each.
 fn put_writes<H: Manager, K: Sink>(
     heap: &H,
     id: u16,
     h: Handle,
     n: u32,
-    room: &mut [u8],
+    buffer: &mut [u8],
     line: &mut Line,
     out: &mut K,
     meter: &mut Meter,
 ) -> Result<(), Failed>
     requires open { IsTrue (H.state heap.now).is_open }
     requires live { (x : Placed) × (map.get (H.state heap.now).held h.0 ≡ Some x) × (n ≡ length x.bytes) }
-    requires place { length room.old ≡ 4096 }
+    requires buffer { length buffer.old ≡ 4096 }
     ensures puts { (x : Placed) → map.get (H.state heap.now).held h.0 ≡ Some x
         → Puts (K.written out.old) (lines_of (writes_of id x.bytes)) result (K.written out.new) }
     ensures grows { K.faults out.old ≤ K.faults out.new }
@@ -125,7 +125,7 @@ fn put_writes<H: Manager, K: Sink>(
     let mut at = 0;
     'chunks: while at < n as u64 {
         let count = (n as u64 - at).min(CHUNK);
-        let chunk = &mut room[..count as usize];
+        let chunk = &mut buffer[..count as usize];
         meter.lap();
         match heap.read(h, at as u32, chunk, meter.steps()) {
             Ok(()) => {}
@@ -140,7 +140,7 @@ fn put_writes<H: Manager, K: Sink>(
     Ok(())
 }
 
-/// Writes the line that writes bytes at an offset.
+/// Writes the `w` line of these bytes at an offset.
 fn put_write<K: Sink>(
     id: u16,
     at: u32,

@@ -1,4 +1,4 @@
-//! A script to an image.
+//! From a script to an image.
 ghost use Rattle.std.specs.Prelude.{◌≡◌, None, false};
 ghost use Rattle.cf_base.specs.declared.kind.Kind.TheVariants.{Moving};
 ghost use Rattle.cf_model.specs.Ordered.{KeepsPromise};
@@ -16,8 +16,8 @@ use script_loop::{WithSettings, play_script};
 use step_ledger::Meter;
 
 /// Runs a script on a closed manager of kind Moving, drops its replies, and writes the image of the live
-/// objects at its end; nothing if the script has no `heap` line. Returns the status of the script. Writes
-/// only before `Done`, or a prefix of the image before `WriteFault`.
+/// objects at its end; nothing if the script has no `heap` line. Returns the status of the script, or
+/// `WriteFault` after a prefix of the image. With another status than these two and `Done` nothing is written.
 pub fn save_script<H: Manager, S: Source, K: Sink>(
     rt: &HostRuntime,
     player: &mut WithSettings<Session>,

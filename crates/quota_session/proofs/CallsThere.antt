@@ -1,4 +1,5 @@
--- Each call of a task has its step: a malloc that isn't refused has a place, a free that must move an object can, and the words are there.
+-- Each call of a task has a result and a heap after it: a malloc that isn't refused finds a place, a free can move the object that must move, and there are
+-- words of the region after the call.
 use Rattle.std.proofs.Common.{◌≡◌, ◌≢◌, ℕ, zero, suc, ◌+◌, ◌-◌, ◌*◌, ◌/◌, ◌%◌, ◌<◌, ◌≤◌, List, Bool, true, false, cond, Some, None}
 use Rattle.std.proofs.Common.{length, get_or, set, arith, sym, ◌∙◌, ap, refl, subst, inl, inr}
 use Rattle.std.specs.Prelude.{IsTrue, Option, Result, Ok, Err, nat_eq, nat_lt}
@@ -41,7 +42,7 @@ use Rattle.quota_model.proofs.CallerLemmas.{free_quotas, free_shared, found_smal
 use Rattle.quota_model.proofs.CallerLemmas.{tasks_at_one, tasks_paged}
 use Rattle.run_laws.proofs.CallerLemmas.{is_rewritten, length-rewritten, rewritten}
 
--- what none of the three causes says
+-- a malloc that isn't refused has none of the three causes
 no_cause : (a b c : Bool) → cond a (Some refusal.Size) (cond b (Some refusal.Proxy) (cond c (Some refusal.Space) None)) ≡ None
     → (a ≡ false) × (b ≡ false) × (c ≡ false)
 no_cause true b c e = absurd (let z : Some refusal.Size ≡ None = e in cc)
@@ -49,7 +50,7 @@ no_cause false true c e = absurd (let z : Some refusal.Proxy ≡ None = e in cc)
 no_cause false false true e = absurd (let z : Some refusal.Space ≡ None = e in cc)
 no_cause false false false e = (refl, refl, refl)
 
--- a task whose objects fill their pages needs one page more with one more of their class
+-- a task whose objects of a class fill their pages needs one page more for one more object of the class
 module _ (p : Paging) (ok : IsPaging p) (m : Held) (s : IsSound p m) (ones : (c : ℕ) → c < classes p → bound_of p c ≡ 1) (n : ℕ)
     (lt : class_for p n < classes p) (none : not_full_pages p m (class_for p n) ≡ 0) where
   abbrev c : ℕ
@@ -118,7 +119,7 @@ pub record IsThere (T : Type 0) (R : T → QuotaState → Type 0) : Type 0 where
   pub step : R answer heap
   pub rules : KeepsTasks heap
 
--- while a task uses fewer pages than its quota, a page holds nothing
+-- while a task uses fewer pages than its quota, a page of the region holds no object
 abbrev pub PageLaw : Type 0
 PageLaw = (s : Profile) (quotas : List ℕ) (m : Held) (task : ℕ) → IsShared s m → AreQuotas s quotas m → IsTrue (is_page_size s.page_words) → task < 16
     → used_pages (task_paging s) (part_of m task) < get_or quotas task 0 → (page : ℕ) × (page < s.pages) × (count_on (task_paging s) m page ≡ 0)
@@ -136,7 +137,7 @@ module _ (law : PageLaw) (s : QuotaState) (rules : KeepsTasks s) (task : ℕ) (l
   sound : IsSound p m
   sound = (rules.shared).sound task
 
-  -- other objects in other words
+  -- the heap keeps its tasks apart after its objects and its words are replaced
   rules_with : (held : Held) (words : List ℕ) → IsShared s.profile held × AreQuotas s.profile s.quotas held
       → length words ≡ region_words s.profile → IsSlotImage p held words → KeepsTasks (with_held s held words)
   rules_with held words share long slots = record {
@@ -166,7 +167,7 @@ module _ (law : PageLaw) (s : QuotaState) (rules : KeepsTasks s) (task : ℕ) (l
     | inr le ↦ omega arith
   ]
 
-  -- a place of the task's own
+  -- a free place for an object of n bytes of the task
   record HasPlace (n : ℕ) : Type 0 where
     place : ℕ
     free : IsFreePlace p m n place
@@ -262,7 +263,7 @@ module _ (law : PageLaw) (s : QuotaState) (rules : KeepsTasks s) (task : ℕ) (l
       go None granted = malloc_granted n granted
       go (Some e) cause = record { answer = Err e; heap = s; step = (cause, refl); rules = rules }
 
-  -- the words of a slot of an object
+  -- the slot of an object lies within the region
   slot_in : (h : ℕ) (x : Placed) → get m h ≡ Some x → x.place + slot_for p (length x.bytes) ≤ length s.words
   slot_in h x there = (let i = slot_inside p (class_at p x) x.place (sound.slots h x there) in let l = rules.region in omega arith)
 

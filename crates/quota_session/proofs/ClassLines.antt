@@ -1,4 +1,4 @@
--- The pages of the classes of a task, one class more.
+-- The pages of the classes of a task, counted class by class.
 use Rattle.std.proofs.Common.{◌≡◌, ◌∙◌, ℕ, ◌+◌, ◌≤◌, ◌<◌, ◌++◌, List, [], ◌∷◌, Some, None, ap, arith}
 use Rattle.std.proofs.lemmas.List.Sums.{sum_by-cons}
 use Rattle.std.specs.Prelude.{sum_by}
@@ -25,7 +25,7 @@ module _ (s : QuotaState) (task : ℕ) where
   abbrev held : Held
   held = held_by s task
 
-  -- a class that is there, and one that is past the last
+  -- if there are figures of class c, c is a class and they are its figures; if there are none, c is past the last class
   pub class_of_task : (c : ℕ) (f : Figures) → Some f ≡ figures_by s task c → (c < classes p) × (f ≡ figures_of p held c)
   class_of_task c f is = class_there c (classes p) f (figures_of p held c) is
 
@@ -44,7 +44,7 @@ module _ (s : QuotaState) (task : ℕ) where
       let e : f.pages ≡ home_pages p held c = ap (λ (g : Figures). g.pages) is in
       omega arith
 
-  -- all classes are counted
+  -- after all classes, the pages counted are the pages that the task uses
   pub all_pages : (c used : ℕ) → c ≡ classes p → used ≡ sum_by (home_pages p held) (range_with_len 0 c) → used ≡ used_pages p held
   unfolding used_pages
   all_pages c used is so_far = so_far ∙ ap (λ k. sum_by (home_pages p held) (range_with_len 0 k)) is

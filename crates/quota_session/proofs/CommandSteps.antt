@@ -188,7 +188,7 @@ begins_there p can =
       },
     )
 
--- a run over tasks goes on
+-- a run over tasks can be continued after each command
 pub tasks_go_on : PageLaw → CanGoOn BeginsAtOne QuotaStep
 tasks_go_on law = record {
   is_going = IsGoingQuotas;

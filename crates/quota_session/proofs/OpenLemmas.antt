@@ -13,7 +13,7 @@ use Rattle.id_table.proofs.CallerLemmas.{none_tied}
 use Rattle.quota_session.specs.Playing.{BeginsQuotas}
 use Rattle.quota_session.specs.QuotaRun.{AreTasksTied, HasSixteen, IsGoingQuotas, QuotaRun, TaskSession, first_session, ids_of, quota_run}
 
--- each of n values is the default
+-- in a list of n equal values every value is this one, and so is the default
 pub all_same : {X : Type 0} (n i : ℕ) (x : X) → get_or (replicate n x) i x ≡ x
 all_same zero i x = refl
 all_same (suc n) zero x = refl
@@ -33,7 +33,7 @@ no_objects p task = ap objects (no_part task) ∙ map_values-empty _
 pub first_tied : (p : Profile) → AreTasksTied first_session (empty_state p)
 first_tied p task lt = none_tied (ids_of first_session task) (objects_by (empty_state p) task) (all_same {X = Ids} 16 task empty) (no_objects p task)
 
--- a run that began goes on
+-- a run is in progress after its `heap` line
 pub begins_going : (p : Profile) (s : QuotaRun) → BeginsQuotas p s → IsGoingQuotas s
 begins_going p s b = record {
   opened = (b.rules).opened;
@@ -46,7 +46,7 @@ begins_going p s b = record {
 
 module _ (session : TaskSession) (p : Profile) (heap : QuotaState) (fresh : session ≡ first_session) (opened : heap ≡ empty_state p)
     (rules : KeepsTasks heap) where
-  -- with the settings of the line, at the bound 1
+  -- the run begins, if the heap is open with the settings of the line and the bound 1
   pub opened_begins : (line : Profile) → p ≡ at_bound_one line → BeginsQuotas line (quota_run (Some p) session heap)
   opened_begins line is = record {
     settings = ap (λ q. Some q) is;

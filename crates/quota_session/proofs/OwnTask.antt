@@ -62,7 +62,7 @@ module _ (old new : TaskRun) (rules : KeepsTasks old.heap) (tied : AreTiedTo old
   counts : CountAlike m (all old.task)
   counts = subst (λ (o : Objects). CountAlike m o) (sym own) (by_id_counts old.ids m names)
 
-  -- what an id names, by id
+  -- if the id isn't live, the task has no object by this id
   gone : (id : ℕ) → get old.ids id ≡ None → get (all old.task) id ≡ None
   gone id none = ap (λ (o : Objects). get o id) own ∙ gone_by_id old.ids m id none
 
@@ -74,7 +74,7 @@ module _ (old new : TaskRun) (rules : KeepsTasks old.heap) (tied : AreTiedTo old
     pub reply_is : reply ≡ task_reply t old.task c
     pub left : objects_by_id new.ids (objects_by new.heap old.task) ≡ task_leaves t old.task c
 
-  -- nothing changes
+  -- if the command changes nothing, the objects by id are those of the task's own heap after it
   stays : (c : Command) → new ≡ old → reply ≡ task_reply t old.task c → all old.task ≡ task_leaves t old.task c → IsOwnReply c
   stays c same r l = record { reply_is = r; left = ap (λ (s : TaskRun). objects_by_id s.ids (objects_by s.heap old.task)) same ∙ sym own ∙ l }
 

@@ -44,7 +44,7 @@ use Rattle.quota_session.proofs.TaskKept.{bytes_by}
 report_other : (s : QuotaState) (task : ℕ) → Other ≡ outcome_of (task_report s task)
 report_other s task = pages_other (λ c. figures_of (task_paging s.profile) (held_by s task) c) (task_totals s task) (task_classes s task)
 
--- ids as they are change nothing
+-- replacing the present task's ids by the same ids changes nothing
 pub same_ids : (s : TaskSession) → with_ids s (ids_of s s.present) ≡ s
 same_ids s = ap (λ (all : List Ids). record s { ids = all }) (set-get_or s.ids s.present empty)
 

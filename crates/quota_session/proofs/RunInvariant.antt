@@ -1,4 +1,4 @@
--- A run over tasks with quotas goes on after each command.
+-- A run over tasks with quotas is in progress after each command.
 use Rattle.std.proofs.Common.{◌≡◌, ◌≢◌, ℕ, ◌<◌, ◌≤◌, List, [], ◌∷◌, ◌++◌, Some, cond, length, arith, sym}
 use Rattle.std.proofs.Common.{◌∙◌, ap, subst, inl, inr}
 use Rattle.std.specs.Prelude.{IsTrue, Option, Result, Ok, Err}
@@ -27,7 +27,7 @@ use Rattle.quota_session.specs.QuotaRun.{present_run, quota_run, with_ids, with_
 use Rattle.quota_session.specs.TaskRun.{TaskRun, TaskStep, task_run}
 use Rattle.quota_session.proofs.TaskKept.{IsKept, task_kept}
 
--- the ids of one task are others, and those of all else stay
+-- `with_ids` replaces the ids of the present task, and keeps the ids of every other task
 pub ids_here : (s : TaskSession) (ids : Ids) → HasSixteen s → ids_of (with_ids s ids) s.present ≡ ids
 ids_here s ids has = (let many = has.ids in let lt = has.present in get_or-set_same s.ids s.present ids empty (omega arith))
 
@@ -71,7 +71,7 @@ with_need_sixteen s task entry lt has = record {
   present = has.present;
 }
 
--- a task that a command names
+-- a command names a task from 0 to 15
 below : (task : ℕ) → task ≤ 15 → task < 16
 below task le = omega arith
 
@@ -125,13 +125,13 @@ module _ (old : QuotaRun) (going : IsGoingQuotas old) where
   still_going (command.Admit task) reply new formed step = subst IsGoingQuotas (sym step.1) going
   still_going c reply new formed step = steps c reply new step
 
-  -- also if the reply was cut
+  -- the run is in progress after a command, also if the sink cut the reply
   pub applied_going : (new : QuotaRun) (c : Command) (w y : Option (List ℕ)) (answer : Result Outcome Failed) → IsWellFormed c
       → Applies quota_tasks (snapshot old w) c answer (snapshot new y) → IsGoingQuotas new
   applied_going new c w y (Ok outcome) formed a = still_going c a.0.reply new formed a.0.turns
   applied_going new c w y (Err e) formed a = still_going c a.turns.reply new formed a.turns.turn
 
--- a session whose heap is open with these settings, as its record has it
+-- a session over an open heap with these settings is a run in progress, if its ids name the objects
 pub going_before : (p : Profile) (session view : TaskSession) (heap : QuotaState) → IsTrue heap.is_open → KeepsTasks heap → heap.profile ≡ p → session ≡ view
     → HasSixteen session → AreTasksTied view heap → IsGoingQuotas (quota_run (Some p) session heap)
 going_before p session view heap opened rules profile is sixteen tied = record {

@@ -39,7 +39,7 @@ use Rattle.quota_session.proofs.RunInvariant.{ids_here, ids_there, present_kept,
 use Rattle.quota_session.proofs.OpenLemmas.{all_same, begins_going}
 use Rattle.quota_session.proofs.OwnTask.{IsOwnReply, shown}
 
--- what the lines of a script leave, of a run
+-- the state of a run as the transcript has it: the present task, the tasks by id, and their needs
 abbrev state_of : QuotaRun → TaskState
 state_of s = record { present = s.session.present; tasks = tasks_of s; needs = needs_of s.session }
 
@@ -89,7 +89,7 @@ module _ (old : QuotaRun) (going : IsGoingQuotas old) where
       let names : AreTiedTo (ids_of old.session task) (objects_by old.heap task) = tied in
       by_id_counts (ids_of old.session task) (objects_by old.heap task) names
 
-  -- a quota line is refused by the objects by id as by those by number
+  -- whether a quota line is refused is the same by the objects by id and by handle
   fault_same : (task pages : ℕ) → task < 16 → quota_fault old.heap task pages ≡ set_refusal t task pages
   fault_same task pages lt = λ i. cond (nat_lt old.heap.profile.pages (sum (slice_set old.heap.quotas task pages))) (Some Sum)
       (cond (nat_lt pages (sym (needed_alike (task_paging old.heap.profile) (objects_by old.heap task) (t.objects task) (counts task lt)) i)) (Some Used) None)
@@ -234,12 +234,12 @@ run_shown (item ∷ rest) old replies end going can run =
     run.4 ∙ ap (λ l. run.1 ∷ l) (run_shown rest run.0 run.2 end now.going can.1 run.5)
     ∙ (λ i. now.reply_is i ∷ task_replies (now.state i) rest)
 
--- the replies to a script
+-- the replies to a script are those of its transcript
 pub transcript_shown : (items : List Item) (replies : List Reply) (end : Option QuotaRun) → AreSayable items → RunsQuotas None items replies end
     → MeetsTasks items replies
 transcript_shown items replies end can run = run_shown items None replies end tt can run
 
--- and to the bytes of one, from any state before its `heap` line
+-- the replies to the bytes of a script are those of its transcript, from any state before its `heap` line
 pub tasks_met : (from : QuotaRun) (all : List ℕ) (replies : List Reply) (end : Option QuotaRun) → RunBy quota_tasks from None (items_within all) replies end
     → MeetsTasks (items_within all) replies
 tasks_met from all replies end run = transcript_shown (items_within all) replies end (items_sayable (take MOST_BYTES all) (nat_le (length all) MOST_BYTES)) run

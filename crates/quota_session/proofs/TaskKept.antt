@@ -34,7 +34,7 @@ pub record KeepsRest (task : ℕ) (old new : QuotaState) : Type 0 where
   pub quotas : new.quotas ≡ old.quotas
   pub others : (u : ℕ) → u ≢ task → objects_by new u ≡ objects_by old u
 
--- the same, and the ids of the task are those of its objects
+-- `KeepsRest`, and the ids of the task name its objects
 pub record IsKept (old new : TaskRun) : Type 0 where
   pub rest : KeepsRest old.task old.heap new.heap
   pub tied : AreTiedTo new.ids (objects_by new.heap old.task)
@@ -108,7 +108,7 @@ module _ (old new : TaskRun) (rules : KeepsTasks old.heap) (tied : AreTiedTo old
   same : new ≡ old → IsKept old new
   same is = subst (λ (s : TaskRun). IsKept old s) (sym is) (record { rest = rest_same old.task old.heap old.heap rules refl; tied = tied })
 
-  -- nothing has changed but the ids, which are as they were
+  -- if neither the heap nor the ids change, all is kept
   unchanged : (ids : Ids) → new.ids ≡ ids → ids ≡ old.ids → new.heap ≡ old.heap → IsKept old new
   unchanged ids a b is = record {
     rest = rest_same old.task old.heap new.heap rules is;

@@ -73,7 +73,7 @@ read_is : (o : Option (List ℕ)) (at count : ℕ) → read_said o at count ≡ 
 read_is None at count = refl
 read_is (Some v) at count = refl
 
--- the bytes of each task that a script left
+-- the bytes of each task's ids in a state of the transcript
 abbrev bytes_of : TaskState → TaskBytes
 bytes_of s = record { present = s.present; bytes = s.tasks.objects }
 

@@ -9,18 +9,18 @@ use Rattle.script_reader.specs.Items.{Item}
 use Rattle.script_loop.specs.Applying.{TurnsInPart}
 use Rattle.quota_session.specs.QuotaRun.{IsGoingQuotas, QuotaRun, QuotaStep, first_session}
 
--- a heap that tasks share was opened with the settings of the line, with a new session
+-- the run after the `heap` line: the heap has no objects and the settings of the line with the bound 1, and the session is new
 pub record BeginsQuotas (p : Profile) (new : QuotaRun) : Type 0 where
   pub settings : new.settings ≡ Some (at_bound_one p)
   pub session : new.session ≡ first_session
   pub heap : new.heap ≡ empty_state (at_bound_one p)
   pub rules : KeepsTasks new.heap
 
--- the same, and the reply is `ok`
+-- the run begins as in `BeginsQuotas`, and the reply to the `heap` line is `ok`
 abbrev pub BeginsAtOne : Profile → Reply → QuotaRun → Type 0
 BeginsAtOne p reply new = BeginsQuotas p new × (reply ≡ said (codes "ok"))
 
--- The items of a script may have these replies, one each, and lead to the new state.
+-- A run from a state (None before the `heap` line): the items may have these replies, one each, and lead to the new state.
 abbrev pub RunsQuotas : Option QuotaRun → List Item → List Reply → Option QuotaRun → Type 0
 RunsQuotas = PlayRun BeginsAtOne QuotaStep
 
@@ -30,6 +30,7 @@ pub record LacksQuotas (old new : QuotaRun) : Type 0 where
   pub settings : new.settings ≡ old.settings
   pub session : new.session ≡ old.session
 
+-- mode `quota` for the script loop: how a run begins, what each command does, and what is left if an allocation fails
 abbrev pub quota_tasks : Semantics QuotaRun ⊤
 quota_tasks = record {
   plan = λ s. tt;

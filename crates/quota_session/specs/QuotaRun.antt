@@ -21,7 +21,7 @@ use Rattle.script_reader.specs.declared.command.Command.TheVariants as command
 use Rattle.id_table.specs.Ties.{AreTiedTo}
 use Rattle.quota_session.specs.TaskRun.{TaskRun, TaskStep, task_run}
 
--- by task its live ids with the handles that they name, and the entries that it declared; and the present task
+-- for each task its live ids with the handles that they name, and the entries that it declared; and the number of the present task
 pub record TaskSession : Type 0 where
   pub ids : List Ids
   pub needs : List (List Need)
@@ -31,10 +31,11 @@ pub record TaskSession : Type 0 where
 abbrev pub first_session : TaskSession
 first_session = record { ids = replicate 16 empty; needs = replicate 16 []; present = 0 }
 
--- the ids of a task, and what it declared
+-- the live ids of a task; none if there is no such task
 abbrev pub ids_of : TaskSession → ℕ → Ids
 ids_of s task = slice_index_or s.ids task empty
 
+-- the entries that a task declared; none if there is no such task
 abbrev pub needs_of : TaskSession → ℕ → List Need
 needs_of s task = slice_index_or s.needs task []
 
@@ -45,15 +46,16 @@ pub record HasSixteen (s : TaskSession) : Type 0 where
   pub few : (task : ℕ) → length (needs_of s task) ≤ 64
   pub present : s.present < 16
 
+-- the session as pairs and lists, since the type's `Model` needs a coded value
 abbrev pub session_code : Coded TaskSession
 session_code = code_by (List Ids × (List (List Need) × ℕ)) (coded× (coded_list ids_code) (coded× (coded_list (coded_list need.the_row.coded)) coded_ℕ))
     (λ s. (s.ids, (s.needs, s.present))) (λ q. record { ids = q.0; needs = q.1.0; present = q.1.1 }) (λ _. refl)
 
--- the ids of each task name just its objects, each once
+-- the ids of each task name exactly its objects, each object by one id
 abbrev pub AreTasksTied : TaskSession → QuotaState → Type 0
 AreTasksTied session heap = (task : ℕ) → task < 16 → AreTiedTo (ids_of session task) (objects_by heap task)
 
--- the settings of the `heap` line, if there was one; the session; and its heap
+-- the settings of the `heap` line, None before it; the session; and the heap
 pub record QuotaRun : Type 0 where
   pub settings : Option Profile
   pub session : TaskSession
@@ -62,7 +64,7 @@ pub record QuotaRun : Type 0 where
 abbrev pub quota_run : Option Profile → TaskSession → QuotaState → QuotaRun
 quota_run settings session heap = record { settings = settings; session = session; heap = heap }
 
--- The run goes on: the heap is open with the settings of the line and keeps its tasks apart, and the ids are those of its objects.
+-- A run in progress: the heap is open with the settings of the `heap` line and keeps its tasks apart, and each task's ids name its objects.
 pub record IsGoingQuotas (s : QuotaRun) : Type 0 where
   pub opened : IsTrue s.heap.is_open
   pub settings : s.settings ≡ Some s.heap.profile
@@ -70,39 +72,39 @@ pub record IsGoingQuotas (s : QuotaRun) : Type 0 where
   pub sixteen : HasSixteen s.session
   pub tied : AreTasksTied s.session s.heap
 
--- the present task, with its ids
+-- the part of a run that a command of the present task uses: the task, its ids, and the heap
 abbrev pub present_run : TaskSession → QuotaState → TaskRun
 present_run session heap = task_run session.present (ids_of session session.present) heap
 
--- the session, with other ids of the present task
+-- the session after the present task's ids became `ids`
 abbrev pub with_ids : TaskSession → Ids → TaskSession
 with_ids s ids = record s { ids = slice_set s.ids s.present ids }
 
--- a command of the present task, which changes the ids of no other one
+-- the step of a command of the present task; the ids of the other tasks stay the same
 pub record StepsPresent (old : QuotaRun) (command : Command) (reply : Reply) (new : QuotaRun) : Type 0 where
   pub ids : Ids
   pub step : TaskStep (present_run old.session old.heap) command reply (task_run old.session.present ids new.heap)
   pub whole : new ≡ record old { session = with_ids old.session ids; heap = new.heap }
 
--- t: another task is present
+-- `t`: the run after `task` became the present task
 abbrev pub with_present : QuotaRun → ℕ → QuotaRun
 with_present s task = record s { session = record s.session { present = task } }
 
--- why a quota line is refused, if it is
+-- why the line that sets the task's quota to `pages` is refused; None if it is accepted
 abbrev pub quota_fault : QuotaState → ℕ → ℕ → Option QuotaFault
 quota_fault s task pages = quota_refusal s.profile s.quotas task pages (objects_by s task)
 
--- quota: the task has another quota, or the line is refused and changes nothing
+-- `quota`: the line sets the task's quota in pages, or it is refused and changes nothing
 pub record SetsQuota (old : QuotaRun) (task pages : ℕ) (reply : Reply) (new : QuotaRun) : Type 0 where
   pub whole : new ≡ record old { heap = record old.heap { quotas = quotas_after (quota_fault old.heap task pages) old.heap.quotas task pages } }
   pub rules : KeepsTasks new.heap
   pub reply_is : reply ≡ said (quota_text (quota_fault old.heap task pages))
 
--- the session, with one more entry of a task
+-- the session after `need`: the task has one more entry, if it had fewer than 64
 abbrev pub with_need : TaskSession → ℕ → Need → TaskSession
 with_need s task entry = record s { needs = slice_set s.needs task (one_more (needs_of s task) entry) }
 
--- admit: whether the quota of a task is enough for the needs that it declared
+-- `admit`: the reply shows whether the task's quota and the proxies are enough for the needs that it declared (`IsAdmission`)
 pub record Admits (s : QuotaRun) (task : ℕ) (reply : Reply) : Type 0 where
   pub answer : Admission
   pub meets : IsAdmission (record { profile = s.heap.profile; quota = quota_of s.heap task }) (needs_of s.session task) answer
@@ -118,6 +120,6 @@ QuotaStep old (command.Need task bytes count) reply new =
 QuotaStep old (command.Admit task) reply new = Admits old task reply × (new ≡ old)
 QuotaStep old command reply new = StepsPresent old command reply new
 
--- the state at one moment, and the bytes written by then
+-- a snapshot of a run: its state, and the bytes written to the sink so far
 abbrev pub quota_moment : Option Profile → TaskSession → QuotaState → Option (List ℕ) → Snapshot QuotaRun
 quota_moment settings session heap written = snapshot (quota_run settings session heap) written

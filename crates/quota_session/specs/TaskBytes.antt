@@ -7,26 +7,26 @@ use Rattle.script_reader.specs.Items.{Item, asks, bad, starts}
 use Rattle.script_reader.specs.declared.command.Command.{Command}
 use Rattle.quota_session.specs.Alone.{present_after}
 
--- the present task, and by task the bytes of each id
+-- the present task, and for each task the bytes of each id
 pub record TaskBytes : Type 0 where
   pub present : ℕ
   pub bytes : ℕ → IdBytes
 
--- after a command and its reply: `t` makes another task present; a command with the reply `ok` changes the bytes of the present task alone
+-- the bytes after a command and its reply: `t` makes another task present; a command with the reply `ok` changes the bytes of the present task alone
 abbrev pub bytes_with : TaskBytes → Command → Reply → TaskBytes
 bytes_with m command reply = record {
   present = present_after m.present command;
   bytes = λ task. if nat_eq task m.present && is_ok reply then done_by command (m.bytes task) else m.bytes task;
 }
 
--- after an item and its reply; nothing before the `heap` line
+-- the bytes of each task's ids after an item and its reply; None before the `heap` line
 abbrev pub task_bytes_after : Option TaskBytes → Item → Reply → Option TaskBytes
 task_bytes_after shown (starts p) reply = Some (record { present = 0; bytes = λ task. empty })
 task_bytes_after None (asks command) reply = None
 task_bytes_after (Some m) (asks command) reply = Some (bytes_with m command reply)
 task_bytes_after shown (bad n) reply = shown
 
--- the item is a read, and its reply gives the bytes of the present task's id; or it is no read
+-- if the item is a read, its reply follows from the bytes of the present task's ids (`IsReadOf`); other items may have any reply
 abbrev pub IsReadOfTasks : Option TaskBytes → Item → Reply → Type 0
 IsReadOfTasks None item reply = ⊤
 IsReadOfTasks (Some m) item reply = IsReadOf (Some (m.bytes m.present)) item reply

@@ -41,7 +41,7 @@ task_object s id = elim (get s.ids id) [ None ↦ None | Some h ↦ get (held_by
 abbrev pub task_classes : QuotaState → ℕ → List ℕ
 task_classes s task = filter (λ c. not (nat_eq (live (task_paging s.profile) (objects_by s task) c) 0)) (range_with_len 0 (classes (task_paging s.profile)))
 
--- the lines of these classes of a task
+-- the report lines of these classes of a task
 abbrev pub class_lines : QuotaState → ℕ → List ℕ → Reply
 class_lines s task cs = map (λ c. class_line (figures_of (task_paging s.profile) (held_by s task) c)) cs
 
@@ -51,15 +51,15 @@ task_totals s task = record (totals_of (task_paging s.profile) (held_by s task))
   free = quota_of s task - used_pages (task_paging s.profile) (held_by s task);
 }
 
--- walk: a line for each class of the task with live objects, and then the last line
+-- walk: a line for each class of the task with live objects, and then the line of the totals
 abbrev pub task_report : QuotaState → ℕ → Reply
 task_report s task = class_lines s task (task_classes s task) ++ said (total_line (task_totals s task))
 
--- the command does nothing, and gets this reply
+-- the command changes nothing, and its reply is this text
 abbrev pub StaysTask : TaskRun → List ℕ → Reply → TaskRun → Type 0
 StaysTask old text reply new = (reply ≡ said text) × (new ≡ old)
 
--- a malloc for an id that isn't live
+-- a malloc for an id that isn't live: the heap adds an object and the id names it, or the heap refuses; the reply shows which
 pub record MallocsForTask (old : TaskRun) (id bytes : ℕ) (reply : Reply) (new : TaskRun) : Type 0 where
   pub answer : Result Handle Refusal
   pub step : IsMallocStep old.heap old.task bytes answer new.heap
@@ -68,7 +68,7 @@ pub record MallocsForTask (old : TaskRun) (id bytes : ℕ) (reply : Reply) (new 
   pub task : new.task ≡ old.task
   pub reply_is : reply ≡ said (malloc_text answer)
 
--- a free of a live id
+-- a free of a live id: the heap removes the object, and the id is no longer live
 pub record FreesIdOfTask (old : TaskRun) (id h : ℕ) (reply : Reply) (new : TaskRun) : Type 0 where
   pub freed : Freed
   pub step : FreesOfTask old.heap old.task h freed new.heap
@@ -77,7 +77,7 @@ pub record FreesIdOfTask (old : TaskRun) (id h : ℕ) (reply : Reply) (new : Tas
   pub task : new.task ≡ old.task
   pub reply_is : reply ≡ said (codes "ok")
 
--- a write into a live object
+-- a write into a live object: the heap replaces the bytes, or refuses; the reply shows which
 pub record WritesIdOfTask (old : TaskRun) (part : Part) (bytes : List ℕ) (reply : Reply) (new : TaskRun) : Type 0 where
   pub answer : Result Unit AccessFault
   pub step : IsWriteStep old.heap old.task part bytes answer new.heap

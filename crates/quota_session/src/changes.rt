@@ -1,4 +1,5 @@
-//! The commands of one task on its objects: each returns its reply; a read writes it on the line.
+//! The commands `m`, `f`, `w` and `r` of one task on its objects. The first three return their reply; `r`
+//! writes its reply on the line.
 ghost use Rattle.std.specs.Prelude.{◌≡◌, ◌^◌, ◌<◌, ◌≤◌, [], IsTrue, length};
 ghost use Rattle.step_ledger.specs.Counting.{RoseAtMost};
 ghost use Rattle.cf_io.specs.Lines.{line_room};
@@ -18,7 +19,8 @@ use id_table::IdTable;
 use quota_heap::QuotaHeap;
 use step_ledger::Steps;
 
-/// `m`: makes an object for an id that isn't live.
+/// `m`: makes an object of `bytes` bytes for an id that isn't live. The reply is `live` if the id is live,
+/// or names the heap's refusal.
 pub(crate) fn malloc(
     ids: &mut IdTable,
     heap: &mut QuotaHeap,
@@ -45,7 +47,7 @@ pub(crate) fn malloc(
     }
 }
 
-/// `f`: frees the object of a live id.
+/// `f`: frees the object of a live id. The reply is `unknown` if the id isn't live.
 pub(crate) fn free(
     ids: &mut IdTable,
     heap: &mut QuotaHeap,
@@ -70,7 +72,8 @@ pub(crate) fn free(
     Short::Done
 }
 
-/// `w`: writes bytes into the object of a live id.
+/// `w`: writes bytes into the object of a live id, from byte `at` on. The reply is `unknown` if the id
+/// isn't live, or names the heap's fault if the bytes pass the object's end.
 pub(crate) fn write(
     ids: &IdTable,
     heap: &mut QuotaHeap,
@@ -95,32 +98,34 @@ pub(crate) fn write(
     }
 }
 
-/// `r`: writes the bytes of a live id's object from `at` on, in hexadecimal, on the line.
+/// `r`: fills `buffer` with bytes of a live id's object, from byte `at` on, and writes them on the line in
+/// hexadecimal. The reply is `unknown` if the id isn't live, or names the heap's fault if the bytes pass
+/// the object's end.
 pub(crate) fn read(
     ids: &IdTable,
     heap: &QuotaHeap,
     task: u32,
     id: u16,
     at: u32,
-    room: &mut [u8],
+    buffer: &mut [u8],
     line: &mut Line,
     steps: &mut Steps,
 ) -> Outcome
     requires opened { IsTrue heap.now.is_open }
     requires sixteen { task < 16 }
     requires count { steps.old ≤ 2 ^ 63 }
-    requires few { length room.old ≤ 4096 }
+    requires few { length buffer.old ≤ 4096 }
     requires empty { line.old ≡ [] }
-    ensures text { line.new ≡ read_text (task_object (task_run task ids.now heap.now) id) at (length room.old) }
+    ensures text { line.new ≡ read_text (task_object (task_run task ids.now heap.now) id) at (length buffer.old) }
     ensures room { length line.new < line_room }
     ensures outcome { result ≡ outcome_in line.new }
-    ensures steps { RoseAtMost steps.old steps.new (id_access_steps ids.now id at (length room.old)) }
+    ensures steps { RoseAtMost steps.old steps.new (id_access_steps ids.now id at (length buffer.old)) }
 {
     let Some(h) = ids.handle(id) else {
         return push_short(line, Short::Unknown);
     };
-    match heap.read(task, h, at, room, steps) {
-        Ok(()) => push_bytes(line, room),
+    match heap.read(task, h, at, buffer, steps) {
+        Ok(()) => push_bytes(line, buffer),
         Err(fault) => push_short(line, fault_reply(fault)),
     }
 }

@@ -1,4 +1,5 @@
-//! Laws of a session over tasks. What each function ensures is the law; it calls the laws that it follows from.
+//! Laws of a session over tasks. Each function's contract is a law; its body calls the laws that the proof
+//! uses.
 ghost use Rattle.std.specs.Prelude.{◌≡◌, ℕ, ◌++◌, Bool, List, [], None, Option, true};
 ghost use Rattle.cf_base.specs.Settings.{Profile};
 ghost use Rattle.cf_io.specs.Texts.{Reply, text_of};
@@ -19,9 +20,10 @@ ghost use Rattle.quota_session.specs.TaskBytes.{AreReadsOfTasks};
 use quota_laws::a_reply_follows_from_the_task_alone;
 use quota_model::a_page_is_there_for_each_quota;
 
-/// The reply to a call of a task is a function of the settings, its quota and its objects by id:
-/// that of a heap of its own with as many pages as its quota. And a command changes the objects by id
-/// of no task but the present one, and the quota of no task but the one that it names.
+/// The reply to a call of the present task depends on the settings, its quota and its objects by id
+/// alone: it is the reply of a heap of its own, with its quota as the number of pages. A command changes
+/// the objects by id of no task but the present one, and the quota of no task but the one that it names.
+/// So two runs that are alike for a task give its calls the same replies.
 pub fn a_task_is_answered_from_its_own()
     ensures reply { (old new : QuotaRun) (command : Command) (reply : Reply) → IsGoingQuotas old
         → is_for_task command ≡ true → QuotaStep old command reply new
@@ -38,9 +40,9 @@ pub fn a_task_is_answered_from_its_own()
     a_reply_follows_from_the_task_alone();
 }
 
-/// In every script each read gives the bytes last written through its id by the task that reads. The
-/// lines and their replies alone decide it: `t` says which task is present, and each task has ids of
-/// its own.
+/// In every script each read returns the bytes last written through its id by the present task. These
+/// bytes follow from the lines and their replies alone: `t` makes a task present, and each task has ids
+/// of its own.
 pub fn reads_give_what_was_written()
     ensures run { (items : List Item) (replies : List Reply) (new : Option QuotaRun)
         → AreSayable items → RunsQuotas None items replies new → AreReadsOfTasks None items replies }
@@ -51,7 +53,7 @@ pub fn reads_give_what_was_written()
 }
 
 /// One transcript: the replies to every script are a function of its lines, one for each item and none
-/// over. Numbers, addresses and choices of the heap change none of them.
+/// over. Handles, addresses and choices of the heap change no reply.
 pub fn one_transcript_of_tasks()
     ensures run { (items : List Item) (replies : List Reply) (new : Option QuotaRun)
         → AreSayable items → RunsQuotas None items replies new → MeetsTasks items replies }
@@ -61,8 +63,8 @@ pub fn one_transcript_of_tasks()
     a_task_is_answered_from_its_own();
 }
 
-/// A run begins under any settings in their ranges; and from each state of a run that goes on every
-/// command that a script can say gets a reply, after which the run goes on.
+/// A run can begin under any settings in their ranges. In each state of a run in progress every command
+/// that a script can contain has a reply, and the run is in progress after it.
 pub fn each_command_has_its_turn()
     ensures begins { (p : Profile) → AreInRange p → (new : QuotaRun) × BeginsQuotas p new }
     ensures begun { (p : Profile) (new : QuotaRun) → BeginsQuotas p new → IsGoingQuotas new }
@@ -74,7 +76,8 @@ pub fn each_command_has_its_turn()
     a_page_is_there_for_each_quota();
 }
 
-/// There is a run over the items of any bytes, and each run over a prefix of them can go on to the end.
+/// There is a run over the items of any bytes, and each run over a prefix of them can be continued to the
+/// end.
 pub fn a_run_of_tasks_can_always_go_on()
     ensures there { (given : List ℕ) (ended : Bool)
         → (replies : List Reply) × (new : Option QuotaRun) × RunsQuotas None (items given ended) replies new }
@@ -86,7 +89,7 @@ pub fn a_run_of_tasks_can_always_go_on()
     a_page_is_there_for_each_quota();
 }
 
-/// What was written before the sink failed is a prefix of what a run over the whole script prints.
+/// The output before the sink failed is a prefix of the output of a run over the whole script.
 pub fn what_was_cut_is_a_prefix()
     ensures { (from to : QuotaRun) (call : Effects) (all : List ℕ)
         → (w : WroteInPart quota_tasks from (items_within all) call to)

@@ -1,5 +1,5 @@
-//! A session over a heap that tasks share: the present task, the ids of each task's objects, its declared
-//! needs, and a script on all tasks.
+//! A session over a heap that sixteen tasks share. It keeps the present task, and for each task its ids
+//! and its declared needs. `run_quotas` runs a script on it.
 #![tactic(auto)]
 
 mod changes;

@@ -6,10 +6,10 @@ ghost use Rattle.quota_session.specs.QuotaRun.{one_more};
 use admission::Need;
 use std::marker::Model;
 
-/// The most entries of a task.
+/// The most entries that a task can declare.
 const MOST: usize = 64;
 
-/// The entries of a task: 64 at most.
+/// The entries that one task declared, at most 64: in place, so that `need` allocates nothing.
 #[derive(Drop)]
 pub(crate) struct Needs {
     entries: [Need; MOST],
@@ -32,7 +32,7 @@ impl Model for Needs {
 }
 
 impl Needs {
-    /// Nothing is declared.
+    /// Needs without entries.
     pub(crate) fn new() -> Needs
         ensures { result ≡ [] }
     {
@@ -42,7 +42,7 @@ impl Needs {
         }
     }
 
-    /// The entries.
+    /// The declared entries, the oldest first.
     pub(crate) fn entries(&self) -> &[Need]
         ensures value { result.now ≡ self.now }
         ensures few { length self.now ≤ 64 }
@@ -50,7 +50,7 @@ impl Needs {
         &self.entries[..self.count]
     }
 
-    /// Adds an entry if there are fewer than 64, and returns whether there were.
+    /// Adds an entry at the end and returns true; if there are 64, changes nothing and returns false.
     pub(crate) fn push(&mut self, entry: Need) -> bool
         ensures room { result ≡ nat_lt (length self.old) 64 }
         ensures value { self.new ≡ one_more self.old entry }

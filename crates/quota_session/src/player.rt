@@ -1,4 +1,4 @@
-//! A script on a heap that tasks share.
+//! The mode handler of mode `quota`, which runs a script on a heap that tasks share.
 ghost use Rattle.std.specs.Prelude.{◌≡◌, ⊤, IfOk, None, option_map};
 ghost use Rattle.cf_base.specs.Settings.{profile_of};
 ghost use Rattle.script_loop.specs.ScriptOutcome.{Plays, sink_at, source_at};
@@ -18,12 +18,14 @@ use step_ledger::Meter;
 #[derive(Drop)]
 pub struct QuotaPlayer {
     pub session: QuotaSession,
+    /// The settings of the `heap` line with the bound 1; none before that line.
     pub settings: Option<Settings>,
     meter: Meter,
 }
 
 impl QuotaPlayer {
-    /// A new session without settings. Allocates all its memory.
+    /// A handler with a new session and without settings. Allocates all memory of the session; the result
+    /// is `OutOfMemory` if that fails.
     pub fn start(rt: &HostRuntime, alloc: Global) -> Result<QuotaPlayer, OutOfMemory>
         ensures session { IfOk result (λ p. p.session ≡ first_session) }
         ensures settings { IfOk result (λ p. p.settings ≡ None) }

@@ -1,4 +1,4 @@
-//! The records of a session.
+//! What a session stores of its tasks.
 ghost use Rattle.std.specs.Prelude.{◌≡◌, IfOk, [], replicate};
 ghost use Rattle.std.specs.FinMap as map;
 ghost use Rattle.quota_session.specs.Layout.{session_of};
@@ -12,7 +12,7 @@ use std::alloc::Global;
 /// The number of tasks.
 pub(crate) const TASKS: u32 = 16;
 
-/// By task, the handles of its live ids and its declared needs; and the present task.
+/// For each task the handles of its live ids and its declared needs; and the number of the present task.
 #[derive(Drop)]
 pub(crate) struct Records {
     pub(crate) ids: Vec<IdTable>,
@@ -21,7 +21,8 @@ pub(crate) struct Records {
 }
 
 impl Records {
-    /// Records in which no id is live, no need is declared, and task 0 is present. Allocates all memory.
+    /// Records in which no id is live, no need is declared, and task 0 is present. Allocates all memory;
+    /// the result is `OutOfMemory` if that fails.
     pub(crate) fn new(alloc: Global) -> Result<Records, OutOfMemory>
         ensures { IfOk result (λ r. session_of r ≡ first_session) }
     {
@@ -35,7 +36,7 @@ impl Records {
     }
 }
 
-/// The tables of sixteen tasks in which no id is live.
+/// Sixteen id tables, one for each task, in which no id is live; `OutOfMemory` if an allocation fails.
 fn first_ids(alloc: Global) -> Result<Vec<IdTable>, OutOfMemory>
     ensures { IfOk result (λ ids. ids.items ≡ replicate 16 map.empty) }
 {
@@ -51,7 +52,7 @@ fn first_ids(alloc: Global) -> Result<Vec<IdTable>, OutOfMemory>
     Ok(all)
 }
 
-/// The needs of sixteen tasks, none declared.
+/// Sixteen lists of needs without entries, one for each task; `OutOfMemory` if the allocation fails.
 fn first_needs(alloc: Global) -> Result<Vec<Needs>, OutOfMemory>
     ensures { IfOk result (λ needs. needs.items ≡ replicate 16 []) }
 {

@@ -1,4 +1,4 @@
-//! The report on the classes of a task.
+//! The report of `walk` on the classes of one task.
 ghost use Rattle.std.specs.Prelude.{◌≡◌, ◌<◌, ◌≤◌, [], IfOk, IsTrue, OnErr, OnOk};
 ghost use Rattle.cf_io.specs.Feeds.{Puts, FailsLast};
 ghost use Rattle.cf_io.specs.Texts.{led};
@@ -17,8 +17,8 @@ use quota_heap::QuotaHeap;
 /// The most size classes of a task.
 const CLASSES: u32 = 67;
 
-/// `walk`: puts a line for each class of the task with live objects, and then the last line. `Failed` if
-/// the sink failed; a prefix of the report was put.
+/// `walk`: writes a line for each class of the task with live objects, and then the line of the totals. If
+/// the sink fails, the result is `Failed`, and a prefix of the report was written.
 pub(crate) fn walk<K: Sink>(
     ids: &IdTable,
     heap: &QuotaHeap,
@@ -41,8 +41,8 @@ pub(crate) fn walk<K: Sink>(
     }
 }
 
-/// Puts a line for each class of the task with live objects, in rising order, and returns the number of
-/// pages that the task uses.
+/// Writes a line for each class of the task with live objects, in rising order, and returns the number of
+/// pages that the task uses. If the sink fails, the result is `Failed`, and a prefix was written.
 fn put_classes<K: Sink>(
     heap: &QuotaHeap,
     task: u32,

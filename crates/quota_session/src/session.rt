@@ -35,13 +35,14 @@ use step_ledger::{Meter, Steps};
 /// The most bytes of one read.
 const MOST: usize = 4_096;
 
-/// By task the ids of its objects and its declared needs; and the present task.
+/// For each task its ids and its declared needs; and the present task.
 #[derive(Drop)]
 pub struct QuotaSession {
     records: Records,
+    /// The line for the reply.
     line: Line,
-    /// The buffer of a read.
-    room: [u8; MOST],
+    /// The buffer for the bytes of a read.
+    buffer: [u8; MOST],
 }
 
 impl Model for QuotaSession {
@@ -59,20 +60,20 @@ impl Model for QuotaSession {
 
 impl QuotaSession {
     /// A session in which no id is live, no need is declared, and task 0 is present. Allocates all its
-    /// memory: a table of 65,536 ids for each task.
+    /// memory, a table of 65,536 ids for each task; the result is `OutOfMemory` if that fails.
     pub fn start(alloc: Global) -> Result<QuotaSession, OutOfMemory>
         ensures { IfOk result (λ s. s ≡ first_session) }
     {
         Ok(QuotaSession {
             records: Records::new(alloc)?,
             line: Line::new(),
-            room: [0; MOST],
+            buffer: [0; MOST],
         })
     }
 
-    /// Laps the ledger, does the command on the heap, which is open with the settings `s`, and writes its
-    /// reply. If the sink fails, the result is `Failed`: the command has taken effect, and a prefix of
-    /// its reply was written.
+    /// Resets the ledger to 0, does the command on the heap, which is open with the settings `s`, and
+    /// writes its reply. If the sink fails, the result is `Failed`: the command has taken effect, and a
+    /// prefix of its reply was written.
     pub fn apply<K: Sink>(
         &mut self,
         heap: &mut QuotaHeap,
@@ -85,7 +86,7 @@ impl QuotaSession {
         requires settings { heap.old.profile ≡ profile_of s.now }
         requires tied { AreTasksTied self.old heap.old }
         requires formed { IsWellFormed c.now }
-        ensures answers { Applies quota_tasks (quota_moment (Some (profile_of s.now)) self.old heap.old (K.written out.old)) c.now result
+        ensures step { Applies quota_tasks (quota_moment (Some (profile_of s.now)) self.old heap.old (K.written out.old)) c.now result
             (quota_moment (Some (profile_of s.now)) self.new heap.new (K.written out.new)) }
         ensures going { IsGoingQuotas (quota_run (Some (profile_of s.now)) self.new heap.new) }
         // The ledger counts from 0 in each command.
@@ -110,7 +111,7 @@ impl QuotaSession {
         requires settings { heap.old.profile ≡ profile_of s.now }
         requires tied { AreTasksTied self.old heap.old }
         requires formed { IsWellFormed (owned_command c) }
-        ensures answers { Applies quota_tasks (quota_moment (Some (profile_of s.now)) self.old heap.old (K.written out.old))
+        ensures step { Applies quota_tasks (quota_moment (Some (profile_of s.now)) self.old heap.old (K.written out.old))
             (owned_command c.entry) result (quota_moment (Some (profile_of s.now)) self.new heap.new (K.written out.new)) }
         ensures going { IsGoingQuotas (quota_run (Some (profile_of s.now)) self.new heap.new) }
         ensures steps { meter.new ≤ most_steps (quota_run (Some (profile_of s.now)) self.old heap.old) (owned_command c.entry) }
@@ -122,7 +123,8 @@ impl QuotaSession {
         self.answer_ref(heap, s, c, out, meter.steps())
     }
 
-    /// The same on a ledger that isn't lapped. No call lowers it, so the bound is that of the command.
+    /// `apply_ref` on a ledger that the caller keeps: the call doesn't reset it, and raises it by at most
+    /// the steps of the command.
     pub fn answer_ref<K: Sink>(
         &mut self,
         heap: &mut QuotaHeap,
@@ -136,7 +138,7 @@ impl QuotaSession {
         requires tied { AreTasksTied self.old heap.old }
         requires formed { IsWellFormed (owned_command c) }
         requires count { steps.old ≤ 2 ^ 63 }
-        ensures answers { Applies quota_tasks (quota_moment (Some (profile_of s.now)) self.old heap.old (K.written out.old))
+        ensures step { Applies quota_tasks (quota_moment (Some (profile_of s.now)) self.old heap.old (K.written out.old))
             (owned_command c.entry) result (quota_moment (Some (profile_of s.now)) self.new heap.new (K.written out.new)) }
         ensures going { IsGoingQuotas (quota_run (Some (profile_of s.now)) self.new heap.new) }
         ensures steps { RoseAtMost steps.old steps.new
@@ -152,7 +154,7 @@ impl QuotaSession {
             heap,
             s,
             c,
-            &mut self.room,
+            &mut self.buffer,
             &mut self.line,
             out,
             steps,
@@ -160,22 +162,23 @@ impl QuotaSession {
     }
 }
 
-/// Does the command and writes its reply.
+/// Does the command on the heap and writes its reply to the sink. If the sink fails, the result is
+/// `Failed`: the command has taken effect, and a prefix of its reply was written.
 fn answer<K: Sink>(
     records: &mut Records,
     heap: &mut QuotaHeap,
     s: &Settings,
     c: CommandRef,
-    room: &mut [u8],
+    buffer: &mut [u8],
     line: &mut Line,
     out: &mut K,
     steps: &mut Steps,
 ) -> Result<Outcome, Failed>
     requires going { IsGoingQuotas (quota_run (Some (profile_of s.now)) (session_of records.old) heap.old) }
     requires formed { IsWellFormed (owned_command c) }
-    requires place { length room.old ≡ 4096 }
+    requires buffer { length buffer.old ≡ 4096 }
     requires count { steps.old ≤ 2 ^ 63 }
-    ensures answers { Applies quota_tasks (quota_moment (Some (profile_of s.now)) (session_of records.old) heap.old (K.written out.old))
+    ensures step { Applies quota_tasks (quota_moment (Some (profile_of s.now)) (session_of records.old) heap.old (K.written out.old))
         (owned_command c.entry) result (quota_moment (Some (profile_of s.now)) (session_of records.new) heap.new (K.written out.new)) }
     ensures steps { RoseAtMost steps.old steps.new
         (most_steps (quota_run (Some (profile_of s.now)) (session_of records.old) heap.old) (owned_command c.entry)) }
@@ -190,7 +193,7 @@ fn answer<K: Sink>(
             ended(written, Outcome::Other)
         }
         _ => {
-            let outcome = speak(records, heap, s, c, room, line, steps);
+            let outcome = speak(records, heap, s, c, buffer, line, steps);
             ended(put_line(line, out), outcome)
         }
     }
@@ -202,14 +205,14 @@ fn speak(
     heap: &mut QuotaHeap,
     s: &Settings,
     c: CommandRef,
-    room: &mut [u8],
+    buffer: &mut [u8],
     line: &mut Line,
     steps: &mut Steps,
 ) -> Outcome
     requires going { IsGoingQuotas (quota_run (Some (profile_of s.now)) (session_of records.old) heap.old) }
     requires formed { IsWellFormed (owned_command c) }
     requires one { IsOneLine (owned_command c) }
-    requires place { length room.old ≡ 4096 }
+    requires buffer { length buffer.old ≡ 4096 }
     requires count { steps.old ≤ 2 ^ 63 }
     ensures speaks { Speaks QuotaStep (quota_run (Some (profile_of s.now)) (session_of records.old) heap.old) (owned_command c.entry)
         (quota_run (Some (profile_of s.now)) (session_of records.new) heap.new) line.new }
@@ -232,7 +235,7 @@ fn speak(
             let needs = &records.needs[task as usize];
             push_admission(line, admit(s, quota, needs.entries()))
         }
-        _ => speak_present(records, heap, c, room, line, steps),
+        _ => speak_present(records, heap, c, buffer, line, steps),
     }
 }
 
@@ -241,7 +244,7 @@ fn speak_present(
     records: &mut Records,
     heap: &mut QuotaHeap,
     c: CommandRef,
-    room: &mut [u8],
+    buffer: &mut [u8],
     line: &mut Line,
     steps: &mut Steps,
 ) -> Outcome
@@ -250,7 +253,7 @@ fn speak_present(
     requires tied { AreTasksTied (session_of records.old) heap.old }
     requires formed { IsWellFormed (owned_command c) }
     requires own { IsOfTask (owned_command c) }
-    requires place { length room.old ≡ 4096 }
+    requires buffer { length buffer.old ≡ 4096 }
     requires count { steps.old ≤ 2 ^ 63 }
     requires empty { line.old ≡ [] }
     ensures step { (settings : Option Profile) → QuotaStep (quota_run settings (session_of records.old) heap.old)
@@ -261,16 +264,17 @@ fn speak_present(
 {
     let task = records.present;
     let ids = &mut records.ids[task as usize];
-    speak_task(ids, heap, task, c, room, line, steps)
+    speak_task(ids, heap, task, c, buffer, line, steps)
 }
 
-/// The same, with the ids of the task.
+/// Does a command of task `task`, whose ids are `ids`, with a reply of one line, and writes its text on
+/// the line.
 fn speak_task(
     ids: &mut IdTable,
     heap: &mut QuotaHeap,
     task: u32,
     c: CommandRef,
-    room: &mut [u8],
+    buffer: &mut [u8],
     line: &mut Line,
     steps: &mut Steps,
 ) -> Outcome
@@ -279,7 +283,7 @@ fn speak_task(
     requires tied { AreTiedTo ids.old (objects_by heap.old task) }
     requires formed { IsWellFormed (owned_command c) }
     requires own { IsOfTask (owned_command c) }
-    requires place { length room.old ≡ 4096 }
+    requires buffer { length buffer.old ≡ 4096 }
     requires count { steps.old ≤ 2 ^ 63 }
     requires empty { line.old ≡ [] }
     ensures speaks { Speaks TaskStep (task_run task ids.old heap.old) (owned_command c.entry) (task_run task ids.new heap.new) line.new }
@@ -301,7 +305,7 @@ fn speak_task(
                 task,
                 id,
                 at,
-                &mut room[..len as usize],
+                &mut buffer[..len as usize],
                 line,
                 steps,
             )

@@ -1,4 +1,4 @@
-//! The commands that name a task.
+//! The commands `quota`, `need` and `admit`, which name a task.
 ghost use Rattle.std.specs.Prelude.{◌≡◌, ◌<◌, [], IsTrue, length};
 ghost use Rattle.cf_io.specs.Lines.{line_room};
 ghost use Rattle.cf_session.specs.Apply.{outcome_in};
@@ -14,7 +14,8 @@ use cf_io::{Line, push_field, push_text};
 use cf_session::{Outcome, Short};
 use quota_heap::{QuotaFault, QuotaHeap};
 
-/// `quota`: sets the quota of a task.
+/// `quota`: sets the quota of a task to `pages` pages. The heap refuses if the quotas would sum to more
+/// pages than the region has, else if the task needs more than `pages` pages; the reply shows which.
 pub(crate) fn set_quota(heap: &mut QuotaHeap, task: u32, pages: u32) -> Short
     requires opened { IsTrue heap.old.is_open }
     requires sixteen { task < 16 }
@@ -29,7 +30,7 @@ pub(crate) fn set_quota(heap: &mut QuotaHeap, task: u32, pages: u32) -> Short
     }
 }
 
-/// `need`: a task declares one more entry, if it has fewer than 64.
+/// `need`: adds an entry to the needs of a task. The reply is `full`, and nothing changes, if it has 64.
 pub(crate) fn declare(records: &mut Records, task: u32, entry: Need) -> Short
     requires sixteen { task < 16 }
     requires kept { HasSixteen (session_of records.old) }
@@ -44,7 +45,7 @@ pub(crate) fn declare(records: &mut Records, task: u32, entry: Need) -> Short
     }
 }
 
-/// `admit`: writes the reply on the line.
+/// `admit`: writes the result of the admission tests on the line, as the reply.
 pub(crate) fn push_admission(line: &mut Line, answer: Admission) -> Outcome
     requires { line.old ≡ [] }
     ensures text { line.new ≡ admission_text answer }

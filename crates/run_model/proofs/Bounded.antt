@@ -7,17 +7,17 @@ use Rattle.cf_base.specs.declared.answers.Handle.{Handle}
 use Rattle.cf_base.specs.declared.answers.Refusal.{Refusal}
 use Rattle.cf_base.specs.declared.answers.Refusal.TheVariants as refusal
 use Rattle.cf_base.specs.declared.kind.Kind.{Kind}
-use Rattle.cf_lemmas.proofs.Ranges.{some_in_range as some_counted}
-use Rattle.page_model.specs.Arrangement.{LacksRoom, not_full_pages, objects_on, pages_needed_with}
-use Rattle.page_model.specs.Held.{Held, objects}
-use Rattle.page_model.specs.Paging.{AreOne, Paging, class_for, page_of, slots_of}
+use Rattle.page_model.specs.Arrangement.{LacksRoom, pages_needed_with}
+use Rattle.page_model.specs.Held.{objects}
+use Rattle.page_model.specs.Paging.{AreOne, class_for}
 use Rattle.page_model.specs.Steps.{IsFreePlace, Request}
-use Rattle.page_model.proofs.CallerLemmas.{part_full, part_yes, sound_few, lacks_room_at_one, class_fits}
+use Rattle.page_model.proofs.CallerLemmas.{class_fits, lacks_room_at_one, place_is_room, sound_few}
 use Rattle.cf_model.specs.Families as family
 use Rattle.cf_model.specs.Families.{Family, family_of}
-use Rattle.cf_model.specs.Rules.{IsPaged, KeepsPages, KeepsTable, KeepsRules, KeepsRulesOf}
+use Rattle.cf_model.specs.Rules.{IsPaged, KeepsPages, KeepsRules}
 use Rattle.cf_model.specs.State.{HeapState, paging_in}
 use Rattle.cf_model.specs.Steps.{IsMallocStep, IsPlacedBy, LacksRoomIn}
+use Rattle.cf_model.proofs.CallerLemmas.{pages_kept}
 use Rattle.script_reader.specs.declared.command.Command.{Command}
 use Rattle.script_reader.specs.declared.command.Command.TheVariants.{Malloc}
 use Rattle.run_model.specs.Bounds.{HasFewPages, IsWanting, MeetsBounds, Refuses, RefusesByNeed, RefusesForWant}
@@ -28,27 +28,9 @@ use Rattle.run_model.proofs.NamedIds.{MallocsAt}
 use Rattle.run_model.specs.Texts.{Reply, said}
 use Rattle.run_model.proofs.RunInvariant.{step_rules, step_same}
 
--- the rules of a kind with pages
-pub pages_kept : (k : Kind) (s : HeapState) → IsPaged k → KeepsRulesOf k s → KeepsPages s
-pages_kept k s is rules = (let kept : KeepsPages s × KeepsTable k s = rw (is, KeepsRulesOf) at rules in kept.0)
-
 -- a heap with pages that keeps its rules has at most the pages of the bound
 pub few_pages : (s : HeapState) → IsPaged s.kind → KeepsRules s → HasFewPages s
 few_pages s paged rules = (let k = pages_kept s.kind s paged rules.of_kind in λ c lt. sound_few (paging_in s) k.paging c lt s.held k.sound)
-
--- a partly full page counts
-not_full_here : (p : Paging) (m : Held) (c page : ℕ) → page < p.pages → 0 < objects_on p m c page → objects_on p m c page < slots_of p c
-    → 0 < not_full_pages p m c
-unfolding not_full_pages
-not_full_here p m c page lt some less = some_counted (λ g. part_full (objects_on p m c g) (slots_of p c)) 0 p.pages page (omega arith) (omega arith)
-    (part_yes _ _ some less)
-
--- if there is a free place, the class has a slot left
-pub place_is_room : (p : Paging) (m : Held) (n a : ℕ) → IsFreePlace p m n a → LacksRoom p m (class_for p n) → ⊥
-place_is_room p m n a free lacks = elim free.choice [
-  | inl there ↦ (let some = not_full_here p m (class_for p n) (page_of p a) free.slot.page there.0 there.1 in let none = lacks.full in absurd (omega arith))
-  | inr bare ↦ (let some = lacks.taken (page_of p a) free.slot.page in let none = bare.1 in absurd (omega arith))
-]
 
 -- a heap with pages and every bound 1, and a malloc of `bytes` bytes that fit a page
 module _ (k : Kind) (paged : IsPaged k) (s : HeapState) (rules : KeepsRules s) (is : s.kind ≡ k) (bytes : ℕ) (ones : AreOne (paging_in s))

@@ -1,5 +1,5 @@
 -- What other crates' proofs may cite: the steps of a run, the ids, and runs one after another.
-pub use Rattle.run_model.proofs.Bounded.{pages_kept, step_meets_bounds}
+pub use Rattle.run_model.proofs.Bounded.{step_meets_bounds}
 pub use Rattle.run_model.proofs.RunInvariant.{begins_going, costs_nothing, step_going, step_same}
 pub use Rattle.run_model.proofs.Tied.{costs_with_pages, counted_bound, counted_ids, names_of_objects, resized_ids, unmoved_changes_cost}
 pub use Rattle.run_model.proofs.Tied.{unmoved_held}

@@ -30,7 +30,7 @@ pub record IsSame (old new : HeapState) : Type 0 where
   pub opened : new.is_open ≡ old.is_open
   pub profile : new.profile ≡ old.profile
 
--- the same for a state that equals another
+-- a state equal to one that keeps kind, settings and openness keeps them too
 same_as : (old new next : HeapState) → new ≡ next → IsSame old next → IsSame old new
 same_as old new next e s = subst (IsSame old) (sym e) s
 

@@ -19,7 +19,7 @@ PlayRun begins turns old [] replies new = (replies ≡ []) × (new ≡ old)
 PlayRun {S} begins turns old (item ∷ rest) replies new = (mid : Option S) × (reply : Reply) × (more : List Reply)
     × PlayStep begins turns old item reply mid × (replies ≡ reply ∷ more) × PlayRun begins turns mid rest more new
 
--- one item with only the bytes `out` of its reply written, and the state after it
+-- one item takes effect, but only the bytes `out` of its reply, a prefix, are written; and the state after it
 abbrev pub PlayPart : {S : Type 0} → (Profile → Reply → S → Type 0) → (S → Command → List ℕ → S → Type 0) → Option S → Item → List ℕ → Option S → Type 0
 PlayPart {S} begins in_part old (starts p) out new = (s : S) × (reply : Reply) × (lost : List ℕ) × begins p reply s × (led [] reply ≡ out ++ lost)
     × (new ≡ Some s)

@@ -27,20 +27,20 @@ use Rattle.run_model.specs.Texts.{Reply, said, with_number}
 abbrev pub object_of : RunState → ℕ → Option Placed
 object_of s id = elim (get s.session.ids id) [ None ↦ None | Some h ↦ get s.heap.held h ]
 
--- m
+-- the reply to `m`
 abbrev pub malloc_text : Result Handle Refusal → List ℕ
 malloc_text (Ok h) = codes "ok"
 malloc_text (Err refusal.Size) = codes "refused size"
 malloc_text (Err refusal.Proxy) = codes "refused proxy"
 malloc_text (Err refusal.Space) = codes "refused space"
 
--- w
+-- the reply to `w`
 abbrev pub write_text : Result Unit AccessFault → List ℕ
 write_text (Ok u) = codes "ok"
 write_text (Err access.Unknown) = codes "unknown"
 write_text (Err access.Range) = codes "range"
 
--- z
+-- the reply to `z`; `none` if the kind has no resize
 abbrev pub resize_text : Result Resized ResizeFault → List ℕ
 resize_text (Ok done) = codes "ok"
 resize_text (Err resize.Unknown) = codes "unknown"
@@ -48,39 +48,39 @@ resize_text (Err resize.Kind) = codes "none"
 resize_text (Err resize.Size) = codes "refused size"
 resize_text (Err resize.Space) = codes "refused space"
 
--- r: `=` and the bytes in hexadecimal
+-- the reply to `r`: `=` and the bytes in hexadecimal; `range` if the read passes the end of the object
 abbrev pub read_text : Option Placed → ℕ → ℕ → List ℕ
 read_text None at count = codes "unknown"
 read_text (Some x) at count = if nat_le (at + count) (length x.bytes) then codes "=" ++ encode_lower (take count (drop at x.bytes)) else codes "range"
 
--- q: the address of the object
+-- the reply to `q`: the address of the object
 abbrev pub place_text : Option Placed → List ℕ
 place_text None = codes "unknown"
 place_text (Some x) = with_number (codes "at ") x.place
 
--- a physical block, if the object has it
+-- the reply to `b` of a kind with a block table: the physical block, or `range` if the object has no such block
 abbrev pub frame_text : Option ℕ → List ℕ
 frame_text None = codes "range"
 frame_text (Some frame) = with_number (codes "block ") frame
 
--- b, for a live object: only the non-moving kind has a block table
+-- the reply to `b` for a live object: only the non-moving kind has a block table
 abbrev pub block_text : Kind → HeapState → Placed → ℕ → List ℕ
 block_text Moving s x i = codes "none"
 block_text NonMoving s x i = frame_text (block_of_object s (Some x) i)
 block_text Tlsf s x i = codes "none"
 block_text HalfFit s x i = codes "none"
 
--- b, for an object or none
+-- the reply to `b`: `unknown` if the id isn't live
 abbrev pub block_text_at : HeapState → Option Placed → ℕ → List ℕ
 block_text_at s None i = codes "unknown"
 block_text_at s (Some x) i = block_text s.kind s x i
 
--- p: the word as 16 hexadecimal digits
+-- the reply to `p`: the word as 16 hexadecimal digits, or `range` past the region
 abbrev pub peek_text : Option ℕ → List ℕ
 peek_text None = codes "range"
 peek_text (Some word) = word_text word
 
--- steps: the cost of the last call; with pages also its step bound, how many objects moved, and the words of their slots
+-- the reply to `steps`: the steps of the last malloc, free or resize; with pages also their bound, how many objects moved, and the words of their slots
 abbrev pub steps_text : Kind → SessionState → ℕ → List ℕ
 steps_text kind s cost = elim (family_of kind) [
   | paged ↦ with_number (codes "steps last ") cost ++ (with_number (codes " bound ") s.bound
@@ -88,8 +88,8 @@ steps_text kind s cost = elim (family_of kind) [
   | tiled ↦ with_number (codes "steps last ") cost
 ]
 
--- the reply of a command that changes nothing; `none` for the words of modes that do more; commands with a step of their own get their replies there, and the
--- last row isn't used for them
+-- the reply to a command that changes nothing; `none` to the commands of other modes. `Step` defines the replies to `m`, `f`, `w`, `z` and `k`, and doesn't use
+-- the last row.
 abbrev pub shown : RunState → Command → Reply
 shown s (Read id at count) = said (read_text (object_of s id) at count)
 shown s (Place id) = said (place_text (object_of s id))

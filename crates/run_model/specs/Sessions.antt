@@ -17,7 +17,7 @@ pub record SessionState : Type 0 where
   pub moves : ℕ
   pub words : ℕ
 
--- a new session
+-- a new session: no id is live, and nothing is counted
 abbrev pub fresh_session : SessionState
 fresh_session = record { ids = map.empty; bound = 0; moves = 0; words = 0 }
 
@@ -30,7 +30,7 @@ session_code = code_by (Ids × (ℕ × (ℕ × ℕ))) (coded× (map.code coded_�
 abbrev pub more_by : ℕ → ℕ → ℕ
 more_by count n = min (count + n) last_count
 
--- one object moved, if one did, from a slot of `slot_words` words
+-- the session with the move counted, if an object moved: one more object, and `slot_words` more words
 abbrev pub counted : {T : Type 0} → SessionState → Option T → ℕ → SessionState
 counted s None slot_words = s
 counted s (Some h) slot_words = record s { moves = more_by s.moves 1; words = more_by s.words slot_words }
@@ -40,7 +40,7 @@ pub record RunState : Type 0 where
   pub session : SessionState
   pub heap : HeapState
 
--- with pages, a call costs at most n steps
+-- with pages a call costs at most n steps; with blocks this claims nothing
 abbrev pub CostsAtMost : Kind → ℕ → ℕ → Type 0
 CostsAtMost kind cost n = elim (family_of kind) [ paged ↦ cost ≤ n | tiled ↦ ⊤ ]
 
@@ -48,7 +48,7 @@ CostsAtMost kind cost n = elim (family_of kind) [ paged ↦ cost ≤ n | tiled �
 abbrev pub CostsByKind : Kind → ℕ → ℕ → ℕ → Type 0
 CostsByKind kind cost n m = elim (family_of kind) [ paged ↦ cost ≤ n | tiled ↦ cost ≤ m ]
 
--- each live id names one live handle and each handle has one id; with pages the last cost is within its bound
+-- each live id names one live handle and each handle has one id; with pages the steps of the last call are within the session's step bound
 pub record AreTied (session : SessionState) (heap : HeapState) : Type 0 where
   pub ids : AreTiedTo session.ids heap.held
   pub cost : CostsAtMost heap.kind heap.cost session.bound

@@ -25,7 +25,7 @@ use Rattle.run_model.specs.Texts.{Reply, said}
 abbrev pub Stays : RunState → List ℕ → Reply → RunState → Type 0
 Stays old text reply new = (reply ≡ said text) × (new ≡ old)
 
--- the ids after a malloc for an id
+-- the ids after a malloc for an id: unchanged if it was refused
 abbrev pub ids_given : Ids → ℕ → Result Handle Refusal → Ids
 ids_given ids id (Ok h) = insert ids id h.0
 ids_given ids id (Err e) = ids
@@ -64,7 +64,7 @@ pub record Writes (old : RunState) (part : Part) (bytes : List ℕ) (reply : Rep
   pub session : new.session ≡ old.session
   pub reply_is : reply ≡ said (write_text answer)
 
--- the session after a resize: the object that moved into the old slot counts
+-- the session after a resize: if an object moved into the old slot, its move is counted
 abbrev pub session_resized : SessionState → Result Resized ResizeFault → SessionState
 session_resized s (Ok done) = counted s done.moved done.old_slot_words
 session_resized s (Err e) = s
@@ -83,12 +83,12 @@ pub record Resizes (old : RunState) (asked : Request) (reply : Reply) (new : Run
 abbrev pub class_to_bound : HeapState → ℕ → Option ℕ
 class_to_bound s slot_words = if nat_eq (len s.held) 0 then class_with s.kind s slot_words else None
 
--- k: whether a class got the bound
+-- the reply to `k`: `ok` if a class got the bound, else `none`
 abbrev pub bound_text : Option ℕ → List ℕ
 bound_text None = codes "none"
 bound_text (Some c) = codes "ok"
 
--- a class gets a new bound
+-- the step of `k`: the class with these slots, if there is one, gets bound k
 pub record Bounds (old : RunState) (slot_words k : ℕ) (reply : Reply) (new : RunState) : Type 0 where
   pub heap : new.heap ≡ bound_put old.heap (class_to_bound old.heap slot_words) k
   pub rules : KeepsRules new.heap

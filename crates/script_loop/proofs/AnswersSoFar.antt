@@ -49,7 +49,7 @@ waits_for_nothing r r' over = record {
   room = λ is. absurd (true≢false (sym over.shown ∙ sym over.passes.reads.same_end ∙ is));
 }
 
--- a bad line, by its parts
+-- the reader's next item is a bad line, and it stops there
 pub record IsBadAt (r : Reading) (line : ℕ) (r' : Reading) : Type 0 where
   pub first : (more : List ℕ) (ended : Bool) → items_left r more ended ≡ bad line ∷ []
   pub stopped : r'.stopped ≡ Some line
@@ -80,7 +80,7 @@ module _ {S P : Type 0} (m : Semantics S P) where
     silent = λ is at. refl;
   }
 
-  -- a run by the plan of another state with the same plan
+  -- a run by the plan of one state is a run by the equal plan of another state
   replanned : (from other : S) (old new : Option S) (done : List Item) (replies : List Reply) → m.plan other ≡ m.plan from
       → RunBy m other old done replies new → RunBy m from old done replies new
   replanned from other old new done replies same run = subst (λ (k : P). PlayRun (m.begins k) m.turns old done replies new) same run
@@ -311,47 +311,47 @@ module _ {S P : Type 0} (m : Semantics S P) where
   -- ---- bytes that are fed
 
   -- what was fed was neither answered nor lost
-  pub answered_fed : {old : Playing S} {r : Reading} {s : S} {t : List ℕ} (r' : Reading) (piece : List ℕ) (i n : ℕ)
-      → Answered m old (take i piece) (record { reading = r; state = s }) t false
-      → r.ended ≡ false → r' ≡ fed_with r (take n (drop i piece)) → Answered m old (take (i + n) piece) (record { reading = r'; state = s }) t false
-  answered_fed {old} {r} {s} {t} r' piece i n a open_end is =
-      subst (λ (z : Reading). Answered m old (take (i + n) piece) (record { reading = z; state = s }) t false) (sym is) (record {
+  pub answered_fed : {old : Playing S} {r : Reading} {s : S} {t : List ℕ} (r' : Reading) (chunk : List ℕ) (i n : ℕ)
+      → Answered m old (take i chunk) (record { reading = r; state = s }) t false
+      → r.ended ≡ false → r' ≡ fed_with r (take n (drop i chunk)) → Answered m old (take (i + n) chunk) (record { reading = r'; state = s }) t false
+  answered_fed {old} {r} {s} {t} r' chunk i n a open_end is =
+      subst (λ (z : Reading). Answered m old (take (i + n) chunk) (record { reading = z; state = s }) t false) (sym is) (record {
         done = a.done;
         replies = a.replies;
         run = a.run;
         text_is = a.text_is;
         stops = a.stops;
-        left = λ more ended. ap (λ (l : List ℕ). items_left old.reading (l ++ more) ended) (take-add i n piece)
-            ∙ ap (λ (l : List ℕ). items_left old.reading l ended) (append_assoc (take i piece) (take n (drop i piece)) more)
-            ∙ a.left (take n (drop i piece) ++ more) ended
-            ∙ ap (λ (l : List Item). a.done ++ l) (fed_left r (take n (drop i piece)) more ended open_end);
+        left = λ more ended. ap (λ (l : List ℕ). items_left old.reading (l ++ more) ended) (take-add i n chunk)
+            ∙ ap (λ (l : List ℕ). items_left old.reading l ended) (append_assoc (take i chunk) (take n (drop i chunk)) more)
+            ∙ a.left (take n (drop i chunk) ++ more) ended
+            ∙ ap (λ (l : List Item). a.done ++ l) (fed_left r (take n (drop i chunk)) more ended open_end);
         plan = a.plan;
         untouched = a.untouched;
         silent = a.silent;
       })
 
   -- after a bad line, and after a cut, further bytes change nothing
-  pub answered_over : {old new : Playing S} {t : List ℕ} (line : ℕ) (piece : List ℕ) (i : ℕ) → Answered m old (take i piece) new t true
+  pub answered_over : {old new : Playing S} {t : List ℕ} (line : ℕ) (chunk : List ℕ) (i : ℕ) → Answered m old (take i chunk) new t true
       → new.reading.stopped ≡ Some line
-      → Answered m old piece new t true
-  answered_over {old} {new} {t} line piece i a over = record {
+      → Answered m old chunk new t true
+  answered_over {old} {new} {t} line chunk i a over = record {
     done = a.done;
     replies = a.replies;
     run = a.run;
     text_is = a.text_is;
     stops = a.stops;
-    left = λ more ended. ap (λ (l : List ℕ). items_left old.reading (l ++ more) ended) (sym (take-append-drop i piece))
-        ∙ ap (λ (l : List ℕ). items_left old.reading l ended) (append_assoc (take i piece) (drop i piece) more)
-        ∙ a.left (drop i piece ++ more) ended
+    left = λ more ended. ap (λ (l : List ℕ). items_left old.reading (l ++ more) ended) (sym (take-append-drop i chunk))
+        ∙ ap (λ (l : List ℕ). items_left old.reading l ended) (append_assoc (take i chunk) (drop i chunk) more)
+        ∙ a.left (drop i chunk ++ more) ended
         ∙ ap (λ (l : List Item). a.done ++ l)
-        (nothing_left new.reading line (drop i piece ++ more) ended over ∙ sym (nothing_left new.reading line more ended over));
+        (nothing_left new.reading line (drop i chunk ++ more) ended over ∙ sym (nothing_left new.reading line more ended over));
     plan = a.plan;
     untouched = a.untouched;
     silent = a.silent;
   }
 
-  pub cut_over : {old new : Playing S} {out : List ℕ} (piece : List ℕ) (i : ℕ) → CutOff m old (take i piece) new out → CutOff m old piece new out
-  cut_over {old} {new} {out} piece i a = record {
+  pub cut_over : {old new : Playing S} {out : List ℕ} (chunk : List ℕ) (i : ℕ) → CutOff m old (take i chunk) new out → CutOff m old chunk new out
+  cut_over {old} {new} {out} chunk i a = record {
     done = a.done;
     replies = a.replies;
     mid = a.mid;
@@ -361,10 +361,10 @@ module _ {S P : Type 0} (m : Semantics S P) where
     part = a.part;
     out_is = a.out_is;
     plan = a.plan;
-    left = λ more ended. let after = a.left (drop i piece ++ more) ended in (
+    left = λ more ended. let after = a.left (drop i chunk ++ more) ended in (
       after.0,
-      ap (λ (l : List ℕ). items_left old.reading (l ++ more) ended) (sym (take-append-drop i piece))
-          ∙ ap (λ (l : List ℕ). items_left old.reading l ended) (append_assoc (take i piece) (drop i piece) more) ∙ after.1,
+      ap (λ (l : List ℕ). items_left old.reading (l ++ more) ended) (sym (take-append-drop i chunk))
+          ∙ ap (λ (l : List ℕ). items_left old.reading l ended) (append_assoc (take i chunk) (drop i chunk) more) ∙ after.1,
     );
     untouched = a.untouched;
   }

@@ -15,7 +15,7 @@ use Rattle.run_model.specs.Plays.{PlayPart, PlayRun}
 use Rattle.run_model.specs.Texts.{text_of}
 use Rattle.script_loop.specs.AnswersSoFar.{Answered, CutOff, IsWaiting, LackedMemory}
 use Rattle.script_loop.specs.Progress.{Playing, progress, run_of}
-use Rattle.script_loop.specs.ScriptOutcome.{Effects, Lacks, MOST_BYTES, MOST_CHUNK, TakesNoMore, Wrote, WroteInPart, has_bad, items_within}
+use Rattle.script_loop.specs.ScriptOutcome.{Effects, Lacks, MOST_BYTES, MOST_CHUNK, TakesAtMostAChunk, Wrote, WroteInPart, has_bad, items_within}
 use Rattle.script_loop.specs.Semantics.{RunBy, Semantics}
 use Rattle.script_loop.proofs.Feeding.{appended_none}
 use Rattle.script_loop.proofs.AnswersSoFar.{bad_then, nothing_left}
@@ -29,11 +29,11 @@ starting s = record { reading = fresh; state = s }
 abbrev pub shown_end : Reading → Reading
 shown_end r = record r { ended = true }
 
--- the same script after the end of its bytes
+-- the script after the end of its bytes was announced
 abbrev pub ending : {S : Type 0} → Playing S → Playing S
 ending p = record p { reading = shown_end p.reading }
 
--- the bytes t came first, and are within the limit
+-- the items within the limit, if the bytes t come first and are within the limit
 within_is : (all t more : List ℕ) → all ≡ t ++ more → length t ≤ MOST_BYTES
     → items_within all ≡ items (t ++ take (MOST_BYTES - length t) more) (nat_le (length all) MOST_BYTES)
 within_is all t more parts fits =
@@ -41,7 +41,7 @@ within_is all t more parts fits =
     ap (λ (l : List ℕ). items l (nat_le (length all) MOST_BYTES))
     (ap (λ (l : List ℕ). take MOST_BYTES l) parts ∙ ap (λ n. take n (t ++ more)) room ∙ take-append-add t more (MOST_BYTES - length t))
 
--- up to the limit
+-- bytes that continue after the limit are more than the limit
 pub longer : (all t more : List ℕ) → all ≡ t ++ more → length t ≡ MOST_BYTES → 0 < length more → MOST_BYTES < length all
 longer all t more parts full some = rw (parts, length-append) (omega arith)
 
@@ -90,11 +90,11 @@ module _ {S P : Type 0} (m : Semantics S P) where
   quiet_items {s} {new} {t} {text} a waits =
       ap (λ (l : List ℕ). items l false) (sym (append-nil t)) ∙ a.left [] false ∙ ap (λ (l : List Item). a.done ++ l) waits.quiet ∙ append-nil a.done
 
-  -- nothing was taken but one chunk since the items so far were answered
-  pub takes_no_more : {s : S} {new : Playing S} {t text : List ℕ} (a : Answered m (starting s) t new text false) → IsWaiting new.reading
+  -- at most one chunk was taken since the items so far were answered
+  pub takes_a_chunk : {s : S} {new : Playing S} {t text : List ℕ} (a : Answered m (starting s) t new text false) → IsWaiting new.reading
       → (more before : List Item) → before ≡ a.done ++ more → (last all left : List ℕ) → all ≡ t ++ (last ++ left) → length last ≤ MOST_CHUNK
-      → TakesNoMore before all left
-  takes_no_more {s} {new} {t} {text} a waits more before is last all left took short = record {
+      → TakesAtMostAChunk before all left
+  takes_a_chunk {s} {new} {t} {text} a waits more before is last all left took short = record {
     earlier = t;
     last = last;
     took = took;

@@ -14,7 +14,7 @@ use Rattle.script_loop.specs.Semantics.{Semantics}
 use Rattle.script_loop.specs.LoopTurn.{AnswersChunk, AwaitsChunk, Between, Chunk, StopsBy, TakesNothing, between, left_in, reading_in}
 use Rattle.script_loop.specs.declared.running.Script.{Script}
 use Rattle.script_loop.proofs.Ending.{bad_end_items, bad_items, bads, bads_then, cut_at_end, cut_items, ending, full_items, longer, quiet_items, silent_at_end}
-use Rattle.script_loop.proofs.Ending.{silent_before, starting, takes_no_more, wants_at_end, wants_memory, whole_items, wrote, wrote_in_part, wrote_then}
+use Rattle.script_loop.proofs.Ending.{silent_before, starting, takes_a_chunk, wants_at_end, wants_memory, whole_items, wrote, wrote_in_part, wrote_then}
 use Rattle.script_loop.proofs.Feeding.{appended_after, appended_none, given_more, given_none, nothing_follows, preceded_after, preceded_none}
 use Rattle.script_loop.proofs.AnswersSoFar.{answered_none, answered_then, both_done, cut_then}
 
@@ -179,7 +179,7 @@ module _ {S P : Type 0} (m : Semantics S P) {from : S} {had before : Option (Lis
               let wanted = cut_items m (all_taken ++ more) (c.past ++ more) both (parted more) few_within in
               let part = wrote_in_part m both (all_taken ++ more) (call_to WriteFault) wanted.0 wanted.1 (appended_after _ _ _ _ _ f.wrote went.wrote) in (
                 part.0,
-                takes_no_more m f.answered f.awaits.waiting went.cut.done part.0.before (part.1 ∙ both_done m f.answered went.cut) (c.within ++ c.past) (all_taken ++ more) more
+                takes_a_chunk m f.answered f.awaits.waiting went.cut.done part.0.before (part.1 ∙ both_done m f.answered went.cut) (c.within ++ c.past) (all_taken ++ more) more
                     (append_assoc f.taken (c.within ++ c.past) more) c.short,
               ));
           plan = both.plan;
@@ -349,7 +349,7 @@ module _ {S P : Type 0} (m : Semantics S P) {from : S} {had before : Option (Lis
       outcome = by_end WriteFault (λ all same few.
           let part = cut_at_end m all f.answered went.cut (call_by WriteFault) same few (appended_after _ _ _ _ _ f.wrote went.wrote) in (
             part.0,
-            takes_no_more m f.answered f.awaits.waiting went.cut.done part.0.before part.1 [] all [] (same ∙ sym (append-nil f.taken)) (omega arith),
+            takes_a_chunk m f.answered f.awaits.waiting went.cut.done part.0.before part.1 [] all [] (same ∙ sym (append-nil f.taken)) (omega arith),
           ));
       plan = went.cut.plan ∙ f.answered.plan;
       silent = λ is. absurd (let e : WriteFault ≡ OutOfMemory = is in cc);

@@ -20,7 +20,7 @@ opens_going settings session old new fresh empty rules =
     begins_going old.kind (profile_of settings) (run_at session new)
     (record { session = fresh; words = empty.words; order = empty.order; heap = empty.whole; rules = rules })
 
--- the kind stays, and so does the promise of an order
+-- a step keeps the plan: the kind, and whether the manager promises an order
 pub step_plan : (old new : RunState) (c : Command) (reply : Reply) → KeepsRules old.heap → Step old c reply new → one_manager.plan new ≡ one_manager.plan old
 step_plan old new c reply rules step =
     let kind = (step_same old new c reply rules step).kind in

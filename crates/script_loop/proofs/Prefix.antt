@@ -47,7 +47,7 @@ module _ {S P : Type 0} (m : Semantics S P) (from : S) (rules : CanGoOn (m.begin
             ∙ sym (append_assoc (text_of [] replies) front (whole.2 ++ text_of [] more.0)),
       )
 
-  -- the same of what a call left unwritten, over the items of any bytes
+  -- what a call wrote before the sink failed is a prefix of the output of a whole run, over the items of any bytes
   pub cut_is_prefix_by : (to : S) (call : Effects) (all : List ℕ) (w : WroteInPart m from (items_within all) call to)
       → IsPrefixBy m from (items_within all) (text_of [] w.replies ++ w.front)
   cut_is_prefix_by to call all w =

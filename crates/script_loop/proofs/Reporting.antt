@@ -10,7 +10,7 @@ use Rattle.script_loop.specs.Semantics.{Semantics, snapshot}
 use Rattle.script_reader.specs.declared.command.Command.{Command}
 use Rattle.script_loop.specs.Applying.{Applies, Speaks, TurnsInPart}
 
--- a semantics whose turns in part are those of a reply that was cut
+-- for a semantics in which each turn with a cut reply is a turn in part
 module _ {S P : Type 0} (m : Semantics S P)
     (in_part : (old : S) (c : Command) (out : List ℕ) (new : S) → TurnsInPart m.turns old c out new → m.turns_in_part old c out new) where
   -- a reply that was written, or a prefix of it

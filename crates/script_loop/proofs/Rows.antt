@@ -36,7 +36,7 @@ module _ {S P : Type 0} (m : Semantics S P) (from to : S) (call : Effects) where
                 (met.row left (subst (λ (o : Option (List ℕ)). MayFollow o met.ended left) is refl)),
           )
 
-  -- over the bytes that were taken, and some that may come next
+  -- the row of the status, over the bytes taken and some bytes that may follow them
   pub some_row : MeetsOutcome m from call to → (all : List ℕ) × (left : List ℕ) × IsRow m call.status from all left call to
   some_row met = go call.left refl
     where
@@ -44,7 +44,7 @@ module _ {S P : Type 0} (m : Semantics S P) (from to : S) (call : Effects) where
       go None is = (met.taken ++ [], [], met.row [] (subst (λ (o : Option (List ℕ)). MayFollow o met.ended []) is (nothing_may_follow met.ended)))
       go (Some left) is = (met.taken ++ left, left, met.row left (subst (λ (o : Option (List ℕ)). MayFollow o met.ended left) is refl))
 
-  -- a script that was answered to its end: a run over its items led here
+  -- if a script was answered to its end, a run over its items led to the state `to`
   pub whole_run : MeetsOutcome m from call to → call.status ≡ Done → (wanted : List Item) × Wrote m from wanted call to
   whole_run met done =
       let row = some_row met in

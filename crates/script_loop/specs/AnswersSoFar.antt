@@ -1,4 +1,4 @@
--- What was answered so far.
+-- What the loop over a script has answered so far.
 use Rattle.std.specs.Prelude.{◌≡◌, ◌≤◌, ◌+◌, ◌++◌, ℕ, Bool, true, false, List, [], ◌∷◌, length, Option, Some, None}
 use Rattle.cf_io.specs.Feeds.{appended}
 use Rattle.script_reader.specs.Items.{Item}
@@ -12,20 +12,20 @@ use Rattle.script_loop.specs.Semantics.{PartBy, RunBy, Semantics}
 use Rattle.script_loop.specs.declared.answering.Ready.{Ready}
 use Rattle.script_loop.specs.declared.answering.Ready.TheVariants.{GoesOn, Stopped, Cut, LacksMemory}
 
--- The chunk `piece` was read, and the text is the replies to the items up to there; if `stopped`, the last one is bad.
-pub record Answered {S P : Type 0} (m : Semantics S P) (old : Playing S) (piece : List ℕ) (new : Playing S) (text : List ℕ) (stopped : Bool) : Type 0 where
+-- The bytes `chunk` were read, and `text` is the replies to the items that they complete; if `stopped`, the last one is a bad line.
+pub record Answered {S P : Type 0} (m : Semantics S P) (old : Playing S) (chunk : List ℕ) (new : Playing S) (text : List ℕ) (stopped : Bool) : Type 0 where
   pub done : List Item
   pub replies : List Reply
   pub run : RunBy m old.state (run_of old) done replies (run_of new)
   pub text_is : text ≡ text_of [] replies
   pub stops : has_bad done ≡ stopped
-  pub left : (more : List ℕ) (ended : Bool) → items_left old.reading (piece ++ more) ended ≡ done ++ items_left new.reading more ended
+  pub left : (more : List ℕ) (ended : Bool) → items_left old.reading (chunk ++ more) ended ≡ done ++ items_left new.reading more ended
   pub plan : m.plan new.state ≡ m.plan old.state
   pub untouched : new.reading.stage ≡ Opening → (old.reading.stage ≡ Opening) × (new.state ≡ old.state)
   pub silent : stopped ≡ false → new.reading.stage ≡ Opening → text ≡ []
 
--- The chunk `piece` was read, and the output is replies to items and a prefix of the reply to the next one.
-pub record CutOff {S P : Type 0} (m : Semantics S P) (old : Playing S) (piece : List ℕ) (new : Playing S) (out : List ℕ) : Type 0 where
+-- The bytes `chunk` were read, and the output is replies to items and a prefix of the reply to the next one.
+pub record CutOff {S P : Type 0} (m : Semantics S P) (old : Playing S) (chunk : List ℕ) (new : Playing S) (out : List ℕ) : Type 0 where
   pub done : List Item
   pub replies : List Reply
   pub mid : Option S
@@ -35,36 +35,36 @@ pub record CutOff {S P : Type 0} (m : Semantics S P) (old : Playing S) (piece : 
   pub part : PartBy m old.state mid item front (run_of new)
   pub out_is : out ≡ text_of [] replies ++ front
   pub plan : m.plan new.state ≡ m.plan old.state
-  pub left : (more : List ℕ) (ended : Bool) → (after : List Item) × (items_left old.reading (piece ++ more) ended ≡ done ++ item ∷ after)
+  pub left : (more : List ℕ) (ended : Bool) → (after : List Item) × (items_left old.reading (chunk ++ more) ended ≡ done ++ item ∷ after)
   pub untouched : new.reading.stage ≡ Opening → (old.reading.stage ≡ Opening) × (new.state ≡ old.state)
 
--- no item is complete before more bytes are read
+-- the kept bytes hold no whole item, so that the reader needs more bytes
 pub record IsWaiting (r : Reading) : Type 0 where
   pub going : r.stopped ≡ None
   pub quiet : items_left r [] false ≡ []
   pub room : r.ended ≡ false → length r.kept ≤ LONGEST
 
--- the items of the chunk were answered
-pub record WentOn {S P : Type 0} (m : Semantics S P) (old : Progress S) (piece : List ℕ) (new : Progress S) : Type 0 where
+-- the items that the chunk completes were answered
+pub record WentOn {S P : Type 0} (m : Semantics S P) (old : Progress S) (chunk : List ℕ) (new : Progress S) : Type 0 where
   pub text : List ℕ
-  pub answered : Answered m old.playing piece new.playing text false
+  pub answered : Answered m old.playing chunk new.playing text false
   pub wrote : new.written ≡ appended old.written text
   pub ready : IsReady m new.playing
   pub waiting : IsWaiting new.playing.reading
   pub same_end : new.playing.reading.ended ≡ old.playing.reading.ended
-  pub fed : new.playing.reading.fed ≡ old.playing.reading.fed + length piece
+  pub fed : new.playing.reading.fed ≡ old.playing.reading.fed + length chunk
 
--- a bad line was named
-pub record HasStopped {S P : Type 0} (m : Semantics S P) (old : Progress S) (piece : List ℕ) (new : Progress S) : Type 0 where
+-- the script stopped at a bad line, and its number was written
+pub record HasStopped {S P : Type 0} (m : Semantics S P) (old : Progress S) (chunk : List ℕ) (new : Progress S) : Type 0 where
   pub text : List ℕ
-  pub answered : Answered m old.playing piece new.playing text true
+  pub answered : Answered m old.playing chunk new.playing text true
   pub wrote : new.written ≡ appended old.written text
   pub over : (line : ℕ) × (new.playing.reading.stopped ≡ Some line)
 
--- the sink failed
-pub record WasCut {S P : Type 0} (m : Semantics S P) (old : Progress S) (piece : List ℕ) (new : Progress S) : Type 0 where
+-- the sink failed at the reply to an item: a prefix of it was written
+pub record WasCut {S P : Type 0} (m : Semantics S P) (old : Progress S) (chunk : List ℕ) (new : Progress S) : Type 0 where
   pub out : List ℕ
-  pub cut : CutOff m old.playing piece new.playing out
+  pub cut : CutOff m old.playing chunk new.playing out
   pub wrote : new.written ≡ appended old.written out
 
 -- an allocation failed at the `heap` line, and nothing was written
@@ -74,20 +74,21 @@ pub record LackedMemory {S P : Type 0} (m : Semantics S P) (old new : Progress S
   pub plan : m.plan new.playing.state ≡ m.plan old.playing.state
   pub wrote : new.written ≡ old.written
 
+-- what the bytes `chunk` led to, by the result of `answer_chunk`
 abbrev pub Goes : {S P : Type 0} → Semantics S P → Progress S → List ℕ → Ready → Progress S → Type 0
-Goes m old piece GoesOn new = WentOn m old piece new
-Goes m old piece Stopped new = HasStopped m old piece new
-Goes m old piece Cut new = WasCut m old piece new
-Goes m old piece LacksMemory new = LackedMemory m old new
+Goes m old chunk GoesOn new = WentOn m old chunk new
+Goes m old chunk Stopped new = HasStopped m old chunk new
+Goes m old chunk Cut new = WasCut m old chunk new
+Goes m old chunk LacksMemory new = LackedMemory m old new
 
--- a text was written, or a prefix of it
+-- a prefix of a text was written
 pub record WroteFront (old : Option (List ℕ)) (text : List ℕ) (new : Option (List ℕ)) : Type 0 where
   pub front : List ℕ
   pub lost : List ℕ
   pub cut : text ≡ front ++ lost
   pub wrote : new ≡ appended old front
 
--- a bad line was named, or a prefix of its reply was written
+-- the number of a bad line was written, or if the sink failed, a prefix of that reply
 abbrev pub NamesBad : Option (List ℕ) → ℕ → Ready → Option (List ℕ) → Type 0
 NamesBad old line Stopped new = new ≡ appended old (led [] (said (bad_line line)))
 NamesBad old line Cut new = WroteFront old (led [] (said (bad_line line))) new

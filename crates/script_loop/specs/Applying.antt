@@ -8,7 +8,7 @@ use Rattle.cf_session.specs.declared.outcome.Outcome.{Outcome}
 use Rattle.script_loop.specs.Semantics.{HasTurn, HasTurnInPart, Semantics, Snapshot}
 use Rattle.script_reader.specs.declared.command.Command.{Command}
 
--- Which replies a command may get in a state, and to which states it leads.
+-- A relation: which reply a command may get in a state, and to which state it leads then.
 abbrev pub Turns : Type 0 → Type 1
 Turns S = S → Command → Reply → S → Type 0
 

@@ -41,7 +41,7 @@ pub record ArePlain (kind : Kind) (wanted : List Item) : Type 0 where
   pub ones : StaysAtOne kind None wanted
   pub placeless : ArePlaceless wanted
 
--- the output over plain items is their transcript
+-- if the items are plain, the output is their transcript
 abbrev pub PrintsTranscript : Kind → Option (List ℕ) → Effects → Type 0
 PrintsTranscript kind None call = ⊤
 PrintsTranscript kind (Some all) call = ArePlain kind (items_within all) → call.after ≡ appended call.before (text_of [] (transcript kind (items_within all)))

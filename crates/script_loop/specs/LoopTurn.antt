@@ -13,26 +13,27 @@ use Rattle.script_loop.specs.declared.running.Script.{Script}
 use Rattle.script_loop.specs.declared.running.TurnEnd.{TurnEnd}
 use Rattle.script_loop.specs.declared.running.TurnEnd.TheVariants.{Answered, Ended, Stopped}
 
--- the bytes that its reader was fed
+-- what the script's reader was fed and keeps
 abbrev pub reading_in : Script → Reading
 reading_in script = script.reader
 
--- the bytes left up to the limit
+-- how many bytes may still be taken up to the limit
 abbrev pub left_in : Script → ℕ
 left_in script = script.left
 
--- A script between two turns: the run so far, the bytes left in its source and how many it gave, and the bytes left up to the limit.
+-- A script between two turns: the run so far, the bytes left in its source, how many the source has returned, and how many may still be taken.
 pub record Between (S : Type 0) : Type 0 where
   pub progress : Progress S
   pub rest : Option (List ℕ)
   pub given : ℕ
   pub left : ℕ
 
+-- what contracts see of a script between two turns, with the state of its run, its sink and its source
 abbrev pub between : {S : Type 0} → Script → S → Option (List ℕ) → Option (List ℕ) → ℕ → Between S
 between script state written rest given =
     record { progress = progress (playing (reading_in script) state) written; rest = rest; given = given; left = left_in script }
 
--- all items that were taken are answered, except a line without its end
+-- every whole line taken is answered; the bytes fed and those that may still be taken add up to the limit
 pub record AwaitsChunk {S P : Type 0} (m : Semantics S P) (b : Between S) : Type 0 where
   pub waiting : IsWaiting b.progress.playing.reading
   pub ready : IsReady m b.progress.playing
@@ -48,7 +49,7 @@ pub record Chunk {S : Type 0} (old new : Between S) : Type 0 where
   pub fits : length within ≤ old.left
   pub short : length (within ++ past) ≤ MOST_CHUNK
 
--- it is within the limit, and the items that it completes were answered
+-- a chunk was taken that is within the limit, and the items that it completes were answered
 pub record AnswersChunk {S P : Type 0} (m : Semantics S P) (old new : Between S) : Type 0 where
   pub chunk : Chunk old new
   pub whole : chunk.past ≡ []
@@ -56,7 +57,7 @@ pub record AnswersChunk {S P : Type 0} (m : Semantics S P) (old new : Between S)
   pub left : new.left + length chunk.within ≡ old.left
   pub went : WentOn m old.progress chunk.within new.progress
 
--- it passes the limit, and the items that it completes within the limit were answered
+-- a chunk was taken that passes the limit, and the items that its bytes within the limit complete were answered
 pub record PassesLimit {S P : Type 0} (m : Semantics S P) (old new : Between S) : Type 0 where
   pub chunk : Chunk old new
   pub some : 0 < length chunk.past
@@ -79,7 +80,7 @@ StopsBy m OutOfMemory old new = (c : Chunk old new) × LackedMemory m old.progre
 StopsBy m TooLong old new = PassesLimit m old new
 StopsBy m status old new = ⊥
 
--- a turn, by its end
+-- what a turn did, by how it ended
 abbrev pub TakesTurn : {S P : Type 0} → Semantics S P → Between S → TurnEnd → Between S → Type 0
 TakesTurn m old Answered new = AnswersChunk m old new
 TakesTurn m old Ended new = TakesNothing old new × IsSpent old.rest

@@ -5,7 +5,7 @@ use Rattle.script_reader.specs.declared.stage.Stage.{Stage}
 use Rattle.script_reader.specs.declared.stage.Stage.TheVariants.{Opening, Bounding, Running}
 use Rattle.script_loop.specs.Semantics.{Semantics}
 
--- the reader, and the state after the replies so far
+-- what the reader was fed and keeps, and the state of the run after the replies so far
 pub record Playing (S : Type 0) : Type 0 where
   pub reading : Reading
   pub state : S
@@ -13,7 +13,7 @@ pub record Playing (S : Type 0) : Type 0 where
 abbrev pub playing : {S : Type 0} → Reading → S → Playing S
 playing reading state = record { reading = reading; state = state }
 
--- the run so far: none before the `heap` line
+-- the state of the run; none before the `heap` line
 abbrev pub run_in : {S : Type 0} → Stage → S → Option S
 run_in Opening s = None
 run_in Bounding s = Some s
@@ -31,7 +31,7 @@ IsReadyAt m Running s = m.is_going s
 abbrev pub IsReady : {S P : Type 0} → Semantics S P → Playing S → Type 0
 IsReady m p = IsReadyAt m p.reading.stage p.state
 
--- the same, and the bytes written by then, if the sink is observable
+-- a script in the middle of its run, and the bytes written by then, if the sink is observable
 pub record Progress (S : Type 0) : Type 0 where
   pub playing : Playing S
   pub written : Option (List ℕ)

@@ -25,11 +25,11 @@ is_bad (bad n) = true
 abbrev pub has_bad : List Item → Bool
 has_bad = list_any is_bad
 
--- the items of the bytes within the limit; the script ends there if it isn't longer
+-- the items of the bytes within the limit; if there are no more bytes, the last line needs no line feed
 abbrev pub items_within : List ℕ → List Item
 items_within all = items (take MOST_BYTES all) (nat_le (length all) MOST_BYTES)
 
--- a source: the bytes left, if it is observable, how many it gave, how often it failed, and whether its last call did
+-- a source: the bytes left, if it is observable, how many it returned, how often it failed, and whether its last call failed
 pub record SourceState : Type 0 where
   pub rest : Option (List ℕ)
   pub given : ℕ
@@ -39,7 +39,7 @@ pub record SourceState : Type 0 where
 abbrev pub source_at : Option (List ℕ) → ℕ → ℕ → Bool → SourceState
 source_at rest given faults failed = record { rest = rest; given = given; faults = faults; failed = failed }
 
--- a sink: the bytes written, if it is observable, how often it failed, and whether its last call did
+-- a sink: the bytes written, if it is observable, how often it failed, and whether its last call failed
 pub record SinkState : Type 0 where
   pub written : Option (List ℕ)
   pub faults : ℕ
@@ -84,7 +84,7 @@ pub record Wrote {S P : Type 0} (m : Semantics S P) (from : S) (wanted : List It
   pub written : call.after ≡ appended call.before (text_of [] replies)
   pub stands : EndsAt from end to
 
--- a run over the items before one of them, and a prefix of the reply to that one was written
+-- the replies of a run over the items before `item` were written; then `item` took effect, and a prefix of its reply, `front`, was written
 pub record WroteInPart {S P : Type 0} (m : Semantics S P) (from : S) (wanted : List Item) (call : Effects) (to : S) : Type 0 where
   pub before : List Item
   pub item : Item
@@ -99,9 +99,9 @@ pub record WroteInPart {S P : Type 0} (m : Semantics S P) (from : S) (wanted : L
   pub written : call.after ≡ appended call.before (text_of [] replies ++ front)
   pub stands : EndsAt from end to
 
--- Nothing was taken after the sink failed: each item whose line is complete before the last chunk is one of those that were answered as a whole, `before`.
--- If the sink failed at the end of the source, no chunk is the last one.
-pub record TakesNoMore (before : List Item) (all left : List ℕ) : Type 0 where
+-- The bytes taken are `earlier` and then at most 4,096 others, `last`. Each item whose line is complete in `earlier` is one of those that were answered as a
+-- whole, `before`.
+pub record TakesAtMostAChunk (before : List Item) (all left : List ℕ) : Type 0 where
   pub earlier : List ℕ
   pub last : List ℕ
   pub took : all ≡ earlier ++ (last ++ left)
@@ -114,14 +114,15 @@ pub record Lacks {S P : Type 0} (m : Semantics S P) (from : S) (call : Effects) 
   pub unwritten : call.after ≡ call.before
 
 -- By the status: a source had the bytes `all`, and has the bytes `left` now. If the source failed, each item whose line is complete in the bytes taken was
--- answered, and no other. If the sink failed, no chunk was taken after that.
+-- answered, and no other. If the sink failed, each item whose line is complete before the last bytes taken, at
+-- most 4,096, was answered as a whole.
 abbrev pub IsRow : {S P : Type 0} → Semantics S P → Status → S → List ℕ → List ℕ → Effects → S → Type 0
 IsRow m Done from all left call to = (length all ≤ MOST_BYTES) × (left ≡ []) × (has_bad (items_within all) ≡ false) × Wrote m from (items_within all) call to
 IsRow m BadScript from all left call to = (has_bad (items_within all) ≡ true) × Wrote m from (items_within all) call to
 IsRow m TooLong from all left call to = (MOST_BYTES < length all) × (has_bad (items_within all) ≡ false) × Wrote m from (items_within all) call to
 IsRow m ReadFault from all left call to = (taken : List ℕ) × (all ≡ taken ++ left) × (length taken ≤ MOST_BYTES)
     × (has_bad (items taken false) ≡ false) × Wrote m from (items taken false) call to
-IsRow m WriteFault from all left call to = (w : WroteInPart m from (items_within all) call to) × TakesNoMore w.before all left
+IsRow m WriteFault from all left call to = (w : WroteInPart m from (items_within all) call to) × TakesAtMostAChunk w.before all left
 IsRow m OutOfMemory from all left call to = Lacks m from call to
 IsRow m Words from all left call to = ⊥
 IsRow m BadImage from all left call to = ⊥

@@ -26,11 +26,11 @@ pub record Semantics (S P : Type 0) : Type 1 where
 abbrev pub StepBy : {S P : Type 0} → Semantics S P → S → Option S → Item → Reply → Option S → Type 0
 StepBy m from old item reply new = PlayStep (m.begins (m.plan from)) m.turns old item reply new
 
--- a run over items
+-- a run over items, by the plan of a state: their replies, and the state after them
 abbrev pub RunBy : {S P : Type 0} → Semantics S P → S → Option S → List Item → List Reply → Option S → Type 0
 RunBy m from old items replies new = PlayRun (m.begins (m.plan from)) m.turns old items replies new
 
--- one item, and these bytes of its reply were written
+-- one item takes effect, and only these bytes of its reply, a prefix, are written
 abbrev pub PartBy : {S P : Type 0} → Semantics S P → S → Option S → Item → List ℕ → Option S → Type 0
 PartBy m from old item out new = PlayPart (m.begins (m.plan from)) m.turns_in_part old item out new
 
@@ -57,7 +57,7 @@ pub record IsOpenedInPart {S P : Type 0} (m : Semantics S P) (old : Snapshot S) 
   pub cut : led [] reply ≡ front ++ lost
   pub written : new.written ≡ appended old.written front
 
--- by the result
+-- what a `heap` line did, by the result: it was answered, or in part, or an allocation failed and nothing was written
 abbrev pub OpensBy : {S P T : Type 0} → Semantics S P → Snapshot S → Settings → Result T OpenFault → Snapshot S → Type 0
 OpensBy m old settings (Ok u) new = IsOpened m old (profile_of settings) new
 OpensBy m old settings (Err fault.Failed) new = IsOpenedInPart m old (profile_of settings) new
@@ -75,7 +75,7 @@ pub record HasTurnInPart {S P : Type 0} (m : Semantics S P) (old : Snapshot S) (
   pub turns : m.turns_in_part old.state command out new.state
   pub written : new.written ≡ appended old.written out
 
--- by the result
+-- what a command did, by the result: it was answered, or in part
 abbrev pub AnswersBy : {S P T : Type 0} → Semantics S P → Snapshot S → Command → Result T Failed → Snapshot S → Type 0
 AnswersBy m old command (Ok u) new = HasTurn m old command new
 AnswersBy m old command (Err failed) new = HasTurnInPart m old command new

@@ -13,7 +13,7 @@ pub record Settled (S : Type 0) : Type 0 where
 abbrev pub settled : {S : Type 0} → S → Option Settings → Settled S
 settled state settings = record { state = state; settings = settings }
 
--- It answers as the other mode handler does. The `heap` line sets the settings, and no command changes them.
+-- The semantics of the handler around one with semantics m: it answers as that one does. The `heap` line sets the settings, and no command changes them.
 abbrev pub with_settings : {S P : Type 0} → Semantics S P → Semantics (Settled S) P
 with_settings m = record {
   plan = λ s. m.plan s.state;

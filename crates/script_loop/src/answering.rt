@@ -1,4 +1,4 @@
-//! Answering the items that a reader has.
+//! The mode handler answers the items that a reader has.
 ghost use Rattle.std.specs.Prelude.{◌≡◌, ◌≤◌, ◌+◌, [], length, false, None, ◌≢◌};
 ghost use Rattle.cf_io.specs.Feeds.{FailsLast};
 ghost use Rattle.script_reader.specs.Reading.{MOST_FED};
@@ -7,14 +7,14 @@ ghost use Rattle.script_loop.specs.Progress.{IsReady, playing, progress};
 
 use crate::player::{OpenFault, Player};
 use cf_io::{Line, Sink, push_field, put_line};
-use script_reader::{NextRef, Reader, Room};
+use script_reader::{NextRef, PayloadBuffer, Reader};
 
-/// Why the handler stopped answering items.
+/// Why no further item was answered.
 #[derive(Clone, Copy, Debug, PartialEq, Eq)]
 pub enum Ready {
     /// The reader needs more bytes, or the script has ended.
     GoesOn,
-    /// At a bad line, which was named.
+    /// At a bad line, whose number was written.
     Stopped,
     /// The sink failed.
     Cut,
@@ -22,7 +22,7 @@ pub enum Ready {
     LacksMemory,
 }
 
-/// Writes the number of the bad line.
+/// Writes the number of a bad line, and returns `Stopped`, or `Cut` if the sink failed.
 fn name_bad<K: Sink>(number: u32, sink: &mut K) -> Ready
     ensures names { NamesBad (K.written sink.old) number result (K.written sink.new) }
     ensures grows { K.faults sink.old ≤ K.faults sink.new }
@@ -37,14 +37,14 @@ fn name_bad<K: Sink>(number: u32, sink: &mut K) -> Ready
     }
 }
 
-/// Answers the items of the reader until it needs more bytes, has ended, or is at a bad line. The bytes
-/// of a write are in `room`.
+/// Answers the items of the reader until it needs more bytes, has ended, or is at a bad line, or until the
+/// sink or an allocation fails. `payload` is for the bytes of a write.
 pub fn answer_kept<H, A: Player<H>, K: Sink>(
     reader: &mut Reader,
     player: &mut A,
     heap: &mut H,
     sink: &mut K,
-    room: &mut Room,
+    payload: &mut PayloadBuffer,
 ) -> Ready
     requires going { reader.old.stopped ≡ None }
     requires ready { IsReady A.semantics (playing reader.old (A.state player.old heap.old)) }
@@ -56,7 +56,7 @@ pub fn answer_kept<H, A: Player<H>, K: Sink>(
 {
     'replies: loop {
         let mut next = NextRef::NeedMore;
-        reader.read_next(room, &mut next);
+        reader.read_next(payload, &mut next);
         match next {
             NextRef::Start(settings) => match player.open(heap, &settings, sink) {
                 Ok(()) => {}
@@ -73,29 +73,30 @@ pub fn answer_kept<H, A: Player<H>, K: Sink>(
     }
 }
 
-/// Answers the items that the chunk completes.
-pub fn answer_piece<H, A: Player<H>, K: Sink>(
+/// Feeds the chunk to the reader, and answers the items that it completes, until one of the causes in
+/// `Ready` stops it.
+pub fn answer_chunk<H, A: Player<H>, K: Sink>(
     reader: &mut Reader,
     player: &mut A,
     heap: &mut H,
     sink: &mut K,
-    room: &mut Room,
-    piece: &[u8],
+    payload: &mut PayloadBuffer,
+    chunk: &[u8],
 ) -> Ready
     requires waiting { IsWaiting reader.old }
     requires open { reader.old.ended ≡ false }
-    requires few { reader.old.fed + length piece.now ≤ MOST_FED }
+    requires few { reader.old.fed + length chunk.now ≤ MOST_FED }
     requires ready { IsReady A.semantics (playing reader.old (A.state player.old heap.old)) }
-    ensures goes { Goes A.semantics (progress (playing reader.old (A.state player.old heap.old)) (K.written sink.old)) piece.now result
+    ensures goes { Goes A.semantics (progress (playing reader.old (A.state player.old heap.old)) (K.written sink.old)) chunk.now result
         (progress (playing reader.new (A.state player.new heap.new)) (K.written sink.new)) }
     ensures grows { K.faults sink.old ≤ K.faults sink.new }
     ensures same { result ≢ Ready.Cut → K.faults sink.new ≡ K.faults sink.old }
     ensures failed { result ≡ Ready.Cut → FailsLast (K.faults sink.old) (K.faults sink.new) (K.last_failed sink.new) }
 {
     let mut at = 0;
-    'feeds: while at < piece.len() {
-        at += reader.feed(&piece[at..]);
-        match answer_kept(reader, player, heap, sink, room) {
+    'feeds: while at < chunk.len() {
+        at += reader.feed(&chunk[at..]);
+        match answer_kept(reader, player, heap, sink, payload) {
             Ready::GoesOn => {}
             Ready::Stopped => return Ready::Stopped,
             Ready::Cut => return Ready::Cut,

@@ -9,8 +9,7 @@ ghost use Rattle.script_loop.specs.OneManager.{one_manager};
 ghost use Rattle.script_loop.specs.ScriptOutcome.{Effects, MeetsOutcome, Wrote, WroteInPart, items_within};
 ghost use Rattle.script_loop.specs.WithSettings.{GoesWith, Settled, with_settings};
 
-/// Each read of a script that was answered returns the bytes last written through its id, on any kind
-/// of manager.
+/// Each read that was answered prints the bytes last written through its id, on any kind of manager.
 pub fn every_read_gives_what_was_written()
     ensures printed { (from to : RunState) (call : Effects) (all : List ℕ) → call.had ≡ Some all
         → MeetsOutcome one_manager from call to → AnswersAll call.status
@@ -29,14 +28,14 @@ pub fn what_was_cut_is_a_prefix()
         → IsPrefixOfRun from.heap.kind (items_within all) (text_of [] w.replies ++ w.front) }
 {}
 
-/// If all items were answered, the output over plain items is their transcript.
+/// If all items were answered and are plain (`ArePlain`), the output is their transcript.
 pub fn plain_scripts_print_their_transcript()
     ensures { (from to : RunState) (call : Effects) → MeetsOutcome one_manager from call to
         → AnswersAll call.status → PrintsTranscript from.heap.kind call.had call }
 {}
 
-/// The chunks of a source do not matter: two calls that answered all of the same bytes return the same
-/// status, and over plain items on managers of one kind they print the same.
+/// The chunks of a source do not matter: two calls that answered every item of the same bytes return the
+/// same status, and if the items are plain and the managers of one kind, they print the same.
 pub fn cuts_never_matter()
     ensures status { (from other to there : RunState) (one two : Effects) (all : List ℕ)
         → one.had ≡ Some all → two.had ≡ Some all

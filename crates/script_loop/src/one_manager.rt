@@ -1,4 +1,4 @@
-//! A script on one manager.
+//! The mode handler of a script on one manager: a session.
 ghost use Rattle.std.specs.Prelude.{◌≡◌, Bool};
 ghost use Rattle.cf_base.specs.declared.kind.Kind.{Kind};
 ghost use Rattle.cf_session.specs.Apply.{run_at};

@@ -41,14 +41,15 @@ pub trait Player<H> {
     /// A run at one moment: the state of the handler and its heap.
     ghost State: { Type 0 };
 
-    /// The part of it that no item changes.
+    /// The part of a state that no item changes.
     ghost Plan: { Type 0 };
 
     ghost state: { Self → H → State };
 
     ghost semantics: { Semantics State Plan };
 
-    /// Answers the `heap` line, the first item of a script.
+    /// Answers the `heap` line, the first item of a script: opens the heap and writes the reply. `OpenFault`
+    /// shows why the reply wasn't written whole.
     fn open<K: Sink>(
         &mut self,
         heap: &mut H,
@@ -74,7 +75,7 @@ pub trait Player<H> {
     ) -> Result<(), Failed>
         requires going { semantics.is_going (state self.old heap.old) }
         requires formed { IsWellFormed (owned_command command) }
-        ensures answers { AnswersBy semantics (snapshot (state self.old heap.old) (K.written sink.old)) (owned_command command.entry)
+        ensures step { AnswersBy semantics (snapshot (state self.old heap.old) (K.written sink.old)) (owned_command command.entry)
             result (snapshot (state self.new heap.new) (K.written sink.new)) }
         ensures going { semantics.is_going (state self.new heap.new) }
         ensures plan { semantics.plan (state self.new heap.new) ≡ semantics.plan (state self.old heap.old) }

@@ -5,11 +5,11 @@ ghost use Rattle.script_reader.specs.Reading.{fresh};
 ghost use Rattle.script_loop.specs.ScriptOutcome.{MOST_BYTES, Plays, sink_at, source_at};
 ghost use Rattle.script_loop.specs.LoopTurn.{AwaitsChunk, TakesTurn, between, left_in, reading_in};
 
-use crate::answering::{Ready, answer_kept, answer_piece};
+use crate::answering::{Ready, answer_chunk, answer_kept};
 use crate::player::Player;
 use cf_base::Status;
 use cf_io::{Sink, Source};
-use script_reader::{Reader, Room};
+use script_reader::{PayloadBuffer, Reader};
 
 /// The most bytes of a script.
 pub const LIMIT: usize = 268_435_455;
@@ -28,11 +28,11 @@ pub enum TurnEnd {
     Stopped(Status),
 }
 
-/// A script between two chunks: its reader, the payload of a write, and the bytes left up to the limit.
+/// A script between two chunks: its reader, a buffer for the payload of a write, and the bytes left up to the limit.
 #[derive(Drop)]
 pub struct Script {
     reader: Reader,
-    payload: Room,
+    payload: PayloadBuffer,
     left: usize,
 }
 
@@ -44,7 +44,7 @@ impl Script {
     {
         Script {
             reader: Reader::new(),
-            payload: Room::new(),
+            payload: PayloadBuffer::new(),
             left: LIMIT,
         }
     }
@@ -79,7 +79,7 @@ impl Script {
             return TurnEnd::Ended;
         }
         let within = n.min(self.left);
-        match answer_piece(
+        match answer_chunk(
             &mut self.reader,
             player,
             heap,
@@ -100,9 +100,9 @@ impl Script {
     }
 }
 
-/// The mode handler answers each line of a script before the loop takes the next chunk. The loop stops at
-/// a bad line, if the source or the sink fails, if an allocation fails at the `heap` line, and after
-/// 268,435,455 bytes.
+/// Runs a script: takes chunks from the source, and lets the mode handler answer each whole line before the
+/// next chunk. It stops at a bad line, if the source or the sink fails, if an allocation fails at the `heap`
+/// line, and after 268,435,455 bytes. The status shows which.
 pub fn play_script<H, A: Player<H>, S: Source, K: Sink>(
     player: &mut A,
     heap: &mut H,

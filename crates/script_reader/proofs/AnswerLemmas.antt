@@ -1,4 +1,4 @@
--- Answers, one line after the other.
+-- The results of the reader, line after line: each means what `Answers` claims.
 use Rattle.std.proofs.Common.{◌≡◌, ◌∙◌, ◌<◌, ◌≤◌, ◌+◌, ℕ, Bool, true, false, List, [], ◌∷◌, Option, Some, None, length, take, drop, refl, sym, ap, arith}
 use Rattle.std.proofs.Common.{length-append, length-drop, subst, append-nil, append_assoc, ◌++◌, ◌⊎◌, inl, inr, cond, suc, take-append-drop}
 use Rattle.std.proofs.lemmas.Bool.{false≢true, ltb-false}
@@ -204,7 +204,7 @@ answer_in_range old new NeedMore answer = tt
 answer_in_range old new (Bad line) answer = tt
 answer_in_range old new End answer = tt
 
--- ---- no line is there
+-- ---- the kept bytes hold no line
 
 few_kept : (kept : List ℕ) → is_last_line false kept ≡ false → length kept ≤ 8999
 few_kept [] none = omega arith

@@ -52,7 +52,7 @@ nothing_left r line more e over = rw over refl
 pub bad_now : (old : Reading) (line : ℕ) (new : Reading) → old.stopped ≡ None → Answers old (Bad line) new → StopsAt old line new
 bad_now old line new going answer = subst (λ (o : Option ℕ). AnswersBad old o line new) going answer
 
--- after a bad line the same is returned again, and nothing else
+-- after a bad line every call returns the same bad line
 still_over : (old : Reading) (next : Next) (new : Reading) (line : ℕ) → old.stopped ≡ Some line → Answers old next new → new.stopped ≡ Some line
 still_over old (Start settings) new line over answer = absurd (let e = sym answer.reads.going ∙ over in cc)
 still_over old (Command command) new line over answer = absurd (let e = sym answer.reads.going ∙ over in cc)

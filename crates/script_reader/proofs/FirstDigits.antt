@@ -44,7 +44,7 @@ few_digits text i within few all =
     let nine : 10 ^ 9 ≡ 1000000000 = refl in
     omega (arith, below, most, nine)
 
--- this few digits spell the number that is kept
+-- fewer than ten digits spell a number below `2^32`: the value kept modulo `2^32` is that number
 pub few_spell : (text : List ℕ) (i v : ℕ) → i ≤ length text → 0 < i → i < 10 → list_all is_digit (take i text) ≡ true
     → v ≡ digits_value 10 (take i text) % 2 ^ 32 → Some v ≡ number_in (take i text)
 few_spell text i v within some few all value =

@@ -28,7 +28,7 @@ feed_found (x ∷ r) h = go (x == 10) refl h (feed_found r)
         let tail = rest (omega arith) in
         rw e (ap (λ (l : List ℕ). x ∷ l) tail.0, rw isnt tail.1)
 
--- if none is found, there is none
+-- if no line feed is found, the bytes hold none
 pub feed_missing : (kept : List ℕ) → length kept ≤ feed_place kept → holds_line_feed kept ≡ false
 feed_missing [] h = refl
 feed_missing (x ∷ r) h = go (x == 10) refl h (feed_missing r)

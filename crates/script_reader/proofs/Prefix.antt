@@ -1,4 +1,4 @@
--- Items once read stay, whatever comes next.
+-- The items of the first bytes of a script stay its first items, whatever bytes follow.
 use Rattle.std.proofs.Common.{◌≡◌, ◌∙◌, ◌+◌, ◌==◌, ◌++◌, ℕ, Bool, true, false, cond, List, [], ◌∷◌, refl, sym, ap}
 use Rattle.script_reader.specs.Items.{AreFirstOf, Item, Verdict, bad, breaks, gives, items, items_at, items_by, line_says, passes, verdict}
 use Rattle.script_reader.specs.Lines.{is_last_line, is_too_long, lines_among, onto_first, stretches}
@@ -6,7 +6,7 @@ use Rattle.script_reader.specs.declared.stage.Stage.{Stage}
 use Rattle.script_reader.specs.declared.stage.Stage.TheVariants.{Opening}
 use Rattle.script_reader.proofs.ItemLemmas.{long_last, says_wrong, some_stretch, too_long_more}
 
--- the last of these stretches goes on with the first of those
+-- two lists of stretches, the last of the first list joined with the first of the second
 abbrev pub glued : List (List ℕ) → List (List ℕ) → List (List ℕ)
 glued [] ms = ms
 glued (l ∷ []) [] = l ∷ []

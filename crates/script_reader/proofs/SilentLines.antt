@@ -44,7 +44,7 @@ silent_at t at h = go (nat_lt (gaps_in t) (length t)) refl h
     go false isnt h = absurd cc
     go true is h = let place : at ≡ gaps_in t = cc in rw place (first_byte t (ltb-true _ _ is))
 
--- a first byte past those of gaps and comments
+-- a text whose first byte is greater than `#` begins with an item: it is neither blank nor a comment
 pub item_at_once : (t : List ℕ) → 0 < length t → 35 < get_or t 0 0 → false ≡ says_nothing (tokens_say (tokens t))
 item_at_once [] some past = absurd (omega arith)
 item_at_once (x ∷ r) some past =

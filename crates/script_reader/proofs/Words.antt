@@ -1,4 +1,4 @@
--- Tokens from the start on.
+-- The gaps and the first token at the start of a text.
 use Rattle.std.proofs.Common.{◌≡◌, ◌∙◌, ◌-◌, ◌<◌, ◌≤◌, ◌+◌, ℕ, suc, Bool, true, false, cond, not, List, [], ◌∷◌}
 use Rattle.std.proofs.Common.{length, take, drop, get_or, refl, sym, ap, arith}
 use Rattle.std.specs.List.{position_or_len}
@@ -12,7 +12,7 @@ use Rattle.script_reader.specs.Lines.{is_gap, is_parted, onto_first, tokens}
 abbrev pub gaps_in : List ℕ → ℕ
 gaps_in t = position_or_len (λ x. not (is_gap x)) t
 
--- a first byte past those of gaps
+-- a text whose first byte is greater than a space begins with no gap
 pub no_gap_first : (t : List ℕ) → 0 < length t → 32 < get_or t 0 0 → 0 ≡ gaps_in t
 no_gap_first [] some past = absurd (omega arith)
 no_gap_first (x ∷ r) some past =

@@ -8,23 +8,23 @@ use Rattle.script_reader.specs.declared.next.Next.{Next}
 use Rattle.script_reader.specs.declared.next.Next.TheVariants as next
 use Rattle.script_reader.specs.declared.stage.Stage.{Stage}
 
--- this value, if there is one
+-- x if the condition holds, else none
 abbrev pub some_if : {A : Type 0} → Bool → A → Option A
 some_if true x = Some x
 some_if false x = None
 
--- the item that was returned, if it was one
+-- the item that a call of the reader returned; none if it returned `NeedMore`, `Bad` or `End`
 abbrev pub item_answered : Next → Option Item
 item_answered (next.Start settings) = Some (starts (profile_of settings))
 item_answered (next.Command command) = Some (asks command)
 item_answered _ = None
 
--- a command that is returned is well-formed
+-- if the reader returned a command, the command is well-formed
 abbrev pub IsInRange : Next → Type 0
 IsInRange (next.Command command) = IsWellFormed command
 IsInRange _ = Unit {0}
 
--- the meaning of a line with this result, or it isn't in the grammar
+-- the meaning of a line: the item that n holds, or `wrong` if the line isn't in the grammar
 abbrev pub saying_if : Bool → Next → Saying
 saying_if true n = item_or_wrong (item_answered n)
 saying_if false n = wrong
@@ -35,17 +35,17 @@ says_nothing nothing = true
 says_nothing wrong = false
 says_nothing (item i) = false
 
--- the stage after a line of this meaning; none if it breaks a rule at its place
+-- the stage after a line of this meaning; none if the grammar doesn't allow such a line at this stage
 abbrev pub stage_said : Stage → Saying → Option Stage
 stage_said stage nothing = Some stage
 stage_said stage wrong = None
 stage_said stage (item i) = stage_after stage i
 
--- the reading after its first line, at the same stage
+-- the reading without its first `next` bytes, which are one line; the line is counted, and the stage stays
 abbrev pub line_passed : Reading → ℕ → Reading
 line_passed old next = record old { kept = drop next old.kept; passed = old.passed + 1 }
 
--- the first line has a command: its end, and the start of the next one
+-- the first kept line is neither blank nor a comment; it has `len` bytes, and the next line starts at byte `next`
 pub record IsNextLine (r : Reading) (len next : ℕ) : Type 0 where
   pub first : IsFirstLine r.kept r.ended len next
   pub says : says_nothing (line_says (take len r.kept)) ≡ false

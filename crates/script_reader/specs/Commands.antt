@@ -12,13 +12,13 @@ use Rattle.script_reader.specs.declared.command.Command.{Command}
 use Rattle.script_reader.specs.declared.command.Command.TheVariants.{Malloc, Free, Write, Read, Place, Block, Peek, Walk, Frag, Steps, Bound, Resize, Slice}
 use Rattle.script_reader.specs.declared.command.Command.TheVariants.{Task, Quota, Need, Admit}
 
--- the second step, if the first gave a value
+-- f of the first value; none if there is no first value
 infixl 10 ◌>>=◌
 abbrev pub ◌>>=◌ : {A B : Type 0} → Option A → (A → Option B) → Option B
 None >>= f = None
 Some x >>= f = f x
 
--- exactly none, one, and more tokens
+-- whether there is no token; below, the tokens if there are exactly one, two, three or four
 abbrev pub none_of : List (List ℕ) → Bool
 none_of [] = true
 none_of (a ∷ rest) = false
@@ -39,7 +39,7 @@ abbrev pub four_of : List (List ℕ) → Option (List ℕ × List ℕ × List �
 four_of (a ∷ b ∷ c ∷ d ∷ []) = Some (a, b, c, d)
 four_of _ = None
 
--- a number from low to high
+-- the number that a token spells, if it is from low to high
 abbrev pub number_from : ℕ → ℕ → List ℕ → Option ℕ
 number_from low high text = do
   n ← number_in text
@@ -48,11 +48,11 @@ number_from low high text = do
 abbrev pub id_in : List ℕ → Option ℕ
 id_in text = number_from 0 65535 text
 
--- how many bytes are read at once
+-- how many bytes a read prints, at most 4,096
 abbrev pub length_in : List ℕ → Option ℕ
 length_in text = number_from 0 4096 text
 
--- the bound of not-full pages of a class
+-- a class's bound on partly full pages
 abbrev pub bound_in : List ℕ → Option ℕ
 bound_in text = number_from 1 64 text
 
@@ -63,7 +63,7 @@ task_in text = number_from 0 15 text
 abbrev pub bytes_in : List ℕ → Option (List ℕ)
 bytes_in text = if is_within 2 8192 (length text) then result_ok (decode_of text) else None
 
--- the fields of the commands
+-- the fields of a command: none unless the tokens are exactly these, each in its range
 abbrev pub one_id : List (List ℕ) → Option ℕ
 one_id args = do
   a ← one_of args
@@ -123,7 +123,7 @@ id_number_and_text args = do
   n ← number_in p.1
   Some (id, n, p.2)
 
--- m ID BYTES
+-- the command of the tokens after its word, for each form of a line: m ID BYTES
 abbrev pub malloc_in : List (List ℕ) → Option Command
 malloc_in args = option_map (λ p. Malloc p.0 p.1) (id_and_number args)
 
@@ -178,11 +178,11 @@ need_in args = option_map (λ p. Need p.0 p.1 p.2) (task_and_numbers args)
 abbrev pub admit_in : List (List ℕ) → Option Command
 admit_in args = option_map (λ task. Admit task) (one_task args)
 
--- walk, frag, steps, s
+-- walk, frag, steps, s: commands without fields
 abbrev pub alone_in : Command → List (List ℕ) → Option Command
 alone_in command args = if none_of args then Some command else None
 
--- the commands whose word is a letter
+-- the command whose word is this letter, with these fields
 abbrev pub letter_command : ℕ → List (List ℕ) → Option Command
 letter_command letter args =
     if letter == byte "m" then malloc_in args
@@ -197,7 +197,7 @@ letter_command letter args =
     else (if letter == byte "s" then alone_in Slice args
     else (if letter == byte "t" then task_command_in args else None))))))))))
 
--- the commands whose word is longer
+-- the command whose word is longer than a letter, with these fields
 abbrev pub word_command : List ℕ → List (List ℕ) → Option Command
 word_command word args =
     if bytes_eq word (codes "walk") then alone_in Walk args
@@ -227,7 +227,7 @@ settings_in args = do
   proxies ← number_in p.3
   settings_if (setting_fault pages page_bytes k proxies) (profile_from pages page_bytes k proxies)
 
--- the numbers of the command are in range: those that their types don't keep
+-- the command's fields are in the ranges of the grammar, where their types allow more
 abbrev pub IsWellFormed : Command → Type 0
 IsWellFormed (Write id at bytes) = (1 ≤ length bytes) × (length bytes ≤ 4096)
 IsWellFormed (Read id at len) = len ≤ 4096

@@ -2,16 +2,16 @@
 use Rattle.std.specs.Prelude.{List, [], ◌∷◌, ℕ, Option, Some, None, option_map}
 use Rattle.script_reader.specs.Commands.{one_of, two_of, ◌>>=◌}
 
--- the first token as this reads it, and the tokens after it
+-- what `reads` makes of the first token, and the tokens after it; none if there is no token, or `reads` fails
 abbrev pub first_by : {A : Type 0} → (List ℕ → Option A) → List (List ℕ) → Option (A × List (List ℕ))
 first_by reads [] = None
 first_by reads (a ∷ rest) = option_map (λ x. (x, rest)) (reads a)
 
--- the one token as this reads it
+-- what `reads` makes of the only token; none if there isn't exactly one
 abbrev pub one_by : {A : Type 0} → (List ℕ → Option A) → List (List ℕ) → Option A
 one_by reads args = one_of args >>= reads
 
--- the two tokens as these read them
+-- what f and g make of the two tokens; none if there aren't exactly two
 abbrev pub two_by : {A B : Type 0} → (List ℕ → Option A) → (List ℕ → Option B) → List (List ℕ) → Option (A × B)
 two_by f g args = do
   p ← two_of args

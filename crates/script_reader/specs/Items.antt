@@ -9,13 +9,13 @@ use Rattle.script_reader.specs.declared.command.Command.TheVariants.{Bound}
 use Rattle.script_reader.specs.declared.stage.Stage.{Stage}
 use Rattle.script_reader.specs.declared.stage.Stage.TheVariants.{Opening, Bounding, Running}
 
--- what a script asks for: a heap with these settings, a command, or an end at the bad line of this number
+-- an item of a script: a `heap` line with its settings, a command, or the number of the bad line at which the script ends
 pub data Item : Type 0 where
   starts : Profile → Item
   asks : Command → Item
   bad : ℕ → Item
 
--- the meaning of a line, at any place
+-- what a line means, whatever its place: no item, since it is blank or a comment; not in the grammar; or an item
 pub data Saying : Type 0 where
   nothing : Saying
   wrong : Saying
@@ -30,6 +30,7 @@ is_comment (x ∷ rest) = x == byte "#"
 abbrev pub item_in : List ℕ → List (List ℕ) → Option Item
 item_in word args = if bytes_eq word (codes "heap") then option_map starts (settings_in args) else option_map asks (command_of word args)
 
+-- the meaning of a line with this item, or with none: then the line isn't in the grammar
 abbrev pub item_or_wrong : Option Item → Saying
 item_or_wrong None = wrong
 item_or_wrong (Some i) = item i
@@ -39,9 +40,11 @@ abbrev pub tokens_say : List (List ℕ) → Saying
 tokens_say [] = nothing
 tokens_say (word ∷ args) = if is_comment word then nothing else item_or_wrong (item_in word args)
 
+-- the meaning of a line, given without its line feed
 abbrev pub line_says : List ℕ → Saying
 line_says line = if is_too_long line then wrong else tokens_say (tokens (without_return line))
 
+-- whether the command is `k`
 abbrev pub is_bound : Command → Bool
 is_bound (Bound slot_words k) = true
 is_bound _ = false
@@ -70,6 +73,7 @@ pub data Verdict : Type 0 where
   gives : Item → Stage → Verdict
   breaks : Verdict
 
+-- the verdict on an item, by the stage that it leads to, if it is allowed
 abbrev pub gives_or_breaks : Item → Option Stage → Verdict
 gives_or_breaks i None = breaks
 gives_or_breaks i (Some next) = gives i next
@@ -80,7 +84,7 @@ verdict stage nothing = passes
 verdict stage wrong = breaks
 verdict stage (item i) = gives_or_breaks i (stage_after stage i)
 
--- the items from line n + 1 on, by its verdict, and by the items after it from each stage
+-- the items from line n + 1 on, by that line's verdict; `after` is the items of the later lines, by the stage after that line
 abbrev pub items_by : Verdict → ℕ → Stage → (Stage → List Item) → List Item
 items_by passes n stage after = after stage
 items_by (gives i next) n stage after = i ∷ after next
@@ -95,6 +99,6 @@ items_at (line ∷ rest) n stage = items_by (verdict stage (line_says line)) n s
 abbrev pub items : List ℕ → Bool → List Item
 items bytes ended = items_at (lines bytes ended) 0 Opening
 
--- these items are the first of those
+-- the items `front` are a prefix of the items `all`
 abbrev pub AreFirstOf : List Item → List Item → Type 0
 AreFirstOf front all = (rest : List Item) × (all ≡ front ++ rest)

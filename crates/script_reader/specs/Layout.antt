@@ -3,13 +3,15 @@ use Rattle.std.specs.Prelude.{◌≡◌, ◌≤◌, ◌+◌, false, List, ℕ, l
 use Rattle.script_reader.specs.Reading.{MOST_FED, Reading, holds_line_feed}
 use Rattle.script_reader.specs.declared.reader.Reader.TheInside.{Inside}
 
+-- the kept bytes: fed, but not read yet
 abbrev pub kept_in : Inside → List ℕ
 kept_in r = drop r.start r.buffer.items
 
+-- what contracts see of a reader
 abbrev pub reading_of : Inside → Reading
 reading_of r = record { kept = kept_in r; passed = r.passed; stage = r.stage; ended = r.ended; stopped = r.stopped; fed = r.fed }
 
--- the kept bytes are a suffix of the buffer; a prefix of them was searched; each line passed had a byte
+-- the kept bytes are those of the buffer from `start` on; the first `searched` of them hold no line feed; each line passed had a byte
 pub record IsValid (r : Inside) : Type 0 where
   pub start : r.start ≤ length r.buffer.items
   pub few : length r.buffer.items ≤ 18000

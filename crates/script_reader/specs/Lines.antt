@@ -1,7 +1,7 @@
 -- A script as lines, and a line as tokens.
 use Rattle.std.specs.Prelude.{ℕ, Bool, true, false, ◌||◌, ◌==◌, ◌-◌, List, [], ◌∷◌, length, take, slice_index, nat_lt, if◌then◌else◌}
 
--- the longest line, without its line feed
+-- the most bytes of a line, its line feed not counted
 abbrev pub LONGEST : ℕ
 LONGEST = 8999
 
@@ -9,7 +9,7 @@ LONGEST = 8999
 abbrev pub is_too_long : List ℕ → Bool
 is_too_long line = nat_lt LONGEST (length line)
 
--- the byte, and then the first text
+-- the byte put before the first text, or as a text of its own if there is none
 abbrev pub onto_first : ℕ → List (List ℕ) → List (List ℕ)
 onto_first x [] = (x ∷ []) ∷ []
 onto_first x (text ∷ rest) = (x ∷ text) ∷ rest
@@ -19,12 +19,12 @@ abbrev pub stretches : List ℕ → List (List ℕ)
 stretches [] = [] ∷ []
 stretches (x ∷ rest) = if x == 10 then [] ∷ stretches rest else onto_first x (stretches rest)
 
--- whether what follows the last line feed is a line
+-- whether the bytes after the last line feed are a line: there are some, and the input has ended or they are more than a line may have
 abbrev pub is_last_line : Bool → List ℕ → Bool
 is_last_line ended [] = false
 is_last_line ended (x ∷ rest) = ended || is_too_long (x ∷ rest)
 
--- these texts without the last one, which counts if it is a line
+-- the texts that are lines: all but the last one, and the last one by `is_last_line`
 abbrev pub lines_among : Bool → List (List ℕ) → List (List ℕ)
 lines_among ended [] = []
 lines_among ended (last ∷ []) = if is_last_line ended last then last ∷ [] else []
@@ -42,12 +42,12 @@ without_return line = if slice_index line (length line - 1) == 13 then take (len
 abbrev pub is_gap : ℕ → Bool
 is_gap x = x == 32 || x == 9
 
--- whether a token ends here
+-- whether a token ends before these bytes: there are none, or a gap is first
 abbrev pub is_parted : List ℕ → Bool
 is_parted [] = true
 is_parted (x ∷ rest) = is_gap x
 
--- the longest runs of bytes that are no gaps
+-- the tokens of a line: its longest runs of bytes that are no gaps
 abbrev pub tokens : List ℕ → List (List ℕ)
 tokens [] = []
 tokens (x ∷ rest) = if is_gap x then tokens rest

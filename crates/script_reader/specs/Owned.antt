@@ -1,4 +1,4 @@
--- The command and the item that one with borrowed bytes means.
+-- Commands and results of the reader with borrowed bytes, as those that own their bytes.
 use Rattle.script_reader.specs.declared.command.Command.{Command}
 use Rattle.script_reader.specs.declared.command.Command.TheVariants as command
 use Rattle.script_reader.specs.declared.command_ref.CommandRef.{CommandRef}
@@ -8,7 +8,7 @@ use Rattle.script_reader.specs.declared.next.Next.TheVariants as next
 use Rattle.script_reader.specs.declared.next_ref.NextRef.{NextRef}
 use Rattle.script_reader.specs.declared.next_ref.NextRef.TheVariants as lent
 
--- the command with these bytes
+-- the same command, which owns the bytes of a write
 abbrev pub owned_command : CommandRef → Command
 owned_command (borrowed.Malloc id bytes) = command.Malloc id bytes
 owned_command (borrowed.Free id) = command.Free id
@@ -28,7 +28,7 @@ owned_command (borrowed.Quota task pages) = command.Quota task pages
 owned_command (borrowed.Need task bytes count) = command.Need task bytes count
 owned_command (borrowed.Admit task) = command.Admit task
 
--- the answer with these bytes
+-- the same result of the reader, whose command owns the bytes of a write
 abbrev pub owned_next : NextRef → Next
 owned_next (lent.Start settings) = next.Start settings
 owned_next (lent.Command c) = next.Command (owned_command c)

@@ -23,31 +23,31 @@ pub record Reading : Type 0 where
   pub stopped : Option ℕ
   pub fed : ℕ
 
--- nothing was fed
+-- a reader that was fed nothing
 abbrev pub fresh : Reading
 fresh = record { kept = []; passed = 0; stage = Opening; ended = false; stopped = None; fed = 0 }
 
--- the most bytes that are kept
-abbrev pub ROOM : ℕ
-ROOM = 9000
+-- the most bytes that a reader keeps: they were fed, but are not read yet
+abbrev pub MOST_KEPT : ℕ
+MOST_KEPT = 9000
 
--- the most bytes that are ever fed
+-- the most bytes that a reader takes in all
 abbrev pub MOST_FED : ℕ
 MOST_FED = 4294967295
 
--- how many bytes of a chunk are taken
+-- how many bytes of a chunk `feed` takes: all that both limits allow
 abbrev pub taken : Reading → List ℕ → ℕ
-taken r piece = min (length piece) (min (ROOM - length r.kept) (MOST_FED - r.fed))
+taken r chunk = min (length chunk) (min (MOST_KEPT - length r.kept) (MOST_FED - r.fed))
 
--- these bytes were fed
+-- the reading after these bytes were fed
 abbrev pub fed_with : Reading → List ℕ → Reading
 fed_with r bytes = record r { kept = r.kept ++ bytes; fed = r.fed + length bytes }
 
--- the bytes that may follow; none if the end was announced
+-- the bytes still to be read: those kept, and then `more` unless the end was announced
 abbrev pub to_come : Bool → List ℕ → List ℕ → List ℕ
 to_come ended kept more = if ended then kept else kept ++ more
 
--- the items that follow, if these bytes come next and the input then ends or doesn't
+-- the items still to be returned if `more` is fed next, and the input then ends (`ended`) or not; none after a bad line
 abbrev pub items_left : Reading → List ℕ → Bool → List Item
 items_left r more ended = if is_some r.stopped then []
     else items_at (lines (to_come r.ended r.kept more) (r.ended || ended)) r.passed r.stage
@@ -55,8 +55,8 @@ items_left r more ended = if is_some r.stopped then []
 abbrev pub holds_line_feed : List ℕ → Bool
 holds_line_feed = list_any (λ x. x == 10)
 
--- A prefix of the kept bytes was read, which holds these items. Its lines were counted, and whatever comes
--- next, the items left are these and then those that the new reading has left.
+-- A prefix of the kept bytes was read, which holds the items `first`, and its lines were counted. Whatever is
+-- fed later, the items left in `old` are `first` and then those left in `new`.
 pub record Reads (old : Reading) (first : List Item) (new : Reading) : Type 0 where
   pub going : old.stopped ≡ None
   pub front : List ℕ
@@ -66,13 +66,13 @@ pub record Reads (old : Reading) (first : List Item) (new : Reading) : Type 0 wh
   pub same_fed : new.fed ≡ old.fed
   pub left : (more : List ℕ) (ended : Bool) → items_left old more ended ≡ first ++ items_left new more ended
 
--- nothing but blank lines and comments was passed
+-- the reader passed only blank lines and comments
 pub record PassesOver (old new : Reading) : Type 0 where
   pub reads : Reads old [] new
   pub still : new.stopped ≡ None
   pub same_stage : new.stage ≡ old.stage
 
--- the `heap` line came, with these settings
+-- the reader returned the `heap` line with these settings, and the stage leads from `Opening` to `Bounding`
 pub record AnswersStart (old : Reading) (settings : Settings) (new : Reading) : Type 0 where
   pub reads : Reads old (starts (profile_of settings) ∷ []) new
   pub still : new.stopped ≡ None
@@ -80,7 +80,7 @@ pub record AnswersStart (old : Reading) (settings : Settings) (new : Reading) : 
   pub opening : old.stage ≡ Opening
   pub bounding : new.stage ≡ Bounding
 
--- this command came
+-- the reader returned this command, which is well-formed and allowed at its stage
 pub record AnswersCommand (old : Reading) (command : Command) (new : Reading) : Type 0 where
   pub reads : Reads old (asks command ∷ []) new
   pub still : new.stopped ≡ None
@@ -88,7 +88,7 @@ pub record AnswersCommand (old : Reading) (command : Command) (new : Reading) : 
   pub formed : IsWellFormed command
   pub leads : stage_after_command old.stage (is_bound command) ≡ Some new.stage
 
--- no item is left, and more bytes may come
+-- the reader returned `NeedMore`: the kept bytes hold no whole line with an item, and the end wasn't announced
 pub record NeedsMore (old new : Reading) : Type 0 where
   pub passes : PassesOver old new
   pub open_end : old.ended ≡ false
@@ -96,26 +96,26 @@ pub record NeedsMore (old new : Reading) : Type 0 where
   pub few : length new.kept ≤ LONGEST
   pub no_feed : holds_line_feed new.kept ≡ false
 
--- no item is left, and the end was announced
+-- the reader returned `End`: no item is left, and the end was announced
 pub record HasEnded (old new : Reading) : Type 0 where
   pub passes : PassesOver old new
   pub shown : old.ended ≡ true
   pub none_left : items_left old [] true ≡ []
   pub empty : new.kept ≡ []
 
--- the next line with an item is bad, and the script stops there
+-- the reader returned `Bad`: the next line that is neither blank nor a comment is bad, and the script stops there
 pub record StopsAt (old : Reading) (line : ℕ) (new : Reading) : Type 0 where
   pub reads : Reads old (bad line ∷ []) new
   pub stopped : new.stopped ≡ Some line
   pub number : new.passed ≡ line
   pub same_stage : new.stage ≡ old.stage
 
--- the answer at a bad line, and the same one ever after
+-- the reader returns `Bad` at a bad line, and the same `Bad` at every call after it
 abbrev pub AnswersBad : Reading → Option ℕ → ℕ → Reading → Type 0
 AnswersBad old None line new = StopsAt old line new
 AnswersBad old (Some before) line new = (line ≡ before) × (new ≡ old)
 
--- what the result means for the items, whatever comes next
+-- what each result of the reader means for the items left, whatever bytes are fed later
 abbrev pub Answers : Reading → Next → Reading → Type 0
 Answers old (answer.Start settings) new = AnswersStart old settings new
 Answers old (answer.Command command) new = AnswersCommand old command new
@@ -131,6 +131,6 @@ pub record IsFirstLine (kept : List ℕ) (ended : Bool) (len next : ℕ) : Type 
   pub cut : ((kept ≡ take len kept ++ (10 ∷ drop next kept)) × (holds_line_feed (take len kept) ≡ false))
       ⊎ ((len ≡ length kept) × (next ≡ length kept) × (holds_line_feed kept ≡ false) × (is_last_line ended kept ≡ true))
 
--- no line is there yet
+-- the kept bytes hold no line yet
 abbrev pub HasNoLine : List ℕ → Bool → Type 0
 HasNoLine kept ended = (holds_line_feed kept ≡ false) × (is_last_line ended kept ≡ false)

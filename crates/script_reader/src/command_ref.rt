@@ -6,8 +6,8 @@ ghost use Rattle.script_reader.specs.Owned.{owned_command};
 use crate::command::Command;
 use crate::payload::Payload;
 
-/// A command by the same name; the bytes of a write are borrowed. A `Command` keeps 4,096 bytes in
-/// place, so moving it costs time; this is a few words.
+/// A `Command` whose bytes of a write are borrowed. A `Command` has room for 4,096 bytes in place, so
+/// moving it costs time; a `CommandRef` is a few words.
 #[derive(Clone, Copy, Debug, PartialEq, Eq)]
 pub enum CommandRef<'a> {
     Malloc { id: u16, bytes: u32 },

@@ -1,5 +1,7 @@
-//! The fields of a line: numbers in their ranges, and bytes in hexadecimal. What the usual commands need is
-//! inlined into the one function that reads a line, where numbers then stay in registers.
+//! The fields of a line: numbers in their ranges, and bytes in hexadecimal. Each function reads fields from
+//! the start of a text and returns none if one is missing or out of range. A `take_` function returns the rest
+//! of the text too; every other one also returns none if a further token follows. What the usual commands need
+//! is inlined into the one function that reads a line, where numbers then stay in registers.
 ghost use Rattle.std.specs.Prelude.{◌≡◌, ◌≤◌, IfSome, Some, option_map};
 ghost use Rattle.cf_io.specs.Numbers.{number_in};
 ghost use Rattle.script_reader.specs.Commands as grammar;
@@ -40,7 +42,7 @@ fn take_task(text: &[u8]) -> Option<(u32, &[u8])>
     take_from(0, 15, text)
 }
 
-/// A number from `low` to `high` alone.
+/// A number from `low` to `high`, as the only token.
 #[inline(always)]
 fn one_from(low: u32, high: u32, args: &[u8]) -> Option<u32>
     ensures value { result ≡ one_by (grammar.number_from low high) (tokens args.now) }
@@ -50,7 +52,7 @@ fn one_from(low: u32, high: u32, args: &[u8]) -> Option<u32>
     if is_done(rest) { Some(n) } else { None }
 }
 
-/// How many bytes are read at once, alone.
+/// The number of bytes that a read returns, as the only token.
 #[inline(always)]
 fn one_length(args: &[u8]) -> Option<u16>
     ensures value { result ≡ one_by grammar.length_in (tokens args.now) }
@@ -60,7 +62,7 @@ fn one_length(args: &[u8]) -> Option<u16>
     Some(n as u16)
 }
 
-/// The bound of not-full pages of a class, alone.
+/// A class's bound of partly full pages, as the only token.
 fn one_bound(args: &[u8]) -> Option<u32>
     ensures value { result ≡ one_by grammar.bound_in (tokens args.now) }
     ensures within { IfSome result (λ k. (1 ≤ k) × (k ≤ 64)) }
@@ -68,7 +70,7 @@ fn one_bound(args: &[u8]) -> Option<u32>
     one_from(1, 64, args)
 }
 
-/// The one token that is there.
+/// The token, if the text has just one.
 fn one_token(text: &[u8]) -> Option<&[u8]>
     ensures { grammar.one_of (tokens text.now) ≡ option_map (λ a. a.now) result }
 {
@@ -76,7 +78,7 @@ fn one_token(text: &[u8]) -> Option<&[u8]>
     if is_done(rest) { Some(first) } else { None }
 }
 
-/// The two tokens that are there.
+/// The tokens, if the text has just two.
 fn two_tokens(text: &[u8]) -> Option<(&[u8], &[u8])>
     ensures { grammar.two_of (tokens text.now) ≡ option_map (λ p. (p.0.now, p.1.now)) result }
 {
@@ -85,7 +87,7 @@ fn two_tokens(text: &[u8]) -> Option<(&[u8], &[u8])>
     Some((first, second))
 }
 
-/// The three tokens that are there.
+/// The tokens, if the text has just three.
 fn three_tokens(text: &[u8]) -> Option<(&[u8], &[u8], &[u8])>
     ensures { grammar.three_of (tokens text.now) ≡ option_map (λ p. (p.0.now, p.1.now, p.2.now)) result }
 {
@@ -94,7 +96,7 @@ fn three_tokens(text: &[u8]) -> Option<(&[u8], &[u8], &[u8])>
     Some((first, second, third))
 }
 
-/// The four tokens that are there.
+/// The tokens, if the text has just four.
 pub fn four_tokens(text: &[u8]) -> Option<(&[u8], &[u8], &[u8], &[u8])>
     ensures { grammar.four_of (tokens text.now)
         ≡ option_map (λ p. (p.0.now, p.1.now, p.2.now, p.3.now)) result }
@@ -104,7 +106,7 @@ pub fn four_tokens(text: &[u8]) -> Option<(&[u8], &[u8], &[u8], &[u8])>
     Some((first, second, third, fourth))
 }
 
-/// An id alone.
+/// An id, as the only token.
 #[inline(always)]
 pub fn one_id(args: &[u8]) -> Option<u16>
     ensures { result ≡ grammar.one_id (tokens args.now) }
@@ -113,7 +115,7 @@ pub fn one_id(args: &[u8]) -> Option<u16>
     Some(n as u16)
 }
 
-/// A number alone.
+/// A number, as the only token.
 #[inline(always)]
 pub fn one_number(args: &[u8]) -> Option<u32>
     ensures { result ≡ grammar.one_number (tokens args.now) }
@@ -122,7 +124,7 @@ pub fn one_number(args: &[u8]) -> Option<u32>
     if is_done(rest) { Some(n) } else { None }
 }
 
-/// A task alone.
+/// A task, as the only token.
 pub fn one_task(args: &[u8]) -> Option<u32>
     ensures value { result ≡ grammar.one_task (tokens args.now) }
     ensures within { IfSome result (λ n. n ≤ 15) }
@@ -179,7 +181,7 @@ pub fn task_and_numbers(args: &[u8]) -> Option<(u32, u32, u32)>
     Some((task, m, n))
 }
 
-/// A number, and how many bytes are read.
+/// A number, and the number of bytes that a read returns.
 #[inline(always)]
 fn number_and_length(args: &[u8]) -> Option<(u32, u16)>
     ensures value { result ≡ two_by number_in grammar.length_in (tokens args.now) }
@@ -190,7 +192,7 @@ fn number_and_length(args: &[u8]) -> Option<(u32, u16)>
     Some((n, len))
 }
 
-/// An id, a number, and how many bytes are read.
+/// An id, a number, and the number of bytes that a read returns.
 #[inline(always)]
 pub fn id_number_and_length(args: &[u8]) -> Option<(u16, u32, u16)>
     ensures value { result ≡ grammar.id_number_and_length (tokens args.now) }

@@ -1,4 +1,4 @@
-//! Laws of scripts, for those who prove what is done with their items.
+//! Laws of scripts and their items, for the proofs of callers.
 ghost use Rattle.std.specs.Prelude.{◌≡◌, ◌↔◌, ℕ, List, [], ◌∷◌, Bool, true, false, ◌++◌};
 ghost use Rattle.script_reader.specs.ReaderCalls.{AllGiven, AreCalls, ReaderCall, bytes_fed, is_finished, is_stopped, items_given};
 ghost use Rattle.script_reader.specs.Items.{AreFirstOf, bad, items};
@@ -6,7 +6,7 @@ ghost use Rattle.script_reader.specs.Reading.{Answers, Reading, fresh, items_lef
 ghost use Rattle.script_reader.specs.declared.next.Next.{Next};
 ghost use Rattle.script_reader.specs.declared.next.Next.TheVariants.{NeedMore, Bad, End};
 
-/// Items once read stay, whatever bytes come next.
+/// The items of the first bytes of a script are the first items of the whole, whatever bytes follow.
 pub fn items_stay()
     ensures { (bytes more : List ℕ) (ended : Bool) → AreFirstOf (items bytes false) (items (bytes ++ more) ended) }
 {}

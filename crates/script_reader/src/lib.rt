@@ -9,8 +9,8 @@ mod line;
 mod next;
 mod next_ref;
 mod payload;
+mod payload_buffer;
 mod reader;
-mod room;
 mod stage;
 mod tokens;
 
@@ -20,5 +20,5 @@ pub use laws::{answers_are_items, answers_come_exactly, items_stay};
 pub use next::Next;
 pub use next_ref::NextRef;
 pub use payload::Payload;
+pub use payload_buffer::PayloadBuffer;
 pub use reader::Reader;
-pub use room::Room;

@@ -1,4 +1,6 @@
-//! What a line means, by the grammar.
+//! What a line means, by the grammar. A function named for a command reads the fields of its line, whose form
+//! its comment shows. It returns true and puts the command into `next`, or returns false if the fields aren't
+//! in the grammar; its contract then says nothing of `next`.
 ghost use Rattle.std.specs.Prelude.{◌≡◌, IsTrue, codes, false, option_map};
 ghost use Rattle.std.specs.Str.{bytes_eq};
 ghost use Rattle.cf_base.specs.Settings.{profile_of};
@@ -16,7 +18,7 @@ use crate::fields::{
     one_number, one_task, task_and_number, task_and_numbers,
 };
 use crate::next_ref::NextRef;
-use crate::room::Room;
+use crate::payload_buffer::PayloadBuffer;
 use crate::tokens::{first_other, is_done, split_token, without_return};
 use cf_base::Settings;
 use cf_io::number_of;
@@ -48,18 +50,18 @@ fn free(args: &[u8], next: &mut NextRef) -> bool
     true
 }
 
-/// `w ID AT HEX`: the bytes are put into the room.
-fn write<'a>(args: &[u8], room: &'a mut Room, next: &mut NextRef<'a>) -> bool
+/// `w ID AT HEX`: the bytes are put into the payload buffer.
+fn write<'a>(args: &[u8], payload: &'a mut PayloadBuffer, next: &mut NextRef<'a>) -> bool
     ensures value { some_if result (owned_next next.new) ≡ option_map answer.Command (grammar.write_in (tokens args.now)) }
     ensures fits { IsTrue result → IsInRange (owned_next next.new) }
 {
     let Some((id, at, digits)) = id_number_and_text(args) else {
         return false;
     };
-    if !room.take_hex(digits) {
+    if !payload.take_hex(digits) {
         return false;
     }
-    let bytes = room.bytes();
+    let bytes = payload.bytes();
     *next = NextRef::Command(CommandRef::Write { id, at, bytes });
     true
 }
@@ -220,15 +222,21 @@ fn steps(args: &[u8], next: &mut NextRef) -> bool
     is_done(args)
 }
 
-/// The commands whose word is a letter.
-fn letter_command<'a>(letter: u8, args: &[u8], room: &'a mut Room, next: &mut NextRef<'a>) -> bool
+/// Reads the fields of the command whose word is this letter. False if they aren't in the grammar, or
+/// no command has this letter.
+fn letter_command<'a>(
+    letter: u8,
+    args: &[u8],
+    payload: &'a mut PayloadBuffer,
+    next: &mut NextRef<'a>,
+) -> bool
     ensures value { some_if result (owned_next next.new) ≡ option_map answer.Command (grammar.letter_command letter (tokens args.now)) }
     ensures fits { IsTrue result → IsInRange (owned_next next.new) }
 {
     match letter {
         b'm' => malloc(args, next),
         b'f' => free(args, next),
-        b'w' => write(args, room, next),
+        b'w' => write(args, payload, next),
         b'r' => read(args, next),
         b'q' => place(args, next),
         b'b' => block(args, next),
@@ -241,7 +249,8 @@ fn letter_command<'a>(letter: u8, args: &[u8], room: &'a mut Room, next: &mut Ne
     }
 }
 
-/// The commands whose word is longer.
+/// Reads the fields of the command whose word is longer than a letter, other than `heap`. False if they
+/// aren't in the grammar, or no command has this word.
 fn word_command(word: &[u8], args: &[u8], next: &mut NextRef) -> bool
     ensures value { some_if result (owned_next next.new) ≡ option_map answer.Command (grammar.word_command word.now (tokens args.now)) }
     ensures fits { IsTrue result → IsInRange (owned_next next.new) }
@@ -263,7 +272,7 @@ fn word_command(word: &[u8], args: &[u8], next: &mut NextRef) -> bool
     }
 }
 
-/// `heap PAGES PAGEBYTES K PROXIES`.
+/// The settings of `heap PAGES PAGEBYTES K PROXIES`. None if the fields aren't in the grammar.
 fn settings(args: &[u8]) -> Option<Settings>
     ensures { option_map (λ s. profile_of s) result ≡ grammar.settings_in (tokens args.now) }
 {
@@ -285,7 +294,7 @@ fn is_too_long(text: &[u8]) -> bool
     text.len() > LONGEST
 }
 
-/// Whether the token opens the heap.
+/// Whether the token is `heap`.
 fn is_heap(word: &[u8]) -> bool
     ensures { result ≡ bytes_eq word.now (codes "heap") }
 {
@@ -299,7 +308,7 @@ pub fn is_silent(text: &[u8]) -> bool
     !is_too_long(text) && has_no_item(without_return(text))
 }
 
-/// Whether the tokens are none, or begin a comment.
+/// Whether the text has no token, or its first token begins a comment.
 #[tactic(auto, using(crate::proofs::SilentLines::item_at_once))]
 fn has_no_item(text: &[u8]) -> bool
     ensures { result ≡ says_nothing (tokens_say (tokens text.now)) }
@@ -314,9 +323,9 @@ fn has_no_item(text: &[u8]) -> bool
     }
 }
 
-/// Whether a line that is neither blank nor a comment is in the grammar, without its line feed. Its command
-/// is put into `next`, and the bytes of a write into the room.
-pub fn read_line<'a>(text: &[u8], room: &'a mut Room, next: &mut NextRef<'a>) -> bool
+/// Reads a line, given without its line feed, that is neither blank nor a comment. Puts its item into `next`,
+/// and the bytes of a write into `payload`. False if the line isn't in the grammar.
+pub fn read_line<'a>(text: &[u8], payload: &'a mut PayloadBuffer, next: &mut NextRef<'a>) -> bool
     requires { says_nothing (line_says text.now) ≡ false }
     ensures value { saying_if result (owned_next next.new) ≡ line_says text.now }
     ensures fits { IsTrue result → IsInRange (owned_next next.new) }
@@ -325,18 +334,23 @@ pub fn read_line<'a>(text: &[u8], room: &'a mut Room, next: &mut NextRef<'a>) ->
         return false;
     }
     match split_token(without_return(text)) {
-        Some((word, args)) => read_item(word, args, room, next),
+        Some((word, args)) => read_item(word, args, payload, next),
         None => false,
     }
 }
 
-/// The same, by the line's first token and what follows it.
-fn read_item<'a>(word: &[u8], args: &[u8], room: &'a mut Room, next: &mut NextRef<'a>) -> bool
+/// Reads a line as `read_line` does, from its first token and the text after it.
+fn read_item<'a>(
+    word: &[u8],
+    args: &[u8],
+    payload: &'a mut PayloadBuffer,
+    next: &mut NextRef<'a>,
+) -> bool
     ensures value { saying_if result (owned_next next.new) ≡ item_or_wrong (item_in word.now (tokens args.now)) }
     ensures fits { IsTrue result → IsInRange (owned_next next.new) }
 {
     if word.len() == 1 {
-        return letter_command(word[0], args, room, next);
+        return letter_command(word[0], args, payload, next);
     }
     if is_heap(word) {
         return start(args, next);

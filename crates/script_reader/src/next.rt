@@ -5,7 +5,7 @@ use cf_base::Settings;
 /// The next item of a script.
 #[derive(Debug, PartialEq, Eq, Drop)]
 pub enum Next {
-    /// The heap is opened with these settings.
+    /// The `heap` line, with its settings.
     Start(Settings),
     /// A command.
     Command(Command),

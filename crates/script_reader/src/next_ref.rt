@@ -10,7 +10,7 @@ use cf_base::Settings;
 /// The next item of a script, as `Next`, but the bytes of a write are borrowed.
 #[derive(Clone, Copy, Debug, PartialEq, Eq)]
 pub enum NextRef<'a> {
-    /// The heap is opened with these settings.
+    /// The `heap` line, with its settings.
     Start(Settings),
     /// A command.
     Command(CommandRef<'a>),
@@ -23,7 +23,7 @@ pub enum NextRef<'a> {
 }
 
 impl<'a> NextRef<'a> {
-    /// The same, with a copy of the bytes of a write.
+    /// The same result, with a copy of the bytes of a write.
     pub(crate) fn to_next(self) -> Next
         requires { IsInRange (owned_next self) }
         ensures { result ≡ owned_next self.entry }

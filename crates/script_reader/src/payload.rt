@@ -1,4 +1,4 @@
-//! The bytes of a write command.
+//! The bytes of a write command, owned.
 ghost use Rattle.std.specs.Prelude.{◌≡◌, ◌≤◌, ◌<◌, ◌⊎◌, length, MatchOption};
 
 use arrayvec::ArrayVec;
@@ -6,7 +6,8 @@ use std::marker::Model;
 
 const MOST: usize = 4_096;
 
-/// From 1 to 4,096 bytes, kept in place.
+/// The bytes of a write, from 1 to 4,096 of them, in place. A `PayloadBuffer` holds those of one write
+/// after another.
 #[derive(Debug, PartialEq, Eq, Drop)]
 pub struct Payload {
     bytes: ArrayVec<u8, MOST>,
@@ -25,7 +26,7 @@ impl Model for Payload {
 }
 
 impl Payload {
-    /// These bytes. None if and only if there are none, or more than 4,096.
+    /// A payload of these bytes. None if and only if there are none, or more than 4,096.
     pub fn new(bytes: &[u8]) -> Option<Payload>
         ensures { MatchOption result ((length bytes.now ≡ 0) ⊎ (4096 < length bytes.now))
             (λ p. (p ≡ bytes.now) × (1 ≤ length bytes.now) × (length bytes.now ≤ 4096)) }
@@ -40,7 +41,7 @@ impl Payload {
         }
     }
 
-    /// The bytes.
+    /// The bytes, from 1 to 4,096 of them.
     pub fn bytes(&self) -> &[u8]
         ensures value { result.now ≡ self.now }
         ensures some { 1 ≤ length self.now }

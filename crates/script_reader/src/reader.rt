@@ -9,24 +9,24 @@ ghost use Rattle.script_reader.specs.Reading.{Answers, HasNoLine, IsFirstLine, P
 use crate::line::{LONGEST, is_silent, read_line};
 use crate::next::Next;
 use crate::next_ref::NextRef;
-use crate::room::Room;
+use crate::payload_buffer::PayloadBuffer;
 use crate::stage::{Stage, stage_after};
 use crate::tokens::line_feed_at;
 use arrayvec::ArrayVec;
 use std::marker::Model;
 
-/// The most bytes that are kept.
-const ROOM: usize = 9_000;
+/// The most bytes that are kept: they were fed, but are not read yet.
+const MOST_KEPT: usize = 9_000;
 
-/// The size of the buffer in place: large enough that what is kept never overlaps its new place.
-const PLACE: usize = 2 * ROOM;
+/// The bytes of the buffer. It is so large that the kept bytes never overlap the place that they move to.
+const BUFFER: usize = 2 * MOST_KEPT;
 
 /// Reads a script from bytes that are fed in chunks. It keeps at most 9,000 bytes in place, and allocates
 /// nothing.
 #[derive(Drop)]
 pub struct Reader {
     /// The bytes fed that were not dropped; those from `start` on are kept.
-    buffer: ArrayVec<u8, PLACE>,
+    buffer: ArrayVec<u8, BUFFER>,
     start: usize,
     /// How many of the kept bytes, from the first on, are known to hold no line feed.
     searched: usize,
@@ -66,21 +66,21 @@ impl Reader {
         }
     }
 
-    /// Takes a prefix of the chunk, and returns how many bytes: the least of the chunk's length, the
-    /// room left of 9,000 bytes, and what keeps all bytes ever fed at `2^32 - 1`.
-    pub fn feed(&mut self, piece: &[u8]) -> usize
+    /// Takes a prefix of the chunk, and returns its length: the least of the chunk's length, the bytes
+    /// that may still be kept of 9,000, and what keeps all bytes ever fed at `2^32 - 1`.
+    pub fn feed(&mut self, chunk: &[u8]) -> usize
         requires { self.old.ended ≡ false }
-        ensures value { result ≡ taken self.old piece.now }
-        ensures fed { self.new ≡ fed_with self.old (take result piece.now) }
+        ensures value { result ≡ taken self.old chunk.now }
+        ensures fed { self.new ≡ fed_with self.old (take result chunk.now) }
     {
-        let room = ROOM - (self.buffer.len() - self.start);
+        let free = MOST_KEPT - (self.buffer.len() - self.start);
         let left = (u32::MAX - self.fed) as usize;
-        let n = piece.len().min(room.min(left));
+        let n = chunk.len().min(free.min(left));
         if self.buffer.remaining_capacity() < n {
             drop_front(&mut self.buffer, self.start);
             self.start = 0;
         }
-        let _ = self.buffer.try_extend_from_slice(&piece[..n]);
+        let _ = self.buffer.try_extend_from_slice(&chunk[..n]);
         self.fed += n as u32;
         n
     }
@@ -99,21 +99,22 @@ impl Reader {
     pub fn next_command(&mut self) -> Next
         ensures { Answers self.old result self.new }
     {
-        let mut room = Room::new();
-        self.next_ref(&mut room).to_next()
+        let mut payload = PayloadBuffer::new();
+        self.next_ref(&mut payload).to_next()
     }
 
-    /// The next item, as `next_command` returns it; the bytes of a write are borrowed from the room.
-    pub fn next_ref<'a>(&mut self, room: &'a mut Room) -> NextRef<'a>
+    /// The next item, as `next_command` returns it; the bytes of a write are borrowed from
+    /// `payload`.
+    pub fn next_ref<'a>(&mut self, payload: &'a mut PayloadBuffer) -> NextRef<'a>
         ensures { Answers self.old (owned_next result) self.new }
     {
         let mut next = NextRef::NeedMore;
-        self.read_next(room, &mut next);
+        self.read_next(payload, &mut next);
         next
     }
 
-    /// The same, put into the caller's place, and so copied nowhere.
-    pub fn read_next<'a>(&mut self, room: &'a mut Room, next: &mut NextRef<'a>)
+    /// Puts the next item, as `next_ref` returns it, into `next`, so that it isn't copied.
+    pub fn read_next<'a>(&mut self, payload: &'a mut PayloadBuffer, next: &mut NextRef<'a>)
         ensures { Answers self.old (owned_next next.new) self.new }
     {
         if let Some(line) = self.stopped {
@@ -121,12 +122,12 @@ impl Reader {
             return;
         }
         match self.next_line() {
-            Some(cut) => self.answer_line(cut, room, next),
+            Some(cut) => self.answer_line(cut, payload, next),
             None => *next = self.without_line(),
         }
     }
 
-    /// The result if there is no line.
+    /// The result if the kept bytes hold no line: `End` if the end was announced, else `NeedMore`.
     fn without_line<'a>(&self) -> NextRef<'a>
         requires going { self.now.stopped ≡ None }
         requires none { HasNoLine self.now.kept self.now.ended }
@@ -139,7 +140,8 @@ impl Reader {
         }
     }
 
-    /// The first line with a command; blank lines and comments before it are skipped.
+    /// Finds the first line that is neither blank nor a comment, and skips those before it. None if the
+    /// kept bytes hold no such line.
     fn next_line(&mut self) -> Option<Cut>
         requires { self.old.stopped ≡ None }
         ensures passes { PassesOver self.old self.new }
@@ -154,7 +156,7 @@ impl Reader {
         }
     }
 
-    /// The first line, if it is whole.
+    /// Finds the first line; none if it isn't whole yet. Bytes once searched are not searched again.
     fn find_line(&mut self) -> Option<Cut>
         ensures same { self.new ≡ self.old }
         ensures found { MatchOption result (HasNoLine self.old.kept self.old.ended)
@@ -188,14 +190,15 @@ impl Reader {
         self.passed += 1;
     }
 
-    /// Reads the first line, which has a command, and passes it.
-    fn answer_line<'a>(&mut self, cut: Cut, room: &'a mut Room, next: &mut NextRef<'a>)
+    /// Reads the first line, which is neither blank nor a comment, into `next`, and passes it. At a bad
+    /// line the reader stops.
+    fn answer_line<'a>(&mut self, cut: Cut, payload: &'a mut PayloadBuffer, next: &mut NextRef<'a>)
         requires going { self.old.stopped ≡ None }
         requires line { IsNextLine self.old cut.len cut.next }
         ensures { Answers self.old (owned_next next.new) self.new }
     {
         let kept = &self.buffer.as_slice()[self.start..];
-        let formed = read_line(&kept[..cut.len], room, next);
+        let formed = read_line(&kept[..cut.len], payload, next);
         self.pass_line(cut);
         match stage_after(self.stage, formed, *next) {
             Some(stage) => self.stage = stage,
@@ -209,7 +212,7 @@ impl Reader {
 }
 
 /// Drops the bytes of the buffer before `start`.
-fn drop_front(buffer: &mut ArrayVec<u8, PLACE>, start: usize)
+fn drop_front(buffer: &mut ArrayVec<u8, BUFFER>, start: usize)
     requires within { start ≤ length buffer.old.items }
     requires apart { length buffer.old.items ≤ start + start }
     ensures { buffer.new.items ≡ drop start buffer.old.items }
@@ -220,14 +223,14 @@ fn drop_front(buffer: &mut ArrayVec<u8, PLACE>, start: usize)
     buffer.truncate(left);
 }
 
-/// The end of a line, and the start of the next one.
+/// The end of the first line, and the start of the next one, as positions among the kept bytes.
 #[derive(Clone, Copy)]
 struct Cut {
     len: usize,
     next: usize,
 }
 
-/// The first line feed, if none is before `from`.
+/// The position of the first line feed, if there is one; none is before `from`.
 fn line_feed_from(kept: &[u8], from: usize) -> Option<usize>
     requires within { from ≤ length kept.now }
     requires searched { holds_line_feed (take from kept.now) ≡ false }
@@ -237,7 +240,7 @@ fn line_feed_from(kept: &[u8], from: usize) -> Option<usize>
     Some(from + at)
 }
 
-/// The first line, if it is whole.
+/// Where the first line ends; none if it isn't whole yet. The first `searched` bytes hold no line feed.
 fn first_line(kept: &[u8], searched: usize, ended: bool) -> Option<Cut>
     requires within { searched ≤ length kept.now }
     requires searched { holds_line_feed (take searched kept.now) ≡ false }
@@ -253,7 +256,8 @@ fn first_line(kept: &[u8], searched: usize, ended: bool) -> Option<Cut>
     }
 }
 
-/// Whether bytes with no line feed are a line.
+/// Whether bytes with no line feed are a line: there are some, and the input has ended or they are too
+/// many for one line.
 fn is_line(rest: &[u8], ended: bool) -> bool
     ensures { result ≡ is_last_line ended rest.now }
 {

@@ -7,19 +7,19 @@ ghost use Rattle.script_reader.specs.Owned.{owned_command, owned_next};
 use crate::command_ref::CommandRef;
 use crate::next_ref::NextRef;
 
-/// The stage of a script, by the lines before.
+/// The stage of a script, which the lines so far lead to. It determines which lines are allowed next.
 #[derive(Clone, Copy, Debug, PartialEq, Eq)]
 pub enum Stage {
     /// The heap isn't open.
     Opening,
     /// The heap was opened, and bounds of classes may follow.
     Bounding,
-    /// There was another command.
+    /// A command other than `heap` and `k` was read, and no `k` may follow.
     Running,
 }
 
-/// The stage after a line that is in the grammar with this meaning, or isn't; none if it breaks a
-/// rule at its place.
+/// The stage after a line; `formed` is whether it is in the grammar, and `next` is its item then. None if
+/// it isn't in the grammar, or isn't allowed at this stage.
 pub fn stage_after(stage: Stage, formed: bool, next: NextRef) -> Option<Stage>
     ensures { result ≡ stage_said stage (saying_if formed (owned_next next.entry)) }
 {
@@ -36,7 +36,7 @@ pub fn stage_after(stage: Stage, formed: bool, next: NextRef) -> Option<Stage>
     }
 }
 
-/// The stage after a command.
+/// The stage after a command; `bounds` is whether it is `k`. None if it isn't allowed at this stage.
 fn stage_after_command(stage: Stage, bounds: bool) -> Option<Stage>
     ensures { result ≡ place.stage_after_command stage bounds }
 {

@@ -13,7 +13,7 @@ use memchr::{memchr_iter, memchr2};
 /// Texts from this length on are searched many bytes at once.
 const LONG: usize = 64;
 
-/// The first line feed.
+/// The position of the first line feed, if there is one.
 pub fn line_feed_at(bytes: &[u8]) -> Option<usize>
     ensures { result ≡ position (λ x. x == 10) bytes.now }
 {
@@ -63,7 +63,7 @@ fn token_length(text: &[u8]) -> usize
     first_gap(text).unwrap_or(text.len())
 }
 
-/// The first byte that separates no tokens.
+/// The position of the first byte that is no gap, if there is one.
 pub fn first_other(text: &[u8]) -> Option<usize>
     ensures { result ≡ position (λ x. not (gap x)) text.now }
 {
@@ -80,7 +80,8 @@ fn first_gap(text: &[u8]) -> Option<usize>
     }
 }
 
-/// The first gap. A function of its own, so that the search of short texts stays small.
+/// The position of the first gap, if there is one. A function of its own, so that the search of short
+/// texts stays small.
 #[inline(never)]
 fn first_gap_in_long(text: &[u8]) -> Option<usize>
     ensures { result ≡ position gap text.now }
@@ -88,7 +89,7 @@ fn first_gap_in_long(text: &[u8]) -> Option<usize>
     memchr2(b' ', b'\t', text)
 }
 
-/// The first token, and what follows it.
+/// The first token, and the text after it. None if there is no token.
 #[inline(always)]
 pub fn split_token(text: &[u8]) -> Option<(&[u8], &[u8])>
     ensures value { MatchOption result (tokens text.now ≡ []) (λ p. tokens text.now ≡ p.0.now ∷ tokens p.1.now) }
@@ -104,15 +105,15 @@ pub fn split_token(text: &[u8]) -> Option<(&[u8], &[u8])>
     Some(text.split_at(token_length(text)))
 }
 
-/// Whether there is no token.
+/// Whether the text has no token.
 pub fn is_done(text: &[u8]) -> bool
     ensures { result ≡ none_of (tokens text.now) }
 {
     gaps(text) == text.len()
 }
 
-/// The number that the first token spells, and what follows it. None if there is no token, or it
-/// spells none.
+/// The number that the first token spells, and the text after it. None if there is no token, or it
+/// spells no number.
 #[inline(always)]
 pub fn take_number(text: &[u8]) -> Option<(u32, &[u8])>
     ensures { option_map (λ p. (p.0, tokens p.1.now)) result ≡ first_by number_in (tokens text.now) }

@@ -26,7 +26,7 @@ use Rattle.slice_model.specs.Steps.{WantsSlot}
 use Rattle.sliced_heap.specs.Shown.{StaysOpen}
 use Rattle.slice_session.specs.SliceRun.{slice_run}
 
--- the same heap, with the same words
+-- a heap from its fields
 abbrev heap_by : Bool → Profile → ℕ → Working → Order → SlicedState
 heap_by b p q w o = record { is_open = b; profile = p; quantum = q; held = w.state.held; job = w.state.job; words = w.words; order = o }
 
@@ -37,7 +37,7 @@ heap_same old new s is order = ap (λ b. heap_by b new.profile new.quantum (work
     ∙ ap (λ w. heap_by old.is_open old.profile old.quantum w new.order) is
     ∙ ap (heap_by old.is_open old.profile old.quantum (working_in old)) order
 
--- the refusal of a text: by one of its letters
+-- the refusal that a reply names, by one of its letters
 abbrev refusal_in : List ℕ → Option SliceRefusal
 refusal_in t = if nat_eq (get_or t 9 0) 105 then Some refusal.Size else (if nat_eq (get_or t 9 0) 114 then Some refusal.Proxy
     else (if nat_eq (get_or t 9 0) 112 then Some refusal.Space else (if nat_eq (get_or t 0 0) 98 then Some refusal.Busy else None)))

@@ -86,7 +86,7 @@ begins_sliced law quantum p q can = (
   record { ids = refl; heap = refl; rules = first_rules law quantum p q can },
 )
 
--- a sliced run goes on
+-- a run over a sliced heap can be continued after each command
 abbrev pub slices_go_on : EmptyLaw → (quantum : ℕ) → IsQuantum quantum → CanGoOn (BeginsSlices quantum) SliceStep
 slices_go_on law quantum q = record {
   is_going = IsGoingSliced;

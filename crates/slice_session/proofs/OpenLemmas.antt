@@ -10,11 +10,10 @@ use Rattle.cf_lemmas.proofs.Values.{map_values-empty}
 use Rattle.cf_model.specs.Rules.{AreInRange}
 use Rattle.id_table.specs.Ids.{Ids}
 use Rattle.page_model.specs.Held.{Placed, objects}
-use Rattle.page_model.proofs.CallerLemmas.{first_ones, first_paged}
+use Rattle.page_model.proofs.CallerLemmas.{first_is_order, first_ones, first_paged}
 use Rattle.id_table.proofs.CallerLemmas.{none_tied}
 use Rattle.slice_model.specs.Runs.{IsConsistent}
 use Rattle.slice_model.specs.State.{Idle, Plan}
-use Rattle.slice_model.proofs.CallerLemmas.{first_is_order}
 use Rattle.sliced_heap.specs.Shown.{KeepsRules, SlicedState, opened_state, plan_in}
 use Rattle.slice_session.specs.Playing.{BeginsSliced, IsQuantum, first_heap}
 use Rattle.slice_session.specs.SliceRun.{IsGoingSliced, SliceRun, slice_run}
@@ -22,7 +21,7 @@ use Rattle.slice_session.specs.SliceRun.{IsGoingSliced, SliceRun, slice_run}
 no_objects : objects empty ≡ empty
 no_objects = map_values-empty (λ (x : Placed). x.bytes)
 
--- a run that began goes on
+-- a run is in progress after its `heap` line
 pub begins_going : (quantum : ℕ) (p : Profile) (s : SliceRun) → BeginsSliced quantum p s → IsGoingSliced s
 begins_going quantum p s b = record {
   opened = subst (λ (h : SlicedState). IsTrue h.is_open) (sym b.heap) refl;
@@ -30,7 +29,7 @@ begins_going quantum p s b = record {
   tied = none_tied s.ids (objects s.heap.held) b.ids (ap (λ (h : SlicedState). objects h.held) b.heap ∙ no_objects);
 }
 
--- with the settings of a `heap` line
+-- the run begins, if the heap was opened with the settings of a `heap` line
 pub opened_begins : (ids : Ids) (heap : SlicedState) (settings : Settings) (quantum : ℕ) → ids ≡ empty → heap ≡ opened_state settings quantum
     → KeepsRules heap → BeginsSliced quantum (profile_of settings) (slice_run ids heap)
 opened_begins ids heap settings quantum fresh is rules = record { ids = fresh; heap = is; rules = rules }

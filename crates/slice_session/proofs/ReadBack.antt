@@ -9,7 +9,7 @@ use Rattle.slice_session.specs.SliceRun.{IsGoingSliced, SliceRun, SliceStep}
 use Rattle.slice_session.proofs.RunInvariant.{named, still_going, turn_named}
 use Rattle.slice_session.proofs.OpenLemmas.{begins_going}
 
--- a sliced run names objects
+-- a run over a sliced heap is one whose ids name objects (`NamesObjects`)
 slices_name : (quantum : ℕ) → NamesObjects (BeginsSlices quantum) SliceStep
 slices_name quantum = record {
   is_going = IsGoingSliced;

@@ -78,7 +78,7 @@ module _ (run : SliceRun) (id from count : ℕ) where
   pub read_unknown : None ≡ get run.ids id → text (sliced_object_of run id) ≡ codes "unknown"
   read_unknown is = ap text (object_is run id None is)
 
-  -- of an object in motion too: the bytes are those of the map of objects
+  -- the text of a read is the bytes in the map of objects, also of an object in motion
   pub read_said : (h : ℕ) (out : List ℕ) → KeepsRules run.heap → Some h ≡ get run.ids id
       → Happens (plan_in run.heap) (working_in run.heap) (Read (record { number = h; from = from }) count (Ok out)) (working_in run.heap)
       → text (sliced_object_of run id) ≡ codes "=" ++ encode_lower out

@@ -33,7 +33,7 @@ use Rattle.slice_session.specs.SliceRun.{FreesSliced, MallocsSliced, StaysSliced
 abbrev region_of : Profile → ℕ
 region_of p = p.pages * p.page_words
 
--- what a call does to the map of objects, and that the rules are kept
+-- a call changes the map of objects as the model says, and keeps the rules
 pub done_on_map : (old new : SlicedState) → KeepsRules old → (event : Event) → Does old event new
     → HappensOnMap (objects old.held) event (objects new.held) × KeepsRules new
 done_on_map old new rules event d =
@@ -62,7 +62,7 @@ going_before ids inside same heap opened rules tied = record {
 abbrev pub named : SliceRun → Named
 named s = record { ids = s.ids; objects = live_in s }
 
--- what a call does to the objects of a run
+-- a call changes the objects of a run as the model says
 pub on_map : (old new : SliceRun) → IsGoingSliced old → (event : Event) → Does old.heap event new.heap → HappensOnMap (live_in old) event (live_in new)
 on_map old new going event d = (done_on_map old.heap new.heap going.rules event d).0
 

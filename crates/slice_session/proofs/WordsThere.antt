@@ -30,7 +30,7 @@ module _ (a f : ℕ → ℕ) (words : List ℕ) where
   put_outside (suc n) w out = get_or-set_other (put_all a f n words) (a n) w (f n) 0 (λ e. out n (omega arith) (sym e))
       ∙ put_outside n w (λ i lt. out i (omega arith))
 
-  -- if the places differ and none is past the end
+  -- each place has its word, if the places differ and none is past the end
   put_inside : (n : ℕ) → ((i : ℕ) → i < n → a i < length words) → ((i k : ℕ) → i < n → k < n → a i ≡ a k → i ≡ k) → (i : ℕ) → i < n
       → get_or (put_all a f n words) (a i) 0 ≡ f i
   put_inside zero within own i lt = absurd (omega arith)
@@ -48,7 +48,7 @@ elsewhere : (a b n i k : ℕ) → IsDisjoint a n b n → i < n → k < n → a +
 elsewhere a b n i k (inl l) low high e = omega arith
 elsewhere a b n i k (inr r) low high e = omega arith
 
--- words of a range become others
+-- the words of a range can be replaced by others
 pub rewrites_there : (words : List ℕ) (run : WordRange) (f : ℕ → ℕ) → run.from + run.count ≤ length words
     → (new : List ℕ) × Rewrites words new run f × (length new ≡ length words)
 rewrites_there words run f fits = (
@@ -60,13 +60,13 @@ rewrites_there words run f fits = (
   put_long (λ i. run.from + i) f words run.count,
 )
 
--- words of a range go to another one
+-- the words of a range can be moved to another range
 module _ (words : List ℕ) (run : WordRange) (b : ℕ) (apart : IsDisjoint run.from run.count b run.count) (source : run.from + run.count ≤ length words)
     (target : b + run.count ≤ length words) where
   abbrev carried : ℕ → ℕ
   carried i = get_or words (run.from + i) 0
 
-  -- they are copied first, and then the range is cleared
+  -- the words after the copy, before the first range is cleared
   abbrev copied : List ℕ
   copied = put_all (λ i. b + i) carried run.count words
 
@@ -87,7 +87,7 @@ module _ (words : List ℕ) (run : WordRange) (b : ℕ) (apart : IsDisjoint run.
     put_long (λ i. run.from + i) (λ _. 0) copied run.count ∙ copied_long,
   )
 
--- parts of two slots that have no word in common
+-- parts of two slots have no word in common if the slots have none
 parts_apart : (a b size done n : ℕ) → IsDisjoint a size b size → IsDisjoint (a + done) (min n (size - done)) (b + done) (min n (size - done))
 parts_apart a b size done n (inl l) = inl (omega arith)
 parts_apart a b size done n (inr r) = inr (omega arith)
@@ -97,7 +97,7 @@ part_within : (size done n : ℕ) → done < size → done + min n (size - done)
 part_within size done n lt = omega arith
 
 module _ (plan : Plan) (ok : IsPlan plan) (words : List ℕ) (long : length words ≡ plan.paging.pages * plan.paging.page_words) where
-  -- the words of a slice can be done
+  -- there are words after a slice
   pub does_there : (m : Held) (j : Job) → IsKept plan (record { held = m; job = j })
       → (new : List ℕ) × DoesWords m j (words_of_slice plan (job_slot j)) words new × (length new ≡ length words)
   does_there m Idle kept = (words, refl, refl)

@@ -15,7 +15,7 @@ use Rattle.slice_model.specs.State.{Idle}
 use Rattle.sliced_heap.specs.Shown.{KeepsRules, SlicedState, closed_state}
 use Rattle.slice_session.specs.SliceRun.{IsGoingSliced, SliceRun, SliceStep, slice_run}
 
--- an open heap without objects and without a job, with the settings of a `heap` line at the bound 1, whatever bound it has
+-- the open heap after a `heap` line: without objects and without a job, with the settings of the line, but always the bound 1
 abbrev pub first_heap : ℕ → Profile → SlicedState
 first_heap quantum p = record {
   is_open = true;
@@ -27,17 +27,17 @@ first_heap quantum p = record {
   order = first_order (paging_of (record p { k = 1 }) Words (first_bounds (record p { k = 1 }) Words)) p.proxies;
 }
 
--- a heap with slices of `quantum` words was opened, with a new session
+-- the run after the `heap` line: the heap is new, with slices of at most `quantum` words, and no id is live
 pub record BeginsSliced (quantum : ℕ) (p : Profile) (new : SliceRun) : Type 0 where
   pub ids : new.ids ≡ empty
   pub heap : new.heap ≡ first_heap quantum p
   pub rules : KeepsRules new.heap
 
--- the same, and the reply is `ok`
+-- the run begins as in `BeginsSliced`, and the reply to the `heap` line is `ok`
 abbrev pub BeginsSlices : ℕ → Profile → Reply → SliceRun → Type 0
 BeginsSlices quantum p reply new = BeginsSliced quantum p new × (reply ≡ said (codes "ok"))
 
--- The items of a script may have these replies, one each, and lead to the new state.
+-- A run from a state (None before the `heap` line): the items may have these replies, one each, and lead to the new state.
 abbrev pub RunsSliced : ℕ → Option SliceRun → List Item → List Reply → Option SliceRun → Type 0
 RunsSliced quantum = PlayRun (BeginsSlices quantum) SliceStep
 
@@ -46,7 +46,7 @@ pub record LacksSliced (old new : SliceRun) : Type 0 where
   pub closed : new.heap ≡ closed_state
   pub ids : new.ids ≡ old.ids
 
--- A session over a sliced heap. The plan is the words of a slice.
+-- A session over a sliced heap, for the script loop. The plan is the quantum of its heap, in words.
 abbrev pub sliced : Semantics SliceRun ℕ
 sliced = record {
   plan = λ s. s.heap.quantum;
@@ -58,7 +58,7 @@ sliced = record {
   lacks = LacksSliced;
 }
 
--- a mode handler: its run, and the words of a slice on the heap that it opens
+-- the state of a mode handler: its run, and the quantum in words with which it opens the heap
 pub record SlicePlay : Type 0 where
   pub run : SliceRun
   pub quantum : ℕ
@@ -66,17 +66,17 @@ pub record SlicePlay : Type 0 where
 abbrev pub slice_play : Ids → ℕ → SlicedState → SlicePlay
 slice_play ids quantum heap = record { run = slice_run ids heap; quantum = quantum }
 
--- a slice has 1 to 16,384 words
+-- a quantum is 1 to 16,384 words
 pub record IsQuantum (n : ℕ) : Type 0 where
   pub least : 1 ≤ n
   pub most : n ≤ 16384
 
--- before the `heap` line no id is live
+-- before the `heap` line no id is live, and the quantum is in its range
 pub record IsFreshPlay (s : SlicePlay) : Type 0 where
   pub ids : s.run.ids ≡ empty
   pub quantum : IsQuantum s.quantum
 
--- The mode handler, which opens the heap with slices of its own quantum. No item changes that.
+-- The mode handler, for the script loop. The plan is its own quantum, with which it opens the heap.
 abbrev pub slices : Semantics SlicePlay ℕ
 slices = record {
   plan = λ s. s.quantum;

@@ -44,7 +44,7 @@ pub record IsGoingSliced (s : SliceRun) : Type 0 where
 abbrev pub sliced_object_of : SliceRun → ℕ → Option Placed
 sliced_object_of s id = elim (get s.ids id) [ None ↦ None | Some h ↦ get s.heap.held h ]
 
--- m: as on every manager, and `busy` if a pending job still holds the last free page
+-- the reply to `m`: as on every manager, and `busy` if the heap refuses because of the pending job
 abbrev pub slice_malloc_text : Result Handle SliceRefusal → List ℕ
 slice_malloc_text (Ok h) = malloc_text (Ok h)
 slice_malloc_text (Err refusal.Size) = malloc_text (Err shown.Size)
@@ -52,64 +52,65 @@ slice_malloc_text (Err refusal.Proxy) = malloc_text (Err shown.Proxy)
 slice_malloc_text (Err refusal.Space) = malloc_text (Err shown.Space)
 slice_malloc_text (Err refusal.Busy) = codes "busy"
 
--- f: None if it was done
+-- the reply to `f`, by the heap's fault; None if the object was freed
 abbrev pub slice_free_text : Option SliceFault → List ℕ
 slice_free_text None = codes "ok"
 slice_free_text (Some fault.Unknown) = codes "unknown"
 slice_free_text (Some fault.Busy) = codes "busy"
 
--- w: None if it was done
+-- the reply to `w`, by the heap's fault; None if the bytes were written
 abbrev pub slice_write_text : Option AccessFault → List ℕ
 slice_write_text None = write_text (Ok tt)
 slice_write_text (Some e) = write_text (Err e)
 
--- the ids after a malloc for an id, and after a free of one
+-- the ids after a malloc for an id: the id names the new handle, or the heap refused and the ids are unchanged
 abbrev pub ids_with : Ids → ℕ → Result Handle SliceRefusal → Ids
 ids_with ids id (Ok h) = insert ids id h.0
 ids_with ids id (Err e) = ids
 
+-- the ids after a free of an id: the id is no longer live, or the heap refused and the ids are unchanged
 abbrev pub ids_without : Ids → ℕ → Option SliceFault → Ids
 ids_without ids id None = remove ids id
 ids_without ids id (Some e) = ids
 
--- the heap did this call in its order, and stays open with its pages and its quantum
+-- the heap did this call: objects, job and words change as in `Happens`, the order as in `HappensInOrder`, and it stays open with its pages and its quantum
 pub record Does (old : SlicedState) (event : Event) (new : SlicedState) : Type 0 where
   pub happens : Happens (plan_in old) (working_in old) event (working_in new)
   pub ordered : HappensInOrder (plan_in old) (working_in old) event (working_in new) old.order new.order
   pub stays : StaysOpen old new
 
--- the command does nothing, and gets this reply
+-- the command changes nothing, and its reply is this text
 abbrev pub StaysSliced : SliceRun → List ℕ → Reply → SliceRun → Type 0
 StaysSliced old text reply new = (reply ≡ said text) × (new ≡ old)
 
--- a malloc for an id that isn't live
+-- a malloc for an id that isn't live: the heap adds an object and the id names it, or the heap refuses; the reply shows which
 pub record MallocsSliced (old : SliceRun) (id bytes : ℕ) (reply : Reply) (new : SliceRun) : Type 0 where
   pub answer : Result Handle SliceRefusal
   pub does : Does old.heap (Malloc bytes answer) new.heap
   pub ids : new.ids ≡ ids_with old.ids id answer
   pub reply_is : reply ≡ said (slice_malloc_text answer)
 
--- a free of a live id, with the first slice of the job that it leaves
+-- a free of a live id: the heap frees the object and does the first slice of a job, or refuses; the reply shows which
 pub record FreesSliced (old : SliceRun) (id h : ℕ) (reply : Reply) (new : SliceRun) : Type 0 where
   pub answer : Option SliceFault
   pub does : Does old.heap (Free h answer) new.heap
   pub ids : new.ids ≡ ids_without old.ids id answer
   pub reply_is : reply ≡ said (slice_free_text answer)
 
--- a slice of the job; the reply is the words left of it
+-- `s`: the heap does a slice; the reply is the number of words that a job then has left, 0 if none is pending
 pub record StepsSliced (old : SliceRun) (reply : Reply) (new : SliceRun) : Type 0 where
   pub does : Does old.heap Step new.heap
   pub ids : new.ids ≡ old.ids
   pub reply_is : reply ≡ said (with_number (codes "left ") (left_of (plan_in new.heap) (working_in new.heap).state))
 
--- a write into a live object, at byte `from` of it
+-- a write into a live object from byte `from` on: the heap replaces the bytes, or refuses; the reply shows which
 pub record WritesSliced (old : SliceRun) (h from : ℕ) (bytes : List ℕ) (reply : Reply) (new : SliceRun) : Type 0 where
   pub answer : Option AccessFault
   pub does : Does old.heap (Write (record { number = h; from = from }) bytes answer) new.heap
   pub ids : new.ids ≡ old.ids
   pub reply_is : reply ≡ said (slice_write_text answer)
 
--- the reply to a command that changes nothing: the bytes of the object for a read, in motion or not, and `none` for a command of another mode
+-- the reply to a command that changes nothing: to `r` the bytes of the object, also while it is in motion; to `p` a word of the region; else `none`
 abbrev pub slice_look : SliceRun → Command → Reply
 slice_look s (command.Read id from count) = said (read_text (sliced_object_of s id) from count)
 slice_look s (command.Peek word) = said (peek_text (slice_get s.heap.words word))
@@ -125,7 +126,7 @@ SliceStep old (command.Write id from bytes) reply new =
     MatchOption (get old.ids id) (StaysSliced old (codes "unknown") reply new) (λ h. WritesSliced old h from bytes reply new)
 SliceStep old other reply new = (reply ≡ slice_look old other) × (new ≡ old)
 
--- The most steps of a command, with slices of `quantum` words: those of the heap's call.
+-- The most steps of a command, with slices of at most `quantum` words. Only the heap's call takes steps.
 abbrev pub most_steps : ℕ → Command → ℕ
 most_steps quantum (command.Malloc id bytes) = 17
 most_steps quantum (command.Free id) = 23 + quantum

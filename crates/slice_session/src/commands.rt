@@ -1,4 +1,5 @@
-//! The commands of a session over a sliced heap: each returns its reply, or writes it on the line.
+//! The commands of a session over a sliced heap. `m`, `f` and `w` return their reply; `r`, `s` and `p`
+//! write their reply on the line.
 ghost use Rattle.std.specs.Prelude.{◌≡◌, ◌+◌, ◌<◌, ◌≤◌, [], IsTrue, Err, Some, length, slice_get};
 ghost use Rattle.cf_io.specs.Lines.{line_room};
 ghost use Rattle.cf_io.specs.Texts.{said};
@@ -19,7 +20,8 @@ use slice_model::{SliceFault, SliceRefusal};
 use sliced_heap::SlicedHeap;
 use step_ledger::Steps;
 
-/// `m`: makes an object for an id that isn't live.
+/// `m`: makes an object of `bytes` bytes for an id that isn't live. The reply is `live` if the id is live,
+/// or names the heap's refusal.
 pub(crate) fn malloc(
     ids: &mut IdTable,
     heap: &mut SlicedHeap,
@@ -55,7 +57,8 @@ fn malloc_reply(refusal: SliceRefusal) -> Short
     }
 }
 
-/// `f`: frees the object of a live id, and does the first slice of the job that this begins.
+/// `f`: frees the object of a live id, and does the first slice of the job that the free begins. The reply
+/// is `unknown` if the id isn't live, or names the heap's fault.
 pub(crate) fn free(ids: &mut IdTable, heap: &mut SlicedHeap, id: u16, steps: &mut Steps) -> Short
     requires { IsTrue heap.old.is_open }
     ensures step { SliceStep (slice_run ids.old heap.old) (Free id) (said (short_text result)) (slice_run ids.new heap.new) }
@@ -83,7 +86,8 @@ fn free_reply(fault: SliceFault) -> Short
     }
 }
 
-/// `w`: writes bytes into the object of a live id.
+/// `w`: writes bytes into the object of a live id, from byte `at` on. The reply is `unknown` if the id
+/// isn't live, or names the heap's fault if the bytes pass the object's end.
 pub(crate) fn write(
     ids: &IdTable,
     heap: &mut SlicedHeap,
@@ -105,35 +109,38 @@ pub(crate) fn write(
     }
 }
 
-/// `r`: writes the bytes of a live id's object from `at` on, in hexadecimal, on the line.
+/// `r`: fills `buffer` with bytes of a live id's object, from byte `at` on, and writes them on the line in
+/// hexadecimal. The reply is `unknown` if the id isn't live, or names the heap's fault if the bytes pass
+/// the object's end.
 pub(crate) fn read(
     ids: &IdTable,
     heap: &SlicedHeap,
     id: u16,
     at: u32,
-    room: &mut [u8],
+    buffer: &mut [u8],
     line: &mut Line,
     steps: &mut Steps,
 ) -> Outcome
     requires open { IsTrue heap.now.is_open }
     requires rules { KeepsRules heap.now }
-    requires few { length room.old ≤ 4096 }
+    requires few { length buffer.old ≤ 4096 }
     requires empty { line.old ≡ [] }
-    ensures text { line.new ≡ read_text (sliced_object_of (slice_run ids.now heap.now) id) at (length room.old) }
+    ensures text { line.new ≡ read_text (sliced_object_of (slice_run ids.now heap.now) id) at (length buffer.old) }
     ensures room { length line.new < line_room }
     ensures outcome { result ≡ outcome_in line.new }
-    ensures bound { RoseAtMost steps.old steps.new (2 + words_touched at (length room.old)) }
+    ensures bound { RoseAtMost steps.old steps.new (2 + words_touched at (length buffer.old)) }
 {
     let Some(h) = ids.handle(id) else {
         return push_short(line, Short::Unknown);
     };
-    match heap.read(h, at, room, steps) {
-        Ok(()) => push_bytes(line, room),
+    match heap.read(h, at, buffer, steps) {
+        Ok(()) => push_bytes(line, buffer),
         Err(fault) => push_short(line, fault_reply(fault)),
     }
 }
 
-/// `s`: does one slice of the pending job, if any, and writes how many of its words are left.
+/// `s`: does one slice of the pending job, if there is one, and writes on the line the number of words
+/// that a job then has left: 0 if none is pending.
 pub(crate) fn step(
     ids: &IdTable,
     heap: &mut SlicedHeap,
@@ -151,7 +158,7 @@ pub(crate) fn step(
     Outcome::Other
 }
 
-/// `p`: writes a word of the region.
+/// `p`: writes word `word` of the region on the line, or `range` if the region has no such word.
 pub(crate) fn peek(heap: &SlicedHeap, word: u32, line: &mut Line, steps: &mut Steps) -> Outcome
     requires open { IsTrue heap.now.is_open }
     requires empty { line.old ≡ [] }

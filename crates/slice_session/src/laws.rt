@@ -33,9 +33,9 @@ pub fn reads_give_what_was_written()
         → RunBy slices from None items replies new → AreReadsOf None items replies }
 {}
 
-/// The reply to a refused command is its cause, and nothing has changed. The reply to a malloc or a free
-/// is `busy` only if a job is pending. The reply to a malloc is `refused space` if and only if the
-/// objects need more pages than there are, whether a job is pending or not.
+/// The reply to a refused malloc or free names its cause, and the command changes nothing. The reply to a
+/// malloc or a free is `busy` only if a job is pending. The reply to a malloc is `refused space` if and
+/// only if the objects need more pages than there are, whether a job is pending or not.
 pub fn replies_show_their_causes()
     ensures malloc { (old new : SliceRun) (id n : ℕ) (e : SliceRefusal) → get old.ids id ≡ None
         → SliceStep old (Malloc id n) (said (slice_malloc_text (Err e))) new
@@ -55,7 +55,7 @@ pub fn replies_show_their_causes()
 }
 
 /// A run can begin with any settings in their ranges and slices of any quantum. In each state of a run
-/// every command of the grammar has a reply, after which the run goes on.
+/// every command of the grammar has a reply, and the run is in progress after it.
 pub fn each_command_has_its_turn()
     ensures begins { (quantum : ℕ) (p : Profile) → IsQuantum quantum → AreInRange p
         → (new : SliceRun) × BeginsSliced quantum p new }
@@ -68,7 +68,8 @@ pub fn each_command_has_its_turn()
     an_empty_heap_is_consistent();
 }
 
-/// There is a run over the items of any bytes, and each run over a prefix can go on to the end.
+/// There is a run over the items of any bytes, and each run over a prefix of them can be continued to the
+/// end.
 pub fn a_sliced_run_can_always_go_on()
     ensures there { (quantum : ℕ) (given : List ℕ) (ended : Bool) → IsQuantum quantum
         → (replies : List Reply) × (new : Option SliceRun) × RunsSliced quantum None (items given ended) replies new }
@@ -80,7 +81,7 @@ pub fn a_sliced_run_can_always_go_on()
     an_empty_heap_is_consistent();
 }
 
-/// The replies of the mode handler to a script are those of a run of its session, with slices of its
+/// The replies of the mode handler to a script are those of a run of its session with the handler's
 /// quantum.
 pub fn plays_are_runs()
     ensures { (from : SlicePlay) (items : List Item) (replies : List Reply) (new : Option SlicePlay)

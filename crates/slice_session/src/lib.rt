@@ -1,5 +1,5 @@
-//! A session over a sliced heap, for several tasks with commands in any order, and a script on it. Each
-//! command has one reply.
+//! A session over a sliced heap: it maps ids to handles, and each command has one reply. Several tasks may
+//! send it commands, in any order. `run_slices` runs a script on it.
 #![tactic(auto)]
 
 mod commands;

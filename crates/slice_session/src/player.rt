@@ -1,4 +1,4 @@
-//! A script on a sliced heap.
+//! The mode handler of mode `slice`, which runs a script on a sliced heap.
 ghost use Rattle.std.specs.Prelude.{◌≡◌, ℕ, IfOk};
 ghost use Rattle.std.specs.FinMap as map;
 ghost use Rattle.script_loop.specs.ScriptOutcome.{Plays, sink_at, source_at};
@@ -13,7 +13,7 @@ use sliced_heap::SlicedHeap;
 use std::alloc::Global;
 use step_ledger::Meter;
 
-/// The mode handler: a session over a sliced heap, with the words of a slice and a ledger.
+/// The mode handler: a session over a sliced heap, with the quantum of the heap and a ledger.
 #[derive(Drop)]
 pub struct SlicePlayer {
     pub session: SliceSession,
@@ -23,7 +23,8 @@ pub struct SlicePlayer {
 }
 
 impl SlicePlayer {
-    /// A session in which no id is live, for a heap with slices of `quantum` words.
+    /// A handler with a session in which no id is live, for a heap with slices of at most `quantum` words.
+    /// Allocates the table of all 65,536 ids; the result is `OutOfMemory` if that fails.
     pub fn start(rt: &HostRuntime, alloc: Global, quantum: u32) -> Result<SlicePlayer, OutOfMemory>
         requires { IsQuantum quantum }
         ensures session { IfOk result (λ p. p.session ≡ map.empty) }

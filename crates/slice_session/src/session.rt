@@ -28,14 +28,14 @@ use step_ledger::{Meter, Steps};
 /// The most bytes of one read.
 const MOST: usize = 4_096;
 
-/// The ids of the objects of one sliced heap. Its tasks are callers with commands in any order.
+/// The ids of the objects of one sliced heap. Several tasks may share a session, and call it in any order.
 #[derive(Drop)]
 pub struct SliceSession {
     ids: IdTable,
-    /// The line for the reply.
+    /// The line in which a reply is built.
     line: Line,
-    /// The buffer of a read.
-    room: [u8; MOST],
+    /// The buffer for the bytes of a read.
+    buffer: [u8; MOST],
 }
 
 impl Model for SliceSession {
@@ -49,19 +49,20 @@ impl Model for SliceSession {
 }
 
 impl SliceSession {
-    /// A session in which no id is live. Allocates the table of all 65,536 ids.
+    /// A session in which no id is live. Allocates the table of all 65,536 ids; the result is
+    /// `OutOfMemory` if that fails.
     pub fn start(alloc: Global) -> Result<SliceSession, OutOfMemory>
         ensures { IfOk result (λ s. s ≡ map.empty) }
     {
         Ok(SliceSession {
             ids: IdTable::new(alloc)?,
             line: Line::new(),
-            room: [0; MOST],
+            buffer: [0; MOST],
         })
     }
 
-    /// Laps the ledger, does the command on the heap and writes its reply. If the sink fails, the result
-    /// is `Failed`: the command has taken effect, and a prefix of its reply was written.
+    /// Resets the ledger to 0, does the command on the heap and writes its reply. If the sink fails, the
+    /// result is `Failed`: the command has taken effect, and a prefix of its reply was written.
     pub fn apply<K: Sink>(
         &mut self,
         heap: &mut SlicedHeap,
@@ -72,7 +73,7 @@ impl SliceSession {
         requires open { IsTrue heap.old.is_open }
         requires tied { AreTiedTo self.old (objects heap.old.held) }
         requires formed { IsWellFormed c.now }
-        ensures answers { Applies sliced (snapshot (slice_run self.old heap.old) (K.written out.old)) c.now result
+        ensures step { Applies sliced (snapshot (slice_run self.old heap.old) (K.written out.old)) c.now result
             (snapshot (slice_run self.new heap.new) (K.written out.new)) }
         ensures going { IsGoingSliced (slice_run self.new heap.new) }
         // The ledger counts from 0 in each command.
@@ -95,7 +96,7 @@ impl SliceSession {
         requires open { IsTrue heap.old.is_open }
         requires tied { AreTiedTo self.old (objects heap.old.held) }
         requires formed { IsWellFormed (owned_command c) }
-        ensures answers { Applies sliced (snapshot (slice_run self.old heap.old) (K.written out.old)) (owned_command c.entry) result
+        ensures step { Applies sliced (snapshot (slice_run self.old heap.old) (K.written out.old)) (owned_command c.entry) result
             (snapshot (slice_run self.new heap.new) (K.written out.new)) }
         ensures going { IsGoingSliced (slice_run self.new heap.new) }
         ensures steps { meter.new ≤ most_steps heap.old.quantum (owned_command c.entry) }
@@ -107,7 +108,8 @@ impl SliceSession {
         self.answer_ref(heap, c, out, meter.steps())
     }
 
-    /// The same on a ledger that isn't lapped. No call lowers it, so the bound is that of the command.
+    /// `apply_ref` on a ledger that the caller keeps: the call doesn't reset it, and raises it by at most
+    /// the steps of the command.
     pub fn answer_ref<K: Sink>(
         &mut self,
         heap: &mut SlicedHeap,
@@ -118,7 +120,7 @@ impl SliceSession {
         requires open { IsTrue heap.old.is_open }
         requires tied { AreTiedTo self.old (objects heap.old.held) }
         requires formed { IsWellFormed (owned_command c) }
-        ensures answers { Applies sliced (snapshot (slice_run self.old heap.old) (K.written out.old)) (owned_command c.entry) result
+        ensures step { Applies sliced (snapshot (slice_run self.old heap.old) (K.written out.old)) (owned_command c.entry) result
             (snapshot (slice_run self.new heap.new) (K.written out.new)) }
         ensures going { IsGoingSliced (slice_run self.new heap.new) }
         ensures steps { RoseAtMost steps.old steps.new (most_steps heap.old.quantum (owned_command c.entry)) }
@@ -132,7 +134,7 @@ impl SliceSession {
             &mut self.ids,
             heap,
             c,
-            &mut self.room,
+            &mut self.buffer,
             &mut self.line,
             out,
             steps,
@@ -140,42 +142,43 @@ impl SliceSession {
     }
 }
 
-/// Does the command and writes its reply.
+/// Does the command on the heap and writes its reply to the sink. If the sink fails, the result is
+/// `Failed`: the command has taken effect, and a prefix of its reply was written.
 fn answer<K: Sink>(
     ids: &mut IdTable,
     heap: &mut SlicedHeap,
     c: CommandRef,
-    room: &mut [u8],
+    buffer: &mut [u8],
     line: &mut Line,
     out: &mut K,
     steps: &mut Steps,
 ) -> Result<Outcome, Failed>
     requires going { IsGoingSliced (slice_run ids.old heap.old) }
     requires formed { IsWellFormed (owned_command c) }
-    requires place { length room.old ≡ 4096 }
-    ensures answers { Applies sliced (snapshot (slice_run ids.old heap.old) (K.written out.old)) (owned_command c.entry) result
+    requires buffer { length buffer.old ≡ 4096 }
+    ensures step { Applies sliced (snapshot (slice_run ids.old heap.old) (K.written out.old)) (owned_command c.entry) result
         (snapshot (slice_run ids.new heap.new) (K.written out.new)) }
     ensures steps { RoseAtMost steps.old steps.new (most_steps heap.old.quantum (owned_command c.entry)) }
     ensures grows { K.faults out.old ≤ K.faults out.new }
     ensures same { OnOk result (K.faults out.new ≡ K.faults out.old) }
     ensures failed { OnErr result (FailsLast (K.faults out.old) (K.faults out.new) (K.last_failed out.new)) }
 {
-    let outcome = speak(ids, heap, c, room, line, steps);
+    let outcome = speak(ids, heap, c, buffer, line, steps);
     ended(put_line(line, out), outcome)
 }
 
-/// Does a command and writes the text of its reply on the line.
+/// Does the command on the heap and writes the text of its reply on the line, not yet to a sink.
 fn speak(
     ids: &mut IdTable,
     heap: &mut SlicedHeap,
     c: CommandRef,
-    room: &mut [u8],
+    buffer: &mut [u8],
     line: &mut Line,
     steps: &mut Steps,
 ) -> Outcome
     requires going { IsGoingSliced (slice_run ids.old heap.old) }
     requires formed { IsWellFormed (owned_command c) }
-    requires place { length room.old ≡ 4096 }
+    requires buffer { length buffer.old ≡ 4096 }
     ensures speaks { Speaks SliceStep (slice_run ids.old heap.old) (owned_command c.entry) (slice_run ids.new heap.new) line.new }
     ensures outcome { result ≡ outcome_in line.new }
     ensures steps { RoseAtMost steps.old steps.new (most_steps heap.old.quantum (owned_command c.entry)) }
@@ -191,7 +194,7 @@ fn speak(
             push_short(line, write(ids, heap, id, at, bytes, steps))
         }
         CommandRef::Read { id, at, len } => {
-            read(ids, heap, id, at, &mut room[..len as usize], line, steps)
+            read(ids, heap, id, at, &mut buffer[..len as usize], line, steps)
         }
         CommandRef::Peek { word } => peek(heap, word, line, steps),
         _ => push_short(line, Short::Lacking),

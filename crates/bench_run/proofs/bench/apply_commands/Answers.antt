@@ -21,7 +21,7 @@ pub loop-i-preserved : goal.loop-i-preserved
 loop-i-preserved g c =
     let so_far = c.loop-i.invariant in
     let command = owned_command c.next_ref-command.result in
-    let answer = c.in-Ok.ensures.answers in
+    let answer = c.in-Ok.ensures.step in
     record {
       done = so_far.done ++ command ∷ [];
       given = given_more _ so_far.done _ _ c.args.count c.loop-i.i command (omega arith) c.next_ref-command.ensures.next so_far.given;

@@ -7,6 +7,7 @@ use Rattle.run_model.specs.Sessions.{IsGoing}
 use Rattle.script_reader.specs.declared.command.Command.{Command}
 use Rattle.bench_run.proofs.bench.apply_commands.Given as goal
 
+-- The commands `done` were applied, and the generator still has the others. The heap has the kind that it began with, and promises an order if it did then.
 abbrev pub invariant-loop-i : goal.invariant-loop-i
 invariant-loop-i g l = record {
   done : List Command;

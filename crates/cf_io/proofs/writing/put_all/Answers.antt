@@ -6,7 +6,7 @@ use Rattle.cf_io.proofs.writing.put_all.Goals as goal
 pub rest-preserved : goal.rest-preserved
 rest-preserved g c =
     let h = rw (take_rest c.args.bytes.now c.rest.at) at c.in-Ok.ensures in
-    record { within = omega (arith, length-drop {A = ℕ}); same = omega arith; wrote = appended_more _ _ _ c.args.bytes.now _ _ c.rest.invariant.wrote h.piece }
+    record { within = omega (arith, length-drop {A = ℕ}); same = omega arith; wrote = appended_more _ _ _ c.args.bytes.now _ _ c.rest.invariant.wrote h.puts }
 
 pub returns-in-Err-clause-puts : goal.returns-in-Err-clause-puts
 returns-in-Err-clause-puts g c = (

@@ -7,6 +7,6 @@ fills-preserved g c = record {
   within = filled_within c.fills.at c.in-Ok.n (length c.fills.buffer - c.fills.at) c.fills.buffer c.take.new.buf c.fills.invariant.within
       c.in-Ok.ensures.within;
   took = filled_more c.fills.at c.in-Ok.n (length c.fills.buffer - c.fills.at) c.fills.buffer c.take.new.buf c.fills.invariant.within c.in-Ok.ensures.within
-      _ _ _ c.fills.invariant.took (chunk_taken c.in-Ok.n c.take.new.buf _ _ c.in-Ok.ensures.within c.in-Ok.ensures.piece c.in-Ok.ensures.counted);
+      _ _ _ c.fills.invariant.took (chunk_taken c.in-Ok.n c.take.new.buf _ _ c.in-Ok.ensures.within c.in-Ok.ensures.chunk c.in-Ok.ensures.counted);
   same = c.in-Ok.ensures.same ∙ c.fills.invariant.same;
 }

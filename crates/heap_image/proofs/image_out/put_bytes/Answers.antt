@@ -16,7 +16,7 @@ chunks-preserved g c = record {
       let is = chunk_is _ _ _ _ x some c.in-Ok.ensures.answer in
       chunk_put (g.K.Sink.written c.args.out.now) (g.K.Sink.written c.chunks.out) (g.K.Sink.written c.put_all.new.sink) x.bytes c.read.new.out
       c.chunks.at c.min-count.result (c.chunks.invariant.written x some) (is ∙ ap (λ n. take n (drop c.chunks.at x.bytes))
-      (length-take-le c.min-count.result c.chunks.room (omega (arith, c.min-count.ensures, c.requires.place, c.chunks.auto.room))))
+      (length-take-le c.min-count.result c.chunks.buffer (omega (arith, c.min-count.ensures, c.requires.buffer, c.chunks.auto.buffer))))
       c.in-Ok-put_all.ensures.puts;
   same = c.in-Ok-put_all.ensures.same ∙ c.chunks.invariant.same;
 }

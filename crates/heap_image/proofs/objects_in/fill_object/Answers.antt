@@ -40,8 +40,8 @@ free_object-requires-in-Failed-clause-live g c =
 pub returns-in-Cut-clause-fills : goal.returns-in-Cut-clause-fills
 returns-in-Cut-clause-fills g c =
     let so_far = c.chunks.invariant in
-    let size : length c.fill.new.buffer ≡ c.min-count.result = c.fill.auto.buffer ∙ length-take-le c.min-count.result c.chunks.room
-    (omega (arith, c.min-count.ensures, c.requires.place, c.chunks.auto.room)) in
+    let size : length c.fill.new.buffer ≡ c.min-count.result = c.fill.auto.buffer ∙ length-take-le c.min-count.result c.chunks.buffer
+    (omega (arith, c.min-count.ensures, c.requires.buffer, c.chunks.auto.buffer)) in
     let fits : c.chunks.done + c.min-count.result ≤ c.args.n = omega (arith, c.min-count.ensures) in
     let falls = subst (λ k. Falls k (feed_at (g.S.Source.rest c.chunks.source) (g.S.Source.given c.chunks.source))
     (feed_at (g.S.Source.rest c.fill.new.source) (g.S.Source.given c.fill.new.source))) size c.in-Cut.ensures.fills.0 in (
@@ -53,8 +53,8 @@ returns-in-Cut-clause-fills g c =
 pub returns-in-Failed-clause-fills : goal.returns-in-Failed-clause-fills
 returns-in-Failed-clause-fills g c =
     let so_far = c.chunks.invariant in
-    let size : length c.fill.new.buffer ≡ c.min-count.result = c.fill.auto.buffer ∙ length-take-le c.min-count.result c.chunks.room
-    (omega (arith, c.min-count.ensures, c.requires.place, c.chunks.auto.room)) in
+    let size : length c.fill.new.buffer ≡ c.min-count.result = c.fill.auto.buffer ∙ length-take-le c.min-count.result c.chunks.buffer
+    (omega (arith, c.min-count.ensures, c.requires.buffer, c.chunks.auto.buffer)) in
     let fits : c.chunks.done + c.min-count.result ≤ c.args.n = omega (arith, c.min-count.ensures) in
     let falls = subst (λ k. Falls k (feed_at (g.S.Source.rest c.chunks.source) (g.S.Source.given c.chunks.source))
     (feed_at (g.S.Source.rest c.fill.new.source) (g.S.Source.given c.fill.new.source))) size c.in-Failed.ensures.fills in (
@@ -67,8 +67,8 @@ returns-in-Failed-clause-fills g c =
 pub write_part-requires-clause-within : goal.write_part-requires-clause-within
 write_part-requires-clause-within g c =
     let so_far = c.chunks.invariant in
-    let size : length c.fill.new.buffer ≡ c.min-count.result = c.fill.auto.buffer ∙ length-take-le c.min-count.result c.chunks.room
-    (omega (arith, c.min-count.ensures, c.requires.place, c.chunks.auto.room)) in
+    let size : length c.fill.new.buffer ≡ c.min-count.result = c.fill.auto.buffer ∙ length-take-le c.min-count.result c.chunks.buffer
+    (omega (arith, c.min-count.ensures, c.requires.buffer, c.chunks.auto.buffer)) in
     let fits : c.chunks.done + length c.fill.new.buffer ≤ c.args.n = omega (arith, c.min-count.ensures, size) in (
       so_far.bytes ++ replicate (c.args.n - c.chunks.done) 0,
       held_in (run_at c.args.session.now (g.H.Manager.state c.args.heap.now)) (run_at c.chunks.session (g.H.Manager.state c.chunks.heap)) c.args.id _
@@ -81,8 +81,8 @@ chunks-preserved g c =
     let so_far = c.chunks.invariant in
     let old = run_at c.args.session.now (g.H.Manager.state c.args.heap.now) in
     let mid = run_at c.chunks.session (g.H.Manager.state c.chunks.heap) in
-    let size : length c.fill.new.buffer ≡ c.min-count.result = c.fill.auto.buffer ∙ length-take-le c.min-count.result c.chunks.room
-    (omega (arith, c.min-count.ensures, c.requires.place, c.chunks.auto.room)) in
+    let size : length c.fill.new.buffer ≡ c.min-count.result = c.fill.auto.buffer ∙ length-take-le c.min-count.result c.chunks.buffer
+    (omega (arith, c.min-count.ensures, c.requires.buffer, c.chunks.auto.buffer)) in
     let fits : c.chunks.done + c.min-count.result ≤ c.args.n = omega (arith, c.min-count.ensures) in
     record {
       within = fits;

@@ -9,12 +9,12 @@ returns g c =
     let new = run_at c.apply_ref.new.self (g.H.Manager.state c.apply_ref.new.heap) in
     let going : IsGoing new = record { opened = c.in-Ok.ensures.open; rules = c.in-Ok.ensures.rules; tied = c.in-Ok.ensures.tied } in
     let m = made_or_not old new c.requires.loading going
-    c.args.id c.args.n c.requires.fresh c.requires.few c.in-Ok.ensures.answers.0.reply c.in-Ok.ensures.answers.0.turn
-    c.is_good.result c.in-Ok.outcome c.is_good.ensures.good c.is_good.ensures.other c.in-Ok.ensures.answers.1 in
+    c.args.id c.args.n c.requires.fresh c.requires.few c.in-Ok.ensures.step.0.reply c.in-Ok.ensures.step.0.turn
+    c.is_good.result c.in-Ok.outcome c.is_good.ensures.good c.is_good.ensures.other c.in-Ok.ensures.step.1 in
     record {
       test = m.0;
       made = m.1;
-      counts = made_counts old new c.requires.loading going c.args.id c.args.n c.requires.fresh c.requires.few c.in-Ok.ensures.answers.0.reply
-          c.in-Ok.ensures.answers.0.turn;
+      counts = made_counts old new c.requires.loading going c.args.id c.args.n c.requires.fresh c.requires.few c.in-Ok.ensures.step.0.reply
+          c.in-Ok.ensures.step.0.turn;
       refused = m.2;
     }

@@ -16,8 +16,8 @@ pub returns-in-Err-put_write-clause-puts : goal.returns-in-Err-put_write-clause-
 returns-in-Err-put_write-clause-puts g c = λ x some.
     let n = object_length _ _ _ x c.requires.live some in
     let is = chunk_is _ _ _ _ x some c.in-Ok.ensures.answer
-    ∙ ap (λ n. take n (drop c.chunks.at x.bytes)) (length-take-le c.min-count.result c.chunks.room
-    (omega (arith, c.min-count.ensures, c.requires.place, c.chunks.auto.room)))
+    ∙ ap (λ n. take n (drop c.chunks.at x.bytes)) (length-take-le c.min-count.result c.chunks.buffer
+    (omega (arith, c.min-count.ensures, c.requires.buffer, c.chunks.auto.buffer)))
     ∙ whole_chunk c.min-count.result c.chunks.at x.bytes (omega (arith, c.min-count.ensures, n)) in
     writes_cut c.args.id x.bytes _ _ c.chunks.at (c.chunks.invariant.came x some) (omega (arith, n, c.chunks-test.true)) _ c.in-Err-put_write.failed
     (puts_same (g.K.Sink.written c.chunks.out) (g.K.Sink.written c.put_write.new.out) _ _ (Err c.in-Err-put_write.failed)
@@ -28,8 +28,8 @@ chunks-preserved g c = record {
   came = λ x some.
       let n = object_length _ _ _ x c.requires.live some in
       let is = chunk_is _ _ _ _ x some c.in-Ok.ensures.answer
-      ∙ ap (λ n. take n (drop c.chunks.at x.bytes)) (length-take-le c.min-count.result c.chunks.room
-      (omega (arith, c.min-count.ensures, c.requires.place, c.chunks.auto.room)))
+      ∙ ap (λ n. take n (drop c.chunks.at x.bytes)) (length-take-le c.min-count.result c.chunks.buffer
+      (omega (arith, c.min-count.ensures, c.requires.buffer, c.chunks.auto.buffer)))
       ∙ whole_chunk c.min-count.result c.chunks.at x.bytes (omega (arith, c.min-count.ensures, n)) in
       writes_on c.args.id x.bytes _ _ c.chunks.at (c.chunks.invariant.came x some) (omega (arith, n, c.chunks-test.true)) _
       (c.in-Ok-put_write.ensures.puts ∙ ap (λ b. appended (g.K.Sink.written c.chunks.out) (line_of (Write c.args.id c.chunks.at b))) is);

@@ -51,7 +51,7 @@ replies-preserved g c =
     let m = g.A.Player.semantics in
     let so_far = c.replies.invariant in
     let next = rw c.in-Command.is at c.read_next.ensures in
-    let answer = c.in-Ok-answer.ensures.answers in
+    let answer = c.in-Ok-answer.ensures.step in
     record {
       text = so_far.text ++ led [] answer.reply;
       answered = answered_then m so_far.answered (answered_command m _ _ _ answer.reply next answer.turns c.in-Ok-answer.ensures.plan);
@@ -68,7 +68,7 @@ returns-in-Err-clause-goes g c =
     let m = g.A.Player.semantics in
     let so_far = c.replies.invariant in
     let next = rw c.in-Command.is at c.read_next.ensures in
-    let answer = c.in-Err.ensures.answers in
+    let answer = c.in-Err.ensures.step in
     record {
       out = so_far.text ++ answer.out;
       cut = cut_then m so_far.answered (cut_command m _ _ _ answer.out next answer.turns c.in-Err.ensures.plan);

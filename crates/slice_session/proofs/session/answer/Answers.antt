@@ -4,8 +4,8 @@ use Rattle.slice_session.specs.Playing.{sliced}
 use Rattle.slice_session.specs.SliceRun.{slice_run}
 use Rattle.slice_session.proofs.session.answer.Goals as goal
 
-pub returns-clause-answers : goal.returns-clause-answers
-returns-clause-answers g c = shown_line sliced (λ _ _ _ _ turn. turn) (slice_run c.args.ids.now c.args.heap.now) (slice_run c.speak-outcome.new.ids c.speak-outcome.new.heap)
+pub returns-clause-step : goal.returns-clause-step
+returns-clause-step g c = shown_line sliced (λ _ _ _ _ turn. turn) (slice_run c.args.ids.now c.args.heap.now) (slice_run c.speak-outcome.new.ids c.speak-outcome.new.heap)
     (owned_command c.args.c)
     c.speak-outcome.new.line _ _ c.put_line.result c.speak-outcome.result c.ended.result c.speak-outcome.ensures.speaks
     c.speak-outcome.ensures.outcome c.put_line.ensures.puts c.ended.ensures

@@ -12,7 +12,7 @@ invariant_of-self g c = (
     let new = quota_run (Some (profile_of c.args.s.now)) (session_of c.answer.new.records) c.answer.new.heap in
     let going = going_before (profile_of c.args.s.now) (session_of c.self.inside.records) c.args.self.now c.args.heap.now c.requires.opened
     (c.is_open-open.ensures.rules (c.is_open-open.ensures.value ∙ c.requires.opened)) c.requires.settings c.self.view_is c.self.invariant c.requires.tied in
-    (applied_going old going new (owned_command c.args.c) _ _ c.answer.result c.requires.formed c.answer.ensures.answers).sixteen)
+    (applied_going old going new (owned_command c.args.c) _ _ c.answer.result c.requires.formed c.answer.ensures.step).sixteen)
 
 pub returns-clause-going : goal.returns-clause-going
 returns-clause-going g c = (
@@ -20,4 +20,4 @@ returns-clause-going g c = (
     let new = quota_run (Some (profile_of c.args.s.now)) (session_of c.answer.new.records) c.answer.new.heap in
     let going = going_before (profile_of c.args.s.now) (session_of c.self.inside.records) c.args.self.now c.args.heap.now c.requires.opened
     (c.is_open-open.ensures.rules (c.is_open-open.ensures.value ∙ c.requires.opened)) c.requires.settings c.self.view_is c.self.invariant c.requires.tied in
-    applied_going old going new (owned_command c.args.c) _ _ c.answer.result c.requires.formed c.answer.ensures.answers)
+    applied_going old going new (owned_command c.args.c) _ _ c.answer.result c.requires.formed c.answer.ensures.step)

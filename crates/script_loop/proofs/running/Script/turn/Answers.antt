@@ -19,7 +19,7 @@ returns-then-n-eq0-clause-turn g c =
     let took = c.in-Ok.ensures in (
       record {
         progress = refl;
-        rest = sym (nothing_taken _ _ c.take.new.buf c.in-Ok.n c.if-n-eq0.true took.piece);
+        rest = sym (nothing_taken _ _ c.take.new.buf c.in-Ok.n c.if-n-eq0.true took.chunk);
         counted = given_min _ _ 0 (took.counted ∙ ap (λ n. min (g.S.Source.given c.args.source.now + n) last_count) c.if-n-eq0.true);
         left = refl;
       },
@@ -29,21 +29,21 @@ returns-then-n-eq0-clause-turn g c =
 pub returns-in-Stopped-clause-turn : goal.returns-in-Stopped-clause-turn
 returns-in-Stopped-clause-turn g c =
     let took = c.in-Ok.ensures in (
-      chunk_of _ _ c.take.new.buf c.min-within.result c.in-Ok.n (omega (arith, c.min-within.ensures)) (omega (arith, c.min-within.ensures)) took.within (omega arith) took.piece took.counted,
+      chunk_of _ _ c.take.new.buf c.min-within.result c.in-Ok.n (omega (arith, c.min-within.ensures)) (omega (arith, c.min-within.ensures)) took.within (omega arith) took.chunk took.counted,
       c.in-Stopped.ensures.goes,
     )
 
 pub returns-in-Cut-clause-turn : goal.returns-in-Cut-clause-turn
 returns-in-Cut-clause-turn g c =
     let took = c.in-Ok.ensures in (
-      chunk_of _ _ c.take.new.buf c.min-within.result c.in-Ok.n (omega (arith, c.min-within.ensures)) (omega (arith, c.min-within.ensures)) took.within (omega arith) took.piece took.counted,
+      chunk_of _ _ c.take.new.buf c.min-within.result c.in-Ok.n (omega (arith, c.min-within.ensures)) (omega (arith, c.min-within.ensures)) took.within (omega arith) took.chunk took.counted,
       c.in-Cut.ensures.goes,
     )
 
 pub returns-in-LacksMemory-clause-turn : goal.returns-in-LacksMemory-clause-turn
 returns-in-LacksMemory-clause-turn g c =
     let took = c.in-Ok.ensures in (
-      chunk_of _ _ c.take.new.buf c.min-within.result c.in-Ok.n (omega (arith, c.min-within.ensures)) (omega (arith, c.min-within.ensures)) took.within (omega arith) took.piece took.counted,
+      chunk_of _ _ c.take.new.buf c.min-within.result c.in-Ok.n (omega (arith, c.min-within.ensures)) (omega (arith, c.min-within.ensures)) took.within (omega arith) took.chunk took.counted,
       c.in-LacksMemory.ensures.goes,
     )
 
@@ -52,7 +52,7 @@ returns-then-n-self-clause-turn g c =
     let took = c.in-Ok.ensures in
     let below : c.min-within.result < c.in-Ok.n = omega (arith, c.min-within.ensures) in
     record {
-      chunk = chunk_of _ _ c.take.new.buf c.min-within.result c.in-Ok.n (omega (arith, below)) (omega (arith, c.min-within.ensures)) took.within (omega arith) took.piece took.counted;
+      chunk = chunk_of _ _ c.take.new.buf c.min-within.result c.in-Ok.n (omega (arith, below)) (omega (arith, c.min-within.ensures)) took.within (omega arith) took.chunk took.counted;
       some = some_past c.take.new.buf c.min-within.result c.in-Ok.n below took.within;
       full = length-take-le c.min-within.result c.take.new.buf (omega (arith, below, took.within)) ∙ (omega (arith, c.min-within.ensures, below));
       went = c.in-GoesOn.ensures.goes;
@@ -64,7 +64,7 @@ returns-clause-turn g c =
     let whole : c.min-within.result ≡ c.in-Ok.n = omega (arith, c.min-within.ensures) in
     let long = length-take-le c.in-Ok.n c.take.new.buf took.within in
     record {
-      chunk = whole_chunk _ _ c.take.new.buf c.in-Ok.n (omega arith) took.within (omega arith) took.piece took.counted;
+      chunk = whole_chunk _ _ c.take.new.buf c.in-Ok.n (omega arith) took.within (omega arith) took.chunk took.counted;
       whole = refl;
       some = omega (arith, long);
       left = omega (arith, long);

@@ -2,21 +2,21 @@ use Rattle.std.proofs.Common.{◌≡◌, ◌≤◌, ◌+◌, ◌-◌, List, ℕ,
 use Rattle.cf_io.specs.Feeds.{appended}
 use Rattle.script_loop.specs.AnswersSoFar.{Answered, IsWaiting}
 use Rattle.script_loop.specs.Progress.{IsReady, playing}
-use Rattle.script_loop.proofs.answering.answer_piece.Given as goal
+use Rattle.script_loop.proofs.answering.answer_chunk.Given as goal
 
 abbrev pub invariant-feeds : goal.invariant-feeds
 invariant-feeds g l = record {
   text : List ℕ;
-  answered : Answered g.A.Player.semantics (playing l.initial.reader (g.A.Player.state l.initial.player l.initial.heap)) (take l.at l.piece)
+  answered : Answered g.A.Player.semantics (playing l.initial.reader (g.A.Player.state l.initial.player l.initial.heap)) (take l.at l.chunk)
       (playing l.reader (g.A.Player.state l.player l.heap)) text false;
   ready : IsReady g.A.Player.semantics (playing l.reader (g.A.Player.state l.player l.heap));
   waiting : IsWaiting l.reader;
   same_end : l.reader.ended ≡ false;
   fed : l.reader.fed ≡ l.initial.reader.fed + l.at;
-  within : l.at ≤ length l.piece;
+  within : l.at ≤ length l.chunk;
   wrote : g.K.Sink.written l.sink ≡ appended (g.K.Sink.written l.initial.sink) text;
   same : g.K.Sink.faults l.sink ≡ g.K.Sink.faults l.initial.sink;
 }
 
 abbrev pub decreases-feeds : goal.decreases-feeds
-decreases-feeds g l = length l.piece - l.at
+decreases-feeds g l = length l.chunk - l.at

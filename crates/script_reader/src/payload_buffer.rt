@@ -1,4 +1,4 @@
-//! A buffer for the bytes of a write.
+//! A buffer for the payload of a write, filled again and again.
 ghost use Rattle.std.specs.Prelude.{◌≡◌, ◌≤◌, IsTrue, length};
 ghost use Rattle.script_reader.specs.Commands.{bytes_in};
 ghost use Rattle.script_reader.specs.Answered.{some_if};
@@ -8,15 +8,15 @@ use std::marker::Model;
 /// The most bytes of a write.
 const MOST: usize = 4_096;
 
-/// A buffer for the bytes of one write, at most 4,096. Its owner makes it once, and a reader fills it
-/// in place.
+/// A buffer for the payload of one write, at most 4,096 bytes. Its owner makes it once, and a reader
+/// fills it in place. A `Payload` owns its bytes instead.
 #[derive(Drop)]
-pub struct Room {
+pub struct PayloadBuffer {
     cells: [u8; MOST],
     len: usize,
 }
 
-impl Model for Room {
+impl Model for PayloadBuffer {
     ghost use Rattle.std.specs.Prelude.{ℕ, List, ◌≤◌, take};
 
     ghost Value = { List ℕ };
@@ -26,12 +26,12 @@ impl Model for Room {
     ghost invariant = { λ r. r.len ≤ 4096 };
 }
 
-impl Room {
+impl PayloadBuffer {
     /// An empty buffer.
-    pub fn new() -> Room
+    pub fn new() -> PayloadBuffer
         ensures { length result ≡ 0 }
     {
-        Room {
+        PayloadBuffer {
             cells: [0; MOST],
             len: 0,
         }
@@ -44,8 +44,8 @@ impl Room {
         &self.cells[..self.len]
     }
 
-    /// Takes the bytes that the text spells in hexadecimal, from 1 to 4,096 of them. False if it
-    /// spells none.
+    /// Decodes a text in hexadecimal into the buffer: from 1 to 4,096 bytes. False if the text spells
+    /// no such bytes; the contract then says nothing of the buffer.
     // Out of line, since its loop then keeps all it needs in registers.
     #[inline(never)]
     pub(crate) fn take_hex(&mut self, text: &[u8]) -> bool

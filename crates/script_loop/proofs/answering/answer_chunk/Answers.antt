@@ -2,7 +2,7 @@ use Rattle.std.proofs.Common.{◌≤◌, ◌∙◌, ◌++◌, [], arith, ap, dro
 use Rattle.std.proofs.lemmas.List.{length-take-le, take_rest}
 use Rattle.script_loop.proofs.Feeding.{appended_after, appended_none}
 use Rattle.script_loop.proofs.AnswersSoFar.{answered_fed, answered_next, answered_none, answered_over, cut_next, cut_over}
-use Rattle.script_loop.proofs.answering.answer_piece.Goals as goal
+use Rattle.script_loop.proofs.answering.answer_chunk.Goals as goal
 
 pub feeds-init : goal.feeds-init
 feeds-init g c = record {
@@ -20,20 +20,20 @@ feeds-init g c = record {
 pub feeds-preserved : goal.feeds-preserved
 feeds-preserved g c =
     let so_far = c.feeds.invariant in
-    let took = rw (take_rest c.args.piece.now c.feeds.at) at c.feed-at.ensures in
+    let took = rw (take_rest c.args.chunk.now c.feeds.at) at c.feed-at.ensures in
     let kept = c.in-GoesOn.ensures.goes in
-    let some : c.feed-at.result ≤ length (drop c.feeds.at c.args.piece.now) = omega (arith, took.value) in
-    let long = length-take-le c.feed-at.result (drop c.feeds.at c.args.piece.now) some in
+    let some : c.feed-at.result ≤ length (drop c.feeds.at c.args.chunk.now) = omega (arith, took.value) in
+    let long = length-take-le c.feed-at.result (drop c.feeds.at c.args.chunk.now) some in
     let count = ap (λ r. r.fed) took.fed in
     record {
       text = so_far.text ++ kept.text;
       answered = answered_next g.A.Player.semantics
-          (answered_fed g.A.Player.semantics _ c.args.piece.now c.feeds.at c.feed-at.result so_far.answered so_far.same_end took.fed) kept.answered;
+          (answered_fed g.A.Player.semantics _ c.args.chunk.now c.feeds.at c.feed-at.result so_far.answered so_far.same_end took.fed) kept.answered;
       ready = kept.ready;
       waiting = kept.waiting;
       same_end = kept.same_end ∙ ap (λ r. r.ended) took.fed ∙ so_far.same_end;
       fed = omega (arith, kept.fed, count, long, so_far.fed);
-      within = omega (arith, some, length-drop c.feeds.at c.args.piece.now);
+      within = omega (arith, some, length-drop c.feeds.at c.args.chunk.now);
       wrote = appended_after _ _ _ _ _ so_far.wrote kept.wrote;
       same = c.in-GoesOn.ensures.same (λ e. cc) ∙ so_far.same;
     }
@@ -41,13 +41,13 @@ feeds-preserved g c =
 pub returns-in-Stopped-clause-goes : goal.returns-in-Stopped-clause-goes
 returns-in-Stopped-clause-goes g c =
     let so_far = c.feeds.invariant in
-    let took = rw (take_rest c.args.piece.now c.feeds.at) at c.feed-at.ensures in
+    let took = rw (take_rest c.args.chunk.now c.feeds.at) at c.feed-at.ensures in
     let kept = c.in-Stopped.ensures.goes in
     record {
       text = so_far.text ++ kept.text;
-      answered = answered_over g.A.Player.semantics kept.over.0 c.args.piece.now _
+      answered = answered_over g.A.Player.semantics kept.over.0 c.args.chunk.now _
           (answered_next g.A.Player.semantics
-          (answered_fed g.A.Player.semantics _ c.args.piece.now c.feeds.at c.feed-at.result so_far.answered so_far.same_end took.fed) kept.answered)
+          (answered_fed g.A.Player.semantics _ c.args.chunk.now c.feeds.at c.feed-at.result so_far.answered so_far.same_end took.fed) kept.answered)
           kept.over.1;
       wrote = appended_after _ _ _ _ _ so_far.wrote kept.wrote;
       over = kept.over;
@@ -56,12 +56,12 @@ returns-in-Stopped-clause-goes g c =
 pub returns-in-Cut-clause-goes : goal.returns-in-Cut-clause-goes
 returns-in-Cut-clause-goes g c =
     let so_far = c.feeds.invariant in
-    let took = rw (take_rest c.args.piece.now c.feeds.at) at c.feed-at.ensures in
+    let took = rw (take_rest c.args.chunk.now c.feeds.at) at c.feed-at.ensures in
     let kept = c.in-Cut.ensures.goes in
     record {
       out = so_far.text ++ kept.out;
-      cut = cut_over g.A.Player.semantics c.args.piece.now _
-          (cut_next g.A.Player.semantics (answered_fed g.A.Player.semantics _ c.args.piece.now c.feeds.at c.feed-at.result so_far.answered so_far.same_end
+      cut = cut_over g.A.Player.semantics c.args.chunk.now _
+          (cut_next g.A.Player.semantics (answered_fed g.A.Player.semantics _ c.args.chunk.now c.feeds.at c.feed-at.result so_far.answered so_far.same_end
           took.fed) kept.cut);
       wrote = appended_after _ _ _ _ _ so_far.wrote kept.wrote;
     }
