@@ -16,9 +16,9 @@ use Rattle.image_run.specs.Loads.{EndsLoad}
 use Rattle.image_run.specs.Saves.{EndsSave}
 use Rattle.script_loop.specs.ScriptOutcome.{Effects, HasCauses, MeetsOutcome, SinkState, SourceState}
 use Rattle.script_loop.specs.Semantics.{Semantics}
-use Rattle.side_by_side.proofs.CallerLemmas.{begun_many, chosen_first, chosen_kinds, chosen_none, chosen_orders, first_within, with_first, with_none}
-use Rattle.side_by_side.specs.First.{chosen_of, first_of_kind, with_chosen}
-use Rattle.side_by_side.specs.Many.{AreFresh, Many, many_at, many_managers}
+use Rattle.side_by_side.proofs.CallerLemmas.{begun_side_by_side, chosen_first, chosen_kinds, chosen_none, chosen_orders, first_within, with_first, with_none}
+use Rattle.side_by_side.specs.FirstOfKind.{chosen_manager, first_of_kind, with_chosen_manager}
+use Rattle.side_by_side.specs.SideBySide.{AreFresh, SideBySide, side_by_side_at, many_managers}
 use Rattle.bench_run.specs.Bench.{EndsBench}
 use Rattle.command_line.specs.declared.choice.Choice.{Choice}
 use Rattle.manager_modes.specs.Outcomes.{Benches, Compares, Ends, Handed, Loads, OrLacks, PlaysOwn, Runs, Saves, effects_of, handed}
@@ -73,17 +73,17 @@ module _ (kind : Kind) (s s' : SourceState) (k k' : SinkState) (st : Status) (ca
     lt : i < length ms
     lt = let within = first_within kind (map f ms) i first in omega (arith, within, length-map ms f)
 
-    seen : chosen_of kind (map f ms) ≡ f x
+    seen : chosen_manager kind (map f ms) ≡ f x
     seen = chosen_first kind (map f ms) i first ∙ get_or-map f ms i x (closed_state kind) lt ∙ sym (ap f is)
 
-    stands : map f (set ms i n) ≡ with_chosen kind (map f ms) end.heap
+    stands : map f (set ms i n) ≡ with_chosen_manager kind (map f ms) end.heap
     stands = map-set f ms i n ∙ ap (λ h. set (map f ms) i h) (sym end_is) ∙ sym (with_first kind (map f ms) i end.heap first)
 
     pub first_ends : one_manager.plan end ≡ one_manager.plan (run_at session (f x))
         → MeetsOutcome one_manager (run_at session (f x)) (effects_of (handed s k (map f ms)) st (handed s' k' (map f (set ms i n)))) end
         → Ends (Runs kind) (handed s k (map f ms)) st (handed s' k' (map f (set ms i n)))
     first_ends plan met =
-        let promise : KeepsPromise (chosen_of kind (map f ms)) end.heap =
+        let promise : KeepsPromise (chosen_manager kind (map f ms)) end.heap =
         ap (λ (p : Kind × Bool). p.1) plan ∙ ap (λ (h : HeapState). is_some h.order) (sym seen) in
         ends_of (Runs kind) s k (map f ms) st s' k' (map f (set ms i n)) causes
         (ap (λ l. map (λ (h : HeapState). h.kind) l) stands
@@ -100,16 +100,16 @@ module _ (kind : Kind) (s s' : SourceState) (k k' : SinkState) (st : Status) (ca
 -- a script ran on each of many
 pub each_ends : (s s' : SourceState) (k k' : SinkState) (st : Status) (causes : HasCauses s k st s' k') → {X : Type 0} (f : X → HeapState)
     (ss : List SessionState) (ms : List X) → AreFresh (length ms) ss → (ss' : List SessionState) (ms' : List X)
-    → many_managers.plan (many_at ss' (map f ms')) ≡ many_managers.plan (many_at ss (map f ms))
-    → MeetsOutcome many_managers (many_at ss (map f ms)) (effects_of (handed s k (map f ms)) st (handed s' k' (map f ms'))) (many_at ss' (map f ms'))
+    → many_managers.plan (side_by_side_at ss' (map f ms')) ≡ many_managers.plan (side_by_side_at ss (map f ms))
+    → MeetsOutcome many_managers (side_by_side_at ss (map f ms)) (effects_of (handed s k (map f ms)) st (handed s' k' (map f ms'))) (side_by_side_at ss' (map f ms'))
     → Ends Compares (handed s k (map f ms)) st (handed s' k' (map f ms'))
 each_ends s s' k k' st causes f ss ms started ss' ms' plan met =
     ends_of Compares s k (map f ms) st s' k' (map f ms') causes (ap (λ (p : List Kind × List Bool). p.0) plan)
     (ap (λ (p : List Kind × List Bool). p.1) plan) (record {
-      end = many_at ss' (map f ms');
+      end = side_by_side_at ss' (map f ms');
       outcome = subst
-          (λ (from : Many). MeetsOutcome many_managers from (effects_of (handed s k (map f ms)) st (handed s' k' (map f ms'))) (many_at ss' (map f ms')))
-          (begun_many f ss ms started) met;
+          (λ (from : SideBySide). MeetsOutcome many_managers from (effects_of (handed s k (map f ms)) st (handed s' k' (map f ms'))) (side_by_side_at ss' (map f ms')))
+          (begun_side_by_side f ss ms started) met;
       stand = refl;
     })
 

@@ -26,9 +26,9 @@ use Rattle.heap_image.specs.Load.{LoadsBy}
 use Rattle.heap_image.specs.declared.fault.LoadFault.TheVariants as fault
 use Rattle.image_run.specs.Saves.{unseen}
 use Rattle.side_by_side.proofs.CallerLemmas.{chosen_kind, headlines_met, own_of}
-use Rattle.side_by_side.specs.First.{chosen_of}
-use Rattle.side_by_side.specs.Many.{fresh_many, many_managers}
-use Rattle.side_by_side.specs.Own.{MeetHeadlines}
+use Rattle.side_by_side.specs.FirstOfKind.{chosen_manager}
+use Rattle.side_by_side.specs.SideBySide.{fresh_side_by_side, many_managers}
+use Rattle.side_by_side.specs.OwnRuns.{MeetHeadlines}
 use Rattle.manager_modes.specs.Claims.{HoldsImage, MeetsClaim}
 use Rattle.manager_modes.specs.Outcomes.{Benches, Compares, Ends, EndsWhole, Handed, Loads, OrLacks, PlaysOwn, Runs, Saves, effects_of, kinds_in}
 
@@ -126,26 +126,26 @@ did_all Does old new = outcome_at Does old new (λ st. AnswersAll st → Does ol
 -- Mode `run`.
 module _ (kind : Kind) where
   pub run_sound : IsSound (Runs kind) IsClean
-  run_sound = script_sound one_manager (Runs kind) λ old st new done. ((run_at fresh_session (chosen_of kind old.managers), done.end), done.outcome)
+  run_sound = script_sound one_manager (Runs kind) λ old st new done. ((run_at fresh_session (chosen_manager kind old.managers), done.end), done.outcome)
 
   pub run_shown : (old : Handed) (st : Status) (new : Handed) → OrLacks (Runs kind) old st new → AnswersAll st
       → MeetsClaim (MeetsHeadline kind) old.source.rest (effects_of old st new)
   run_shown old st new done is =
       let did = did_all (Runs kind) old new st done is in
       subst (λ (k : Kind). MeetsClaim (MeetsHeadline k) old.source.rest (effects_of old st new)) (chosen_kind kind old.managers)
-      (claim_of one_manager (run_at fresh_session (chosen_of kind old.managers)) did.end (MeetsHeadline (chosen_of kind old.managers).kind)
-      (λ all call w. headline_met (chosen_of kind old.managers).kind (items_within all) w.replies w.end w.run) (effects_of old st new) old.source.rest refl did.outcome is)
+      (claim_of one_manager (run_at fresh_session (chosen_manager kind old.managers)) did.end (MeetsHeadline (chosen_manager kind old.managers).kind)
+      (λ all call w. headline_met (chosen_manager kind old.managers).kind (items_within all) w.replies w.end w.run) (effects_of old st new) old.source.rest refl did.outcome is)
 
 -- Mode `compare`.
 pub compare_sound : IsSound Compares IsClean
-compare_sound = script_sound many_managers Compares λ old st new done. ((fresh_many old.managers, done.end), done.outcome)
+compare_sound = script_sound many_managers Compares λ old st new done. ((fresh_side_by_side old.managers, done.end), done.outcome)
 
 pub compare_shown : (old : Handed) (st : Status) (new : Handed) → OrLacks Compares old st new → AnswersAll st
     → MeetsClaim (MeetHeadlines (kinds_in old)) old.source.rest (effects_of old st new)
 compare_shown old st new done is =
     let did = did_all Compares old new st done is in
-    claim_of many_managers (fresh_many old.managers) did.end (MeetHeadlines (kinds_in old))
-    (λ all call w. headlines_met (kinds_in old) (items_within all) w.replies _ (own_of (fresh_many old.managers) did.end (items_within all) call w))
+    claim_of many_managers (fresh_side_by_side old.managers) did.end (MeetHeadlines (kinds_in old))
+    (λ all call w. headlines_met (kinds_in old) (items_within all) w.replies _ (own_of (fresh_side_by_side old.managers) did.end (items_within all) call w))
     (effects_of old st new) old.source.rest refl did.outcome is
 
 -- Mode `bench`.

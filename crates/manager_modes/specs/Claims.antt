@@ -12,7 +12,7 @@ pub record PrintsAs (Claim : List Item → List Reply → Type 0) (wanted : List
   pub printed : call.after ≡ appended call.before (text_of [] replies)
   pub claimed : Claim wanted replies
 
--- if the source is observable, what is printed of the bytes that it had is as claimed
+-- if the source is observable, the replies printed to the bytes that it had are as claimed
 abbrev pub MeetsClaim : (List Item → List Reply → Type 0) → Option (List ℕ) → Effects → Type 0
 MeetsClaim Claim None call = ⊤
 MeetsClaim Claim (Some all) call = PrintsAs Claim (items_within all) call

@@ -21,8 +21,8 @@ use Rattle.image_run.specs.Loads.{EndsLoad}
 use Rattle.image_run.specs.Saves.{EndsSave}
 use Rattle.large_objects.specs.LargeRun.{LargeRun}
 use Rattle.large_objects.specs.Playing.{IsFreshLarge, large_heap}
-use Rattle.side_by_side.specs.First.{chosen_of, first_of_kind, with_chosen}
-use Rattle.side_by_side.specs.Many.{Many, fresh_many, many_managers}
+use Rattle.side_by_side.specs.FirstOfKind.{chosen_manager, first_of_kind, with_chosen_manager}
+use Rattle.side_by_side.specs.SideBySide.{SideBySide, fresh_side_by_side, many_managers}
 
 -- what a call works on: a source, a sink and managers
 pub record Handed : Type 0 where
@@ -49,18 +49,18 @@ seen S K H s k hs = handed (source_seen S s) (sink_seen K k) (map (λ h. H.state
 abbrev pub effects_of : Handed → Status → Handed → Effects
 effects_of old status new = effects old.source old.sink status new.source new.sink
 
--- Mode `run`: the first manager of the kind runs the script, in a session of its own, and is where its run led it; no other one changes. If none is of the
--- kind, one that was never open is made for the script. One that promised an order before has an order at the end, and so has one that is made.
+-- Mode `run`: the first manager of the kind runs the script, in a session of its own, and is in the last state of its run; no other manager changes. If none
+-- is of the kind, a closed manager is made for the script. A manager that promised an order before has an order at the end, and so has one that is made.
 pub record Runs (kind : Kind) (old : Handed) (status : Status) (new : Handed) : Type 0 where
   pub end : RunState
-  pub outcome : MeetsOutcome one_manager (run_at fresh_session (chosen_of kind old.managers)) (effects_of old status new) end
-  pub stand : new.managers ≡ with_chosen kind old.managers end.heap
-  pub promise : KeepsPromise (chosen_of kind old.managers) end.heap
+  pub outcome : MeetsOutcome one_manager (run_at fresh_session (chosen_manager kind old.managers)) (effects_of old status new) end
+  pub stand : new.managers ≡ with_chosen_manager kind old.managers end.heap
+  pub promise : KeepsPromise (chosen_manager kind old.managers) end.heap
 
--- Mode `compare`: each manager runs the script, in a session of its own, and is where its run led it; the replies are woven.
+-- Mode `compare`: each manager runs the script, in a session of its own, and is in the last state of its run; the output interleaves their replies.
 pub record Compares (old : Handed) (status : Status) (new : Handed) : Type 0 where
-  pub end : Many
-  pub outcome : MeetsOutcome many_managers (fresh_many old.managers) (effects_of old status new) end
+  pub end : SideBySide
+  pub outcome : MeetsOutcome many_managers (fresh_side_by_side old.managers) (effects_of old status new) end
   pub stand : new.managers ≡ end.heaps
 
 -- Mode `bench`: a manager of the kind, which was never open, is made for the commands of the seed, and its counts are printed. It has an order at the end.
@@ -72,7 +72,7 @@ pub record Benches (choice : Choice) (old : Handed) (status : Status) (new : Han
   pub unread : new.source ≡ old.source
   pub untouched : new.managers ≡ old.managers
 
--- A heap is made for the script, which runs on it from such a state. No given manager changes.
+-- A heap is made for the script, which runs on it from a state of which `IsMade` holds. No given manager changes.
 pub record PlaysOwn {S P : Type 0} (m : Semantics S P) (IsMade : S → Type 0) (old : Handed) (status : Status) (new : Handed) : Type 0 where
   pub begin : S
   pub made : IsMade begin
@@ -103,7 +103,7 @@ pub record Loads (old : Handed) (status : Status) (new : Handed) : Type 0 where
   pub outcome : EndsLoad (run_at fresh_session (closed_state Moving)) (effects_of old status new) end
   pub untouched : new.managers ≡ old.managers
 
--- Out of memory may come before anything is touched, or as the mode allows; nothing is written then.
+-- The call does what the mode asks. If it runs out of memory, nothing is written, and either nothing is touched or the mode itself ends so.
 abbrev pub OrLacks : (Handed → Status → Handed → Type 0) → Handed → Status → Handed → Type 0
 OrLacks Does old OutOfMemory new = (new.sink.written ≡ old.sink.written) × ((new ≡ old) ⊎ Does old OutOfMemory new)
 OrLacks Does old status new = Does old status new
@@ -115,7 +115,7 @@ kinds_in h = map (λ m. m.kind) h.managers
 abbrev pub orders_in : Handed → List Bool
 orders_in h = map (λ m. is_some m.order) h.managers
 
--- a call did what a mode asks; and the causes of how it ended, over every source and sink
+-- a call did what a mode asks; and the cause of its status, over every source and sink
 pub record Ends (Does : Handed → Status → Handed → Type 0) (old : Handed) (status : Status) (new : Handed) : Type 0 where
   pub outcome : OrLacks Does old status new
   pub kinds : kinds_in new ≡ kinds_in old
@@ -126,15 +126,15 @@ pub record Ends (Does : Handed → Status → Handed → Type 0) (old : Handed) 
   pub write_fault : status ≡ WriteFault → FailsLast old.sink.faults new.sink.faults new.sink.failed
   pub too_long : status ≡ TooLong → (old.source.given + MOST_BYTES < new.source.given) ⊎ (new.source.given ≡ last_count)
 
--- the same, whatever the given managers are: none of them changes
+-- `Ends`, whatever the given managers are: none of them changes
 abbrev pub EndsBeside : (Handed → Status → Handed → Type 0) → SourceState → SinkState → Status → SourceState → SinkState → Type 0
 EndsBeside Does source sink status source' sink' = (managers : List HeapState) → Ends Does (handed source sink managers) status (handed source' sink' managers)
 
--- the same for mode `run`, on a manager that is made for the script if none of the given ones is of the kind
+-- `Ends` for mode `run` on a manager that is made for the script, if none of the given managers is of the kind
 abbrev pub RunsOwn : Kind → SourceState → SinkState → Status → SourceState → SinkState → Type 0
 RunsOwn kind source sink status source' sink' = (managers : List HeapState) → first_of_kind kind managers ≡ None
     → Ends (Runs kind) (handed source sink managers) status (handed source' sink' managers)
 
--- all that the mode asks was done, or it ran out of memory
+-- the call did all that the mode asks, or it ran out of memory
 abbrev pub EndsWhole : Status → Type 0
 EndsWhole status = (status ≡ Done) ⊎ (status ≡ OutOfMemory)

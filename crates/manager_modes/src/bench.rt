@@ -13,8 +13,8 @@ use nonmoving_heap::NonMovingHeap;
 use std::alloc::Global;
 use tlsf_heap::TlsfHeap;
 
-/// Runs the generated script of the choice on a closed manager of the kind, which is made for it, and
-/// prints its counts. It reads nothing and touches no other manager.
+/// Makes a closed manager of the chosen kind, runs the generated script of the chosen seed and count on
+/// it, and prints the counts. It reads nothing and touches no other manager.
 pub fn bench_seed<K: Sink>(rt: &HostRuntime, alloc: Global, choice: Choice, sink: &mut K) -> Status
     ensures { (source : SourceState) → EndsBeside (Benches choice)
         source (sink_seen K.Sink sink.old) result source (sink_seen K.Sink sink.new) }

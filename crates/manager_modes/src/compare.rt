@@ -8,7 +8,7 @@ use script_loop::play_script;
 use side_by_side::Sessions;
 use std::alloc::Global;
 
-/// Runs a script on each of the managers, in order, with a session each.
+/// Runs a script on each of the managers, with a session each: each command in the managers' order.
 pub fn compare_all<H: Manager, S: Source, K: Sink>(
     rt: &HostRuntime,
     alloc: Global,

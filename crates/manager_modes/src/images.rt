@@ -1,5 +1,5 @@
-//! Modes `save` and `load`. Their manager is behind a box, as the given ones are, so that only the bench has
-//! the code of a session over one that is not, and has it in its loop.
+//! Modes `save` and `load`. Their manager is behind a box, as the given managers are. So only mode `bench`
+//! instantiates a session over an unboxed manager, and the compiler inlines that session into its loop.
 ghost use Rattle.std.specs.Prelude.{◌≡◌};
 ghost use Rattle.cf_base.specs.declared.kind.Kind.TheVariants.{Moving};
 ghost use Rattle.cf_model.specs.State.{closed_state};
@@ -33,7 +33,7 @@ pub fn save_image<S: Source, K: Sink>(
     save_on(rt, alloc, &mut heap, source, sink)
 }
 
-/// The same, on a moving manager that was never open.
+/// Does what `save_image` does, on a moving manager that was never open.
 fn save_on<H: Manager, S: Source, K: Sink>(
     rt: &HostRuntime,
     alloc: Global,
@@ -73,7 +73,7 @@ pub fn load_image<S: Source, K: Sink>(
     load_on(rt, alloc, &mut heap, source, sink)
 }
 
-/// The same, on a moving manager that was never open.
+/// Does what `load_image` does, on a moving manager that was never open.
 fn load_on<H: Manager, S: Source, K: Sink>(
     rt: &HostRuntime,
     alloc: Global,

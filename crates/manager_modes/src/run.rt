@@ -41,7 +41,7 @@ pub fn run_chosen<H: Manager, S: Source, K: Sink>(
 }
 
 /// Runs a script on a closed manager of the kind, which is made for it. It is behind a box, as the given
-/// ones are, so that only the bench has the code of a session over one that is not, and has it in its loop.
+/// managers are: so only mode `bench` instantiates a session over an unboxed manager.
 fn run_own<S: Source, K: Sink>(
     alloc: Global,
     kind: Kind,
@@ -81,7 +81,7 @@ fn run_own<S: Source, K: Sink>(
     }
 }
 
-/// The same, on a manager of the kind that was never open.
+/// Runs a script on a manager of the kind that was never open.
 fn run_on<H: Manager, S: Source, K: Sink>(
     kind: Kind,
     heap: &mut H,

@@ -6,10 +6,10 @@ use Rattle.cf_model.specs.State.{HeapState}
 use Rattle.script_loop.specs.Semantics.{AnswersBy, snapshot}
 use Rattle.script_reader.specs.declared.command.Command.{Command}
 use Rattle.side_by_side.specs.Progress.{AnswersWith}
-use Rattle.side_by_side.specs.Many.{EachInPart, EachTurn, Many, many_managers, runs_of}
+use Rattle.side_by_side.specs.SideBySide.{EachInPart, EachTurn, SideBySide, many_managers, runs_of}
 use Rattle.side_by_side.proofs.Zipping.{mapped_twice}
 
-pub each_answers : {T : Type 0} (old new : Many) (w w' : Option (List ℕ)) (c : Command) (r : Result T Failed)
+pub each_answers : {T : Type 0} (old new : SideBySide) (w w' : Option (List ℕ)) (c : Command) (r : Result T Failed)
     → AnswersWith EachTurn EachInPart (runs_of old) w c r (runs_of new) w'
     → AnswersBy many_managers (snapshot old w) c r (snapshot new w')
 each_answers old new w w' c (Ok u) (reply, turns, written) = record { reply = reply; turns = turns; written = written }

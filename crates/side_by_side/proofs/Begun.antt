@@ -17,7 +17,7 @@ use Rattle.run_model.specs.Sessions.{IsGoing, RunState, SessionState, fresh_sess
 use Rattle.cf_session.specs.Apply.{run_at}
 use Rattle.cf_base.specs.declared.kind.Kind.{Kind}
 use Rattle.side_by_side.proofs.Zipping.{mapped_twice}
-use Rattle.side_by_side.specs.Many.{EachBegins, IsEachFresh, IsEachGoing, LacksSome, kinds_of, many_at, oks, runs_of, zipped}
+use Rattle.side_by_side.specs.SideBySide.{EachBegins, IsEachFresh, IsEachGoing, LacksSome, kinds_of, side_by_side_at, opened_reply, runs_of, zipped}
 
 -- lists whose entries are paired
 pairwise_rest : {X : Type 0} (R : X → X → Type 0) (x y : X) (xs ys : List X) → Pairwise R (x ∷ xs) (y ∷ ys) → Pairwise R xs ys
@@ -26,14 +26,14 @@ pairwise_rest R x y xs ys p = record { count = omega (arith, p.count); each = λ
 pub each_begun : {X : Type 0} (f : X → HeapState) (p : Settings) (ss : List SessionState) (xs ys : List X) → length ss ≡ length xs
     → All (λ s. s ≡ fresh_session) ss
     → Pairwise (λ x y. Opens p (f x) (f y)) xs ys
-    → EachBegins (map (λ h. h.kind) (map f xs)) (profile_of p) (oks (map (λ h. h.kind) (map f xs))) (zipped ss (map f ys))
+    → EachBegins (map (λ h. h.kind) (map f xs)) (profile_of p) (opened_reply (map (λ h. h.kind) (map f xs))) (zipped ss (map f ys))
 each_begun f p [] [] ys count fresh pairs = (refl, refl)
 each_begun f p [] (x ∷ xs) ys count fresh pairs = cc
 each_begun f p (s ∷ ss) [] ys count fresh pairs = cc
 each_begun f p (s ∷ ss) (x ∷ xs) [] count fresh pairs = absurd (omega (arith, pairs.count))
 each_begun f p (s ∷ ss) (x ∷ xs) (y ∷ ys) count fresh pairs = (
   said (codes "ok"),
-  oks (map (λ h. h.kind) (map f xs)),
+  opened_reply (map (λ h. h.kind) (map f xs)),
   run_at s (f y),
   zipped ss (map f ys),
   (
@@ -52,7 +52,7 @@ each_begun f p (s ∷ ss) (x ∷ xs) (y ∷ ys) count fresh pairs = (
   refl,
 )
 
--- a run that began goes on
+-- every run that began is in progress
 pub begun_goes : (kinds : List Kind) (p : Profile) (reply : Reply) (news : List RunState) → EachBegins kinds p reply news → All IsGoing news
 begun_goes [] p reply news (is, are) = rw are (All-nil IsGoing)
 begun_goes (kind ∷ kinds) p reply news (first, more, new, rest, begins, others, is, are) =
@@ -63,7 +63,7 @@ some_of : {X : Type 0} (xs : List X) (k : ℕ) → k < length xs → X
 some_of [] k lt = absurd (omega (arith, lt))
 some_of (x ∷ xs) k lt = x
 
--- entry by entry of one kind
+-- two lists of managers with equal kinds at each index have the same list of kinds
 kinds_same : (xs ys : List HeapState) → length ys ≡ length xs → ((k : ℕ) (d : HeapState) → k < length xs → (get_or ys k d).kind ≡ (get_or xs k d).kind)
     → map (λ h. h.kind) ys ≡ map (λ h. h.kind) xs
 kinds_same xs ys count each = same_lists (map (λ h. h.kind) ys) (map (λ h. h.kind) xs)
@@ -75,7 +75,7 @@ kinds_same xs ys count each = same_lists (map (λ h. h.kind) ys) (map (λ h. h.k
     get_or-map (λ h. h.kind) ys k d' d inside ∙ each k d' within ∙ sym (get_or-map (λ h. h.kind) xs k d' d within))
 
 module _ {X : Type 0} (f : X → HeapState) where
-  -- the same of what contracts see of the entries
+  -- an opening that stopped at one manager, by the states that contracts see
   pub stops_seen : (R S : HeapState → HeapState → Type 0) (xs ys : List X) → Stops (λ x y. R (f x) (f y)) (λ x y. S (f x) (f y)) xs ys
       → Stops R S (map f xs) (map f ys)
   stops_seen R S xs ys s =
@@ -128,23 +128,23 @@ stops_kinds p xs ys s = kinds_same xs ys s.count (λ k d lt. elim (cases_lt k s.
 ])
 
 -- The opening of managers, beside sessions that were just begun.
-module _ {X : Type 0} (f : X → HeapState) (p : Settings) (ss : List SessionState) (xs ys : List X) (fresh : IsEachFresh (many_at ss (map f xs)))
+module _ {X : Type 0} (f : X → HeapState) (p : Settings) (ss : List SessionState) (xs ys : List X) (fresh : IsEachFresh (side_by_side_at ss (map f xs)))
     (pairs : Pairwise (λ x y. Opens p (f x) (f y)) xs ys) where
-  pub all_begin : EachBegins (kinds_of (many_at ss (map f xs))) (profile_of p) (oks (kinds_of (many_at ss (map f xs)))) (runs_of (many_at ss (map f ys)))
+  pub all_begin : EachBegins (kinds_of (side_by_side_at ss (map f xs))) (profile_of p) (opened_reply (kinds_of (side_by_side_at ss (map f xs)))) (runs_of (side_by_side_at ss (map f ys)))
   all_begin = each_begun f p ss xs ys (fresh.count ∙ length-map xs f) fresh.fresh pairs
 
-  pub all_go : IsEachGoing (many_at ss (map f ys))
+  pub all_go : IsEachGoing (side_by_side_at ss (map f ys))
   all_go = record { count = fresh.count ∙ length-map xs f ∙ sym pairs.count ∙ sym (length-map ys f); going = begun_goes _ (profile_of p) _ _ all_begin }
 
-  pub same_kinds : kinds_of (many_at ss (map f ys)) ≡ kinds_of (many_at ss (map f xs))
+  pub same_kinds : kinds_of (side_by_side_at ss (map f ys)) ≡ kinds_of (side_by_side_at ss (map f xs))
   same_kinds = pairs_kinds f p xs ys pairs
 
-  -- as the states show
-  pub shown : oks (map (λ m. (f m).kind) ys) ≡ oks (kinds_of (many_at ss (map f xs)))
-  shown = ap oks (sym (mapped_twice (λ h. h.kind) f ys) ∙ same_kinds)
+  -- the reply to the `heap` line, by the kinds in the states
+  pub shown : opened_reply (map (λ m. (f m).kind) ys) ≡ opened_reply (kinds_of (side_by_side_at ss (map f xs)))
+  shown = ap opened_reply (sym (mapped_twice (λ h. h.kind) f ys) ∙ same_kinds)
 
--- memory was wanting
+-- an allocation failed at one manager
 pub some_lack : {X : Type 0} (f : X → HeapState) (p : Settings) (ss : List SessionState) (xs ys : List X)
     → Stops (λ x y. Opens p (f x) (f y)) (λ x y. IsClosed (f x) (f y)) xs ys
-    → LacksSome (many_at ss (map f xs)) (many_at ss (map f ys))
+    → LacksSome (side_by_side_at ss (map f xs)) (side_by_side_at ss (map f ys))
 some_lack f p ss xs ys s = record { settings = p; stops = stops_seen f (λ h k. Opens p h k) IsClosed xs ys s; sessions = refl }

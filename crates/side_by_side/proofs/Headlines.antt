@@ -5,11 +5,11 @@ use Rattle.script_reader.specs.Items.{Item}
 use Rattle.run_model.specs.Sessions.{RunState}
 use Rattle.run_model.specs.Texts.{Reply}
 use Rattle.headline_laws.proofs.CallerLemmas.{headline_met}
-use Rattle.side_by_side.specs.Own.{MeetHeadlines, OwnRuns}
+use Rattle.side_by_side.specs.OwnRuns.{MeetHeadlines, OwnRuns}
 
 pub headlines_met : (kinds : List Kind) (items : List Item) (replies : List Reply) (end : Option (List RunState)) → OwnRuns kinds items replies end
     → MeetHeadlines kinds items replies
 headlines_met [] items replies end runs = runs.0
 headlines_met (kind ∷ kinds) items replies end runs =
-    let (owns, others, own, rest, run, more, woven, together) = runs in
-    (owns, others, headline_met kind items owns own run, headlines_met kinds items others rest more, woven)
+    let (owns, others, own, rest, run, more, interleaved_reply, together) = runs in
+    (owns, others, headline_met kind items owns own run, headlines_met kinds items others rest more, interleaved_reply)

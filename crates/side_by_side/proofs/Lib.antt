@@ -3,12 +3,12 @@ pub mod Zipping
 pub mod Passing
 pub mod Naming
 pub mod Begun
-pub mod Oks
+pub mod OpenedReply
 pub mod Unzipping
 pub mod Standing
 pub mod Outcomes
 pub mod StillGoing
-pub mod FirstLemmas
+pub mod FirstOfKindLemmas
 pub mod Fresh
 pub mod CallerLemmas
 pub mod Prefixes

@@ -2,7 +2,7 @@
 use Rattle.std.proofs.Common.{◌≡◌, ◌++◌, ◌∙◌, ℕ, List, [], ◌∷◌, refl, sym, ap, append_assoc}
 use Rattle.cf_io.specs.Feeds.{appended}
 use Rattle.run_model.specs.Texts.{Reply, led}
-use Rattle.side_by_side.specs.Many.{lead_of}
+use Rattle.side_by_side.specs.SideBySide.{lead_of}
 use Rattle.script_reader.specs.declared.command.Command.{Command}
 use Rattle.run_model.proofs.CallerLemmas.{step_same}
 use Rattle.run_model.specs.Answering.{IsAnswered, IsCutShort, Moment}
@@ -10,10 +10,10 @@ use Rattle.run_model.specs.Runs.{Turn}
 use Rattle.run_model.specs.Sessions.{IsGoing, RunState}
 use Rattle.cf_base.specs.declared.kind.Kind.{Kind}
 use Rattle.side_by_side.specs.Progress.{TurnNamed, TurnNamedInPart}
-use Rattle.side_by_side.specs.Many.{named}
+use Rattle.side_by_side.specs.SideBySide.{named_lines}
 
 -- the lead of each line, or its name
-led_named : (kind : Kind) (reply : Reply) → led (lead_of kind) reply ≡ led [] (named kind reply)
+led_named : (kind : Kind) (reply : Reply) → led (lead_of kind) reply ≡ led [] (named_lines kind reply)
 led_named kind [] = refl
 led_named kind (line ∷ rest) = ap (λ l. l ++ led (lead_of kind) rest) (sym (append_assoc (lead_of kind) line (10 ∷ [])))
     ∙ ap (λ l. ((lead_of kind ++ line) ++ 10 ∷ []) ++ l) (led_named kind rest)
@@ -22,7 +22,7 @@ pub named_whole : (old : Moment) (c : Command) (lead : List ℕ) (new : Moment) 
     → IsAnswered old (record { command = c; lead = lead }) new
     → (reply : Reply) × TurnNamed old.run c reply new.run × (new.written ≡ appended old.written (led [] reply))
 named_whole old c lead new is a = (
-  named old.run.heap.kind a.reply,
+  named_lines old.run.heap.kind a.reply,
   record { own = a.reply; turn = a.turn; reply_is = refl },
   a.written ∙ ap (λ l. appended old.written (led l a.reply)) is ∙ ap (λ l. appended old.written l) (led_named old.run.heap.kind a.reply),
 )

@@ -6,31 +6,31 @@ use Rattle.script_loop.specs.ScriptOutcome.{Effects, Wrote, WroteInPart}
 use Rattle.script_reader.specs.Items.{Item}
 use Rattle.side_by_side.proofs.Standing.{own_counts, part_counts, stand_each}
 use Rattle.side_by_side.proofs.Unzipping.{own_runs, own_runs_in_part}
-use Rattle.side_by_side.specs.Many.{EachBegins, EachInPart, EachTurn, Many, kinds_of, many_managers, runs_of}
-use Rattle.side_by_side.specs.Own.{OwnRuns, OwnRunsInPart, EndEach}
+use Rattle.side_by_side.specs.SideBySide.{EachBegins, EachInPart, EachTurn, SideBySide, kinds_of, many_managers, runs_of}
+use Rattle.side_by_side.specs.OwnRuns.{OwnRuns, OwnRunsInPart, EachEndsAt}
 
-pub own_of : (from to : Many) (wanted : List Item) (call : Effects) (w : Wrote many_managers from wanted call to)
+pub own_of : (from to : SideBySide) (wanted : List Item) (call : Effects) (w : Wrote many_managers from wanted call to)
     → OwnRuns (kinds_of from) wanted w.replies (option_map runs_of w.end)
 own_of from to wanted call w =
     own_runs (kinds_of from) wanted w.replies (option_map runs_of w.end)
     (run_seen runs_of (EachBegins (kinds_of from)) EachTurn EachInPart None wanted w.replies w.end w.run)
 
-pub part_of : (from to : Many) (wanted : List Item) (call : Effects) (w : WroteInPart many_managers from wanted call to)
+pub part_of : (from to : SideBySide) (wanted : List Item) (call : Effects) (w : WroteInPart many_managers from wanted call to)
     → OwnRunsInPart (kinds_of from) w.before w.item w.replies w.front (option_map runs_of w.end)
 part_of from to wanted call w =
     own_runs_in_part (kinds_of from) w.before w.replies (option_map runs_of w.mid) w.item w.front (option_map runs_of w.end)
     (run_seen runs_of (EachBegins (kinds_of from)) EachTurn EachInPart None w.before w.replies w.mid w.run)
     (part_seen runs_of (EachBegins (kinds_of from)) EachTurn EachInPart w.mid w.item w.front w.end w.part)
 
-pub stand_of : (from to : Many) (wanted : List Item) (call : Effects) → kinds_of to ≡ kinds_of from → (w : Wrote many_managers from wanted call to)
-    → EndEach from.heaps (option_map runs_of w.end) to.heaps
+pub stand_of : (from to : SideBySide) (wanted : List Item) (call : Effects) → kinds_of to ≡ kinds_of from → (w : Wrote many_managers from wanted call to)
+    → EachEndsAt from.heaps (option_map runs_of w.end) to.heaps
 stand_of from to wanted call kinds w =
     stand_each from to w.end kinds
     (λ all is. own_counts (kinds_of from) wanted w.replies all (subst (λ r. OwnRuns (kinds_of from) wanted w.replies r) is (own_of from to wanted call w)))
     w.stands
 
-pub stand_part_of : (from to : Many) (wanted : List Item) (call : Effects) → kinds_of to ≡ kinds_of from → (w : WroteInPart many_managers from wanted call to)
-    → EndEach from.heaps (option_map runs_of w.end) to.heaps
+pub stand_part_of : (from to : SideBySide) (wanted : List Item) (call : Effects) → kinds_of to ≡ kinds_of from → (w : WroteInPart many_managers from wanted call to)
+    → EachEndsAt from.heaps (option_map runs_of w.end) to.heaps
 stand_part_of from to wanted call kinds w =
     stand_each from to w.end kinds
     (λ all is. part_counts (kinds_of from) w.before w.item w.replies w.front all

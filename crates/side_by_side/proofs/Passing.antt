@@ -1,4 +1,4 @@
--- A loop that turns runs, one after the other.
+-- A loop in which each run does the same command, one run after the other.
 use Rattle.std.proofs.Common.{◌≡◌, ◌++◌, ◌∙◌, ◌+◌, ◌<◌, ◌≤◌, ℕ, List, [], ◌∷◌, refl, sym, ap, subst, inl, inr, length, set, get_or, map, append_assoc}
 use Rattle.std.proofs.Common.{append-nil, length-append, arith}
 use Rattle.std.proofs.lemmas.List.{get_or_at, length-map, set_at, length_push}
@@ -11,7 +11,7 @@ use Rattle.script_reader.specs.declared.command.Command.{Command}
 use Rattle.run_model.specs.Sessions.{IsGoing, RunState, SessionState}
 use Rattle.cf_session.specs.Apply.{run_at}
 use Rattle.side_by_side.specs.Progress.{Swept, TurnNamed, TurnNamedInPart}
-use Rattle.side_by_side.specs.Many.{EachInPart, EachTurn, named, zipped}
+use Rattle.side_by_side.specs.SideBySide.{EachInPart, EachTurn, named_lines, zipped}
 use Rattle.side_by_side.proofs.Zipping.{runs_read, runs_set, zipped_length}
 
 each_joined : (xs ys : List RunState) (c : Command) (t u : Reply) (ps qs : List RunState) → EachTurn xs c t ps → EachTurn ys c u qs
@@ -25,7 +25,7 @@ each_joined (x ∷ xs) ys c t u ps qs (first, more, new, rest, turn, turns, is, 
   turn,
   each_joined xs ys c more u rest qs turns b,
   ap (λ l. l ++ u) is
-      ∙ append_assoc (named x.heap.kind first) more u,
+      ∙ append_assoc (named_lines x.heap.kind first) more u,
   ap (λ l. l ++ qs) are,
 )
 
@@ -40,15 +40,15 @@ each_cut (x ∷ xs) ys c t out ps qs (first, more, new, rest, turn, turns, is, a
       rest ++ qs,
       turn,
       each_cut xs ys c more out rest qs turns b,
-      ap (λ r. led [] r ++ out) is ∙ ap (λ l. l ++ out) (led-append [] (named x.heap.kind first) more)
-          ∙ append_assoc (led [] (named x.heap.kind first)) (led [] more) out,
+      ap (λ r. led [] r ++ out) is ∙ ap (λ l. l ++ out) (led-append [] (named_lines x.heap.kind first) more)
+          ∙ append_assoc (led [] (named_lines x.heap.kind first)) (led [] more) out,
       ap (λ l. l ++ qs) are,
     )
 
 one_turn : (old new : RunState) (c : Command) (reply : Reply) → TurnNamed old c reply new → EachTurn (old ∷ []) c reply (new ∷ [])
-one_turn old new c reply turn = (turn.own, [], new, [], turn.turn, (refl, refl), turn.reply_is ∙ sym (append-nil (named old.heap.kind turn.own)), refl)
+one_turn old new c reply turn = (turn.own, [], new, [], turn.turn, (refl, refl), turn.reply_is ∙ sym (append-nil (named_lines old.heap.kind turn.own)), refl)
 
--- none is turned yet
+-- before the loop no run has done the command
 pub swept_none : (olds : List RunState) (c : Command) → Swept olds 0 c [] olds
 swept_none olds c = record { done = []; turned = []; ahead = olds; olds_are = refl; news_are = refl; count = refl; turns = (refl, refl) }
 
@@ -83,7 +83,7 @@ module _ (olds news : List RunState) (i : ℕ) (c : Command) (reply : Reply) (ol
       (subst (λ l. EachInPart (done ++ z ∷ ahead) c (led [] reply ++ out) l) (sym news_now)
       (each_cut done (z ∷ ahead) c reply out turned (new ∷ ahead) turns cut))
 
-  -- the run at i is turned too
+  -- after the turn at i the run at i has done the command too
   pub swept_more : Swept olds i c reply news → (first : Reply) → TurnNamed old c first new → Swept olds (i + 1) c (reply ++ first) (set news i new)
   swept_more s first turn = more_at s.done s.turned s.ahead s.olds_are s.news_are s.count s.turns first turn
 
@@ -100,11 +100,11 @@ whole_at olds news c reply done turned [] olds_are news_are count turns =
 whole_at olds news c reply done turned (z ∷ ahead) olds_are news_are count turns =
     absurd (omega (arith, ap (λ (l : List RunState). length l) news_are, length-append turned (z ∷ ahead), count))
 
--- all are turned
+-- after the loop all runs have done the command
 pub swept_whole : (olds news : List RunState) (i : ℕ) (c : Command) (reply : Reply) → length news ≤ i → Swept olds i c reply news → EachTurn olds c reply news
 swept_whole olds news i c reply le s = whole_at olds news c reply s.done s.turned s.ahead s.olds_are s.news_are (omega (arith, le, s.count)) s.turns
 
--- The same with sessions beside managers, by the states of the managers.
+-- The loop over sessions beside managers, by the states of the managers.
 module _ {X : Type 0} (f : X → HeapState) (olds : List RunState) (ss : List SessionState) (ms : List X) (i : ℕ) (c : Command) (reply : Reply)
     (s t : SessionState) (m n : X) (count : length ss ≡ length ms) (lt : i < length ms)
     (is : s ≡ get_or ss i s) (is' : m ≡ get_or ms i m) where

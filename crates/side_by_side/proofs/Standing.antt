@@ -9,10 +9,10 @@ use Rattle.run_model.specs.Texts.{Reply}
 use Rattle.script_loop.specs.ScriptOutcome.{EndsAt}
 use Rattle.script_reader.specs.Items.{Item, asks, bad, starts}
 use Rattle.script_reader.specs.declared.command.Command.{Command}
-use Rattle.side_by_side.specs.Many.{Many, kinds_of, runs_of, zipped}
-use Rattle.side_by_side.specs.Own.{AreTogether, OwnRuns, OwnRunsInPart, OwnRunsUpTo, EndEach}
+use Rattle.side_by_side.specs.SideBySide.{SideBySide, kinds_of, runs_of, zipped}
+use Rattle.side_by_side.specs.OwnRuns.{JoinStates, OwnRuns, OwnRunsInPart, OwnRunsUpTo, EachEndsAt}
 
-together_counts : (own : Option RunState) (rest : Option (List RunState)) (all : List RunState) (n : ℕ) → AreTogether own rest (Some all)
+together_counts : (own : Option RunState) (rest : Option (List RunState)) (all : List RunState) (n : ℕ) → JoinStates own rest (Some all)
     → ((others : List RunState) → rest ≡ Some others → length others ≡ n) → length all ≡ suc n
 together_counts None None all n together counts = cc
 together_counts None (Some others) all n together counts = absurd together
@@ -42,16 +42,16 @@ part_counts kinds before (asks c) replies front all (news, runs, is) =
     rw same (up_to_counts kinds before c replies front news runs)
 part_counts kinds before (bad n) replies front all (lost, runs, cut) = own_counts kinds before replies all runs
 
--- the managers of as many runs
+-- the managers are those of the runs, if each manager has a run
 heaps_of : (ss : List SessionState) (hs : List HeapState) → length (zipped ss hs) ≡ length hs → hs ≡ map (λ r. r.heap) (zipped ss hs)
 heaps_of [] [] e = refl
 heaps_of [] (h ∷ hs) e = cc
 heaps_of (s ∷ ss) [] e = refl
 heaps_of (s ∷ ss) (h ∷ hs) e = ap (λ l. h ∷ l) (heaps_of ss hs (omega (arith, e)))
 
-pub stand_each : (from to : Many) (end : Option Many) → kinds_of to ≡ kinds_of from
+pub stand_each : (from to : SideBySide) (end : Option SideBySide) → kinds_of to ≡ kinds_of from
     → ((all : List RunState) → option_map runs_of end ≡ Some all → length all ≡ length (kinds_of from)) → EndsAt from end to
-    → EndEach from.heaps (option_map runs_of end) to.heaps
+    → EachEndsAt from.heaps (option_map runs_of end) to.heaps
 stand_each from to None kinds counts stands = ap (λ m. m.heaps) stands
 stand_each from to (Some s) kinds counts stands =
     let same : length to.heaps ≡ length (kinds_of from) = sym (length-map to.heaps (λ h. h.kind)) ∙ ap (λ (l : List Kind). length l) kinds in

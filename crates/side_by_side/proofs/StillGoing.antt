@@ -1,4 +1,4 @@
--- Runs that go on.
+-- Runs of many managers stay in progress.
 use Rattle.std.proofs.Common.{◌≡◌, ◌++◌, List, [], ◌∷◌, Option, Some, None, refl, subst, inl, inr}
 use Rattle.std.proofs.lemmas.List.Elements.{All-cons, All-nil}
 use Rattle.std.specs.List.{All}
@@ -10,9 +10,9 @@ use Rattle.run_model.specs.Sessions.{IsGoing, RunState}
 use Rattle.run_model.specs.Texts.{Reply}
 use Rattle.script_reader.specs.Items.{Item, asks, bad, starts}
 use Rattle.script_reader.specs.declared.command.Command.{Command}
-use Rattle.side_by_side.specs.Own.{AreTogether, OwnRuns, OwnRunsInPart, OwnRunsUpTo}
+use Rattle.side_by_side.specs.OwnRuns.{JoinStates, OwnRuns, OwnRunsInPart, OwnRunsUpTo}
 
--- a run goes on, or hasn't begun
+-- a run is in progress, or hasn't begun
 abbrev pub IsOn : Option RunState → Type 0
 IsOn None = ⊤
 IsOn (Some s) = IsGoing s
@@ -21,7 +21,7 @@ step_on : (kind : Kind) (old : Option RunState) → IsOn old → (item : Item) (
 step_on kind old on (starts p) reply new (s, begins, is) = rw is (begins_going kind p s begins.0)
 step_on kind None on (asks c) reply new (none, is) = rw is tt
 step_on kind (Some old) on (asks c) reply new (s, turn, is) = rw is (step_going old s c reply on turn.step)
-step_on kind old on (bad n) reply new (named, is) = rw is on
+step_on kind old on (bad n) reply new (named_lines, is) = rw is on
 
 run_on : (kind : Kind) (old : Option RunState) → IsOn old → (items : List Item) (replies : List Reply) (new : Option RunState) → Run kind old items replies new
     → IsOn new
@@ -29,7 +29,7 @@ run_on kind old on [] replies new (none, same) = rw same on
 run_on kind old on (item ∷ items) replies new (mid, reply, more, step, are, run) =
     run_on kind mid (step_on kind old on item reply mid step) items more new run
 
-together_on : (own : Option RunState) (rest : Option (List RunState)) (all : List RunState) → AreTogether own rest (Some all) → IsOn own
+together_on : (own : Option RunState) (rest : Option (List RunState)) (all : List RunState) → JoinStates own rest (Some all) → IsOn own
     → ((others : List RunState) → rest ≡ Some others → All IsGoing others) → All IsGoing all
 together_on None None all together on going = cc
 together_on None (Some others) all together on going = absurd together

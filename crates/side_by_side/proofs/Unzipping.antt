@@ -1,4 +1,4 @@
--- Runs side by side, taken apart.
+-- A run of many managers side by side splits into a run of the first one and a run of the others.
 use Rattle.std.proofs.Common.{◌≡◌, ◌++◌, ◌∙◌, ℕ, List, [], ◌∷◌, Option, Some, None, refl, sym, ap, subst, inl, inr, map}
 use Rattle.std.specs.Prelude.{⊤}
 use Rattle.run_model.proofs.CallerLemmas.{one_run, run_joined, step_rules, step_same}
@@ -11,15 +11,15 @@ use Rattle.run_model.specs.Texts.{Reply, bad_line, led, said}
 use Rattle.cf_base.specs.declared.kind.Kind.{Kind}
 use Rattle.run_model.specs.Runs.{BeginsOne, Run, Turn}
 use Rattle.run_model.specs.Sessions.{RunState}
-use Rattle.side_by_side.specs.Many.{EachBegins, EachInPart, EachTurn, named}
-use Rattle.side_by_side.specs.Own.{AreTogether, IsOfNone, OwnRuns, OwnRunsInPart, OwnRunsUpTo, alone, beside, woven}
+use Rattle.side_by_side.specs.SideBySide.{EachBegins, EachInPart, EachTurn, named_lines}
+use Rattle.side_by_side.specs.OwnRuns.{JoinStates, HasNoManagers, OwnRuns, OwnRunsInPart, OwnRunsUpTo, bare_reply, interleaved_replies, interleaved_reply}
 
 -- the manager is of the kind
 abbrev pub IsOf : Kind → Option RunState → Type 0
 IsOf kind None = ⊤
 IsOf kind (Some s) = (s.heap.kind ≡ kind) × KeepsRules s.heap
 
--- one item, taken apart
+-- one item of such a run splits into an item of the first manager's run and one of the others'
 pub record Parted (kind : Kind) (kinds : List Kind) (own : Option RunState) (olds : Option (List RunState)) (item : Item) (reply : Reply)
     (mid : Option (List RunState)) : Type 0 where
   pub first : Reply
@@ -28,11 +28,11 @@ pub record Parted (kind : Kind) (kinds : List Kind) (own : Option RunState) (old
   pub mids : Option (List RunState)
   pub step : PlayStep (BeginsOne kind) Turn own item first own_mid
   pub steps : PlayStep (EachBegins kinds) EachTurn olds item more mids
-  pub reply_is : reply ≡ woven kind item first more
-  pub together : AreTogether own_mid mids mid
+  pub reply_is : reply ≡ interleaved_reply kind item first more
+  pub together : JoinStates own_mid mids mid
   pub of : IsOf kind own_mid
 
-pub step_parts : (kind : Kind) (kinds : List Kind) (own : Option RunState) (olds all : Option (List RunState)) → AreTogether own olds all → IsOf kind own
+pub step_parts : (kind : Kind) (kinds : List Kind) (own : Option RunState) (olds all : Option (List RunState)) → JoinStates own olds all → IsOf kind own
     → (item : Item) (reply : Reply) (mid : Option (List RunState)) → PlayStep (EachBegins (kind ∷ kinds)) EachTurn all item reply mid
     → Parted kind kinds own olds item reply mid
 step_parts kind kinds own olds all together of (starts p) reply mid (news, (first, more, new, rest, begins, others, is, are), mid_is) =
@@ -64,7 +64,7 @@ step_parts kind kinds (Some own) (Some olds) all together of (asks c) reply mid 
       mids = Some turns.3;
       step = (turns.2, turns.4, refl);
       steps = (turns.3, turns.5, refl);
-      reply_is = turns.6 ∙ ap (λ k. named k turns.0 ++ turns.1) of.0;
+      reply_is = turns.6 ∙ ap (λ k. named_lines k turns.0 ++ turns.1) of.0;
       together = here.2 ∙ ap Some turns.7;
       of = ((step_same own turns.2 c turns.0 of.1 turns.4.step).kind ∙ of.0, step_rules own turns.2 c turns.0 of.1 turns.4.step);
     }
@@ -77,11 +77,11 @@ step_parts kind kinds own olds all together of (bad n) reply mid (is, mid_is) =
       step = (refl, refl);
       steps = (refl, refl);
       reply_is = is;
-      together = subst (λ a. AreTogether own olds a) (sym mid_is) together;
+      together = subst (λ a. JoinStates own olds a) (sym mid_is) together;
       of = of;
     }
 
--- a run, taken apart
+-- such a run splits into the first manager's own run and a run of the others
 pub record Apart (kind : Kind) (kinds : List Kind) (own : Option RunState) (olds : Option (List RunState)) (items : List Item) (replies : List Reply)
     (end : Option (List RunState)) : Type 0 where
   pub owns : List Reply
@@ -90,11 +90,11 @@ pub record Apart (kind : Kind) (kinds : List Kind) (own : Option RunState) (olds
   pub ends : Option (List RunState)
   pub run : Run kind own items owns own_end
   pub runs : PlayRun (EachBegins kinds) EachTurn olds items others ends
-  pub replies_are : replies ≡ beside kind items owns others
-  pub together : AreTogether own_end ends end
+  pub replies_are : replies ≡ interleaved_replies kind items owns others
+  pub together : JoinStates own_end ends end
   pub of : IsOf kind own_end
 
-pub run_parts : (kind : Kind) (kinds : List Kind) (own : Option RunState) (olds all : Option (List RunState)) → AreTogether own olds all → IsOf kind own
+pub run_parts : (kind : Kind) (kinds : List Kind) (own : Option RunState) (olds all : Option (List RunState)) → JoinStates own olds all → IsOf kind own
     → (items : List Item) (replies : List Reply) (end : Option (List RunState)) → PlayRun (EachBegins (kind ∷ kinds)) EachTurn all items replies end
     → Apart kind kinds own olds items replies end
 run_parts kind kinds own olds all together of [] replies end (none, same) =
@@ -107,7 +107,7 @@ run_parts kind kinds own olds all together of [] replies end (none, same) =
       runs = (refl, refl);
       replies_are = none;
       together =
-          subst (λ a. AreTogether own olds a) (sym same) together;
+          subst (λ a. JoinStates own olds a) (sym same) together;
       of = of;
     }
 run_parts kind kinds own olds all together of (item ∷ items) replies end (mid, reply, more, step, are, run) =
@@ -120,32 +120,32 @@ run_parts kind kinds own olds all together of (item ∷ items) replies end (mid,
       ends = rest.ends;
       run = (here.own_mid, here.first, rest.owns, here.step, refl, rest.run);
       runs = (here.mids, here.more, rest.others, here.steps, refl, rest.runs);
-      replies_are = are ∙ ap (λ r. r ∷ more) here.reply_is ∙ ap (λ m. woven kind item here.first here.more ∷ m) rest.replies_are;
+      replies_are = are ∙ ap (λ r. r ∷ more) here.reply_is ∙ ap (λ m. interleaved_reply kind item here.first here.more ∷ m) rest.replies_are;
       together = rest.together;
       of = rest.of;
     }
 
 -- by no managers
-alone_step : (olds : Option (List RunState)) → IsOfNone olds → (item : Item) (reply : Reply) (mid : Option (List RunState))
-    → PlayStep (EachBegins []) EachTurn olds item reply mid → (reply ≡ alone item) × IsOfNone mid
-alone_step olds none (starts p) reply mid (news, (is, are), mid_is) = (is, rw mid_is are)
-alone_step None none (asks c) reply mid (is, mid_is) = (is, rw mid_is tt)
-alone_step (Some olds) none (asks c) reply mid (news, turns, mid_is) =
+bare_step : (olds : Option (List RunState)) → HasNoManagers olds → (item : Item) (reply : Reply) (mid : Option (List RunState))
+    → PlayStep (EachBegins []) EachTurn olds item reply mid → (reply ≡ bare_reply item) × HasNoManagers mid
+bare_step olds none (starts p) reply mid (news, (is, are), mid_is) = (is, rw mid_is are)
+bare_step None none (asks c) reply mid (is, mid_is) = (is, rw mid_is tt)
+bare_step (Some olds) none (asks c) reply mid (news, turns, mid_is) =
     let here : EachTurn [] c reply news = subst (λ l. EachTurn l c reply news) none turns in
     (here.0, rw mid_is here.1)
-alone_step olds none (bad n) reply mid (is, mid_is) = (is, rw mid_is none)
+bare_step olds none (bad n) reply mid (is, mid_is) = (is, rw mid_is none)
 
-alone_run : (olds : Option (List RunState)) → IsOfNone olds → (items : List Item) (replies : List Reply) (end : Option (List RunState))
-    → PlayRun (EachBegins []) EachTurn olds items replies end → (replies ≡ map alone items) × IsOfNone end
-alone_run olds none [] replies end (are, same) = (are, rw same none)
-alone_run olds none (item ∷ items) replies end (mid, reply, more, step, are, run) =
-    let here = alone_step olds none item reply mid step in
-    let rest = alone_run mid here.1 items more end run in
-    (are ∙ ap (λ r. r ∷ more) here.0 ∙ ap (λ m. alone item ∷ m) rest.0, rest.1)
+bare_run : (olds : Option (List RunState)) → HasNoManagers olds → (items : List Item) (replies : List Reply) (end : Option (List RunState))
+    → PlayRun (EachBegins []) EachTurn olds items replies end → (replies ≡ map bare_reply items) × HasNoManagers end
+bare_run olds none [] replies end (are, same) = (are, rw same none)
+bare_run olds none (item ∷ items) replies end (mid, reply, more, step, are, run) =
+    let here = bare_step olds none item reply mid step in
+    let rest = bare_run mid here.1 items more end run in
+    (are ∙ ap (λ r. r ∷ more) here.0 ∙ ap (λ m. bare_reply item ∷ m) rest.0, rest.1)
 
 pub own_runs : (kinds : List Kind) (items : List Item) (replies : List Reply) (end : Option (List RunState))
     → PlayRun (EachBegins kinds) EachTurn None items replies end → OwnRuns kinds items replies end
-own_runs [] items replies end run = alone_run None tt items replies end run
+own_runs [] items replies end run = bare_run None tt items replies end run
 own_runs (kind ∷ kinds) items replies end run =
     let here = run_parts kind kinds None None None refl tt items replies end run in
     (here.owns, here.others, here.own_end, here.ends, here.run, own_runs kinds items here.others here.ends here.runs, here.replies_are, here.together)
@@ -157,10 +157,10 @@ own_run_more kind before c owns own old new run turn =
     run_joined (BeginsOne kind) Turn None before (asks c ∷ []) owns (own ∷ []) (Some old) (Some new) run
     (one_run (BeginsOne kind) Turn (Some old) (Some new) (asks c) own (new, turn, refl))
 
--- the first manager's own run and those of the others, with the command as far as it came
+-- the runs of the first manager and of the others, up to the manager whose reply was cut
 up_to_at : (kind : Kind) (kinds : List Kind) (before : List Item) (c : Command) (replies owns others : List Reply) (old : RunState) (olds : List RunState)
     (front : List ℕ) (news : List RunState)
-    → Run kind None before owns (Some old) → OwnRuns kinds before others (Some olds) → replies ≡ beside kind before owns others → old.heap.kind ≡ kind
+    → Run kind None before owns (Some old) → OwnRuns kinds before others (Some olds) → replies ≡ interleaved_replies kind before owns others → old.heap.kind ≡ kind
     → ((more : List ℕ) (rest : List RunState) → EachInPart olds c more rest → OwnRunsUpTo kinds before c others more rest)
     → EachInPart (old ∷ olds) c front news → OwnRunsUpTo (kind ∷ kinds) before c replies front news
 up_to_at kind kinds before c replies owns others old olds front news run runs are of next (inl here) = (
@@ -173,7 +173,7 @@ up_to_at kind kinds before c replies owns others old olds front news run runs ar
   are,
   here.are,
   inl
-      (here.lost, ap (λ k. led [] (named k here.reply)) (sym of) ∙ here.cut, runs),
+      (here.lost, ap (λ k. led [] (named_lines k here.reply)) (sym of) ∙ here.cut, runs),
 )
 up_to_at kind kinds before c replies owns others old olds front news run runs are of next (inr (first, more, new, rest, turn, part, is, news_are)) = (
   owns,
@@ -185,14 +185,14 @@ up_to_at kind kinds before c replies owns others old olds front news run runs ar
   are,
   news_are,
   inr
-      (more, is ∙ ap (λ k. led [] (named k first) ++ more) of, next more rest part),
+      (more, is ∙ ap (λ k. led [] (named_lines k first) ++ more) of, next more rest part),
 )
 
--- by the states that they have come to
+-- the same runs, by their last states before the command
 up_to_by : (kind : Kind) (kinds : List Kind) (before : List Item) (c : Command) (replies owns others : List Reply) (own : Option RunState)
     (ends : Option (List RunState)) (olds : List RunState) (front : List ℕ) (news : List RunState)
-    → Run kind None before owns own → PlayRun (EachBegins kinds) EachTurn None before others ends → replies ≡ beside kind before owns others
-    → AreTogether own ends (Some olds) → IsOf kind own
+    → Run kind None before owns own → PlayRun (EachBegins kinds) EachTurn None before others ends → replies ≡ interleaved_replies kind before owns others
+    → JoinStates own ends (Some olds) → IsOf kind own
     → ((others_now : List RunState) → PlayRun (EachBegins kinds) EachTurn None before others (Some others_now) → (more : List ℕ) (rest : List RunState)
     → EachInPart others_now c more rest → OwnRunsUpTo kinds before c others more rest)
     → EachInPart olds c front news → OwnRunsUpTo (kind ∷ kinds) before c replies front news
@@ -208,7 +208,7 @@ pub own_runs_up_to : (kinds : List Kind) (before : List Item) (c : Command) (rep
     (news : List RunState)
     → PlayRun (EachBegins kinds) EachTurn None before replies (Some olds) → EachInPart olds c front news → OwnRunsUpTo kinds before c replies front news
 own_runs_up_to [] before c replies olds front news run part =
-    let none = (alone_run None tt before replies (Some olds) run).1 in
+    let none = (bare_run None tt before replies (Some olds) run).1 in
     absurd (subst (λ l. EachInPart l c front news) none part)
 own_runs_up_to (kind ∷ kinds) before c replies olds front news run part =
     let here = run_parts kind kinds None None None refl tt before replies (Some olds) run in

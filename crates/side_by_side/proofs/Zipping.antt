@@ -4,9 +4,9 @@ use Rattle.std.proofs.lemmas.List.{get_or-map, length-map, map-set, set-get_or}
 use Rattle.cf_model.specs.State.{HeapState}
 use Rattle.run_model.specs.Sessions.{SessionState}
 use Rattle.cf_session.specs.Apply.{run_at}
-use Rattle.side_by_side.specs.Many.{zipped}
+use Rattle.side_by_side.specs.SideBySide.{zipped}
 
--- a session and its manager go on
+-- replacing session i and manager i replaces run i
 pub zipped_set : (ss : List SessionState) (hs : List HeapState) (i : ℕ) (s : SessionState) (h : HeapState)
     → zipped (set ss i s) (set hs i h) ≡ set (zipped ss hs) i (run_at s h)
 zipped_set [] hs i s h = refl
@@ -30,7 +30,7 @@ zipped_length [] (k ∷ hs) e = cc
 zipped_length (t ∷ ss) [] e = refl
 zipped_length (t ∷ ss) (k ∷ hs) e = ap suc (zipped_length ss hs (omega (arith, e)))
 
--- the same over managers, by their states
+-- for managers, by their states: replacing session i and manager i replaces run i
 module _ {X : Type 0} (f : X → HeapState) (ss : List SessionState) (ms : List X) (i : ℕ) (s t : SessionState) (m n : X) where
   pub runs_set : zipped (set ss i t) (map f (set ms i n)) ≡ set (zipped ss (map f ms)) i (run_at t (f n))
   runs_set = ap (λ l. zipped (set ss i t) l) (map-set f ms i n) ∙ zipped_set ss (map f ms) i t (f n)

@@ -1,4 +1,4 @@
-pub mod Many
-pub mod Own
-pub mod First
+pub mod SideBySide
+pub mod OwnRuns
+pub mod FirstOfKind
 pub mod Progress

@@ -7,7 +7,7 @@ ghost use Rattle.cf_session.specs.Apply.{run_at};
 ghost use Rattle.script_reader.specs.Commands.{IsWellFormed};
 ghost use Rattle.script_reader.specs.Owned.{owned_command};
 ghost use Rattle.run_model.specs.Sessions.{IsGoing};
-ghost use Rattle.side_by_side.specs.Many.{EachInPart, EachTurn, lead_of, zipped};
+ghost use Rattle.side_by_side.specs.SideBySide.{EachInPart, EachTurn, lead_of, zipped};
 ghost use Rattle.side_by_side.specs.Progress.{AnswersNamed, AnswersWith};
 
 use cf_base::{Failed, Kind};
@@ -16,7 +16,8 @@ use cf_model::Manager;
 use cf_session::Session;
 use script_reader::CommandRef;
 
-/// Does a command on each manager in order, and writes each line of a reply after the manager's name.
+/// Does a command on each manager in order, and writes each line of a reply after the name of the manager's
+/// kind. `Failed` if the sink failed; the managers after the one whose reply was cut haven't done the command.
 pub fn answer_each<H: Manager, K: Sink>(
     sessions: &mut Vec<Session>,
     managers: &mut Vec<H>,
@@ -26,7 +27,7 @@ pub fn answer_each<H: Manager, K: Sink>(
     requires count { length sessions.old.items ≡ length managers.old.items }
     requires formed { IsWellFormed (owned_command command) }
     requires going { All IsGoing (zipped sessions.old.items (map (λ m. H.state m) managers.old.items)) }
-    ensures answers { AnswersWith EachTurn EachInPart (zipped sessions.old.items (map (λ m. H.state m) managers.old.items)) (K.written sink.old)
+    ensures step { AnswersWith EachTurn EachInPart (zipped sessions.old.items (map (λ m. H.state m) managers.old.items)) (K.written sink.old)
         (owned_command command.entry)
         result (zipped sessions.new.items (map (λ m. H.state m) managers.new.items)) (K.written sink.new) }
     ensures count { length sessions.new.items ≡ length managers.new.items }
@@ -46,7 +47,8 @@ pub fn answer_each<H: Manager, K: Sink>(
     Ok(())
 }
 
-/// Does a command on one manager, and writes each line of the reply after its name.
+/// Does a command on one manager, and writes each line of the reply after the name of its kind. `Failed` if
+/// the sink failed; the command has taken effect, and a prefix of its reply was written.
 fn answer_one<H: Manager, K: Sink>(
     session: &mut Session,
     manager: &mut H,
@@ -55,7 +57,7 @@ fn answer_one<H: Manager, K: Sink>(
 ) -> Result<(), Failed>
     requires going { IsGoing (run_at session.old (H.state manager.old)) }
     requires formed { IsWellFormed (owned_command command) }
-    ensures answers { AnswersNamed (run_at session.old (H.state manager.old)) (K.written sink.old) (owned_command command.entry)
+    ensures step { AnswersNamed (run_at session.old (H.state manager.old)) (K.written sink.old) (owned_command command.entry)
         result (run_at session.new (H.state manager.new)) (K.written sink.new) }
     ensures going { IsGoing (run_at session.new (H.state manager.new)) }
     ensures kind { (H.state manager.new).kind ≡ (H.state manager.old).kind }

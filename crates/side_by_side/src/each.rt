@@ -1,7 +1,7 @@
-//! A session for each of many managers.
+//! The mode handler of many managers: a session for each.
 ghost use Rattle.std.specs.Prelude.{◌≡◌, Bool, IfOk, List, map};
 ghost use Rattle.cf_base.specs.declared.kind.Kind.{Kind as TheKind};
-ghost use Rattle.side_by_side.specs.Many.{AreFresh, Many, many_at, many_managers};
+ghost use Rattle.side_by_side.specs.SideBySide.{AreFresh, SideBySide, side_by_side_at, many_managers};
 
 use crate::answer::answer_each;
 use crate::open_reply::put_opened;
@@ -20,7 +20,7 @@ pub struct Sessions {
 }
 
 impl Sessions {
-    /// `count` sessions in which no id is live.
+    /// `count` sessions in which no id is live. Allocates the table of ids of each.
     pub fn start(rt: &HostRuntime, alloc: Global, count: usize) -> Result<Sessions, OutOfMemory>
         ensures { IfOk result (λ s. AreFresh count s.each.items) }
     {
@@ -37,11 +37,11 @@ impl Sessions {
 }
 
 impl<H: Manager> Player<Vec<H>> for Sessions {
-    ghost State = { Many };
+    ghost State = { SideBySide };
 
     ghost Plan = { List TheKind × List Bool };
 
-    ghost state = { λ sessions heaps. many_at sessions.each.items (map (λ m. H.state m) heaps.items) };
+    ghost state = { λ sessions heaps. side_by_side_at sessions.each.items (map (λ m. H.state m) heaps.items) };
 
     ghost semantics = { many_managers };
 

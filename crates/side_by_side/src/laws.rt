@@ -8,8 +8,8 @@ ghost use Rattle.run_model.specs.Texts.{Reply, text_of};
 ghost use Rattle.run_model.specs.Plays.{PlayPart, PlayRun};
 ghost use Rattle.script_loop.specs.Consequences.{IsPrefixBy};
 ghost use Rattle.script_loop.specs.ScriptOutcome.{Effects, Wrote, WroteInPart, items_within};
-ghost use Rattle.side_by_side.specs.Many.{EachBegins, EachInPart, EachTurn, Many, kinds_of, many_managers, runs_of};
-ghost use Rattle.side_by_side.specs.Own.{MeetHeadlines, OwnRuns, OwnRunsInPart, EndEach};
+ghost use Rattle.side_by_side.specs.SideBySide.{EachBegins, EachInPart, EachTurn, SideBySide, kinds_of, many_managers, runs_of};
+ghost use Rattle.side_by_side.specs.OwnRuns.{MeetHeadlines, OwnRuns, OwnRunsInPart, EachEndsAt};
 
 /// The replies of many managers side by side interleave those of a run of each manager over the same
 /// items.
@@ -25,8 +25,8 @@ pub fn each_meets_the_headline()
         → OwnRuns kinds items replies end → MeetHeadlines kinds items replies }
 {}
 
-/// If the reply to an item was cut, the managers up to the one whose reply was cut are after the item,
-/// and the later ones before it.
+/// If the reply to an item was cut, the managers up to the one whose reply was cut have done the item,
+/// and the later ones have not.
 pub fn a_cut_stops_between_two_managers()
     ensures { (kinds : List Kind) (before : List Item) (replies : List Reply) (mid : Option (List RunState))
         (item : Item) (front : List ℕ) (end : Option (List RunState))
@@ -35,20 +35,21 @@ pub fn a_cut_stops_between_two_managers()
         → OwnRunsInPart kinds before item replies front end }
 {}
 
-/// The same by the outcome of a script on many managers; each manager is at the end of its run.
+/// By the outcome of a script on many managers each has a run of its own, whole or up to a cut reply, and
+/// is at the end of that run.
 pub fn outcomes_are_of_each()
-    ensures whole { (from to : Many) (wanted : List Item) (call : Effects)
+    ensures whole { (from to : SideBySide) (wanted : List Item) (call : Effects)
         (w : Wrote many_managers from wanted call to)
         → OwnRuns (kinds_of from) wanted w.replies (option_map runs_of w.end) }
-    ensures stand { (from to : Many) (wanted : List Item) (call : Effects) → kinds_of to ≡ kinds_of from
+    ensures stand { (from to : SideBySide) (wanted : List Item) (call : Effects) → kinds_of to ≡ kinds_of from
         → (w : Wrote many_managers from wanted call to)
-        → EndEach from.heaps (option_map runs_of w.end) to.heaps }
-    ensures in_part { (from to : Many) (wanted : List Item) (call : Effects)
+        → EachEndsAt from.heaps (option_map runs_of w.end) to.heaps }
+    ensures in_part { (from to : SideBySide) (wanted : List Item) (call : Effects)
         (w : WroteInPart many_managers from wanted call to)
         → OwnRunsInPart (kinds_of from) w.before w.item w.replies w.front (option_map runs_of w.end) }
-    ensures stand_in_part { (from to : Many) (wanted : List Item) (call : Effects) → kinds_of to ≡ kinds_of from
+    ensures stand_in_part { (from to : SideBySide) (wanted : List Item) (call : Effects) → kinds_of to ≡ kinds_of from
         → (w : WroteInPart many_managers from wanted call to)
-        → EndEach from.heaps (option_map runs_of w.end) to.heaps }
+        → EachEndsAt from.heaps (option_map runs_of w.end) to.heaps }
 {}
 
 /// If a script has a `heap` line, each manager is open afterwards, keeps its rules, and is consistent
@@ -64,7 +65,7 @@ pub fn each_manager_is_open_after_its_run()
 /// The output before the sink failed is a prefix of the output of a run of all managers over the whole
 /// script.
 pub fn what_was_cut_is_a_prefix()
-    ensures { (from to : Many) (call : Effects) (all : List ℕ)
+    ensures { (from to : SideBySide) (call : Effects) (all : List ℕ)
         → (w : WroteInPart many_managers from (items_within all) call to)
         → IsPrefixBy many_managers from (items_within all) (text_of [] w.replies ++ w.front) }
 {}

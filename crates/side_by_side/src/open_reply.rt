@@ -1,17 +1,18 @@
-//! The reply to the `heap` line.
+//! The reply of many managers to the `heap` line.
 ghost use Rattle.std.specs.Prelude.{◌≤◌, ◌++◌, [], OnErr, codes, map, OnOk, ◌≡◌};
 ghost use Rattle.cf_io.specs.Feeds.{Puts, FailsLast};
 ghost use Rattle.run_model.specs.Texts.{led};
-ghost use Rattle.side_by_side.specs.Many.{lead_of, oks};
+ghost use Rattle.side_by_side.specs.SideBySide.{lead_of, opened_reply};
 
 use crate::answer::lead_bytes;
 use cf_base::{Failed, Kind};
 use cf_io::{Line, Sink, put_all};
 use cf_model::Manager;
 
-/// Writes `ok` for each manager, after its name.
+/// Writes `ok` for each manager, after the name of its kind. `Failed` if the sink failed; a prefix was
+/// written.
 pub fn put_opened<H: Manager, K: Sink>(managers: &Vec<H>, sink: &mut K) -> Result<(), Failed>
-    ensures puts { Puts (K.written sink.old) (led [] (oks (map (λ m. (H.state m).kind) managers.now.items))) result (K.written sink.new) }
+    ensures puts { Puts (K.written sink.old) (led [] (opened_reply (map (λ m. (H.state m).kind) managers.now.items))) result (K.written sink.new) }
     ensures grows { K.faults sink.old ≤ K.faults sink.new }
     ensures same { OnOk result (K.faults sink.new ≡ K.faults sink.old) }
     ensures failed { OnErr result (FailsLast (K.faults sink.old) (K.faults sink.new) (K.last_failed sink.new)) }
@@ -25,7 +26,7 @@ pub fn put_opened<H: Manager, K: Sink>(managers: &Vec<H>, sink: &mut K) -> Resul
     Ok(())
 }
 
-/// Writes `ok` after the name.
+/// Writes the line of one manager: `ok` after the name of its kind.
 fn show_one<K: Sink>(kind: Kind, sink: &mut K) -> Result<(), Failed>
     ensures puts { Puts (K.written sink.old) (lead_of kind ++ codes "ok\n") result (K.written sink.new) }
     ensures grows { K.faults sink.old ≤ K.faults sink.new }

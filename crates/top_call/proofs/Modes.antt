@@ -18,8 +18,8 @@ use Rattle.command_line.specs.declared.choice.Mode.TheVariants.{Run, Compare, Be
 use Rattle.large_objects.specs.Playing.{large_heap}
 use Rattle.image_run.specs.Saves.{unseen}
 use Rattle.script_loop.specs.OneManager.{one_manager}
-use Rattle.side_by_side.specs.First.{chosen_of}
-use Rattle.side_by_side.specs.Many.{fresh_many, many_managers}
+use Rattle.side_by_side.specs.FirstOfKind.{chosen_manager}
+use Rattle.side_by_side.specs.SideBySide.{fresh_side_by_side, many_managers}
 use Rattle.large_laws.proofs.CallerLemmas.{large_met}
 use Rattle.large_laws.specs.LargeHeadline.{MeetsLarge}
 use Rattle.script_loop.specs.Consequences.{AnswersAll}
@@ -86,9 +86,9 @@ shown mode choice = λ old st new done is. tt
 bad_image_shown : (mode : Mode) (choice : Choice) (old new : Handed) → InMode mode choice old BadImage new
     → PrintsInMode mode choice (kinds_in old) (effects_of old BadImage new)
 bad_image_shown Run choice old new done =
-    absurd (never_bad_image one_manager (run_at fresh_session (chosen_of choice.kind old.managers)) done.end (effects_of old BadImage new) refl done.outcome)
+    absurd (never_bad_image one_manager (run_at fresh_session (chosen_manager choice.kind old.managers)) done.end (effects_of old BadImage new) refl done.outcome)
 bad_image_shown Compare choice old new done =
-    absurd (never_bad_image many_managers (fresh_many old.managers) done.end (effects_of old BadImage new) refl done.outcome)
+    absurd (never_bad_image many_managers (fresh_side_by_side old.managers) done.end (effects_of old BadImage new) refl done.outcome)
 bad_image_shown Large choice old new done = absurd (never_bad_image large_heap done.begin done.end (effects_of old BadImage new) refl done.outcome)
 bad_image_shown Save choice old new done =
     absurd (never_bad_image one_manager (run_at fresh_session (closed_state Moving)) done.end (unseen (effects_of old BadImage new)) refl done.outcome.script)
@@ -99,7 +99,7 @@ bad_image_shown Slice choice old new done = absurd (never_bad_image slices done.
 bad_image_shown Quota choice old new done = absurd (never_bad_image quota_tasks done.begin done.end (effects_of old BadImage new) refl done.outcome)
 bad_image_shown Bench choice old new done = tt
 
--- the same at each status at which all that was read has its answer
+-- the output is as claimed at each status at which every item was answered, or an image loaded or refused
 shown_at : (mode : Mode) (choice : Choice) (old : Handed) (st : Status) (new : Handed) → OrLacks (InMode mode choice) old st new → AnswersInput st
     → PrintsInMode mode choice (kinds_in old) (effects_of old st new)
 shown_at mode choice old BadImage new done is = bad_image_shown mode choice old new done
@@ -111,7 +111,7 @@ shown_at mode choice old WriteFault new done is = absurd is
 shown_at mode choice old OutOfMemory new done is = absurd is
 shown_at mode choice old Words new done is = absurd is
 
--- The arguments make a choice, and its mode ends so.
+-- The whole call, if the arguments make this choice and its mode ends like this.
 module _ (words : List Text) (choice : Choice) (chosen : Chooses words choice) (old : Handed) (st : Status) (new : Handed)
     (ends : Ends (InMode choice.mode choice) old st new) where
   pub chosen_ends : EndsWell words old st new

@@ -1,4 +1,4 @@
--- Two calls with the same words and the same script print the same.
+-- Two calls with the same arguments and the same script print the same.
 use Rattle.std.proofs.Common.{◌≡◌, ℕ, Bool, true, false, List, [], ◌∷◌, Option, Some, None, cond, refl, sym, ◌∙◌, ap, subst, length, get_or, map, inl, inr}
 use Rattle.std.proofs.lemmas.Bool.{cases_lt, le-leb, lt-leb}
 use Rattle.std.proofs.lemmas.List.{get_or_past}
@@ -41,9 +41,9 @@ use Rattle.script_loop.specs.ScriptOutcome.{Effects, IsRow, MOST_BYTES, MeetsOut
 use Rattle.script_loop.specs.Semantics.{RunBy, Semantics}
 use Rattle.script_reader.specs.Items.{Item, asks}
 use Rattle.side_by_side.proofs.CallerLemmas.{chosen_kind, own_of, stand_of}
-use Rattle.side_by_side.specs.First.{chosen_of, first_of_kind}
-use Rattle.side_by_side.specs.Many.{Many, fresh_many, kinds_of, many_managers, runs_of}
-use Rattle.side_by_side.specs.Own.{AreTogether, OwnRuns, EndEach, beside}
+use Rattle.side_by_side.specs.FirstOfKind.{chosen_manager, first_of_kind}
+use Rattle.side_by_side.specs.SideBySide.{SideBySide, fresh_side_by_side, kinds_of, many_managers, runs_of}
+use Rattle.side_by_side.specs.OwnRuns.{JoinStates, OwnRuns, EachEndsAt, interleaved_replies}
 use Rattle.slice_laws.proofs.CallerLemmas.{one_play}
 use Rattle.slice_session.specs.Playing.{SlicePlay, slices}
 use Rattle.bench_run.specs.Bench.{EndsBench, bench_items, bench_text}
@@ -89,10 +89,10 @@ ordered_end : (from to : RunState) (end : Option RunState) → EndsAt from end t
 ordered_end from to None stands order = tt
 ordered_end from to (Some s) stands order = subst (λ (r : RunState). PromisesOrder r.heap) stands order
 
-run_printed : (kind : Kind) (all : List ℕ) (call : TopCall) → AnswersWhole all call → PromisesOrder (chosen_of kind call.old.managers)
+run_printed : (kind : Kind) (all : List ℕ) (call : TopCall) → AnswersWhole all call → PromisesOrder (chosen_manager kind call.old.managers)
     → Runs kind call.old call.status call.new → PrintsReplies (IsRunInOrder kind) all call
 run_printed kind all call whole order did =
-    let from = run_at fresh_session (chosen_of kind call.old.managers) in
+    let from = run_at fresh_session (chosen_manager kind call.old.managers) in
     let w = wrote_by one_manager from did.end (effects_of call.old call.status call.new) all whole.had did.outcome whole.answered in
     record {
       status = met_status one_manager from did.end all (effects_of call.old call.status call.new) whole.had did.outcome whole.answered;
@@ -115,7 +115,7 @@ abbrev AreOrdered : Option (List RunState) → Type 0
 AreOrdered None = ⊤
 AreOrdered (Some all) = AllOrdered all
 
-parted : (own : Option RunState) (rest : Option (List RunState)) (end : Option (List RunState)) → AreTogether own rest end → AreOrdered end
+parted : (own : Option RunState) (rest : Option (List RunState)) (end : Option (List RunState)) → JoinStates own rest end → AreOrdered end
     → IsOrdered own × AreOrdered rest
 parted None None end is some = (tt, tt)
 parted None (Some others) end is some = absurd is
@@ -131,7 +131,7 @@ own_once (kind ∷ kinds) items once replies others end last (owns, rest, own, r
     let (here', behind') = parted own' runs' last together' also in
     let same = (begun_alike kind items owns owns' own own' once here here' run run').0 in
     let more_same = own_once kinds items once rest rest' runs runs' more more' behind behind' in
-    are' ∙ ap (λ o. beside kind items o rest') same ∙ ap (λ r. beside kind items owns r) more_same ∙ sym are
+    are' ∙ ap (λ o. interleaved_replies kind items o rest') same ∙ ap (λ r. interleaved_replies kind items owns r) more_same ∙ sym are
 
 each_ordered : (rs : List RunState) → All PromisesOrder (map (λ (r : RunState). r.heap) rs) → AllOrdered rs
 each_ordered [] order = tt
@@ -140,7 +140,7 @@ each_ordered (r ∷ rs) order = (
   each_ordered rs (All-tail PromisesOrder r.heap (map (λ (q : RunState). q.heap) rs) order),
 )
 
-all_ordered : (olds news : List HeapState) (end : Option (List RunState)) → EndEach olds end news → All PromisesOrder news → AreOrdered end
+all_ordered : (olds news : List HeapState) (end : Option (List RunState)) → EachEndsAt olds end news → All PromisesOrder news → AreOrdered end
 all_ordered olds news None stand order = tt
 all_ordered olds news (Some rs) stand order = each_ordered rs (subst (All PromisesOrder) stand order)
 
@@ -162,7 +162,7 @@ record RunsTogether (kinds : List Kind) (items : List Item) (replies : List Repl
 compare_printed : (all : List ℕ) (call : TopCall) → kinds_in call.new ≡ kinds_in call.old → orders_in call.new ≡ orders_in call.old → AnswersWhole all call
     → All PromisesOrder call.old.managers → Compares call.old call.status call.new → PrintsReplies (RunsTogether (kinds_in call.old)) all call
 compare_printed all call kinds orders whole order did =
-    let from : Many = fresh_many call.old.managers in
+    let from : SideBySide = fresh_side_by_side call.old.managers in
     let call_effects = effects_of call.old call.status call.new in
     let w = wrote_by many_managers from did.end call_effects all whole.had did.outcome whole.answered in
     let same : kinds_of did.end ≡ kinds_of from = ap (map (λ (h : HeapState). h.kind)) (sym did.stand) ∙ kinds in
@@ -437,7 +437,7 @@ as_input WriteFault all = absurd all
 as_input OutOfMemory all = absurd all
 as_input BadImage all = absurd all
 
--- a call that answered all items did what its words choose
+-- a call that answered all items did what its arguments choose
 did_chosen : (words : List Text) (old : Handed) (st : Status) (new : Handed) → EndsWell words old st new → AnswersAll st → DoesChosen words old st new
 did_chosen words old Done new ends all = ends
 did_chosen words old BadScript new ends all = ends
@@ -471,7 +471,7 @@ output_once words choice all one two chosen keeps keeps' whole whole' kinds orde
     (chosen_shows words choice chosen all one keeps whole) (chosen_shows words choice chosen all two keeps' whole') order order'
 
 pub run_once : (words : List Text) (choice : Choice) (all : List ℕ) (call : TopCall) → Chooses words choice → choice.mode ≡ Run → KeepsContract words call
-    → AnswersWhole all call → PromisesOrder (chosen_of choice.kind call.old.managers) → PrintsReplies (IsRunInOrder choice.kind) all call
+    → AnswersWhole all call → PromisesOrder (chosen_manager choice.kind call.old.managers) → PrintsReplies (IsRunInOrder choice.kind) all call
 run_once words choice all call chosen is keeps whole order =
     run_printed choice.kind all call whole order
     (subst (λ (m : Mode). InMode m choice call.old call.status call.new) is (chosen_does words choice chosen all call keeps whole))

@@ -17,7 +17,7 @@ use Rattle.run_model.specs.Texts.{Reply, text_of}
 use Rattle.headline_laws.specs.OneOutput.{IsOrdered}
 use Rattle.script_loop.specs.Consequences.{AnswersAll}
 use Rattle.script_loop.specs.ScriptOutcome.{MOST_BYTES, has_bad, items_within}
-use Rattle.side_by_side.specs.First.{chosen_of}
+use Rattle.side_by_side.specs.FirstOfKind.{chosen_manager}
 use Rattle.manager_modes.specs.Outcomes.{Handed, kinds_in, orders_in}
 use Rattle.top_call.specs.TopOutcome.{EndsWell, PrintsAsClaimed}
 
@@ -34,7 +34,7 @@ pub record KeepsContract (words : List Text) (call : TopCall) : Type 0 where
   pub kinds : kinds_in call.new ≡ kinds_in call.old
   pub orders : orders_in call.new ≡ orders_in call.old
 
--- the source had these bytes, in whatever chunks, and the call read them to the end: each item within the limit has its reply, or they are an image
+-- the source had these bytes, in whatever chunks, and the call answered every item within the limit, or loaded the image that they are
 pub record AnswersWhole (all : List ℕ) (call : TopCall) : Type 0 where
   pub had : call.old.source.rest ≡ Some all
   pub answered : AnswersAll call.status
@@ -43,10 +43,10 @@ pub record AnswersWhole (all : List ℕ) (call : TopCall) : Type 0 where
 abbrev pub PromisesOrder : HeapState → Type 0
 PromisesOrder h = IsSome h.order
 
--- The mode leaves no choice: in mode `run` the first manager of the kind promises an order, as one does that is made if none is given; in mode `compare` each
--- manager promises one. The other modes never leave one.
+-- The mode leaves the managers no choice: in mode `run` the first manager of the kind promises an order, as does one that is made if none of the kind is given;
+-- in mode `compare` each manager promises an order. The other modes never leave a choice.
 abbrev pub LeavesNoChoice : Mode → Choice → List HeapState → Type 0
-LeavesNoChoice Run choice managers = PromisesOrder (chosen_of choice.kind managers)
+LeavesNoChoice Run choice managers = PromisesOrder (chosen_manager choice.kind managers)
 LeavesNoChoice Compare choice managers = All PromisesOrder managers
 LeavesNoChoice mode choice managers = ⊤
 
@@ -61,7 +61,7 @@ pub record PrintsReplies (Claim : List Item → List Reply → Type 0) (all : Li
   pub written : call.new.sink.written ≡ appended call.old.sink.written (text_of [] replies)
   pub claimed : Claim (items_within all) replies
 
--- the replies of a run in order: each address, choice, word and count of steps is the one that the order gives
+-- the replies of a run whose manager has an order: the order determines each address, choice, word and count of steps
 pub record IsRunInOrder (kind : Kind) (items : List Item) (replies : List Reply) : Type 0 where
   pub end : Option RunState
   pub run : RunOver kind None items replies end

@@ -16,7 +16,7 @@ use Rattle.image_laws.specs.Claims.{LoadsAs, Prints, SavesAs}
 use Rattle.quota_laws.specs.Transcript.{MeetsTasks}
 use Rattle.script_loop.specs.Consequences.{AnswersAll}
 use Rattle.script_loop.specs.ScriptOutcome.{Effects, IsClean}
-use Rattle.side_by_side.specs.Own.{MeetHeadlines}
+use Rattle.side_by_side.specs.OwnRuns.{MeetHeadlines}
 use Rattle.slice_session.specs.Playing.{SlicePlay, slice_play, slices}
 use Rattle.sliced_heap.specs.Shown as sliced_state
 use Rattle.slice_laws.specs.SliceHeadline.{MeetsSliced}
@@ -26,7 +26,7 @@ use Rattle.quota_session.specs.QuotaRun.{QuotaRun, first_session, quota_run}
 use Rattle.manager_modes.specs.Claims.{HoldsImage, MeetsClaim}
 use Rattle.manager_modes.specs.Outcomes.{Benches, Compares, Handed, Loads, OrLacks, PlaysLarge, PlaysOwn, Runs, Saves, effects_of, kinds_in}
 
--- no id is live; a heap that was never open is to have slices of at most this number of words
+-- a sliced heap that was never open, for slices of at most `quantum` words, and no id is live
 abbrev pub IsMadeSliced : ℕ → SlicePlay → Type 0
 IsMadeSliced quantum s = s ≡ slice_play empty quantum sliced_state.closed_state
 
@@ -34,7 +34,7 @@ IsMadeSliced quantum s = s ≡ slice_play empty quantum sliced_state.closed_stat
 abbrev pub IsMadeForTasks : QuotaRun → Type 0
 IsMadeForTasks s = s ≡ quota_run None first_session quota_state.closed_state
 
--- Mode `slice`: a free leaves its work in slices.
+-- Mode `slice`: a free leaves work to later slices.
 abbrev pub PlaysSlices : ℕ → Handed → Status → Handed → Type 0
 PlaysSlices quantum = PlaysOwn slices (IsMadeSliced quantum)
 
@@ -42,6 +42,7 @@ PlaysSlices quantum = PlaysOwn slices (IsMadeSliced quantum)
 abbrev pub PlaysQuotas : Handed → Status → Handed → Type 0
 PlaysQuotas = PlaysOwn quota_tasks IsMadeForTasks
 
+-- what a call does in each mode
 abbrev pub InMode : Mode → Choice → Handed → Status → Handed → Type 0
 InMode Run choice = Runs choice.kind
 InMode Compare choice = Compares
@@ -63,12 +64,12 @@ abbrev pub EndsWell : List Text → Handed → Status → Handed → Type 0
 EndsWell words old Words new = AreRefused words × (new ≡ old)
 EndsWell words old status new = OrLacks (DoesChosen words) old status new
 
--- if the source is observable, the bytes printed are as claimed of the status and the bytes read
+-- if the source is observable, the bytes printed are as claimed for the status and the bytes read
 abbrev pub PrintsBytes : (Status → List ℕ → List ℕ → Type 0) → Option (List ℕ) → Effects → Type 0
 PrintsBytes Claim None call = ⊤
 PrintsBytes Claim (Some read) call = Prints Claim read call
 
--- By the mode: the replies meet the headline; side by side they are woven of each manager's own, which meet it; each reply is a function of the lines in the
+-- By the mode: the replies meet the headline; side by side they interleave those of each manager, which meet it; each reply is a function of the lines in the
 -- modes `large`, `quota` and, but for the word that `p` prints, `slice`; an image is that of the objects that the script leaves, and a script that of the image
 -- read. Of mode `bench`, which reads nothing, `outcome` says all.
 abbrev pub PrintsInMode : Mode → Choice → List Kind → Effects → Type 0
@@ -81,28 +82,28 @@ PrintsInMode Slice choice kinds call = MeetsClaim (MeetsSliced choice.quantum) c
 PrintsInMode Quota choice kinds call = MeetsClaim MeetsTasks call.had call
 PrintsInMode mode choice kinds call = ⊤
 
--- the same, of the choice that the arguments make and the kinds of the given managers
+-- `PrintsInMode` for the choice that the arguments make and the kinds of the given managers
 pub record PrintsChosen (words : List Text) (kinds : List Kind) (call : Effects) : Type 0 where
   pub choice : Choice
   pub chosen : Chooses words choice
   pub shows : PrintsInMode choice.mode choice kinds call
 
--- the statuses at which all that was read has its answer: every item within the limit, or an image, be it refused
+-- the statuses at which every item within the limit was answered, or an image was loaded or refused
 abbrev pub AnswersInput : Status → Type 0
 AnswersInput BadImage = ⊤
 AnswersInput status = AnswersAll status
 
--- if all that was read has its answer, the output is as claimed, whatever the chunks of the source
+-- if every item was answered, or an image loaded or refused, the output is as claimed, whatever the chunks of the source
 abbrev pub PrintsAsClaimed : List Text → Handed → Status → Handed → Type 0
 PrintsAsClaimed words old status new = AnswersInput status → PrintsChosen words (kinds_in old) (effects_of old status new)
 
--- what a mode reads is right: an image, or a script within the limit with no bad line; mode `bench` reads nothing
+-- the input is right for the mode: an image, or a script within the limit with no bad line; mode `bench` reads nothing
 abbrev pub IsRightInput : Mode → Option (List ℕ) → Type 0
 IsRightInput Bench had = ⊤
 IsRightInput Load had = HoldsImage had
 IsRightInput mode had = IsClean had
 
--- the arguments choose a mode, and what it reads is right
+-- the arguments choose a mode, and the input is right for that mode
 pub record HasRightInput (words : List Text) (had : Option (List ℕ)) : Type 0 where
   pub choice : Choice
   pub chosen : Chooses words choice

@@ -1,4 +1,4 @@
-//! Laws of two calls.
+//! Laws of calls of `cf_main`: when two calls print the same, and what one call prints in order.
 ghost use Rattle.std.specs.Prelude.{◌≡◌, ℕ, IsSome, List, Option, map};
 ghost use Rattle.clap.specs.Words.{Text};
 ghost use Rattle.cf_base.specs.declared.kind.Kind.{Kind};
@@ -10,15 +10,15 @@ ghost use Rattle.command_line.specs.declared.choice.Mode.{Mode};
 ghost use Rattle.command_line.specs.declared.choice.Mode.TheVariants.{Run};
 ghost use Rattle.run_model.specs.Sessions.{RunState};
 ghost use Rattle.bench_run.specs.Bench.{EndsBench};
-ghost use Rattle.side_by_side.specs.First.{chosen_of};
+ghost use Rattle.side_by_side.specs.FirstOfKind.{chosen_manager};
 ghost use Rattle.manager_modes.specs.Outcomes.{Benches, Handed, kinds_in};
 ghost use Rattle.top_call.specs.OneScript.{AnswersWhole, IsRunInOrder, KeepsContract, LeavesNoChoice, PrintsReplies, PromisesOrder, TopCall};
 
-/// Two calls with the same words and the same input print the same bytes and return the same status,
-/// whatever the chunks of their sources, if each item of the script has its reply, or the image is
-/// loaded. This includes each address, word and cost, on managers of any kind. In the modes `run` and
+/// Two calls with the same arguments and the same input print the same bytes and return the same
+/// status, whatever the chunks of their sources, if each item of the script has its reply, or the image
+/// is loaded. This includes each address, word and cost, on managers of any kind. In the modes `run` and
 /// `compare` the managers are of the same kinds, and those that run promise an order before the call,
-/// as the managers of this repository do; what they held before may differ.
+/// as the managers of this repository do. What they held before may differ.
 pub fn equal_scripts_get_equal_output()
     ensures { (words : List Text) (choice : Choice) (all : List ℕ) (one two : TopCall) → Chooses words choice
         → KeepsContract words one → KeepsContract words two
@@ -31,11 +31,11 @@ pub fn equal_scripts_get_equal_output()
 
 /// In mode `run`, on a manager that promises an order, the replies printed are those of a run in that
 /// order: each address, choice, word and count of steps is the one that the order gives. There is one
-/// such list of replies (`one_output`).
+/// such list of replies (`one_output` of `headline_laws`).
 pub fn a_run_in_order_is_printed()
     ensures { (words : List Text) (choice : Choice) (all : List ℕ) (call : TopCall) → Chooses words choice
         → choice.mode ≡ Run → KeepsContract words call → AnswersWhole all call
-        → PromisesOrder (chosen_of choice.kind call.old.managers)
+        → PromisesOrder (chosen_manager choice.kind call.old.managers)
         → PrintsReplies (IsRunInOrder choice.kind) all call }
 {}
 
@@ -47,7 +47,8 @@ pub fn closed_managers_leave_no_choice()
 {}
 
 /// Two benches of one seed and one count on managers of one kind print the same line, with all six
-/// numbers: those of mode `bench`, and any two on managers that have an order at the end.
+/// numbers. Clause `calls`: two calls in mode `bench`. Clause `runs`: any two benches whose managers have
+/// an order at the end.
 pub fn equal_benches_print_equal_lines()
     ensures calls { (choice : Choice) (one two last end : Handed)
         → Benches choice one Done last → Benches choice two Done end

@@ -66,7 +66,7 @@ pub fn cf_main<H: Manager, S: Source, K: Sink>(
     }
 }
 
-/// Does what the choice asks.
+/// Runs the chosen mode.
 fn run_mode<H: Manager, S: Source, K: Sink>(
     rt: &HostRuntime,
     alloc: Global,

@@ -31,10 +31,10 @@ answer_one-requires-clause-going g c =
     (c.loop-i.invariant.sessions ∙ c.requires.count ∙ sym c.loop-i.invariant.managers)
     (omega arith) c.index_mut.ensures.value c.index_mut-in-loop-i.ensures.value c.loop-i.invariant.going
 
-pub returns-in-Err-clause-answers : goal.returns-in-Err-clause-answers
-returns-in-Err-clause-answers g c =
+pub returns-in-Err-clause-step : goal.returns-in-Err-clause-step
+returns-in-Err-clause-step g c =
     let so_far = c.loop-i.invariant in
-    let answer = c.in-Err.ensures.answers in (
+    let answer = c.in-Err.ensures.step in (
       led [] so_far.reply ++ answer.0,
       seats_cut (λ m. g.H.Manager.state m) _ c.loop-i.sessions.items c.loop-i.managers.items c.loop-i.i (owned_command c.args.command) so_far.reply
           c.index_mut.result.now c.answer_one.new.session c.index_mut-in-loop-i.result.now c.answer_one.new.manager
@@ -64,7 +64,7 @@ returns-in-Err-clause-promise g c =
 pub loop-i-preserved : goal.loop-i-preserved
 loop-i-preserved g c =
     let so_far = c.loop-i.invariant in
-    let answer = c.in-Ok.ensures.answers in
+    let answer = c.in-Ok.ensures.step in
     record {
       reply = so_far.reply ++ answer.0;
       swept = seats_more (λ m. g.H.Manager.state m) _ c.loop-i.sessions.items c.loop-i.managers.items c.loop-i.i (owned_command c.args.command) so_far.reply
@@ -86,8 +86,8 @@ loop-i-preserved g c =
       same = c.in-Ok.ensures.same ∙ so_far.same;
     }
 
-pub returns-clause-answers : goal.returns-clause-answers
-returns-clause-answers g c =
+pub returns-clause-step : goal.returns-clause-step
+returns-clause-step g c =
     let so_far = c.loop-i.invariant in (
       so_far.reply,
       seats_whole (λ m. g.H.Manager.state m) _ c.loop-i.sessions.items c.loop-i.managers.items c.loop-i.i (owned_command c.args.command) so_far.reply

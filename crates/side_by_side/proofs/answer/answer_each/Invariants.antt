@@ -6,7 +6,7 @@ use Rattle.script_reader.specs.Owned.{owned_command}
 use Rattle.run_model.specs.Texts.{Reply, led}
 use Rattle.run_model.specs.Sessions.{IsGoing}
 use Rattle.side_by_side.specs.Progress.{Swept}
-use Rattle.side_by_side.specs.Many.{zipped}
+use Rattle.side_by_side.specs.SideBySide.{zipped}
 use Rattle.side_by_side.proofs.answer.answer_each.Given as goal
 
 abbrev pub invariant-loop-i : goal.invariant-loop-i

@@ -3,27 +3,27 @@ use Rattle.std.proofs.lemmas.Result.{err_from_is_err_and}
 use Rattle.script_reader.specs.Owned.{owned_command}
 use Rattle.headline_laws.proofs.CallerLemmas.{step_keeps}
 use Rattle.side_by_side.proofs.Naming.{named_cut, named_whole, turn_kind}
-use Rattle.side_by_side.specs.Many.{lead_of}
+use Rattle.side_by_side.specs.SideBySide.{lead_of}
 use Rattle.side_by_side.proofs.answer.answer_one.Goals as goal
 
-pub returns-clause-answers : goal.returns-clause-answers
-returns-clause-answers g c =
-    named_whole _ (owned_command c.args.command) c.lead_bytes.result.now _ (c.lead_bytes.ensures.value ∙ ap lead_of c.kind.ensures) c.in_ok-apply_ref.ensures.answers.0
+pub returns-clause-step : goal.returns-clause-step
+returns-clause-step g c =
+    named_whole _ (owned_command c.args.command) c.lead_bytes.result.now _ (c.lead_bytes.ensures.value ∙ ap lead_of c.kind.ensures) c.in_ok-apply_ref.ensures.step.0
 
 pub returns-clause-kind : goal.returns-clause-kind
-returns-clause-kind g c = turn_kind _ _ (owned_command c.args.command) c.in_ok-apply_ref.ensures.answers.0.reply c.requires.going c.in_ok-apply_ref.ensures.answers.0.turn
+returns-clause-kind g c = turn_kind _ _ (owned_command c.args.command) c.in_ok-apply_ref.ensures.step.0.reply c.requires.going c.in_ok-apply_ref.ensures.step.0.turn
 
 pub returns-clause-promise : goal.returns-clause-promise
-returns-clause-promise g c = step_keeps _ _ (owned_command c.args.command) c.in_ok-apply_ref.ensures.answers.0.reply c.in_ok-apply_ref.ensures.answers.0.turn.step
+returns-clause-promise g c = step_keeps _ _ (owned_command c.args.command) c.in_ok-apply_ref.ensures.step.0.reply c.in_ok-apply_ref.ensures.step.0.turn.step
 
-pub returns-in_err-apply_ref-clause-answers : goal.returns-in_err-apply_ref-clause-answers
-returns-in_err-apply_ref-clause-answers g c =
+pub returns-in_err-apply_ref-clause-step : goal.returns-in_err-apply_ref-clause-step
+returns-in_err-apply_ref-clause-step g c =
     let p = err_from_is_err_and c.from_residual.result c.from_residual.ensures.1 in rw p.1
     (named_cut _ (owned_command c.args.command) c.lead_bytes.result.now _ (c.lead_bytes.ensures.value ∙ ap lead_of c.kind.ensures)
-    c.in_err-apply_ref.ensures.answers)
+    c.in_err-apply_ref.ensures.step)
 
 pub returns-in_err-apply_ref-clause-kind : goal.returns-in_err-apply_ref-clause-kind
-returns-in_err-apply_ref-clause-kind g c = turn_kind _ _ (owned_command c.args.command) c.in_err-apply_ref.ensures.answers.reply c.requires.going c.in_err-apply_ref.ensures.answers.turn
+returns-in_err-apply_ref-clause-kind g c = turn_kind _ _ (owned_command c.args.command) c.in_err-apply_ref.ensures.step.reply c.requires.going c.in_err-apply_ref.ensures.step.turn
 
 pub returns-in_err-apply_ref-clause-promise : goal.returns-in_err-apply_ref-clause-promise
-returns-in_err-apply_ref-clause-promise g c = step_keeps _ _ (owned_command c.args.command) c.in_err-apply_ref.ensures.answers.reply c.in_err-apply_ref.ensures.answers.turn.step
+returns-in_err-apply_ref-clause-promise g c = step_keeps _ _ (owned_command c.args.command) c.in_err-apply_ref.ensures.step.reply c.in_err-apply_ref.ensures.step.turn.step

@@ -1,12 +1,12 @@
 use Rattle.std.proofs.Common.{◌≡◌, map, take, []}
 use Rattle.cf_io.specs.Feeds.{appended}
 use Rattle.run_model.specs.Texts.{led}
-use Rattle.side_by_side.specs.Many.{oks}
+use Rattle.side_by_side.specs.SideBySide.{opened_reply}
 use Rattle.side_by_side.proofs.open_reply.put_opened.Given as goal
 
 abbrev pub invariant-loop-i : goal.invariant-loop-i
 invariant-loop-i g l = record {
   wrote : g.K.Sink.written l.sink ≡ appended (g.K.Sink.written l.initial.sink)
-      (led [] (oks (take l.i (map (λ m. (g.H.Manager.state m).kind) l.managers.items))));
+      (led [] (opened_reply (take l.i (map (λ m. (g.H.Manager.state m).kind) l.managers.items))));
   same : g.K.Sink.faults l.sink ≡ g.K.Sink.faults l.initial.sink;
 }

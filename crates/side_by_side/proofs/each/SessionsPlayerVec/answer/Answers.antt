@@ -11,5 +11,5 @@ returns-clause-plan g c =
     let promises = promises_seen (λ m. g.H.Manager.state m) c.args.heap.now.items c.answer_each.new.managers.items c.answer_each.ensures.promise in
     λ i. (kinds i, promises i)
 
-pub returns-clause-answers : goal.returns-clause-answers
-returns-clause-answers g c = each_answers _ _ _ _ (owned_command c.args.command) _ c.answer_each.ensures.answers
+pub returns-clause-step : goal.returns-clause-step
+returns-clause-step g c = each_answers _ _ _ _ (owned_command c.args.command) _ c.answer_each.ensures.step

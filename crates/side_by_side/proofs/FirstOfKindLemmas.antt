@@ -11,7 +11,7 @@ use Rattle.cf_base.specs.declared.kind.Kind.{Kind}
 use Rattle.cf_base.specs.declared.kind.Kind.TheVariants.{Moving, NonMoving, Tlsf, HalfFit}
 use Rattle.cf_model.specs.Ordered.{KeepsPromise}
 use Rattle.cf_model.specs.State.{HeapState, closed_state}
-use Rattle.side_by_side.specs.First.{chosen_of, first_of_kind, same_kind, with_chosen}
+use Rattle.side_by_side.specs.FirstOfKind.{chosen_manager, first_of_kind, same_kind, with_chosen_manager}
 
 pub are_same : (one other : Kind) → same_kind one other ≡ true → one ≡ other
 are_same Moving Moving is = refl
@@ -75,7 +75,7 @@ module _ (kind : Kind) (heaps : List HeapState) where
   kind_at None is = refl
   kind_at (Some i) is = first_kind kind heaps i is
 
-  pub chosen_kind : (chosen_of kind heaps).kind ≡ kind
+  pub chosen_kind : (chosen_manager kind heaps).kind ≡ kind
   chosen_kind = kind_at (first_of_kind kind heaps) refl
 
   kinds_at : (new : HeapState) → new.kind ≡ kind → (first : Option ℕ) → first_of_kind kind heaps ≡ first
@@ -85,7 +85,7 @@ module _ (kind : Kind) (heaps : List HeapState) where
       map-set_same (λ (h : HeapState). h.kind) heaps i new (closed_state kind) (same ∙ sym (first_kind kind heaps i is))
 
   -- the managers keep their kinds if the chosen one does
-  pub chosen_kinds : (new : HeapState) → new.kind ≡ (chosen_of kind heaps).kind → map (λ h. h.kind) (with_chosen kind heaps new) ≡ map (λ h. h.kind) heaps
+  pub chosen_kinds : (new : HeapState) → new.kind ≡ (chosen_manager kind heaps).kind → map (λ h. h.kind) (with_chosen_manager kind heaps new) ≡ map (λ h. h.kind) heaps
   chosen_kinds new same = kinds_at new (same ∙ chosen_kind) (first_of_kind kind heaps) refl
 
   orders_at : (new : HeapState) → (first : Option ℕ) → KeepsPromise (chosen_at first) new
@@ -94,20 +94,20 @@ module _ (kind : Kind) (heaps : List HeapState) where
   orders_at new (Some i) same = map-set_same (λ (h : HeapState). is_some h.order) heaps i new (closed_state kind) same
 
   -- the managers keep their promises if the chosen one does
-  pub chosen_orders : (new : HeapState) → KeepsPromise (chosen_of kind heaps) new
-      → map (λ h. is_some h.order) (with_chosen kind heaps new) ≡ map (λ h. is_some h.order) heaps
+  pub chosen_orders : (new : HeapState) → KeepsPromise (chosen_manager kind heaps) new
+      → map (λ h. is_some h.order) (with_chosen_manager kind heaps new) ≡ map (λ h. is_some h.order) heaps
   chosen_orders new same = orders_at new (first_of_kind kind heaps) same
 
   -- the first of the kind is chosen
-  pub chosen_first : (i : ℕ) → first_of_kind kind heaps ≡ Some i → chosen_of kind heaps ≡ get_or heaps i (closed_state kind)
+  pub chosen_first : (i : ℕ) → first_of_kind kind heaps ≡ Some i → chosen_manager kind heaps ≡ get_or heaps i (closed_state kind)
   chosen_first i is = ap chosen_at is
 
-  pub with_first : (i : ℕ) (new : HeapState) → first_of_kind kind heaps ≡ Some i → with_chosen kind heaps new ≡ set heaps i new
+  pub with_first : (i : ℕ) (new : HeapState) → first_of_kind kind heaps ≡ Some i → with_chosen_manager kind heaps new ≡ set heaps i new
   with_first i new is = ap (λ (first : Option ℕ). elim first [ None ↦ heaps | Some j ↦ set heaps j new ]) is
 
-  -- none is of the kind
-  pub chosen_none : first_of_kind kind heaps ≡ None → chosen_of kind heaps ≡ closed_state kind
+  -- if no manager is of the kind, the chosen one is closed
+  pub chosen_none : first_of_kind kind heaps ≡ None → chosen_manager kind heaps ≡ closed_state kind
   chosen_none is = ap chosen_at is
 
-  pub with_none : (new : HeapState) → first_of_kind kind heaps ≡ None → with_chosen kind heaps new ≡ heaps
+  pub with_none : (new : HeapState) → first_of_kind kind heaps ≡ None → with_chosen_manager kind heaps new ≡ heaps
   with_none new is = ap (λ (first : Option ℕ). elim first [ None ↦ heaps | Some j ↦ set heaps j new ]) is

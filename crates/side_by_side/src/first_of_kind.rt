@@ -1,6 +1,6 @@
 //! The first manager of a kind.
 ghost use Rattle.std.specs.Prelude.{◌≡◌, map};
-ghost use Rattle.side_by_side.specs.First.{first_of_kind, same_kind};
+ghost use Rattle.side_by_side.specs.FirstOfKind.{first_of_kind, same_kind};
 
 use cf_base::Kind;
 use cf_model::Manager;

@@ -1,7 +1,7 @@
 use Rattle.std.proofs.Common.{◌∙◌, ap, sym, arith}
-use Rattle.side_by_side.specs.First.{same_kind}
-use Rattle.side_by_side.proofs.FirstLemmas.{first_here, none_more, none_there}
-use Rattle.side_by_side.proofs.first.first_of.Goals as goal
+use Rattle.side_by_side.specs.FirstOfKind.{same_kind}
+use Rattle.side_by_side.proofs.FirstOfKindLemmas.{first_here, none_more, none_there}
+use Rattle.side_by_side.proofs.first_of_kind.first_of.Goals as goal
 
 pub loop-i-preserved : goal.loop-i-preserved
 loop-i-preserved g c = none_more (λ m. g.H.Manager.state m) c.args.kind c.args.managers.now.items c.loop-i.i c.index.result.now (omega arith) c.index.ensures

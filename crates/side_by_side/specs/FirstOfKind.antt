@@ -18,9 +18,9 @@ abbrev pub first_of_kind : Kind → List HeapState → Option ℕ
 first_of_kind kind heaps = position (λ h. same_kind h.kind kind) heaps
 
 -- the first manager of the kind; if there is none, one that was never open
-abbrev pub chosen_of : Kind → List HeapState → HeapState
-chosen_of kind heaps = elim (first_of_kind kind heaps) [ None ↦ closed_state kind | Some i ↦ slice_index_or heaps i (closed_state kind) ]
+abbrev pub chosen_manager : Kind → List HeapState → HeapState
+chosen_manager kind heaps = elim (first_of_kind kind heaps) [ None ↦ closed_state kind | Some i ↦ slice_index_or heaps i (closed_state kind) ]
 
--- The managers after the first of the kind became this one: all others are unchanged, and all are if none is of the kind.
-abbrev pub with_chosen : Kind → List HeapState → HeapState → List HeapState
-with_chosen kind heaps new = elim (first_of_kind kind heaps) [ None ↦ heaps | Some i ↦ slice_set heaps i new ]
+-- The managers with the first of the kind replaced by `new`; unchanged if none is of the kind.
+abbrev pub with_chosen_manager : Kind → List HeapState → HeapState → List HeapState
+with_chosen_manager kind heaps new = elim (first_of_kind kind heaps) [ None ↦ heaps | Some i ↦ slice_set heaps i new ]
