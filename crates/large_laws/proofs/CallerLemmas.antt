@@ -1,2 +1,2 @@
--- What upper crates may cite, passed on from one place. Declares nothing.
+-- Re-exports the lemmas that proofs of other crates may cite. Declares nothing.
 pub use Rattle.large_laws.proofs.Claims.{large_met}

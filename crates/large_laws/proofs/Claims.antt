@@ -66,7 +66,7 @@ pub run_meets : (kind : Kind) (items : List Item) (replies : List Reply) (end : 
     → MeetsLarge kind items replies
 run_meets kind items replies end run = run_met kind items None replies end tt run
 
--- and over one of a player
+-- over a run of the mode handler the replies are as claimed
 pub large_met : (from : LargeRun) (items : List Item) (replies : List Reply) (end : Option LargeRun) → RunBy large_heap from None items replies end
     → MeetsLarge from.heap.inner.kind items replies
 large_met from items replies end run = run_meets from.heap.inner.kind items replies end run

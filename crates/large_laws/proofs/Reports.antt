@@ -14,6 +14,7 @@ use Rattle.cf_model.specs.Answers.{classes_in, totals_in}
 use Rattle.cf_model.specs.Families.{IsPaged}
 use Rattle.cf_model.specs.Rules.{KeepsPages}
 use Rattle.cf_model.specs.State.{HeapState, layout_of, paging_in}
+use Rattle.cf_model.proofs.CallerLemmas.{pages_kept}
 use Rattle.page_model.specs.Arrangement.{live, pages_for, pages_needed}
 use Rattle.page_model.specs.Counts.{ceil_div}
 use Rattle.page_model.specs.Figures.{asked_bytes, figures_of, taken_bytes, totals_of}
@@ -21,15 +22,14 @@ use Rattle.page_model.specs.Held.{Objects, objects}
 use Rattle.page_model.specs.Paging.{Paging, class_for, classes, slot_words, slots_of}
 use Rattle.run_model.specs.Reports.{class_line, frag_line, frag_of, live_classes, pages_report, total_line, walk_of}
 use Rattle.run_model.specs.Texts.{said}
-use Rattle.run_model.proofs.CallerLemmas.{pages_kept}
 use Rattle.transcript_laws.specs.AtOne.{figures_at_one, part_pages, totals_at_one}
 use Rattle.transcript_laws.specs.ById.{ById}
 use Rattle.transcript_laws.specs.Histories.{objects_by_id}
 use Rattle.transcript_laws.proofs.CallerLemmas.{by_id_counts, figures_are, said_alike, totals_are}
 use Rattle.large_objects.specs.LargeRun.{IsGoingLarge, LargeRun}
 use Rattle.large_objects.specs.LargeSteps.{FitsSpine, HasRoom, IsRefusedLarge}
-use Rattle.large_objects.specs.Parts.{in_class, inner_count, inner_live, inner_pages_with, inner_sum, length_sum, parts, piece_bytes, spine_bytes}
-use Rattle.large_laws.specs.LargeHeadline.{large_figures, large_refusal, large_totals, large_walk, live_parts, pages_of_parts}
+use Rattle.large_objects.specs.InnerObjects.{in_class, inner_count, inner_live, inner_pages_with, inner_sum, length_sum, inner_lengths, whole_part_bytes, spine_bytes}
+use Rattle.large_laws.specs.LargeHeadline.{large_figures, large_refusal, large_totals, large_walk, live_inner, pages_of_inner}
 
 abbrev pub by_id : LargeRun → Objects
 by_id s = objects_by_id s.ids s.heap.objects
@@ -73,7 +73,7 @@ module _ (s : LargeRun) (going : IsGoingLarge s) where
   p = paging_in inner
 
   abbrev u : ℕ
-  u = piece_bytes inner.profile
+  u = whole_part_bytes inner.profile
 
   abbrev large : Objects
   large = s.heap.objects
@@ -86,19 +86,19 @@ module _ (s : LargeRun) (going : IsGoingLarge s) where
 
   count_is : inner_count u (by_id s) ≡ inner_count u large
   unfolding inner_count
-  count_is = counts.sums (λ v. length (parts u (length v)))
+  count_is = counts.sums (λ v. length (inner_lengths u (length v)))
 
   live_is : (c : ℕ) → inner_live p u (by_id s) c ≡ inner_live p u large c
   unfolding inner_live
-  live_is c = counts.sums (λ v. in_class p c (parts u (length v)))
+  live_is c = counts.sums (λ v. in_class p c (inner_lengths u (length v)))
 
   sum_is : (f : ℕ → ℕ) → length_sum f (objects inner.held) ≡ inner_sum f u (by_id s)
   unfolding inner_sum
-  sum_is f = going.parts.counted.sums f ∙ sym (counts.sums (λ v. sum_by f (parts u (length v))))
+  sum_is f = going.parts.counted.sums f ∙ sym (counts.sums (λ v. sum_by f (inner_lengths u (length v))))
 
   with_is : (n : ℕ) → inner_pages_with p u (by_id s) n ≡ inner_pages_with p u large n
   unfolding inner_pages_with
-  with_is n = λ i. pages_for p (λ c. live_is c i + in_class p c (parts u n))
+  with_is n = λ i. pages_for p (λ c. live_is c i + in_class p c (inner_lengths u n))
 
   -- m
   module _ (n : ℕ) where
@@ -106,7 +106,7 @@ module _ (s : LargeRun) (going : IsGoingLarge s) where
     size_test = nat_lt u n && nat_lt u (spine_bytes u n)
 
     abbrev proxy_test : Bool
-    proxy_test = nat_lt inner.profile.proxies (inner_count u (by_id s) + length (parts u n))
+    proxy_test = nat_lt inner.profile.proxies (inner_count u (by_id s) + length (inner_lengths u n))
 
     abbrev space_test : Bool
     space_test = nat_lt inner.profile.pages (inner_pages_with p u (by_id s) n)
@@ -115,8 +115,8 @@ module _ (s : LargeRun) (going : IsGoingLarge s) where
     fits_so (inl short) = ap (λ b. b && nat_lt u (spine_bytes u n)) (lt_no u n short)
     fits_so (inr fits) = ap (λ b. nat_lt u n && b) (lt_no u (spine_bytes u n) fits) ∙ and_false (nat_lt u n)
 
-    few_so : inner_count u large + length (parts u n) ≤ inner.profile.proxies → proxy_test ≡ false
-    few_so few = lt_no inner.profile.proxies (inner_count u (by_id s) + length (parts u n)) (let e = count_is in omega arith)
+    few_so : inner_count u large + length (inner_lengths u n) ≤ inner.profile.proxies → proxy_test ≡ false
+    few_so few = lt_no inner.profile.proxies (inner_count u (by_id s) + length (inner_lengths u n)) (let e = count_is in omega arith)
 
     within_so : inner_pages_with p u large n ≤ inner.profile.pages → space_test ≡ false
     within_so within = lt_no inner.profile.pages (inner_pages_with p u (by_id s) n) (let e = with_is n in omega arith)
@@ -126,7 +126,7 @@ module _ (s : LargeRun) (going : IsGoingLarge s) where
         λ i. refusal_by (lt_yes u n why.long i && lt_yes u (spine_bytes u n) why.past i) proxy_test space_test
     refused_is refusal.Proxy why =
         let e = count_is in let past = why.past in
-        let yes = lt_yes inner.profile.proxies (inner_count u (by_id s) + length (parts u n)) (omega arith) in
+        let yes = lt_yes inner.profile.proxies (inner_count u (by_id s) + length (inner_lengths u n)) (omega arith) in
         λ i. refusal_by (fits_so why.fits i) (yes i) space_test
     refused_is refusal.Space why =
         let e = with_is n in let past = why.past in
@@ -137,13 +137,13 @@ module _ (s : LargeRun) (going : IsGoingLarge s) where
     not_refused room = λ i. refusal_by (fits_so room.fits i) (few_so room.proxies i) (within_so room.pages i)
 
   -- the reports
-  each_is : (c : ℕ) → live p (objects inner.held) c ≡ live_parts (shown s) c
+  each_is : (c : ℕ) → live p (objects inner.held) c ≡ live_inner (shown s) c
   each_is c = going.parts.counted.each c ∙ sym (live_is c)
 
   all_is : len (objects inner.held) ≡ inner_count u (by_id s)
   all_is = going.parts.counted.all ∙ sym count_is
 
-  pages_are : pages_needed p (objects inner.held) ≡ pages_of_parts (shown s)
+  pages_are : pages_needed p (objects inner.held) ≡ pages_of_inner (shown s)
   unfolding pages_needed
   pages_are = λ i. pages_for p (λ c. each_is c i)
 
@@ -189,7 +189,7 @@ module _ (s : LargeRun) (going : IsGoingLarge s) where
       classes_here k is = rw (is, classes_in) refl
 
       lines : map (λ c. class_line (figures_of p inner.held c)) (live_classes inner)
-          ≡ map (λ c. class_line (large_figures (shown s) c)) (filter (λ c. not (nat_eq (live_parts (shown s) c) 0)) (range_with_len 0 (classes p)))
+          ≡ map (λ c. class_line (large_figures (shown s) c)) (filter (λ c. not (nat_eq (live_inner (shown s) c) 0)) (range_with_len 0 (classes p)))
       lines =
           ap (λ n. map (λ c. class_line (figures_of p inner.held c)) (filter (λ c. not (nat_eq (live p (objects inner.held) c) 0)) (range_with_len 0 n)))
           (classes_here inner.kind going.parts.pages)

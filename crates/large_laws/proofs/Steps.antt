@@ -46,7 +46,7 @@ module _ (old new : LargeRun) (going : IsGoingLarge old) (later : IsGoingLarge n
   found : (id h : ℕ) → get old.ids id ≡ Some h → (v : List ℕ) × (get old.heap.objects h ≡ Some v) × (get (by_id old) id ≡ Some v)
   found id h named = (let v = going.tied.named id h named in (v.0, v.1, live_by_id old.ids old.heap.objects id h v.0 named v.1))
 
-  -- the same settings
+  -- the heap that a run shows after a call has the settings of the heap before it
   stays_shown : StaysKept old.heap new.heap → shown new ≡ with (by_id new)
   stays_shown k =
       let inner = k.stays.inner in

@@ -1,4 +1,4 @@
--- A small script: its replies, and that others fall short.
+-- The right replies to the small script meet the claim, and wrong ones don't.
 use Rattle.std.proofs.Common.{◌≡◌, ℕ, true, List, [], ◌∷◌, Some, None, length, replicate, get_or, sym, ◌∙◌, ap, refl}
 use Rattle.std.specs.Prelude.{codes}
 use Rattle.std.specs.Fmt.{digits}
@@ -16,7 +16,7 @@ use Rattle.script_reader.specs.declared.command.Command.{Command}
 use Rattle.script_reader.specs.declared.command.Command.TheVariants.{Frag, Malloc, Read, Walk, Write}
 use Rattle.transcript_laws.specs.ById.{ById, begun}
 use Rattle.transcript_laws.proofs.CallerLemmas.{got, got_none, listed, listed_none}
-use Rattle.large_objects.specs.Parts.{in_class, inner_count, inner_live, inner_pages_with, inner_sum, parts, pieces}
+use Rattle.large_objects.specs.InnerObjects.{in_class, inner_count, inner_live, inner_pages_with, inner_sum, inner_lengths, part_count}
 use Rattle.large_laws.specs.LargeHeadline.{large_after, large_replies, large_reply}
 use Rattle.large_laws.specs.Small.{MeetsSmall, small_replies, small_walk}
 
@@ -42,31 +42,31 @@ abbrev Steps : Objects → Command → Reply → Objects → Type 0
 Steps old c reply new = (large_reply (with old) c ≡ reply) × (large_after (with old) c ≡ with new)
 
 step1 : Steps empty (Malloc 1 600) (said (codes "ok")) o1
-unfolding sizes_from class_for inner_count inner_live inner_pages_with inner_sum in_class parts pieces digits encode_with
+unfolding sizes_from class_for inner_count inner_live inner_pages_with inner_sum in_class inner_lengths part_count digits encode_with
 step1 = (simp maps, simp maps)
 
 step2 : Steps o1 (Write 1 503 (170 ∷ 187 ∷ [])) (said (codes "ok")) o2
-unfolding sizes_from class_for inner_count inner_live inner_pages_with inner_sum in_class parts pieces digits encode_with
+unfolding sizes_from class_for inner_count inner_live inner_pages_with inner_sum in_class inner_lengths part_count digits encode_with
 step2 = (simp maps, simp maps)
 
 step3 : Steps o2 (Malloc 2 90) (said (codes "ok")) o3
-unfolding sizes_from class_for inner_count inner_live inner_pages_with inner_sum in_class parts pieces digits encode_with
+unfolding sizes_from class_for inner_count inner_live inner_pages_with inner_sum in_class inner_lengths part_count digits encode_with
 step3 = (simp maps, simp maps)
 
 step4 : Steps o3 (Read 1 503 2) (said (codes "=aabb")) o3
-unfolding sizes_from class_for inner_count inner_live inner_pages_with inner_sum in_class parts pieces digits encode_with
+unfolding sizes_from class_for inner_count inner_live inner_pages_with inner_sum in_class inner_lengths part_count digits encode_with
 step4 = (simp maps, refl)
 
 step5 : Steps o3 Walk small_walk o3
-unfolding sizes_from class_for inner_count inner_live inner_pages_with inner_sum in_class parts pieces digits encode_with
+unfolding sizes_from class_for inner_count inner_live inner_pages_with inner_sum in_class inner_lengths part_count digits encode_with
 step5 = (simp maps, refl)
 
 step6 : Steps o3 Frag (said (codes "frag asked 698 taken 752 held 1536")) o3
-unfolding sizes_from class_for inner_count inner_live inner_pages_with inner_sum in_class parts pieces digits encode_with
+unfolding sizes_from class_for inner_count inner_live inner_pages_with inner_sum in_class inner_lengths part_count digits encode_with
 step6 = (simp maps, refl)
 
 step7 : Steps o3 (Malloc 3 4000) (said (codes "refused space")) o3
-unfolding sizes_from class_for inner_count inner_live inner_pages_with inner_sum in_class parts pieces digits encode_with
+unfolding sizes_from class_for inner_count inner_live inner_pages_with inner_sum in_class inner_lengths part_count digits encode_with
 step7 = (simp maps, simp maps)
 
 -- one command, before the rest
@@ -117,7 +117,7 @@ all_right = ap (large_replies Moving None) asked ∙ replies_are
 pub right_meets : MeetsSmall (small_replies (codes "ok") (codes "=aabb") small_walk (codes "frag asked 698 taken 752 held 1536") (codes "refused space"))
 right_meets = sym all_right
 
--- replies that meet the claim are eight, with these letters
+-- replies that meet the claim are eight
 pub eight_replies : (replies : List Reply) → MeetsSmall replies → length replies ≡ 8
 eight_replies replies meets = ap (λ l. length l) (meets ∙ all_right)
 

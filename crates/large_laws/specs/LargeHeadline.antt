@@ -1,6 +1,6 @@
 -- What is claimed of every script in mode large: each reply is a function of the lines before it.
 --
--- An object that fits a page is one part, a longer one is a spine and its pieces (`parts`). Refusals and reports count the parts of all objects.
+-- An object that fits a page is one inner object, a longer one is a spine and its parts (`inner_lengths`). Refusals and reports count inner objects.
 use Rattle.std.specs.Prelude.{◌≡◌, ℕ, ◌+◌, ◌-◌, ◌*◌, ◌&&◌, List, [], ◌∷◌, ◌++◌, Option, Some, None, Err, codes, filter, if◌then◌else◌, length, map, nat_eq, nat_lt, not}
 use Rattle.std.specs.Prelude.{replicate}
 use Rattle.std.specs.List.{range_with_len}
@@ -21,60 +21,62 @@ use Rattle.run_model.specs.Texts.{Reply, bad_line, said}
 use Rattle.script_reader.specs.Items.{Item, asks, bad, starts}
 use Rattle.script_reader.specs.declared.command.Command.{Command}
 use Rattle.script_reader.specs.declared.command.Command.TheVariants.{Malloc, Free, Write, Read, Walk, Frag}
-use Rattle.large_objects.specs.Parts.{inner_count, inner_live, inner_pages_with, inner_sum, parts, piece_bytes, spine_bytes}
+use Rattle.large_objects.specs.InnerObjects.{inner_count, inner_live, inner_pages_with, inner_sum, inner_lengths, whole_part_bytes, spine_bytes}
 use Rattle.transcript_laws.specs.AtOne.{part_pages}
 use Rattle.transcript_laws.specs.ById.{ById, begun, paging_by_id}
 use Rattle.transcript_laws.specs.Replies.{free_said, objects_after, ok_or, put_unless, read_said, write_said}
 
--- the most bytes of one part: those of a page but for the header
+-- the most bytes of one part: the bytes of a page without a header
 abbrev pub most : ById → ℕ
-most t = piece_bytes t.profile
+most t = whole_part_bytes t.profile
 
--- why a malloc is refused, if it is: its spine exceeds a page; then the parts exceed the proxies; then they need more pages than there are
+-- Why a malloc of n bytes is refused; None if it isn't. The causes in turn: its spine exceeds a page; the inner objects with the new ones exceed the proxies;
+-- they need more pages than there are.
 abbrev pub large_refusal : ById → ℕ → Option Refusal
 large_refusal t n =
     if nat_lt (most t) n && nat_lt (most t) (spine_bytes (most t) n) then Some refusal.Size
-    else (if nat_lt t.profile.proxies (inner_count (most t) t.objects + length (parts (most t) n)) then Some refusal.Proxy
+    else (if nat_lt t.profile.proxies (inner_count (most t) t.objects + length (inner_lengths (most t) n)) then Some refusal.Proxy
     else (if nat_lt t.profile.pages (inner_pages_with (paging_by_id t) (most t) t.objects n) then Some refusal.Space else None))
 
--- m
+-- the reply to `m`, by the bytes of the id (None if it isn't live)
 abbrev pub malloc_line : Option (List ℕ) → ById → ℕ → List ℕ
 malloc_line (Some v) t n = codes "live"
 malloc_line None t n = ok_or (λ e. malloc_text (Err e)) (large_refusal t n)
 
--- the parts of class c, and the pages that all parts need
-abbrev pub live_parts : ById → ℕ → ℕ
-live_parts t c = inner_live (paging_by_id t) (most t) t.objects c
+-- the number of inner objects of class c
+abbrev pub live_inner : ById → ℕ → ℕ
+live_inner t c = inner_live (paging_by_id t) (most t) t.objects c
 
-abbrev pub pages_of_parts : ById → ℕ
-pages_of_parts t = pages_for (paging_by_id t) (live_parts t)
+-- the pages that all inner objects need
+abbrev pub pages_of_inner : ById → ℕ
+pages_of_inner t = pages_for (paging_by_id t) (live_inner t)
 
--- the figures of class c, whose parts use the fewest pages possible
+-- the figures of class c: its inner objects use the fewest pages that can hold them
 abbrev pub large_figures : ById → ℕ → Figures
 large_figures t c = record {
   slot_words = slot_words (paging_by_id t) c;
   slots = slots_of (paging_by_id t) c;
-  live = live_parts t c;
-  pages = ceil_div (live_parts t c) (slots_of (paging_by_id t) c);
-  not_full = part_pages (live_parts t c) (slots_of (paging_by_id t) c);
+  live = live_inner t c;
+  pages = ceil_div (live_inner t c) (slots_of (paging_by_id t) c);
+  not_full = part_pages (live_inner t c) (slots_of (paging_by_id t) c);
 }
 
--- the figures of the whole heap: the bytes asked are those of all parts, and the bytes taken those of their slots
+-- the figures of the whole heap: the bytes asked are those of all inner objects, spines included, and the bytes taken are those of their slots
 abbrev pub large_totals : ById → Totals
 large_totals t = record {
   live = inner_count (most t) t.objects;
   asked = inner_sum (λ n. n) (most t) t.objects;
   taken = 8 * inner_sum (λ n. slot_words (paging_by_id t) (class_for (paging_by_id t) n)) (most t) t.objects;
-  held = 8 * t.profile.page_words * pages_of_parts t;
-  used = pages_of_parts t;
-  free = t.profile.pages - pages_of_parts t;
-  largest = if nat_eq (t.profile.pages - pages_of_parts t) 0 then 0 else t.profile.page_words;
+  held = 8 * t.profile.page_words * pages_of_inner t;
+  used = pages_of_inner t;
+  free = t.profile.pages - pages_of_inner t;
+  largest = if nat_eq (t.profile.pages - pages_of_inner t) 0 then 0 else t.profile.page_words;
 }
 
--- walk: a line for each class with parts, in rising order, and then the last line
+-- the reply to `walk`: a line for each class with inner objects, in rising order, and then the line of the totals
 abbrev pub large_walk : ById → Reply
 large_walk t =
-    map (λ c. class_line (large_figures t c)) (filter (λ c. not (nat_eq (live_parts t c) 0)) (range_with_len 0 (classes (paging_by_id t))))
+    map (λ c. class_line (large_figures t c)) (filter (λ c. not (nat_eq (live_inner t c) 0)) (range_with_len 0 (classes (paging_by_id t))))
     ++ said (total_line (large_totals t))
 
 -- the reply to a command; `none` to the commands of other modes
@@ -87,7 +89,7 @@ large_reply t Walk = large_walk t
 large_reply t Frag = said (frag_line (large_totals t))
 large_reply t command = said (codes "none")
 
--- after m: n zeros under the id, unless it is live or the malloc is refused
+-- the objects after `m`: the id names n zero bytes; unchanged if the id was live or the malloc is refused
 abbrev pub malloc_leaves : Option (List ℕ) → ById → ℕ → ℕ → Objects
 malloc_leaves (Some v) t id n = t.objects
 malloc_leaves None t id n = put_unless (large_refusal t n) t.objects id (replicate n 0)
@@ -99,6 +101,7 @@ large_leaves t (Free id) = objects_after t (Free id)
 large_leaves t (Write id at bytes) = objects_after t (Write id at bytes)
 large_leaves t command = t.objects
 
+-- the heap after a command
 abbrev pub large_after : ById → Command → ById
 large_after t command = record t { objects = large_leaves t command }
 
@@ -109,7 +112,7 @@ reply_in None (asks command) = []
 reply_in (Some t) (asks command) = large_reply t command
 reply_in t (bad n) = said (bad_line n)
 
--- what an item leaves; each class has the bound 1, whatever the `heap` line says
+-- the heap after an item; a `heap` line opens it with the bound 1 in each class, whatever bound the line has
 abbrev pub after_in : Kind → Option ById → Item → Option ById
 after_in kind t (starts p) = Some (begun kind (at_bound_one p))
 after_in kind None (asks command) = None
@@ -121,6 +124,6 @@ abbrev pub large_replies : Kind → Option ById → List Item → List Reply
 large_replies kind t [] = []
 large_replies kind t (item ∷ rest) = reply_in t item ∷ large_replies kind (after_in kind t item) rest
 
--- the claim: over a manager of the kind, the replies to a script are these
+-- the claim: over a manager of the kind, the replies to a script are those of `large_replies`
 abbrev pub MeetsLarge : Kind → List Item → List Reply → Type 0
 MeetsLarge kind items replies = replies ≡ large_replies kind None items

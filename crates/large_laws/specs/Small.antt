@@ -5,17 +5,19 @@ use Rattle.run_model.specs.Texts.{Reply, said}
 use Rattle.script_reader.specs.Items.{items}
 use Rattle.large_laws.specs.LargeHeadline.{MeetsLarge}
 
--- eight pages of 512 bytes: an object of 600 bytes has a spine of 8 bytes and pieces of 504 and 96 bytes; one of 4000 bytes needs eight pages more
+-- these replies meet the claim for a script on eight pages of 512 bytes: an object of 600 bytes has a spine of 8 bytes and parts of 504 and 96 bytes; an
+-- object of 4000 bytes needs eight pages more
 abbrev pub MeetsSmall : List Reply → Type 0
 MeetsSmall replies =
     MeetsLarge Moving (items (codes "heap 8 512 1 16\nm 1 600\nw 1 503 aabb\nm 2 90\nr 1 503 2\nwalk\nfrag\nm 3 4000\n") true) replies
 
--- with these replies to the first malloc, to the read, to `walk`, to `frag` and to the last malloc
+-- the eight replies to that script: `first` to `m 1 600`, `read` to `r`, `walk` and `frag` to the commands of these names, `last` to `m 3 4000`, and `ok` to
+-- the others
 abbrev pub small_replies : (first read : List ℕ) (walk : Reply) (frag last : List ℕ) → List Reply
 small_replies first read walk frag last =
     said (codes "ok") ∷ said first ∷ said (codes "ok") ∷ said (codes "ok") ∷ said read ∷ walk ∷ said frag ∷ said last ∷ []
 
--- the report on the three parts of the long object and the one of the short object
+-- the report of `walk` on four inner objects: the spine and the two parts of the long object, and the short object
 abbrev pub small_walk : Reply
 small_walk =
     codes "class 4 slots 16 live 1 pages 1 notfull 1" ∷ codes "class 13 slots 4 live 2 pages 1 notfull 1" ∷ codes "class 64 slots 1 live 1 pages 1 notfull 0"

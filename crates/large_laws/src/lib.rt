@@ -23,12 +23,12 @@ pub fn the_large_headline()
         → MeetsLarge kind items replies → MeetsLarge kind items others → others ≡ replies }
 {}
 
-/// Wrong replies violate the claim. The script, on eight pages of 512 bytes: an object of 600 bytes; a
-/// write of two bytes across the end of a piece; an object of 90 bytes; a read of the two bytes; `walk`;
-/// `frag`; and an object that finds no pages. The claim holds for the right replies alone. It fails for
-/// `refused size` to a malloc that fits, for no line, for a reply too few or too many, for the bytes of
-/// the other object, for a report that counts a long object once or leaves out its spine, and for `ok`
-/// without pages.
+/// Wrong replies violate the claim. The script, on eight pages of 512 bytes: a malloc of 600 bytes; a
+/// write of two bytes across the end of a part; a malloc of 90 bytes; a read of the two bytes; `walk`;
+/// `frag`; and a malloc of 4,000 bytes, which needs more pages than are free. The claim holds for the
+/// right replies. It fails for `refused size` to a malloc that fits, for no reply, for a reply too few or
+/// too many, for a read of zeros, for a `walk` that counts the long object as one object, for a `frag`
+/// that leaves out the bytes of the spine or those of its slot, and for `ok` to the last malloc.
 pub fn wrong_large_replies_fall_short()
     ensures right { MeetsSmall (small_replies (codes "ok") (codes "=aabb") small_walk
         (codes "frag asked 698 taken 752 held 1536") (codes "refused space")) }

@@ -1,4 +1,4 @@
--- A long object is read and written piece by piece.
+-- A long object is read and written part by part.
 use Rattle.std.proofs.Common.{◌≡◌, ℕ, ◌+◌, ◌*◌, ◌/◌, ◌%◌, ◌^◌, ◌<◌, ◌≤◌, List, [], ◌∷◌, ◌++◌}
 use Rattle.std.proofs.Common.{Some, length, take, drop, arith, sym, ◌∙◌, ap, refl, subst, length-append, length-drop}
 use Rattle.std.proofs.Math.Nat.{div-add-mod, lt_of_mul-lt-mul_left, mod-lt}
@@ -15,41 +15,41 @@ use Rattle.page_model.specs.Held.{Objects}
 use Rattle.page_model.proofs.CallerLemmas.{inserted_there, length-written, written_nothing}
 use Rattle.large_objects.specs.InnerCalls.{IsReady}
 use Rattle.large_objects.specs.Large.{KeepsParts, LargeState}
-use Rattle.large_objects.specs.LargeSteps.{HasLong, HasLongPart, StaysKept, WritesLarge, piece_in}
-use Rattle.large_objects.specs.Parts.{piece_bytes, pieces}
+use Rattle.large_objects.specs.LargeSteps.{HasLong, HasPartRange, StaysKept, WritesLarge, part_bytes_in}
+use Rattle.large_objects.specs.InnerObjects.{whole_part_bytes, part_count}
 use Rattle.large_objects.proofs.Bytes.{take_drop_more, written_more}
-use Rattle.large_objects.proofs.Cutting.{pieces_enough}
-use Rattle.large_objects.proofs.InnerSteps.{part_small}
+use Rattle.large_objects.proofs.Cutting.{parts_enough}
+use Rattle.large_objects.proofs.InnerSteps.{inner_small}
 
 take_none : (v : List ℕ) → take 0 v ≡ []
 take_none [] = refl
 take_none (x ∷ v) = refl
 
--- the piece of a byte, and its place there
+-- the part that a byte is in, and the byte's place in the part
 module _ (u from : ℕ) (some : 0 < u) where
   pub place_is : u * (from / u) + from % u ≡ from
   place_is = div-add-mod from u
 
-  pub inside_piece : from % u < u
-  inside_piece = mod-lt from some
+  pub inside_part : from % u < u
+  inside_part = mod-lt from some
 
-  pub piece_below : (n : ℕ) → from < n → from / u < pieces u n
-  piece_below n lt =
-      let e = place_is in let enough = pieces_enough u n some in
-      let l : u * (from / u) < u * pieces u n = omega arith in
+  pub part_below : (n : ℕ) → from < n → from / u < part_count u n
+  part_below n lt =
+      let e = place_is in let enough = parts_enough u n some in
+      let l : u * (from / u) < u * part_count u n = omega arith in
       lt_of_mul-lt-mul_left u l
 
--- the next chunk is in one piece
-pub next_part : (s : LargeState) (h at done count total : ℕ) (v : List ℕ) → 0 < piece_in s → get s.objects h ≡ Some v → piece_in s < length v
-    → at + total ≤ length v → done + count ≤ total → 0 < count → (at + done) % piece_in s + count ≤ piece_in s
-    → HasLongPart s h ((at + done) / piece_in s) ((at + done) % piece_in s) count
-next_part s h at done count total v some found long within few more inside = record {
+-- the next chunk is in one part
+pub next_range : (s : LargeState) (h at done count total : ℕ) (v : List ℕ) → 0 < part_bytes_in s → get s.objects h ≡ Some v → part_bytes_in s < length v
+    → at + total ≤ length v → done + count ≤ total → 0 < count → (at + done) % part_bytes_in s + count ≤ part_bytes_in s
+    → HasPartRange s h ((at + done) / part_bytes_in s) ((at + done) % part_bytes_in s) count
+next_range s h at done count total v some found long within few more inside = record {
   bytes = v;
   found = found;
   long = long;
-  below = piece_below (piece_in s) (at + done) some (length v) (omega arith);
+  below = part_below (part_bytes_in s) (at + done) some (length v) (omega arith);
   inside = inside;
-  within = (let e = place_is (piece_in s) (at + done) some in omega arith);
+  within = (let e = place_is (part_bytes_in s) (at + done) some in omega arith);
 }
 
 -- nothing is written yet
@@ -108,32 +108,32 @@ then_kept a b c x y = record {
   parts = y.parts;
 }
 
-pub same_piece : (a b : LargeState) → StaysKept a b → piece_in b ≡ piece_in a
-same_piece a b x = ap (λ (p : Profile). piece_bytes p) x.stays.inner.profile
+pub same_part : (a b : LargeState) → StaysKept a b → part_bytes_in b ≡ part_bytes_in a
+same_part a b x = ap (λ (p : Profile). whole_part_bytes p) x.stays.inner.profile
 
 pub is_ready : (s : LargeState) → KeepsParts s → IsReady s.inner
 is_ready s k = record { opened = k.opened; rules = k.rules; pages = k.pages; ones = k.ones }
 
--- a piece's place in its spine is a number of 32 bits
-pub index_small : (s : LargeState) → KeepsParts s → (h : ℕ) (v : List ℕ) → get s.objects h ≡ Some v → piece_in s < length v
-    → (i : ℕ) → i < pieces (piece_in s) (length v) → i < 2 ^ 32
+-- a part's place in its spine is a number of 32 bits
+pub index_small : (s : LargeState) → KeepsParts s → (h : ℕ) (v : List ℕ) → get s.objects h ≡ Some v → part_bytes_in s < length v
+    → (i : ℕ) → i < part_count (part_bytes_in s) (length v) → i < 2 ^ 32
 index_small s k h v found long i below =
     let spine = k.laid.spines h v found long in
-    let small = part_small s.inner (is_ready s k) h spine.spine spine.found in
+    let small = inner_small s.inner (is_ready s k) h spine.spine spine.found in
     let l = spine.long in omega arith
 
--- and so is the length of a piece
-pub piece_small : (s : LargeState) → KeepsParts s → piece_in s < 2 ^ 32
-piece_small s k =
+-- the length of a part is a number of 32 bits
+pub part_small : (s : LargeState) → KeepsParts s → part_bytes_in s < 2 ^ 32
+part_small s k =
     let small = k.rules.settings.small_region in
     let one = k.rules.settings.some_pages in
     let m : 1 * s.inner.profile.page_words ≤ s.inner.profile.pages * s.inner.profile.page_words =
     mul-le 1 s.inner.profile.page_words s.inner.profile.pages s.inner.profile.page_words one (omega arith) in
     omega arith
 
-module _ (old now : LargeState) (h at done count piece : ℕ) (bytes : List ℕ) (has : HasLong old h at (length bytes))
+module _ (old now : LargeState) (h at done count part_bytes : ℕ) (bytes : List ℕ) (has : HasLong old h at (length bytes))
     (so_far : (v : List ℕ) → get old.objects h ≡ Some v → now.objects ≡ insert old.objects h (written v at (take done bytes)))
-    (kept : StaysKept old now) (piece_is : piece ≡ piece_in old) (positive : 0 < piece) (few : done + count ≤ length bytes) (more : 0 < count) where
+    (kept : StaysKept old now) (part_is : part_bytes ≡ part_bytes_in old) (positive : 0 < part_bytes) (few : done + count ≤ length bytes) (more : 0 < count) where
   abbrev now_bytes : List ℕ
   now_bytes = written has.bytes at (take done bytes)
 
@@ -143,66 +143,66 @@ module _ (old now : LargeState) (h at done count piece : ℕ) (bytes : List ℕ)
   same_bytes : length (written has.bytes at (take done bytes)) ≡ length has.bytes
   same_bytes = now_long at done bytes has.bytes has.within
 
-  piece_now : piece_in now ≡ piece
-  piece_now = same_piece old now kept ∙ sym piece_is
+  part_now : part_bytes_in now ≡ part_bytes
+  part_now = same_part old now kept ∙ sym part_is
 
-  still_long : piece_in now < length now_bytes
-  still_long = (let e = piece_now in let l = same_bytes in let p = piece_is in let long = has.long in omega arith)
+  still_long : part_bytes_in now < length now_bytes
+  still_long = (let e = part_now in let l = same_bytes in let p = part_is in let long = has.long in omega arith)
 
-  pub write_index_small : (at + done) / piece < 2 ^ 32
+  pub write_index_small : (at + done) / part_bytes < 2 ^ 32
   write_index_small =
-      let below = piece_below piece (at + done) positive (length now_bytes) (let l = same_bytes in let w = has.within in omega arith) in
-      index_small now kept.parts h now_bytes there still_long ((at + done) / piece) (subst (λ k. (at + done) / piece < pieces k (length now_bytes))
-      (sym piece_now) below)
+      let below = part_below part_bytes (at + done) positive (length now_bytes) (let l = same_bytes in let w = has.within in omega arith) in
+      index_small now kept.parts h now_bytes there still_long ((at + done) / part_bytes) (subst (λ k. (at + done) / part_bytes < part_count k (length now_bytes))
+      (sym part_now) below)
 
-  pub write_within_small : (at + done) % piece < 2 ^ 32
-  write_within_small = (let i = inside_piece piece (at + done) positive in let s = piece_small now kept.parts in let e = piece_now in omega arith)
+  pub write_within_small : (at + done) % part_bytes < 2 ^ 32
+  write_within_small = (let i = inside_part part_bytes (at + done) positive in let s = part_small now kept.parts in let e = part_now in omega arith)
 
-  pub next_write : (at + done) % piece + count ≤ piece → HasLongPart now h ((at + done) / piece) ((at + done) % piece) count
-  next_write inside = subst (λ k. HasLongPart now h ((at + done) / k) ((at + done) % k) count) piece_now
-      (next_part now h at done count (length bytes) now_bytes (let e = piece_now in omega arith) there still_long
+  pub next_write : (at + done) % part_bytes + count ≤ part_bytes → HasPartRange now h ((at + done) / part_bytes) ((at + done) % part_bytes) count
+  next_write inside = subst (λ k. HasPartRange now h ((at + done) / k) ((at + done) % k) count) part_now
+      (next_range now h at done count (length bytes) now_bytes (let e = part_now in omega arith) there still_long
       (let l = same_bytes in let w = has.within in omega arith) few more
-      (subst (λ k. (at + done) % k + count ≤ k) (sym piece_now) inside))
+      (subst (λ k. (at + done) % k + count ≤ k) (sym part_now) inside))
 
   -- after the chunk
   pub so_far_more : (new : LargeState) (chunk : List ℕ) → chunk ≡ take count (drop done bytes)
-      → WritesLarge now (record { number = h; from = piece_in now * ((at + done) / piece) + (at + done) % piece }) chunk new
+      → WritesLarge now (record { number = h; from = part_bytes_in now * ((at + done) / part_bytes) + (at + done) % part_bytes }) chunk new
       → (v : List ℕ) → get old.objects h ≡ Some v → new.objects ≡ insert old.objects h (written v at (take (done + count) bytes))
   so_far_more new chunk chunk_is wrote v found =
       let same = same_Some has.bytes v (sym has.found ∙ found) in
       let within : at + length bytes ≤ length v = (let l = ap length same in let w = has.within in omega arith) in
-      let from : piece_in now * ((at + done) / piece) + (at + done) % piece ≡ at + done =
-      ap (λ k. k * ((at + done) / piece) + (at + done) % piece) piece_now ∙ place_is piece (at + done) positive in
-      wrote_more old now new h at done count bytes v chunk (piece_in now * ((at + done) / piece) + (at + done) % piece) found within few (so_far v found)
+      let from : part_bytes_in now * ((at + done) / part_bytes) + (at + done) % part_bytes ≡ at + done =
+      ap (λ k. k * ((at + done) / part_bytes) + (at + done) % part_bytes) part_now ∙ place_is part_bytes (at + done) positive in
+      wrote_more old now new h at done count bytes v chunk (part_bytes_in now * ((at + done) / part_bytes) + (at + done) % part_bytes) found within few (so_far v found)
       chunk_is from wrote
 
 -- a read of the next chunk
-module _ (s : LargeState) (h at done count piece total : ℕ) (has : HasLong s h at total) (parts : KeepsParts s) (piece_is : piece ≡ piece_in s)
-    (positive : 0 < piece)
+module _ (s : LargeState) (h at done count part_bytes total : ℕ) (has : HasLong s h at total) (parts : KeepsParts s) (part_is : part_bytes ≡ part_bytes_in s)
+    (positive : 0 < part_bytes)
     (few : done + count ≤ total) (more : 0 < count) where
-  pub read_index_small : (at + done) / piece < 2 ^ 32
+  pub read_index_small : (at + done) / part_bytes < 2 ^ 32
   read_index_small =
-      let below = piece_below piece (at + done) positive (length has.bytes) (let w = has.within in omega arith) in
-      index_small s parts h has.bytes has.found has.long ((at + done) / piece) (subst (λ k. (at + done) / piece < pieces k (length has.bytes)) piece_is below)
+      let below = part_below part_bytes (at + done) positive (length has.bytes) (let w = has.within in omega arith) in
+      index_small s parts h has.bytes has.found has.long ((at + done) / part_bytes) (subst (λ k. (at + done) / part_bytes < part_count k (length has.bytes)) part_is below)
 
-  pub read_within_small : (at + done) % piece < 2 ^ 32
-  read_within_small = (let i = inside_piece piece (at + done) positive in let s = piece_small s parts in let e = piece_is in omega arith)
+  pub read_within_small : (at + done) % part_bytes < 2 ^ 32
+  read_within_small = (let i = inside_part part_bytes (at + done) positive in let s = part_small s parts in let e = part_is in omega arith)
 
-  pub next_read : (at + done) % piece + count ≤ piece → HasLongPart s h ((at + done) / piece) ((at + done) % piece) count
-  next_read inside = subst (λ k. HasLongPart s h ((at + done) / k) ((at + done) % k) count) (sym piece_is)
-      (next_part s h at done count total has.bytes (let e = piece_is in omega arith) has.found has.long has.within few more
-      (subst (λ k. (at + done) % k + count ≤ k) piece_is inside))
+  pub next_read : (at + done) % part_bytes + count ≤ part_bytes → HasPartRange s h ((at + done) / part_bytes) ((at + done) % part_bytes) count
+  next_read inside = subst (λ k. HasPartRange s h ((at + done) / k) ((at + done) % k) count) (sym part_is)
+      (next_range s h at done count total has.bytes (let e = part_is in omega arith) has.found has.long has.within few more
+      (subst (λ k. (at + done) % k + count ≤ k) part_is inside))
 
   -- what was read so far, and then the chunk
   pub read_more : (v out : List ℕ) → (before : List ℕ) → before ≡ take done (drop at v)
-      → out ≡ take count (drop (piece_in s * ((at + done) / piece) + (at + done) % piece) v)
+      → out ≡ take count (drop (part_bytes_in s * ((at + done) / part_bytes) + (at + done) % part_bytes) v)
       → before ++ out ≡ take (done + count) (drop at v)
   read_more v out before before_is out_is =
-      let from : piece_in s * ((at + done) / piece) + (at + done) % piece ≡ at + done =
-      ap (λ k. k * ((at + done) / piece) + (at + done) % piece) (sym piece_is) ∙ place_is piece (at + done) positive in
+      let from : part_bytes_in s * ((at + done) / part_bytes) + (at + done) % part_bytes ≡ at + done =
+      ap (λ k. k * ((at + done) / part_bytes) + (at + done) % part_bytes) (sym part_is) ∙ place_is part_bytes (at + done) positive in
       ap (λ w. w ++ out) before_is ∙ ap (λ w. take done (drop at v) ++ w) (out_is ∙ ap (λ k. take count (drop k v)) from) ∙ sym (take_drop_more v at done count)
 
--- a part of a list is replaced by as many
+-- a list keeps its length if a part of it is replaced by a list of the same length
 pub length_put : (a k : ℕ) (xs ys : List ℕ) → length ys ≡ k → a + k ≤ length xs → length (put_mid a k xs ys) ≡ length xs
 length_put a k xs ys same within =
     let put : List ℕ = put_mid a k xs ys in

@@ -1,4 +1,4 @@
--- The pieces of an object and their lengths.
+-- The parts of an object and their lengths.
 use Rattle.std.proofs.Common.{◌≡◌, ℕ, suc, ◌+◌, ◌-◌, ◌*◌, ◌/◌, ◌%◌, ◌<◌, ◌≤◌, List, [], ◌∷◌, ◌++◌, length, get_or, take, replicate, min}
 use Rattle.std.proofs.Common.{arith, sym, ◌∙◌, ap, refl, inl, inr, length-append}
 use Rattle.std.specs.Prelude.{count_by, sum_by, nat_eq}
@@ -13,9 +13,9 @@ use Rattle.cf_lemmas.proofs.Tests.{le_yes, le_no}
 use Rattle.page_model.proofs.CallerLemmas.{between_multiples}
 use Rattle.page_model.specs.Counts.{ceil_div}
 use Rattle.page_model.specs.Paging.{Paging, class_for}
-use Rattle.large_objects.specs.Parts.{in_class, parts, piece_length, pieces, spine_bytes}
+use Rattle.large_objects.specs.InnerObjects.{in_class, inner_lengths, part_length, part_count, spine_bytes}
 
--- rounded up, either way
+-- a quotient rounded up is the quotient rounded down, and 1 more if there is a remainder
 pub ceil_is : (n m : ℕ) → 0 < m → ceil_div n m ≡ n / m + min 1 (n % m)
 ceil_is n m pos =
     let e : n / m * m + n % m ≡ n = div-add-mod' n m in
@@ -32,86 +32,86 @@ ceil_is n m pos =
     ]
 
 module _ (u n : ℕ) (some : 0 < u) where
-  pub pieces_are : pieces u n ≡ n / u + min 1 (n % u)
-  unfolding pieces
-  pieces_are = ceil_is n u some
+  pub parts_are : part_count u n ≡ n / u + min 1 (n % u)
+  unfolding part_count
+  parts_are = ceil_is n u some
 
-  -- the pieces hold the object, and less than one piece is unused
-  pub pieces_enough : n ≤ u * pieces u n
-  pieces_enough =
-      let e = pieces_are in let t = (div_ceil_times n u some).0 in
+  -- the parts hold the object, and less than one part is unused
+  pub parts_enough : n ≤ u * part_count u n
+  parts_enough =
+      let e = parts_are in let t = (div_ceil_times n u some).0 in
       let c : (n / u + min 1 (n % u)) * u ≡ u * (n / u + min 1 (n % u)) = omega arith in
       rw e (omega arith)
 
-  pub pieces_few : u * pieces u n < n + u
-  pieces_few =
-      let e = pieces_are in let t = (div_ceil_times n u some).1 in
+  pub parts_few : u * part_count u n < n + u
+  parts_few =
+      let e = parts_are in let t = (div_ceil_times n u some).1 in
       let c : (n / u + min 1 (n % u)) * u ≡ u * (n / u + min 1 (n % u)) = omega arith in
       rw e (omega arith)
 
-  -- a piece begins inside the object
-  pub piece_inside : (i : ℕ) → i < pieces u n → u * i < n
-  piece_inside i lt =
-      let m : u * (i + 1) ≤ u * pieces u n = mul-le u (i + 1) u (pieces u n) (omega arith) (omega arith) in
+  -- a part begins inside the object
+  pub part_inside : (i : ℕ) → i < part_count u n → u * i < n
+  part_inside i lt =
+      let m : u * (i + 1) ≤ u * part_count u n = mul-le u (i + 1) u (part_count u n) (omega arith) (omega arith) in
       let t : u * (i + 1) ≡ u * i + u = omega arith in
-      let f = pieces_few in omega arith
+      let f = parts_few in omega arith
 
-  -- a piece that isn't the last is whole
-  pub whole_piece : (i : ℕ) → i + 1 < pieces u n → piece_length u n i ≡ u
-  whole_piece i lt =
-      let inside = piece_inside (i + 1) lt in
+  -- a part that isn't the last is whole
+  pub whole_part : (i : ℕ) → i + 1 < part_count u n → part_length u n i ≡ u
+  whole_part i lt =
+      let inside = part_inside (i + 1) lt in
       let t : u * (i + 1) ≡ u * i + u = omega arith in
       omega arith
 
   -- the last one has what is left
-  pub last_piece : (i : ℕ) → i + 1 ≡ pieces u n → piece_length u n i ≡ n - u * (pieces u n - 1)
-  last_piece i is =
-      let e = pieces_enough in
+  pub last_part : (i : ℕ) → i + 1 ≡ part_count u n → part_length u n i ≡ n - u * (part_count u n - 1)
+  last_part i is =
+      let e = parts_enough in
       let t : u * (i + 1) ≡ u * i + u = omega arith in
-      let s : u * pieces u n ≡ u * (i + 1) = ap (λ k. u * k) (sym is) in
-      let b : pieces u n - 1 ≡ i = omega arith in
+      let s : u * part_count u n ≡ u * (i + 1) = ap (λ k. u * k) (sym is) in
+      let b : part_count u n - 1 ≡ i = omega arith in
       rw b (omega arith)
 
-  pub two_pieces : u < n → 2 ≤ pieces u n
-  two_pieces long = elim (cases_lt (pieces u n) 2) [
+  pub two_parts : u < n → 2 ≤ part_count u n
+  two_parts long = elim (cases_lt (part_count u n) 2) [
     | inl few ↦ absurd (
-        let m : u * pieces u n ≤ u * 1 = mul-le u (pieces u n) u 1 (omega arith) (omega arith) in
+        let m : u * part_count u n ≤ u * 1 = mul-le u (part_count u n) u 1 (omega arith) (omega arith) in
         let t : u * 1 ≡ u = omega arith in
-        let e = pieces_enough in omega arith)
+        let e = parts_enough in omega arith)
     | inr enough ↦ enough
   ]
 
-  pub parts_short : n ≤ u → parts u n ≡ n ∷ []
-  unfolding parts
-  parts_short le = rw (le_yes n u le) refl
+  pub inner_lengths_short : n ≤ u → inner_lengths u n ≡ n ∷ []
+  unfolding inner_lengths
+  inner_lengths_short le = rw (le_yes n u le) refl
 
-  pub parts_long : u < n → parts u n ≡ spine_bytes u n ∷ (replicate (pieces u n - 1) u ++ ((n - u * (pieces u n - 1)) ∷ []))
-  unfolding parts
-  parts_long lt = rw (le_no n u lt) refl
+  pub inner_lengths_long : u < n → inner_lengths u n ≡ spine_bytes u n ∷ (replicate (part_count u n - 1) u ++ ((n - u * (part_count u n - 1)) ∷ []))
+  unfolding inner_lengths
+  inner_lengths_long lt = rw (le_no n u lt) refl
 
-  pub length_short : n ≤ u → length (parts u n) ≡ 1
-  length_short le = rw (parts_short le) refl
+  pub length_short : n ≤ u → length (inner_lengths u n) ≡ 1
+  length_short le = rw (inner_lengths_short le) refl
 
-  pub length_long : u < n → length (parts u n) ≡ 1 + pieces u n
+  pub length_long : u < n → length (inner_lengths u n) ≡ 1 + part_count u n
   length_long lt =
-      let a = length-append (replicate (pieces u n - 1) u) ((n - u * (pieces u n - 1)) ∷ []) in
-      let b = length-replicate (pieces u n - 1) u in
-      let c = two_pieces lt in
-      rw (parts_long lt) (omega arith)
+      let a = length-append (replicate (part_count u n - 1) u) ((n - u * (part_count u n - 1)) ∷ []) in
+      let b = length-replicate (part_count u n - 1) u in
+      let c = two_parts lt in
+      rw (inner_lengths_long lt) (omega arith)
 
-  -- after the spine the pieces come in order
-  pub part_is : u < n → (i : ℕ) → i < pieces u n → get_or (parts u n) (suc i) 0 ≡ piece_length u n i
-  part_is lt i below =
-      let l = length-replicate (pieces u n - 1) u in
-      let two = two_pieces lt in
-      elim (cases_lt (i + 1) (pieces u n)) [
-        | inl whole ↦ rw (parts_long lt) (
-            get_or_append_left (replicate (pieces u n - 1) u) ((n - u * (pieces u n - 1)) ∷ []) 0 i (omega arith)
-            ∙ get_or-replicate (pieces u n - 1) i u 0 (omega arith) ∙ sym (whole_piece i whole))
-        | inr last ↦ rw (parts_long lt) (
-            let z : i - (pieces u n - 1) ≡ 0 = omega arith in
-            get_or-append_right (replicate (pieces u n - 1) u) ((n - u * (pieces u n - 1)) ∷ []) (pieces u n - 1) i 0 l (omega arith)
-            ∙ ap (λ k. get_or ((n - u * (pieces u n - 1)) ∷ []) k 0) z ∙ sym (last_piece i (omega arith)))
+  -- after the spine the parts come in order
+  pub inner_length_is : u < n → (i : ℕ) → i < part_count u n → get_or (inner_lengths u n) (suc i) 0 ≡ part_length u n i
+  inner_length_is lt i below =
+      let l = length-replicate (part_count u n - 1) u in
+      let two = two_parts lt in
+      elim (cases_lt (i + 1) (part_count u n)) [
+        | inl whole ↦ rw (inner_lengths_long lt) (
+            get_or_append_left (replicate (part_count u n - 1) u) ((n - u * (part_count u n - 1)) ∷ []) 0 i (omega arith)
+            ∙ get_or-replicate (part_count u n - 1) i u 0 (omega arith) ∙ sym (whole_part i whole))
+        | inr last ↦ rw (inner_lengths_long lt) (
+            let z : i - (part_count u n - 1) ≡ 0 = omega arith in
+            get_or-append_right (replicate (part_count u n - 1) u) ((n - u * (part_count u n - 1)) ∷ []) (part_count u n - 1) i 0 l (omega arith)
+            ∙ ap (λ k. get_or ((n - u * (part_count u n - 1)) ∷ []) k 0) z ∙ sym (last_part i (omega arith)))
       ]
 
 -- one part more in the count of a class

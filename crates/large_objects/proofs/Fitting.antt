@@ -1,4 +1,4 @@
--- Which parts are in the classes so far, and the pages that they need.
+-- Which inner objects are in the classes so far, and the pages that they need.
 use Rattle.std.proofs.Common.{◌≡◌, ℕ, zero, suc, ◌+◌, ◌-◌, ◌*◌, ◌/◌, ◌<◌, ◌≤◌, Bool, false}
 use Rattle.std.proofs.Common.{List, [], ◌∷◌, ◌++◌, get_or, replicate, arith, ◌∙◌, ap, refl, inl, inr}
 use Rattle.std.specs.Prelude.{count_by, sum_by, nat_eq, nat_le, nat_lt}
@@ -17,8 +17,8 @@ use Rattle.page_model.specs.Counts.{ceil_div}
 use Rattle.page_model.specs.Held.{Objects}
 use Rattle.page_model.specs.Paging.{IsPaging, Paging, class_for, classes, slot_words, slots_of}
 use Rattle.page_model.proofs.CallerLemmas.{class_holds, sum_plus, sum_same}
-use Rattle.large_objects.specs.Parts.{in_class, parts, pieces, spine_bytes}
-use Rattle.large_objects.proofs.Cutting.{parts_long, parts_short}
+use Rattle.large_objects.specs.InnerObjects.{in_class, inner_lengths, part_count, spine_bytes}
+use Rattle.large_objects.proofs.Cutting.{inner_lengths_long, inner_lengths_short}
 
 -- how many lengths are in classes before c
 abbrev pub in_before : Paging → ℕ → List ℕ → ℕ
@@ -75,43 +75,43 @@ module _ (p : Paging) (ok : IsPaging p) (c : ℕ) (lt : c < classes p) where
   pub within_before : (lengths : List ℕ) → count_by (λ n. nat_le (need n) (slot_words p c)) lengths ≡ in_before p (c + 1) lengths
   within_before lengths = sum_same (λ n. one (nat_le (need n) (slot_words p c))) (λ n. one (nat_lt (class_for p n) (c + 1))) lengths (λ n. ap one (within_is n))
 
--- the parts that pass a test: the spine, the whole pieces, and the last
+-- the inner objects that pass a test: the spine, the whole parts, and the last part
 pub count_long : (f : ℕ → Bool) (u n : ℕ) → 0 < u → u < n
-    → count_by f (parts u n) ≡ one (f (spine_bytes u n)) + ((pieces u n - 1) * one (f u) + one (f (n - u * (pieces u n - 1))))
+    → count_by f (inner_lengths u n) ≡ one (f (spine_bytes u n)) + ((part_count u n - 1) * one (f u) + one (f (n - u * (part_count u n - 1))))
 count_long f u n some long =
-    let last : ℕ = n - u * (pieces u n - 1) in
-    let e = ap (count_by f) (parts_long u n some long) in
-    let a = sum_by-cons (λ n. one (f n)) (spine_bytes u n) (replicate (pieces u n - 1) u ++ ((n - u * (pieces u n - 1)) ∷ [])) in
-    let b = sum_by-append (λ n. one (f n)) (replicate (pieces u n - 1) u) ((n - u * (pieces u n - 1)) ∷ []) in
-    let c = sum_by-replicate (λ n. one (f n)) (pieces u n - 1) u in
-    let d : sum_by (λ n. one (f n)) ((n - u * (pieces u n - 1)) ∷ []) ≡ one (f (n - u * (pieces u n - 1))) + 0 =
-    sum_by-cons (λ n. one (f n)) (n - u * (pieces u n - 1)) [] in
+    let last : ℕ = n - u * (part_count u n - 1) in
+    let e = ap (count_by f) (inner_lengths_long u n some long) in
+    let a = sum_by-cons (λ n. one (f n)) (spine_bytes u n) (replicate (part_count u n - 1) u ++ ((n - u * (part_count u n - 1)) ∷ [])) in
+    let b = sum_by-append (λ n. one (f n)) (replicate (part_count u n - 1) u) ((n - u * (part_count u n - 1)) ∷ []) in
+    let c = sum_by-replicate (λ n. one (f n)) (part_count u n - 1) u in
+    let d : sum_by (λ n. one (f n)) ((n - u * (part_count u n - 1)) ∷ []) ≡ one (f (n - u * (part_count u n - 1))) + 0 =
+    sum_by-cons (λ n. one (f n)) (n - u * (part_count u n - 1)) [] in
     e ∙ (omega arith)
 
-pub count_short : (f : ℕ → Bool) (u n : ℕ) → 0 < u → n ≤ u → count_by f (parts u n) ≡ one (f n)
+pub count_short : (f : ℕ → Bool) (u n : ℕ) → 0 < u → n ≤ u → count_by f (inner_lengths u n) ≡ one (f n)
 count_short f u n some short =
-    let e = ap (count_by f) (parts_short u n some short) in
+    let e = ap (count_by f) (inner_lengths_short u n some short) in
     let d : sum_by (λ n. one (f n)) (n ∷ []) ≡ one (f n) + 0 = sum_by-cons (λ n. one (f n)) n [] in
     e ∙ (omega arith)
 
--- the same from what the code has found of each
-pub short_at : (u n w : ℕ) (b : Bool) (r : ℕ) → 0 < u → n ≤ u → b ≡ nat_le (need n) w → r ≡ 1 * one b → r ≡ count_by (λ n. nat_le (need n) w) (parts u n)
+-- the number of inner objects that pass the test, as the code adds it up
+pub short_at : (u n w : ℕ) (b : Bool) (r : ℕ) → 0 < u → n ≤ u → b ≡ nat_le (need n) w → r ≡ 1 * one b → r ≡ count_by (λ n. nat_le (need n) w) (inner_lengths u n)
 short_at u n w b r some short is e =
     let c = count_short (λ n. nat_le (need n) w) u n some short in
     let y = ap one is in omega arith
 
-pub long_at : (u n w q spine whole last : ℕ) (a b d : Bool) → 0 < u → u < n → q ≡ pieces u n
+pub long_at : (u n w q spine whole last : ℕ) (a b d : Bool) → 0 < u → u < n → q ≡ part_count u n
     → a ≡ nat_le (need (4 * q)) w → b ≡ nat_le (need u) w → d ≡ nat_le (need (n - u * (q - 1))) w
     → spine ≡ 1 * one a → whole ≡ (q - 1) * one b → last ≡ 1 * one d
-    → spine + (whole + last) ≡ count_by (λ n. nat_le (need n) w) (parts u n)
+    → spine + (whole + last) ≡ count_by (λ n. nat_le (need n) w) (inner_lengths u n)
 long_at u n w q spine whole last a b d some long is ea eb ed es ew el =
     let c = count_long (λ n. nat_le (need n) w) u n some long in
     let ya : one a ≡ one (nat_le (need (spine_bytes u n)) w) = ap one ea ∙ ap (λ q. one (nat_le (need (4 * q)) w)) is in
-    let yd : one d ≡ one (nat_le (need (n - u * (pieces u n - 1))) w) = ap one ed ∙ ap (λ q. one (nat_le (need (n - u * (q - 1))) w)) is in
-    let yb : (q - 1) * one b ≡ (pieces u n - 1) * one (nat_le (need u) w) = ap (λ k. k * one b) (ap (λ q. q - 1) is) ∙ ap (λ t. (pieces u n - 1) * one t) eb in
+    let yd : one d ≡ one (nat_le (need (n - u * (part_count u n - 1))) w) = ap one ed ∙ ap (λ q. one (nat_le (need (n - u * (q - 1))) w)) is in
+    let yb : (q - 1) * one b ≡ (part_count u n - 1) * one (nat_le (need u) w) = ap (λ k. k * one b) (ap (λ q. q - 1) is) ∙ ap (λ t. (part_count u n - 1) * one t) eb in
     omega arith
 
--- the pages that the classes before c need, with the parts
+-- the pages that the classes before c need, with the new inner objects
 abbrev pub pages_up_to : Paging → Objects → List ℕ → ℕ → ℕ
 pages_up_to p o lengths c = sum_by (λ d. ceil_div (live p o d + in_class p d lengths) (slots_of p d)) (range_with_len 0 c)
 

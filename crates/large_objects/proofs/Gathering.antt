@@ -1,4 +1,4 @@
--- What is gathered from the inner objects is what they were made of; and the counts and lengths after each call.
+-- The bytes gathered from the inner objects are those of the large objects; and the counts and lengths after each call.
 use Rattle.std.proofs.Common.{◌≡◌, ◌≢◌, ℕ, zero, suc, ◌+◌, ◌-◌, ◌*◌, ◌<◌, ◌≤◌, List, [], ◌∷◌, ◌++◌}
 use Rattle.std.proofs.Common.{Some, None, length, get_or, set, drop, replicate, arith, sym, ◌∙◌, ap, refl, inl, inr, length-drop}
 use Rattle.std.specs.Prelude.{Option, nat_eq, option_map, sum_by}
@@ -16,14 +16,14 @@ use Rattle.page_model.proofs.CallerLemmas.{live_added, live_taken}
 use Rattle.large_objects.specs.Growing.{IsGrowing}
 use Rattle.large_objects.specs.Large.{AreCounted, AreLaidOut, bytes_in, named}
 use Rattle.large_objects.specs.Layout.{AreLengths, gathered, gathered_from, gathered_objects}
-use Rattle.large_objects.specs.Parts.{in_class, parts, pieces, spine_bytes}
+use Rattle.large_objects.specs.InnerObjects.{in_class, inner_lengths, part_count, spine_bytes}
 use Rattle.large_objects.specs.Shrinking.{IsShrinking}
-use Rattle.large_objects.proofs.Bytes.{piece_of_zeros, pieces_whole}
-use Rattle.large_objects.proofs.Cutting.{in_class_cons, in_class_one, length_long, length_short, parts_long, parts_short, pieces_enough}
-use Rattle.large_objects.proofs.LaidOut.{IsNew, IsPartOf, clash, not_large}
+use Rattle.large_objects.proofs.Bytes.{part_of_zeros, parts_whole}
+use Rattle.large_objects.proofs.Cutting.{in_class_cons, in_class_one, length_long, length_short, inner_lengths_long, inner_lengths_short, parts_enough}
+use Rattle.large_objects.proofs.LaidOut.{IsNew, IsInnerOf, clash, not_large}
 use Rattle.large_objects.proofs.Room.{count_inserted, count_removed, count_replaced, live_inserted, live_removed, live_replaced, live_rewritten}
 use Rattle.large_objects.proofs.ShrinkLemmas.{len_without}
-use Rattle.large_objects.proofs.Summed.{parts_inserted, parts_removed, parts_rewritten, sum_inserted, sum_one, sum_removed, sum_rewritten}
+use Rattle.large_objects.proofs.Summed.{inner_inserted, inner_removed, inner_rewritten, sum_inserted, sum_one, sum_removed, sum_rewritten}
 
 drop_none : (xs : List ℕ) → drop 0 xs ≡ xs
 drop_none [] = refl
@@ -44,13 +44,13 @@ gathered_is : (u : ℕ) (large inner : Objects) → 0 < u → AreLaidOut u large
     ≡ v
 unfolding gathered
 gathered_is u large inner some laid h v is = elim (cases_lt u (length v)) [
-  | inl long ↦ rw (le_no (length v) u long) (pieces_whole u v (λ i. bytes_in (get inner (named inner h i))) (pieces u (length v))
-      (pieces_enough u (length v) some)
-      (λ i lt. ap bytes_in (laid.pieces_are h v is long i lt)))
+  | inl long ↦ rw (le_no (length v) u long) (parts_whole u v (λ i. bytes_in (get inner (named inner h i))) (part_count u (length v))
+      (parts_enough u (length v) some)
+      (λ i lt. ap bytes_in (laid.parts_are h v is long i lt)))
   | inr short ↦ rw (le_yes (length v) u short) (ap bytes_in (laid.small h v is short))
 ]
 
--- so all are
+-- all objects are gathered whole
 pub all_gathered : (u proxies : ℕ) (lengths : List (Option ℕ)) (large inner : Objects) → 0 < u → AreLaidOut u large inner → AreLengths lengths large proxies
     → gathered_objects u lengths inner ≡ large
 unfolding gathered_objects
@@ -110,7 +110,7 @@ module _ (p : Paging) (u : ℕ) (some : 0 < u) (large inner : Objects) (laid : A
         others = λ q b is. get_insert_other inner h zeros q (λ e. clash inner h b (sym (ap (get inner) e) ∙ is) unused) ∙ is;
         small = λ _. get_inserted inner h zeros;
         spine = λ long. absurd (never long);
-        pieces_are = λ long i lt. absurd (never long);
+        parts_are = λ long i lt. absurd (never long);
         fresh = λ long i lt. absurd (never long);
         not_spine = λ long i lt. absurd (never long);
         apart = λ long i j lt lt' e. absurd (never long);
@@ -127,37 +127,37 @@ module _ (p : Paging) (u : ℕ) (some : 0 < u) (large inner : Objects) (laid : A
         all = (
             let a = len_fresh inner h zeros unused in
             let b = count_inserted p u large h zeros none in
-            let l = ap (λ n. length (parts u n)) long_zeros in
+            let l = ap (λ n. length (inner_lengths u n)) long_zeros in
             let s = length_short u n some short in
             let before = counted.all in omega arith);
         each = λ c. (
             let a = live_added p inner h zeros c unused in
             let b = live_inserted p u large h zeros c none in
             let x = ap (λ k. one (nat_eq (class_for p k) c)) long_zeros in
-            let l = ap (λ n. in_class p c (parts u n)) long_zeros in
-            let s = ap (in_class p c) (parts_short u n some short) ∙ in_class_one p c n in
+            let l = ap (λ n. in_class p c (inner_lengths u n)) long_zeros in
+            let s = ap (in_class p c) (inner_lengths_short u n some short) ∙ in_class_one p c n in
             let before = counted.each c in omega arith);
         sums = λ f. (
             let a = sum_inserted f inner h zeros unused in
-            let b = parts_inserted f u large h zeros none in
+            let b = inner_inserted f u large h zeros none in
             let x = ap f long_zeros in
-            let l = ap (λ n. sum_by f (parts u n)) long_zeros in
-            let s = ap (sum_by f) (parts_short u n some short) ∙ sum_one f n in
+            let l = ap (λ n. sum_by f (inner_lengths u n)) long_zeros in
+            let s = ap (sum_by f) (inner_lengths_short u n some short) ∙ sum_one f n in
             let before = counted.sums f in omega arith);
       }
 
-  -- a long one, when all its pieces are made
-  module _ (long : u < n) (next : Objects) (grown : IsGrowing p u n inner h (pieces u n) next) where
+  -- a long one, when all its parts are made
+  module _ (long : u < n) (next : Objects) (grown : IsGrowing p u n inner h (part_count u n) next) where
     pub new_long : IsNew u inner h (replicate n 0) next
     new_long =
         let l = long_zeros in
-        let count = ap (pieces u) l in
+        let count = ap (part_count u) l in
         record {
           unused = unused;
           others = grown.others;
           small = λ short. absurd (omega arith);
           spine = λ _. (let s = grown.spine in record { spine = s.spine; found = s.found; long = s.long ∙ sym (ap (λ n. spine_bytes u n) l) });
-          pieces_are = λ _ i lt. grown.made i (rw count at lt) ∙ sym (ap (λ b. Some b) (piece_of_zeros u n i));
+          parts_are = λ _ i lt. grown.made i (rw count at lt) ∙ sym (ap (λ b. Some b) (part_of_zeros u n i));
           fresh = λ _ i lt. grown.fresh i (rw count at lt);
           not_spine = λ _ i lt. grown.not_spine i (rw count at lt);
           apart = λ _ i j lt lt' e. grown.apart i j (rw count at lt) (rw count at lt') e;
@@ -174,17 +174,17 @@ module _ (p : Paging) (u : ℕ) (some : 0 < u) (large inner : Objects) (laid : A
         record {
           all = (
               let b = count_inserted p u large h zeros none in
-              let z = ap (λ n. length (parts u n)) long_zeros in
+              let z = ap (λ n. length (inner_lengths u n)) long_zeros in
               let a = grown.all in let before = counted.all in omega arith);
           each = λ c. (
               let b = live_inserted p u large h zeros c none in
-              let z = ap (λ n. in_class p c (parts u n)) long_zeros in
-              let t = ap (in_class p c) (take_all (1 + pieces u n) (parts u n) (omega arith)) in
+              let z = ap (λ n. in_class p c (inner_lengths u n)) long_zeros in
+              let t = ap (in_class p c) (take_all (1 + part_count u n) (inner_lengths u n) (omega arith)) in
               let a = grown.live_now c in let before = counted.each c in omega arith);
           sums = λ f. (
-              let b = parts_inserted f u large h zeros none in
-              let z = ap (λ n. sum_by f (parts u n)) long_zeros in
-              let t = ap (sum_by f) (take_all (1 + pieces u n) (parts u n) (omega arith)) in
+              let b = inner_inserted f u large h zeros none in
+              let z = ap (λ n. sum_by f (inner_lengths u n)) long_zeros in
+              let t = ap (sum_by f) (take_all (1 + part_count u n) (inner_lengths u n) (omega arith)) in
               let a = grown.sums_now f in let before = counted.sums f in omega arith);
         }
 
@@ -192,10 +192,10 @@ module _ (p : Paging) (u : ℕ) (some : 0 < u) (large inner : Objects) (laid : A
 module _ (p : Paging) (u : ℕ) (some : 0 < u) (large inner : Objects) (laid : AreLaidOut u large inner) (counted : AreCounted p u large inner) (h : ℕ)
     (v : List ℕ)
     (found : get large h ≡ Some v) where
-  pub others_short : length v ≤ u → (q : ℕ) → (IsPartOf u inner h v q → ⊥) → get (remove inner h) q ≡ get inner q
+  pub others_short : length v ≤ u → (q : ℕ) → (IsInnerOf u inner h v q → ⊥) → get (remove inner h) q ≡ get inner q
   others_short short q not = get_remove_other inner h q (λ e. not (inl e))
 
-  pub gone_short : length v ≤ u → (q : ℕ) → IsPartOf u inner h v q → get (remove inner h) q ≡ None
+  pub gone_short : length v ≤ u → (q : ℕ) → IsInnerOf u inner h v q → get (remove inner h) q ≡ None
   gone_short short q (inl at) = ap (get (remove inner h)) at ∙ get_removed inner h
   gone_short short q (inr (long, part)) = absurd (omega arith)
 
@@ -211,32 +211,32 @@ module _ (p : Paging) (u : ℕ) (some : 0 < u) (large inner : Objects) (laid : A
         each = λ c. (
             let a = live_taken p inner h v c there in
             let b = live_removed p u large h v c found in
-            let s = ap (in_class p c) (parts_short u (length v) some short) ∙ in_class_one p c (length v) in
+            let s = ap (in_class p c) (inner_lengths_short u (length v) some short) ∙ in_class_one p c (length v) in
             let before = counted.each c in omega arith);
         sums = λ f. (
             let a = sum_removed f inner h v there in
-            let b = parts_removed f u large h v found in
-            let s = ap (sum_by f) (parts_short u (length v) some short) ∙ sum_one f (length v) in
+            let b = inner_removed f u large h v found in
+            let s = ap (sum_by f) (inner_lengths_short u (length v) some short) ∙ sum_one f (length v) in
             let before = counted.sums f in omega arith);
       }
 
-  module _ (long : u < length v) (mid : Objects) (shrunk : IsShrinking p u (length v) inner h (pieces u (length v)) mid) where
-    pub others_long : (q : ℕ) → (IsPartOf u inner h v q → ⊥) → get (remove mid h) q ≡ get inner q
+  module _ (long : u < length v) (mid : Objects) (shrunk : IsShrinking p u (length v) inner h (part_count u (length v)) mid) where
+    pub others_long : (q : ℕ) → (IsInnerOf u inner h v q → ⊥) → get (remove mid h) q ≡ get inner q
     others_long q not = get_remove_other mid h q (λ e. not (inl e)) ∙ shrunk.others q (λ j lt e. not (inr (long, (j, lt, e))))
 
-    pub gone_long : (q : ℕ) → IsPartOf u inner h v q → get (remove mid h) q ≡ None
+    pub gone_long : (q : ℕ) → IsInnerOf u inner h v q → get (remove mid h) q ≡ None
     gone_long q (inl at) = ap (get (remove mid h)) at ∙ get_removed mid h
     gone_long q (inr (_, (i, lt, at))) = elim (cases_eq q h) [
       | inl is ↦ ap (get (remove mid h)) is ∙ get_removed mid h
       | inr ne ↦ get_remove_other mid h q ne ∙ ap (get mid) at ∙ shrunk.gone i lt
     ]
 
-    pub counted_gone_long : ((j : ℕ) → j < pieces u (length v) → named inner h j ≢ h) → AreCounted p u (remove large h) (remove mid h)
+    pub counted_gone_long : ((j : ℕ) → j < part_count u (length v) → named inner h j ≢ h) → AreCounted p u (remove large h) (remove mid h)
     counted_gone_long apart =
         let s = laid.spines h v found long in
         let there : get mid h ≡ Some s.spine = shrunk.others h (λ j lt e. apart j lt (sym e)) ∙ s.found in
         let l = length_long u (length v) some long in
-        let d = length-drop 1 (parts u (length v)) in
+        let d = length-drop 1 (inner_lengths u (length v)) in
         record {
           all = (
               let a = len_without mid h s.spine there in
@@ -247,30 +247,30 @@ module _ (p : Paging) (u : ℕ) (some : 0 < u) (large inner : Objects) (laid : A
               let a = live_taken p mid h s.spine c there in
               let x = ap (λ k. one (nat_eq (class_for p k) c)) s.long in
               let b = live_removed p u large h v c found in
-              let t = ap (in_class p c) (take_all (pieces u (length v)) (drop 1 (parts u (length v))) (omega arith)) in
-              let rest : List ℕ = replicate (pieces u (length v) - 1) u ++ ((length v - u * (pieces u (length v) - 1)) ∷ []) in
-              let w : in_class p c (parts u (length v)) ≡ one (nat_eq (class_for p (spine_bytes u (length v))) c) + in_class p c rest =
-              ap (in_class p c) (parts_long u (length v) some long) ∙ in_class_cons p c (spine_bytes u (length v)) rest in
-              let y : in_class p c (drop 1 (parts u (length v))) ≡ in_class p c (drop 0 rest) =
-              ap (λ xs. in_class p c (drop 1 xs)) (parts_long u (length v) some long) in
+              let t = ap (in_class p c) (take_all (part_count u (length v)) (drop 1 (inner_lengths u (length v))) (omega arith)) in
+              let rest : List ℕ = replicate (part_count u (length v) - 1) u ++ ((length v - u * (part_count u (length v) - 1)) ∷ []) in
+              let w : in_class p c (inner_lengths u (length v)) ≡ one (nat_eq (class_for p (spine_bytes u (length v))) c) + in_class p c rest =
+              ap (in_class p c) (inner_lengths_long u (length v) some long) ∙ in_class_cons p c (spine_bytes u (length v)) rest in
+              let y : in_class p c (drop 1 (inner_lengths u (length v))) ≡ in_class p c (drop 0 rest) =
+              ap (λ xs. in_class p c (drop 1 xs)) (inner_lengths_long u (length v) some long) in
               let z : in_class p c (drop 0 rest) ≡ in_class p c rest = ap (in_class p c) (drop_none rest) in
               let m = shrunk.live_now c in
               let before = counted.each c in omega arith);
           sums = λ f. (
               let a = sum_removed f mid h s.spine there in
               let x = ap f s.long in
-              let b = parts_removed f u large h v found in
-              let t = ap (sum_by f) (take_all (pieces u (length v)) (drop 1 (parts u (length v))) (omega arith)) in
-              let rest : List ℕ = replicate (pieces u (length v) - 1) u ++ ((length v - u * (pieces u (length v) - 1)) ∷ []) in
-              let w : sum_by f (parts u (length v)) ≡ f (spine_bytes u (length v)) + sum_by f rest =
-              ap (sum_by f) (parts_long u (length v) some long) ∙ sum_by-cons f (spine_bytes u (length v)) rest in
-              let y : sum_by f (drop 1 (parts u (length v))) ≡ sum_by f (drop 0 rest) = ap (λ xs. sum_by f (drop 1 xs)) (parts_long u (length v) some long) in
+              let b = inner_removed f u large h v found in
+              let t = ap (sum_by f) (take_all (part_count u (length v)) (drop 1 (inner_lengths u (length v))) (omega arith)) in
+              let rest : List ℕ = replicate (part_count u (length v) - 1) u ++ ((length v - u * (part_count u (length v) - 1)) ∷ []) in
+              let w : sum_by f (inner_lengths u (length v)) ≡ f (spine_bytes u (length v)) + sum_by f rest =
+              ap (sum_by f) (inner_lengths_long u (length v) some long) ∙ sum_by-cons f (spine_bytes u (length v)) rest in
+              let y : sum_by f (drop 1 (inner_lengths u (length v))) ≡ sum_by f (drop 0 rest) = ap (λ xs. sum_by f (drop 1 xs)) (inner_lengths_long u (length v) some long) in
               let z : sum_by f (drop 0 rest) ≡ sum_by f rest = ap (sum_by f) (drop_none rest) in
               let m = shrunk.sums_now f in
               let before = counted.sums f in omega arith);
         }
 
--- an inner object is written: it has the same length, and so has the object
+-- the counts after a write into an inner object, which keeps its length and that of the object
 pub counted_written : (p : Paging) (u : ℕ) (large inner : Objects) (h q : ℕ) (v w b c : List ℕ) → AreCounted p u large inner → get large h ≡ Some v
     → length w ≡ length v → get inner q ≡ Some b → length c ≡ length b → AreCounted p u (insert large h w) (insert inner q c)
 counted_written p u large inner h q v w b c counted found same there alike = record {
@@ -283,7 +283,7 @@ counted_written p u large inner h q v w b c counted found same there alike = rec
       let y = live_rewritten p inner q b c d there alike in
       let before = counted.each d in omega arith);
   sums = λ f. (
-      let x = parts_rewritten f u large h v w found same in
+      let x = inner_rewritten f u large h v w found same in
       let y = sum_rewritten f inner q b c there alike in
       let before = counted.sums f in omega arith);
 }

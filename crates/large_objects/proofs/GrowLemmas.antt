@@ -1,4 +1,4 @@
--- A malloc of a long object, piece by piece.
+-- A malloc of a long object, part by part.
 use Rattle.std.proofs.Common.{◌≡◌, ◌≢◌, ℕ, suc, ◌+◌, ◌-◌, ◌*◌, ◌^◌, ◌<◌, ◌≤◌, List, [], ◌∷◌, ◌++◌}
 use Rattle.std.proofs.Common.{Some, None, length, get_or, take, replicate, arith, sym, ◌∙◌, ap, refl, subst, inl, inr}
 use Rattle.std.specs.Prelude.{◌⊎◌, Option, nat_eq, sum_by}
@@ -17,18 +17,18 @@ use Rattle.page_model.specs.Held.{Objects, objects}
 use Rattle.page_model.specs.Paging.{Paging, class_for}
 use Rattle.page_model.proofs.CallerLemmas.{length-written, live_added}
 use Rattle.cf_model.specs.State.{HeapState, paging_in}
-use Rattle.large_objects.specs.Growing.{Grows, HasPartsRoom, IsGrowing, NamesPiece}
-use Rattle.large_objects.specs.InnerCalls.{GivesPart, HasPart, HasPartRoom, WritesPart}
+use Rattle.large_objects.specs.Growing.{Grows, HasObjectRoom, IsGrowing, NamesPart}
+use Rattle.large_objects.specs.InnerCalls.{GivesInner, HasInner, HasInnerRoom, WritesInner}
 use Rattle.large_objects.specs.Large.{bytes_in, handle_at, named}
-use Rattle.large_objects.specs.Parts.{in_class, length_sum, parts, piece_length, pieces, spine_bytes}
+use Rattle.large_objects.specs.InnerObjects.{in_class, length_sum, inner_lengths, part_length, part_count, spine_bytes}
 use Rattle.large_objects.proofs.Bytes.{handle_other, handle_written}
 use Rattle.large_objects.proofs.Cutting.{in_class_cons, in_class_more, in_class_one, in_class_take_none}
-use Rattle.large_objects.proofs.Cutting.{length_long, length_short, part_is, parts_long, parts_short}
+use Rattle.large_objects.proofs.Cutting.{length_long, length_short, inner_length_is, inner_lengths_long, inner_lengths_short}
 use Rattle.large_objects.proofs.InnerSteps.{same_paging, then_ready}
-use Rattle.large_objects.proofs.Room.{in_class_take, live_rewritten, part_has_pages, piece_fits}
+use Rattle.large_objects.proofs.Room.{in_class_take, live_rewritten, inner_has_pages, part_fits}
 use Rattle.large_objects.proofs.Summed.{sum_inserted, sum_more, sum_rewritten, sum_take_none}
 
--- a fresh object leaves the others unchanged
+-- adding an object under an unused number leaves every other object unchanged
 stays_there : (o : Objects) (q : ℕ) (v : List ℕ) → get o q ≡ None → (h : ℕ) (b : List ℕ) → get o h ≡ Some b → (h ≢ q) × (get (insert o q v) h ≡ Some b)
 stays_there o q v none h b is =
     let ne : h ≢ q = (λ e. (let z : get o q ≡ Some b = ap (get o) (sym e) ∙ is in absurd (let w : Some b ≡ None = sym z ∙ none in cc))) in
@@ -52,32 +52,32 @@ module _ (p : Paging) (u n : ℕ) (some : 0 < u) (long : u < n) (old : Objects) 
     live_now = λ c. (
         let e = live_added p old h (replicate (spine_bytes u n) 0) c unused in
         let l = ap (λ k. one (nat_eq (class_for p k) c)) (length-replicate {A = ℕ} (spine_bytes u n) 0) in
-        let rest : List ℕ = replicate (pieces u n - 1) u ++ ((n - u * (pieces u n - 1)) ∷ []) in
-        let t : in_class p c (take 1 (parts u n)) ≡ one (nat_eq (class_for p (spine_bytes u n)) c) + in_class p c (take 0 rest) =
-        ap (λ xs. in_class p c (take 1 xs)) (parts_long u n some long) ∙ in_class_cons p c (spine_bytes u n) (take 0 rest) in
+        let rest : List ℕ = replicate (part_count u n - 1) u ++ ((n - u * (part_count u n - 1)) ∷ []) in
+        let t : in_class p c (take 1 (inner_lengths u n)) ≡ one (nat_eq (class_for p (spine_bytes u n)) c) + in_class p c (take 0 rest) =
+        ap (λ xs. in_class p c (take 1 xs)) (inner_lengths_long u n some long) ∙ in_class_cons p c (spine_bytes u n) (take 0 rest) in
         let z = in_class_take_none p c rest in
-        let s : in_class p c (take (1 + 0) (parts u n)) ≡ in_class p c (take 1 (parts u n)) = refl in
+        let s : in_class p c (take (1 + 0) (inner_lengths u n)) ≡ in_class p c (take 1 (inner_lengths u n)) = refl in
         omega arith);
     all = len_fresh old h _ unused;
     sums_now = λ f. (
         let e = sum_inserted f old h (replicate (spine_bytes u n) 0) unused in
         let l = ap f (length-replicate {A = ℕ} (spine_bytes u n) 0) in
-        let rest : List ℕ = replicate (pieces u n - 1) u ++ ((n - u * (pieces u n - 1)) ∷ []) in
-        let t : sum_by f (take 1 (parts u n)) ≡ f (spine_bytes u n) + sum_by f (take 0 rest) =
-        ap (λ xs. sum_by f (take 1 xs)) (parts_long u n some long) ∙ sum_by-cons f (spine_bytes u n) (take 0 rest) in
+        let rest : List ℕ = replicate (part_count u n - 1) u ++ ((n - u * (part_count u n - 1)) ∷ []) in
+        let t : sum_by f (take 1 (inner_lengths u n)) ≡ f (spine_bytes u n) + sum_by f (take 0 rest) =
+        ap (λ xs. sum_by f (take 1 xs)) (inner_lengths_long u n some long) ∙ sum_by-cons f (spine_bytes u n) (take 0 rest) in
         let z = sum_take_none f rest in
-        let s : sum_by f (take (1 + 0) (parts u n)) ≡ sum_by f (take 1 (parts u n)) = refl in
+        let s : sum_by f (take (1 + 0) (inner_lengths u n)) ≡ sum_by f (take 1 (inner_lengths u n)) = refl in
         omega arith);
   }
 
-  -- one piece more, which the spine names
-  module _ (i : ℕ) (below : i < pieces u n) (now : Objects) (g : IsGrowing p u n old h i now) (q : ℕ) (unused : get now q ≡ None) (small : q < 2 ^ 32)
+  -- one part more, which the spine names
+  module _ (i : ℕ) (below : i < part_count u n) (now : Objects) (g : IsGrowing p u n old h i now) (q : ℕ) (unused : get now q ≡ None) (small : q < 2 ^ 32)
       (spine : List ℕ) (found : get now h ≡ Some spine) where
-    abbrev piece : List ℕ
-    piece = replicate (piece_length u n i) 0
+    abbrev part_bytes : List ℕ
+    part_bytes = replicate (part_length u n i) 0
 
     abbrev mid : Objects
-    mid = insert now q piece
+    mid = insert now q part_bytes
 
     abbrev spine' : List ℕ
     spine' = written spine (4 * i) (to_le_bytes w32 q)
@@ -97,10 +97,10 @@ module _ (p : Paging) (u n : ℕ) (some : 0 < u) (long : u < n) (old : Objects) 
     spine_there = get_inserted mid h spine'
 
     other_there : (r : ℕ) → r ≢ h → r ≢ q → get next r ≡ get now r
-    other_there r nh nq = get_insert_other mid h spine' r nh ∙ get_insert_other now q piece r nq
+    other_there r nh nq = get_insert_other mid h spine' r nh ∙ get_insert_other now q part_bytes r nq
 
-    piece_there : get next q ≡ Some piece
-    piece_there = get_insert_other mid h spine' q not_h ∙ get_inserted now q piece
+    part_there : get next q ≡ Some part_bytes
+    part_there = get_insert_other mid h spine' q not_h ∙ get_inserted now q part_bytes
 
     named_now : (j : ℕ) → named now h j ≡ handle_at spine j
     named_now j = ap (λ o. handle_at (bytes_in o) j) found
@@ -114,14 +114,14 @@ module _ (p : Paging) (u n : ℕ) (some : 0 < u) (long : u < n) (old : Objects) 
     named_same : (j : ℕ) → j < i → named next h j ≡ named now h j
     named_same j lt = named_next j ∙ handle_other spine i q room j (omega arith) ∙ sym (named_now j)
 
-    -- a piece that was made before isn't the new one
+    -- a part that was made before isn't the new one
     not_new : (j : ℕ) → j < i → named now h j ≢ q
-    not_new j lt e = (let z : get now q ≡ Some (replicate (piece_length u n j) 0) = ap (get now) (sym e) ∙ g.made j lt in
-        absurd (let w : Some (replicate (piece_length u n j) 0) ≡ None = sym z ∙ unused in cc))
+    not_new j lt e = (let z : get now q ≡ Some (replicate (part_length u n j) 0) = ap (get now) (sym e) ∙ g.made j lt in
+        absurd (let w : Some (replicate (part_length u n j) 0) ≡ None = sym z ∙ unused in cc))
 
-    made_next : (j : ℕ) → j < i + 1 → get next (named next h j) ≡ Some (replicate (piece_length u n j) 0)
+    made_next : (j : ℕ) → j < i + 1 → get next (named next h j) ≡ Some (replicate (part_length u n j) 0)
     made_next j lt = elim (cases_eq j i) [
-      | inl is ↦ rw is (ap (get next) named_new ∙ piece_there)
+      | inl is ↦ rw is (ap (get next) named_new ∙ part_there)
       | inr ne ↦ ap (get next) (named_same j (omega arith)) ∙ other_there (named now h j) (g.not_spine j (omega arith)) (not_new j (omega arith))
           ∙ g.made j (omega arith)
     ]
@@ -173,37 +173,37 @@ module _ (p : Paging) (u n : ℕ) (some : 0 < u) (long : u < n) (old : Objects) 
       ]
     ]
 
-    live_next : (c : ℕ) → live p next c ≡ live p old c + in_class p c (take (1 + (i + 1)) (parts u n))
+    live_next : (c : ℕ) → live p next c ≡ live p old c + in_class p c (take (1 + (i + 1)) (inner_lengths u n))
     live_next c =
-        let a = live_added p now q piece c unused in
-        let l = ap (λ k. one (nat_eq (class_for p k) c)) (length-replicate {A = ℕ} (piece_length u n i) 0) in
-        let there : get mid h ≡ Some spine = get_insert_other now q piece h (λ e. not_h (sym e)) ∙ found in
+        let a = live_added p now q part_bytes c unused in
+        let l = ap (λ k. one (nat_eq (class_for p k) c)) (length-replicate {A = ℕ} (part_length u n i) 0) in
+        let there : get mid h ≡ Some spine = get_insert_other now q part_bytes h (λ e. not_h (sym e)) ∙ found in
         let b = live_rewritten p mid h spine spine' c there (length-written spine (4 * i) (to_le_bytes w32 q) room) in
         let ll = length_long u n some long in
-        let m : in_class p c (take (suc i + 1) (parts u n)) ≡ in_class p c (take (suc i) (parts u n)) + one
-        (nat_eq (class_for p (get_or (parts u n) (suc i) 0)) c) =
-        in_class_more p c (parts u n) (suc i) (omega arith) in
-        let x = ap (λ k. one (nat_eq (class_for p k) c)) (part_is u n some long i below) in
-        let s : in_class p c (take (1 + (i + 1)) (parts u n)) ≡ in_class p c (take (suc i + 1) (parts u n)) =
-        ap (λ k. in_class p c (take k (parts u n))) (let e : 1 + (i + 1) ≡ suc i + 1 = omega arith in e) in
-        let t : in_class p c (take (1 + i) (parts u n)) ≡ in_class p c (take (suc i) (parts u n)) =
-        ap (λ k. in_class p c (take k (parts u n))) (let e : 1 + i ≡ suc i = omega arith in e) in
+        let m : in_class p c (take (suc i + 1) (inner_lengths u n)) ≡ in_class p c (take (suc i) (inner_lengths u n)) + one
+        (nat_eq (class_for p (get_or (inner_lengths u n) (suc i) 0)) c) =
+        in_class_more p c (inner_lengths u n) (suc i) (omega arith) in
+        let x = ap (λ k. one (nat_eq (class_for p k) c)) (inner_length_is u n some long i below) in
+        let s : in_class p c (take (1 + (i + 1)) (inner_lengths u n)) ≡ in_class p c (take (suc i + 1) (inner_lengths u n)) =
+        ap (λ k. in_class p c (take k (inner_lengths u n))) (let e : 1 + (i + 1) ≡ suc i + 1 = omega arith in e) in
+        let t : in_class p c (take (1 + i) (inner_lengths u n)) ≡ in_class p c (take (suc i) (inner_lengths u n)) =
+        ap (λ k. in_class p c (take k (inner_lengths u n))) (let e : 1 + i ≡ suc i = omega arith in e) in
         let before = g.live_now c in omega arith
 
-    sums_next : (f : ℕ → ℕ) → length_sum f next ≡ length_sum f old + sum_by f (take (1 + (i + 1)) (parts u n))
+    sums_next : (f : ℕ → ℕ) → length_sum f next ≡ length_sum f old + sum_by f (take (1 + (i + 1)) (inner_lengths u n))
     sums_next f =
-        let a = sum_inserted f now q piece unused in
-        let l = ap f (length-replicate {A = ℕ} (piece_length u n i) 0) in
-        let there : get mid h ≡ Some spine = get_insert_other now q piece h (λ e. not_h (sym e)) ∙ found in
+        let a = sum_inserted f now q part_bytes unused in
+        let l = ap f (length-replicate {A = ℕ} (part_length u n i) 0) in
+        let there : get mid h ≡ Some spine = get_insert_other now q part_bytes h (λ e. not_h (sym e)) ∙ found in
         let b = sum_rewritten f mid h spine spine' there (length-written spine (4 * i) (to_le_bytes w32 q) room) in
         let ll = length_long u n some long in
-        let m : sum_by f (take (suc i + 1) (parts u n)) ≡ sum_by f (take (suc i) (parts u n)) + f (get_or (parts u n) (suc i) 0) =
-        sum_more f (parts u n) (suc i) (omega arith) in
-        let x = ap f (part_is u n some long i below) in
-        let s : sum_by f (take (1 + (i + 1)) (parts u n)) ≡ sum_by f (take (suc i + 1) (parts u n)) =
-        ap (λ k. sum_by f (take k (parts u n))) (let e : 1 + (i + 1) ≡ suc i + 1 = omega arith in e) in
-        let t : sum_by f (take (1 + i) (parts u n)) ≡ sum_by f (take (suc i) (parts u n)) =
-        ap (λ k. sum_by f (take k (parts u n))) (let e : 1 + i ≡ suc i = omega arith in e) in
+        let m : sum_by f (take (suc i + 1) (inner_lengths u n)) ≡ sum_by f (take (suc i) (inner_lengths u n)) + f (get_or (inner_lengths u n) (suc i) 0) =
+        sum_more f (inner_lengths u n) (suc i) (omega arith) in
+        let x = ap f (inner_length_is u n some long i below) in
+        let s : sum_by f (take (1 + (i + 1)) (inner_lengths u n)) ≡ sum_by f (take (suc i + 1) (inner_lengths u n)) =
+        ap (λ k. sum_by f (take k (inner_lengths u n))) (let e : 1 + (i + 1) ≡ suc i + 1 = omega arith in e) in
+        let t : sum_by f (take (1 + i) (inner_lengths u n)) ≡ sum_by f (take (suc i) (inner_lengths u n)) =
+        ap (λ k. sum_by f (take k (inner_lengths u n))) (let e : 1 + i ≡ suc i = omega arith in e) in
         let before = g.sums_now f in omega arith
 
     pub growing_more : IsGrowing p u n old h (i + 1) next
@@ -218,7 +218,7 @@ module _ (p : Paging) (u n : ℕ) (some : 0 < u) (long : u < n) (old : Objects) 
       unused = g.unused;
       others = λ r b is. (
           let there = g.others r b is in
-          let nq = (stays_there now q piece unused r b there).0 in
+          let nq = (stays_there now q part_bytes unused r b there).0 in
           let nh : r ≢ h = (λ e. (let z : get old h ≡ Some b = ap (get old) (sym e) ∙ is in absurd (let w : Some b ≡ None = sym z ∙ g.unused in cc))) in
           other_there r nh nq ∙ there);
       made = made_next;
@@ -228,78 +228,78 @@ module _ (p : Paging) (u n : ℕ) (some : 0 < u) (long : u < n) (old : Objects) 
       no_others = no_others_next;
       live_now = live_next;
       all = (
-          let a = len_fresh now q piece unused in
-          let there : get mid h ≡ Some spine = get_insert_other now q piece h (λ e. not_h (sym e)) ∙ found in
+          let a = len_fresh now q part_bytes unused in
+          let there : get mid h ≡ Some spine = get_insert_other now q part_bytes h (λ e. not_h (sym e)) ∙ found in
           let b = len_rebound mid h spine' spine there in
           let before = g.all in omega arith);
       sums_now = sums_next;
     }
 
 -- there is room for one inner object alone
-pub room_for_short : (u n : ℕ) (s : HeapState) → 0 < u → n ≤ u → HasPartsRoom u n s → HasPartRoom s n
+pub room_for_short : (u n : ℕ) (s : HeapState) → 0 < u → n ≤ u → HasObjectRoom u n s → HasInnerRoom s n
 room_for_short u n s some short room = record {
-  fits = (let e = room.piece in piece_fits s.profile n (omega arith) (omega arith));
+  fits = (let e = room.part_bytes in part_fits s.profile n (omega arith) (omega arith));
   few = (let l = length_short u n some short in let few = room.proxies in omega arith);
-  pages = part_has_pages (paging_in s) (objects s.held) n (λ c. live (paging_in s) (objects s.held) c + in_class (paging_in s) c (parts u n)) s.profile.pages
-      room.pages (λ c. (let e = ap (in_class (paging_in s) c) (parts_short u n some short) ∙ in_class_one (paging_in s) c n in omega arith));
+  pages = inner_has_pages (paging_in s) (objects s.held) n (λ c. live (paging_in s) (objects s.held) c + in_class (paging_in s) c (inner_lengths u n)) s.profile.pages
+      room.pages (λ c. (let e = ap (in_class (paging_in s) c) (inner_lengths_short u n some short) ∙ in_class_one (paging_in s) c n in omega arith));
 }
 
--- for the spine
-pub room_for_spine : (u n : ℕ) (s : HeapState) → 0 < u → u < n → HasPartsRoom u n s → HasPartRoom s (spine_bytes u n)
+-- there is room for the spine
+pub room_for_spine : (u n : ℕ) (s : HeapState) → 0 < u → u < n → HasObjectRoom u n s → HasInnerRoom s (spine_bytes u n)
 room_for_spine u n s some long room = record {
   fits = (
-      let e = room.piece in
+      let e = room.part_bytes in
       let within : spine_bytes u n ≤ u = elim room.fits [ inl short ↦ absurd (omega arith) | inr fits ↦ fits ] in
-      piece_fits s.profile (spine_bytes u n) (omega arith) (omega arith));
+      part_fits s.profile (spine_bytes u n) (omega arith) (omega arith));
   few = (let l = length_long u n some long in let few = room.proxies in omega arith);
-  pages = part_has_pages (paging_in s) (objects s.held) (spine_bytes u n)
-      (λ c. live (paging_in s) (objects s.held) c + in_class (paging_in s) c (parts u n)) s.profile.pages
-      room.pages (λ c. (let e = ap (in_class (paging_in s) c) (parts_long u n some long) ∙ in_class_cons (paging_in s) c (spine_bytes u n) _ in omega arith));
+  pages = inner_has_pages (paging_in s) (objects s.held) (spine_bytes u n)
+      (λ c. live (paging_in s) (objects s.held) c + in_class (paging_in s) c (inner_lengths u n)) s.profile.pages
+      room.pages (λ c. (let e = ap (in_class (paging_in s) c) (inner_lengths_long u n some long) ∙ in_class_cons (paging_in s) c (spine_bytes u n) _ in omega arith));
 }
 
-module _ (u n : ℕ) (old now : HeapState) (h i : ℕ) (some : 0 < u) (long : u < n) (room : HasPartsRoom u n old) (g : Grows u n old h i now)
-    (below : i < pieces u n) where
-  -- and for each piece in turn
-  pub room_for_piece : HasPartRoom now (piece_length u n i)
-  room_for_piece =
+module _ (u n : ℕ) (old now : HeapState) (h i : ℕ) (some : 0 < u) (long : u < n) (room : HasObjectRoom u n old) (g : Grows u n old h i now)
+    (below : i < part_count u n) where
+  -- there is room for each part in turn
+  pub room_for_part : HasInnerRoom now (part_length u n i)
+  room_for_part =
       let k = g.stays.settings in
       let profile_pages = ap (λ (p : Profile). p.pages) k.profile in
       let profile_words = ap (λ (p : Profile). p.page_words) k.profile in
       let profile_proxies = ap (λ (p : Profile). p.proxies) k.profile in
-      let e = room.piece in
+      let e = room.part_bytes in
       let ll = length_long u n some long in
       let all = g.growing.all in
       let few = room.proxies in
       let p : Paging = paging_in old in
-      let each : (c : ℕ) → live (paging_in old) (objects now.held) c + one (nat_eq (class_for (paging_in old) (piece_length u n i)) c)
-      ≤ live (paging_in old) (objects old.held) c + in_class (paging_in old) c (parts u n) = λ c. (
+      let each : (c : ℕ) → live (paging_in old) (objects now.held) c + one (nat_eq (class_for (paging_in old) (part_length u n i)) c)
+      ≤ live (paging_in old) (objects old.held) c + in_class (paging_in old) c (inner_lengths u n) = λ c. (
       let a = g.growing.live_now c in
-      let m : in_class (paging_in old) c (take (suc i + 1) (parts u n)) ≡ in_class (paging_in old) c (take (suc i) (parts u n))
-      + one (nat_eq (class_for (paging_in old) (get_or (parts u n) (suc i) 0)) c) = in_class_more (paging_in old) c (parts u n) (suc i) (omega arith) in
-      let x = ap (λ k. one (nat_eq (class_for (paging_in old) k) c)) (part_is u n some long i below) in
-      let t : in_class (paging_in old) c (take (1 + i) (parts u n)) ≡ in_class (paging_in old) c (take (suc i) (parts u n)) =
-      ap (λ k. in_class (paging_in old) c (take k (parts u n))) (let e : 1 + i ≡ suc i = omega arith in e) in
-      let w = in_class_take (paging_in old) c (parts u n) (suc i + 1) in omega arith) in
-      let within = part_has_pages (paging_in old) (objects now.held) (piece_length u n i)
-      (λ c. live (paging_in old) (objects old.held) c + in_class (paging_in old) c (parts u n)) old.profile.pages room.pages each in
-      let family : Paging → Type 0 = λ p. pages_needed_with p (objects now.held) (piece_length u n i) ≤ old.profile.pages in
-      let within' : pages_needed_with (paging_in now) (objects now.held) (piece_length u n i) ≤ old.profile.pages = subst family (sym (same_paging old now k))
+      let m : in_class (paging_in old) c (take (suc i + 1) (inner_lengths u n)) ≡ in_class (paging_in old) c (take (suc i) (inner_lengths u n))
+      + one (nat_eq (class_for (paging_in old) (get_or (inner_lengths u n) (suc i) 0)) c) = in_class_more (paging_in old) c (inner_lengths u n) (suc i) (omega arith) in
+      let x = ap (λ k. one (nat_eq (class_for (paging_in old) k) c)) (inner_length_is u n some long i below) in
+      let t : in_class (paging_in old) c (take (1 + i) (inner_lengths u n)) ≡ in_class (paging_in old) c (take (suc i) (inner_lengths u n)) =
+      ap (λ k. in_class (paging_in old) c (take k (inner_lengths u n))) (let e : 1 + i ≡ suc i = omega arith in e) in
+      let w = in_class_take (paging_in old) c (inner_lengths u n) (suc i + 1) in omega arith) in
+      let within = inner_has_pages (paging_in old) (objects now.held) (part_length u n i)
+      (λ c. live (paging_in old) (objects old.held) c + in_class (paging_in old) c (inner_lengths u n)) old.profile.pages room.pages each in
+      let family : Paging → Type 0 = λ p. pages_needed_with p (objects now.held) (part_length u n i) ≤ old.profile.pages in
+      let within' : pages_needed_with (paging_in now) (objects now.held) (part_length u n i) ≤ old.profile.pages = subst family (sym (same_paging old now k))
       within in
       record {
-        fits = piece_fits now.profile (piece_length u n i) (omega arith) (omega arith);
+        fits = part_fits now.profile (part_length u n i) (omega arith) (omega arith);
         few = omega arith;
         pages = omega arith;
       }
 
   -- the spine has a place for its handle
-  pub place_in_spine : HasPart now h (4 * i) 4
+  pub place_in_spine : HasInner now h (4 * i) 4
   place_in_spine = record { bytes = g.growing.spine.spine; found = g.growing.spine.found; within = (let l = g.growing.spine.long in omega arith) }
 
   -- the place's byte is a number of 32 bits, as the spine fits a page
   pub place_is_small : u < 2 ^ 32 → 4 * i < 2 ^ 32
   place_is_small small = (let within : spine_bytes u n ≤ u = elim room.fits [ inl short ↦ absurd (omega arith) | inr fits ↦ fits ] in omega arith)
 
-  pub grows_more : (next : HeapState) → NamesPiece now h i (piece_length u n i) next → Grows u n old h (i + 1) next
+  pub grows_more : (next : HeapState) → NamesPart now h i (part_length u n i) next → Grows u n old h (i + 1) next
   grows_more next names = record {
     stays = then_ready old now next g.stays names.stays;
     growing = subst (λ (o : Objects). IsGrowing (paging_in old) u n (objects old.held) h (i + 1) o) (sym names.left)
@@ -308,17 +308,17 @@ module _ (u n : ℕ) (old now : HeapState) (h i : ℕ) (some : 0 < u) (long : u 
   }
 
 -- a spine is made
-pub grows_first : (u n : ℕ) (old new : HeapState) (h : ℕ) → 0 < u → u < n → GivesPart old h (spine_bytes u n) new → Grows u n old h 0 new
+pub grows_first : (u n : ℕ) (old new : HeapState) (h : ℕ) → 0 < u → u < n → GivesInner old h (spine_bytes u n) new → Grows u n old h 0 new
 grows_first u n old new h some long given = record {
   stays = given.stays;
   growing = subst (λ (o : Objects). IsGrowing (paging_in old) u n (objects old.held) h 0 o) (sym given.left)
       (growing_first (paging_in old) u n some long (objects old.held) h given.unused);
 }
 
--- a piece is made, and then its handle is written
-pub piece_named : (old made new : HeapState) (h i n q : ℕ) → GivesPart old q n made → (v : List ℕ) → get (objects old.held) h ≡ Some v
-    → WritesPart made h (4 * i) (to_le_bytes w32 q) new → NamesPiece old h i n new
-piece_named old made new h i n q given v found wrote =
+-- a part is made, and then its handle is written
+pub part_named : (old made new : HeapState) (h i n q : ℕ) → GivesInner old q n made → (v : List ℕ) → get (objects old.held) h ≡ Some v
+    → WritesInner made h (4 * i) (to_le_bytes w32 q) new → NamesPart old h i n new
+part_named old made new h i n q given v found wrote =
     let there = (stays_there (objects old.held) q (replicate n 0) given.unused h v found).1 in
     let there' : get (objects made.held) h ≡ Some v = ap (λ (o : Objects). get o h) given.left ∙ there in
     let same = same_Some wrote.object v (sym wrote.found ∙ there') in
@@ -333,9 +333,9 @@ piece_named old made new h i n q given v found wrote =
           ∙ ap (λ w. insert (insert (objects old.held) q (replicate n 0)) h (written w (4 * i) (to_le_bytes w32 q))) same;
     }
 
--- what is there beside a new piece
-pub part_beside : (old made : HeapState) (h q n at count : ℕ) → GivesPart old q n made → HasPart old h at count → HasPart made h at count
-part_beside old made h q n at count given has = record {
+-- an object keeps its bytes when another inner object is made
+pub inner_beside : (old made : HeapState) (h q n at count : ℕ) → GivesInner old q n made → HasInner old h at count → HasInner made h at count
+inner_beside old made h q n at count given has = record {
   bytes = has.bytes;
   found = ap (λ (o : Objects). get o h) given.left ∙ (stays_there (objects old.held) q (replicate n 0) given.unused h has.bytes has.found).1;
   within = has.within;

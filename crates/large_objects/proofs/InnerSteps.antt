@@ -20,14 +20,15 @@ use Rattle.cf_model.specs.Families.{family_of}
 use Rattle.cf_model.specs.Rules.{KeepsPages, KeepsRules}
 use Rattle.cf_model.specs.State.{HeapState, layout_of, paging_in}
 use Rattle.cf_model.specs.Steps.{GivesObject, IsFault, IsFreeStep, IsReadAnswer, IsRefusedBy, IsWriteStep, KeepsSettings, LacksRoomIn, Part}
-use Rattle.run_model.proofs.CallerLemmas.{bytes_held, bytes_missing, held_of_bytes, pages_kept}
-use Rattle.large_objects.specs.InnerCalls.{FreesPart, GivesPart, HasPart, HasPartRoom, IsReady, StaysReady, WritesPart}
+use Rattle.cf_model.proofs.CallerLemmas.{pages_kept}
+use Rattle.run_model.proofs.CallerLemmas.{bytes_held, bytes_missing, held_of_bytes}
+use Rattle.large_objects.specs.InnerCalls.{FreesInner, GivesInner, HasInner, HasInnerRoom, IsReady, StaysReady, WritesInner}
 
--- what a ready manager keeps of its pages
+-- a ready manager keeps the rules of its pages
 pub keeps_pages : (s : HeapState) → IsReady s → KeepsPages s
 keeps_pages s r = pages_kept s.kind s r.pages r.rules.of_kind
 
--- the same settings and bounds are the same pages and classes
+-- a manager that keeps its settings and bounds has the same pages and classes
 pub same_paging : (old new : HeapState) → KeepsSettings old new → paging_in new ≡ paging_in old
 same_paging old new k =
     ap (λ kind. paging_of new.profile (layout_of kind) new.bounds) k.kind
@@ -64,18 +65,18 @@ not_both : (o : Objects) (h : ℕ) (v : List ℕ) → get o h ≡ Some v → get
 not_both o h v some none = (let g : Some v ≡ None = sym some ∙ none in cc)
 
 -- a malloc with room isn't refused
-pub part_not_refused : (s : HeapState) (n : ℕ) → IsReady s → HasPartRoom s n → (e : Refusal) → IsRefusedBy s n e → ⊥
-part_not_refused s n r room refusal.Size cause = (let fits = room.fits in omega arith)
-part_not_refused s n r room refusal.Proxy cause = (let few = room.few in let all = cause.all in let l = len-objects s.held in omega arith)
-part_not_refused s n r room refusal.Space cause =
+pub inner_not_refused : (s : HeapState) (n : ℕ) → IsReady s → HasInnerRoom s n → (e : Refusal) → IsRefusedBy s n e → ⊥
+inner_not_refused s n r room refusal.Size cause = (let fits = room.fits in omega arith)
+inner_not_refused s n r room refusal.Proxy cause = (let few = room.few in let all = cause.all in let l = len-objects s.held in omega arith)
+inner_not_refused s n r room refusal.Space cause =
     let lacking : LacksRoom (paging_in s) s.held (class_for (paging_in s) n) = rw (r.pages, LacksRoomIn) at cause.lacking in
     let kept = keeps_pages s r in
     let past = (lacks_room_at_one (paging_in s) kept.paging r.ones s.held kept.sound n (class_fits (paging_in s) kept.paging n room.fits)).0 lacking in
     let pages = room.pages in omega arith
 
-pub part_given : (old new : HeapState) (asked : Request) → IsReady old → GivesObject old asked new → KeepsRules new
-    → GivesPart old asked.number asked.length new
-part_given old new asked r given rules = record {
+pub inner_given : (old new : HeapState) (asked : Request) → IsReady old → GivesObject old asked new → KeepsRules new
+    → GivesInner old asked.number asked.length new
+inner_given old new asked r given rules = record {
   stays = stays_ready old new r (record {
     kind = ap (λ (s : HeapState). s.kind) given.whole;
     opened = ap (λ (s : HeapState). s.is_open) given.whole;
@@ -87,18 +88,18 @@ part_given old new asked r given rules = record {
   left = ap (λ (s : HeapState). objects s.held) given.whole ∙ malloc_objects old.held asked.number given.place asked.length;
 }
 
-module _ (old : HeapState) (part : Part) (count : ℕ) (has : HasPart old part.number part.from count) where
-  -- what is there isn't refused
-  pub part_no_fault : (e : AccessFault) → IsFault old part count e → ⊥
-  part_no_fault access.Unknown none = not_both (objects old.held) part.number has.bytes has.found (bytes_missing old.held part.number none)
-  part_no_fault access.Range past =
+module _ (old : HeapState) (part : Part) (count : ℕ) (has : HasInner old part.number part.from count) where
+  -- a read or write of bytes that the object has isn't refused
+  pub inner_no_fault : (e : AccessFault) → IsFault old part count e → ⊥
+  inner_no_fault access.Unknown none = not_both (objects old.held) part.number has.bytes has.found (bytes_missing old.held part.number none)
+  inner_no_fault access.Range past =
       let e = same_Some past.object.bytes has.bytes (sym (bytes_held old.held part.number past.object past.found) ∙ has.found) in
       let l = ap length e in let more = past.past in let within = has.within in omega arith
 
-pub part_written : (old new : HeapState) (part : Part) (bytes : List ℕ) (r : Result Unit AccessFault) → IsReady old
-    → HasPart old part.number part.from (length bytes)
-    → IsWriteStep old part bytes r new → KeepsRules new → WritesPart old part.number part.from bytes new
-part_written old new part bytes (Ok u) ready has step rules = record {
+pub inner_written : (old new : HeapState) (part : Part) (bytes : List ℕ) (r : Result Unit AccessFault) → IsReady old
+    → HasInner old part.number part.from (length bytes)
+    → IsWriteStep old part bytes r new → KeepsRules new → WritesInner old part.number part.from bytes new
+inner_written old new part bytes (Ok u) ready has step rules = record {
   stays = stays_ready old new ready (record {
     kind = ap (λ (s : HeapState). s.kind) step.whole;
     opened = ap (λ (s : HeapState). s.is_open) step.whole;
@@ -109,25 +110,25 @@ part_written old new part bytes (Ok u) ready has step rules = record {
   found = bytes_held old.held part.number step.object step.found;
   left = ap (λ (s : HeapState). objects s.held) step.whole ∙ map_values-insert (λ (x : Placed). x.bytes) old.held part.number _;
 }
-part_written old new part bytes (Err e) ready has (fault, same) rules = absurd (part_no_fault old part (length bytes) has e fault)
+inner_written old new part bytes (Err e) ready has (fault, same) rules = absurd (inner_no_fault old part (length bytes) has e fault)
 
-pub part_read : (s : HeapState) (part : Part) (room out : List ℕ) (r : Result Unit AccessFault) (v : List ℕ) → get (objects s.held) part.number ≡ Some v
+pub inner_read : (s : HeapState) (part : Part) (room out : List ℕ) (r : Result Unit AccessFault) (v : List ℕ) → get (objects s.held) part.number ≡ Some v
     → part.from + length room ≤ length v → IsReadAnswer s part room r out → out ≡ take (length room) (drop part.from v)
-part_read s part room out (Ok u) v found within answer =
+inner_read s part room out (Ok u) v found within answer =
     let e = same_Some answer.object.bytes v (sym (bytes_held s.held part.number answer.object answer.found) ∙ found) in
     answer.value ∙ ap (λ (b : List ℕ). take (length room) (drop part.from b)) e
-part_read s part room out (Err e) v found within (fault, same) =
-    absurd (part_no_fault s part (length room) (record { bytes = v; found = found; within = within }) e fault)
+inner_read s part room out (Err e) v found within (fault, same) =
+    absurd (inner_no_fault s part (length room) (record { bytes = v; found = found; within = within }) e fault)
 
-pub part_freed : (old new : HeapState) (h : ℕ) (v : List ℕ) (r : Result Freed NotLive) → IsReady old → get (objects old.held) h ≡ Some v
-    → IsFreeStep old h r new → KeepsRules new → FreesPart old h new
-part_freed old new h v (Ok freed) ready found step rules = record { stays = stays_ready old new ready step.rest rules; left = step.left }
-part_freed old new h v (Err e) ready found (none, same) rules =
+pub inner_freed : (old new : HeapState) (h : ℕ) (v : List ℕ) (r : Result Freed NotLive) → IsReady old → get (objects old.held) h ≡ Some v
+    → IsFreeStep old h r new → KeepsRules new → FreesInner old h new
+inner_freed old new h v (Ok freed) ready found step rules = record { stays = stays_ready old new ready step.rest rules; left = step.left }
+inner_freed old new h v (Err e) ready found (none, same) rules =
     absurd (not_both (objects old.held) h v found (bytes_missing old.held h none))
 
 -- no inner object is longer than a page, nor than a number of 32 bits
-pub part_small : (s : HeapState) → IsReady s → (q : ℕ) (v : List ℕ) → get (objects s.held) q ≡ Some v → length v < 2 ^ 32
-part_small s r q v is =
+pub inner_small : (s : HeapState) → IsReady s → (q : ℕ) (v : List ℕ) → get (objects s.held) q ≡ Some v → length v < 2 ^ 32
+inner_small s r q v is =
     let x = held_of_bytes s.held q v is in
     let kept = keeps_pages s r in
     let slot = kept.sound.slots q x.0 x.1 in

@@ -17,20 +17,20 @@ use Rattle.page_model.proofs.CallerLemmas.{len-objects, length-written}
 use Rattle.cf_model.specs.Answers.{totals_in}
 use Rattle.cf_model.specs.Families.{IsPaged}
 use Rattle.cf_model.specs.State.{HeapState, paging_in}
-use Rattle.large_objects.specs.Growing.{HasPartsRoom, Makes}
-use Rattle.large_objects.specs.InnerCalls.{HasPart, IsReady, StaysReady, WritesPart}
-use Rattle.large_objects.specs.Large.{AreCounted, AreLaidOut, KeepsParts, LargeState, named, piece_of}
-use Rattle.large_objects.specs.LargeSteps.{FitsSpine, FreesLarge, GivesLarge, HasLongPart, HasRoom, HasShort}
-use Rattle.large_objects.specs.LargeSteps.{StaysKept, WantsLongerSpine, WantsPages, WantsProxies, WritesLarge, piece_in}
+use Rattle.large_objects.specs.Growing.{HasObjectRoom, Makes}
+use Rattle.large_objects.specs.InnerCalls.{HasInner, IsReady, StaysReady, WritesInner}
+use Rattle.large_objects.specs.Large.{AreCounted, AreLaidOut, KeepsParts, LargeState, named, part_bytes_at}
+use Rattle.large_objects.specs.LargeSteps.{FitsSpine, FreesLarge, GivesLarge, HasPartRange, HasRoom, HasShort}
+use Rattle.large_objects.specs.LargeSteps.{StaysKept, WantsLongerSpine, WantsPages, WantsProxies, WritesLarge, part_bytes_in}
 use Rattle.large_objects.specs.Layout.{AreKept, AreLengths, IsValid, gathered_objects, large_state}
-use Rattle.large_objects.specs.Parts.{in_class, inner_count, inner_pages_with, parts, piece_bytes, pieces, spine_bytes}
-use Rattle.large_objects.specs.Shrinking.{HasParts, HasPieces, IsShrinking, Releases}
-use Rattle.large_objects.proofs.Bytes.{part_of_piece, piece_of_length, piece_other, piece_written}
+use Rattle.large_objects.specs.InnerObjects.{in_class, inner_count, inner_pages_with, inner_lengths, whole_part_bytes, part_count, spine_bytes}
+use Rattle.large_objects.specs.Shrinking.{HasInnerObjects, HasParts, IsShrinking, Releases}
+use Rattle.large_objects.proofs.Bytes.{range_of_part, part_of_length, part_other, part_written}
 use Rattle.large_objects.proofs.Gathering.{all_gathered, counted_gone_long, counted_gone_short, counted_long, counted_short, counted_written, gone_long}
 use Rattle.large_objects.proofs.Gathering.{gone_short, lengths_less, lengths_more, lengths_same, new_long, new_short, others_long, others_short}
 use Rattle.large_objects.proofs.InnerSteps.{handle_below, same_paging}
-use Rattle.large_objects.proofs.LaidOut.{has_pieces, not_large, laid_changed, laid_less, laid_more}
-use Rattle.large_objects.proofs.PagesWith.{parts_few}
+use Rattle.large_objects.proofs.LaidOut.{has_parts, not_large, laid_changed, laid_less, laid_more}
+use Rattle.large_objects.proofs.PagesWith.{inner_lengths_few}
 use Rattle.large_objects.proofs.Room.{pages_counted}
 
 -- An open heap, as its fields hold it.
@@ -56,14 +56,14 @@ module _ (b : Bool) (pages u : ℕ) (lengths : List (Option ℕ)) (s : HeapState
   pub ready : IsReady s
   ready = record { opened = kept.parts.opened; rules = kept.parts.rules; pages = kept.parts.pages; ones = kept.parts.ones }
 
-  pub piece_is : u ≡ piece_in old
-  piece_is = kept.piece ∙ ap (λ (s : HeapState). piece_bytes s.profile) inner_is
+  pub part_is : u ≡ part_bytes_in old
+  part_is = kept.part_bytes ∙ ap (λ (s : HeapState). whole_part_bytes s.profile) inner_is
 
   pub laid : AreLaidOut u old.objects (objects s.held)
-  laid = subst (λ (u : ℕ). AreLaidOut u old.objects (objects s.held)) (sym kept.piece) kept.parts.laid
+  laid = subst (λ (u : ℕ). AreLaidOut u old.objects (objects s.held)) (sym kept.part_bytes) kept.parts.laid
 
   pub counted : AreCounted (paging_in s) u old.objects (objects s.held)
-  counted = subst (λ (u : ℕ). AreCounted (paging_in s) u old.objects (objects s.held)) (sym kept.piece) kept.parts.counted
+  counted = subst (λ (u : ℕ). AreCounted (paging_in s) u old.objects (objects s.held)) (sym kept.part_bytes) kept.parts.counted
 
   pub keeps : KeepsParts old
   keeps =
@@ -77,14 +77,14 @@ module _ (b : Bool) (pages u : ℕ) (lengths : List (Option ℕ)) (s : HeapState
           ap (λ (o : Objects). record { is_open = true; objects = o; inner = s }) (sym objects_are) in
           f ∙ e ∙ view
 
-  -- what a call leaves
+  -- the heap after a call, from the fields after it
   module _ (s' : HeapState) (lengths' : List (Option ℕ)) (large' : Objects) (stays : StaysReady s s') (laid' : AreLaidOut u large' (objects s'.held))
       (counted' : AreCounted (paging_in s) u large' (objects s'.held)) (known : AreLengths lengths' large' s.profile.proxies) where
     abbrev new : LargeState
     new = record { is_open = true; objects = large'; inner = s' }
 
-    piece_still : u ≡ piece_bytes s'.profile
-    piece_still = kept.piece ∙ ap (λ (p : Profile). piece_bytes p) (sym stays.settings.profile)
+    part_still : u ≡ whole_part_bytes s'.profile
+    part_still = kept.part_bytes ∙ ap (λ (p : Profile). whole_part_bytes p) (sym stays.settings.profile)
 
     parts_new : KeepsParts (record { is_open = true; objects = large'; inner = s' })
     parts_new = record {
@@ -92,8 +92,8 @@ module _ (b : Bool) (pages u : ℕ) (lengths : List (Option ℕ)) (s : HeapState
       rules = stays.ready.rules;
       pages = stays.ready.pages;
       ones = stays.ready.ones;
-      laid = subst (λ (u : ℕ). AreLaidOut u large' (objects s'.held)) piece_still laid';
-      counted = subst (λ (u : ℕ). AreCounted (paging_in s') u large' (objects s'.held)) piece_still
+      laid = subst (λ (u : ℕ). AreLaidOut u large' (objects s'.held)) part_still laid';
+      counted = subst (λ (u : ℕ). AreCounted (paging_in s') u large' (objects s'.held)) part_still
           (subst (λ (p : Paging). AreCounted p u large' (objects s'.held)) (sym (same_paging s s' stays.settings)) counted');
     }
 
@@ -101,7 +101,7 @@ module _ (b : Bool) (pages u : ℕ) (lengths : List (Option ℕ)) (s : HeapState
     kept_new = record {
       parts = parts_new;
       lengths_are = subst (λ (p : Profile). AreLengths lengths' large' p.proxies) (sym stays.settings.profile) known;
-      piece = piece_still;
+      part_bytes = part_still;
       some = kept.some;
       pages_are = kept.pages_are ∙ ap (λ (p : Profile). p.pages) (sym stays.settings.profile);
     }
@@ -134,12 +134,12 @@ module _ (b : Bool) (pages u : ℕ) (lengths : List (Option ℕ)) (s : HeapState
     objects_new = ap (λ (x : LargeState). x.objects) view_new
 
   -- a short object is written
-  module _ (h at : ℕ) (bytes : List ℕ) (has : HasShort old h at (length bytes)) (s' : HeapState) (wrote : WritesPart s h at bytes s') where
+  module _ (h at : ℕ) (bytes : List ℕ) (has : HasShort old h at (length bytes)) (s' : HeapState) (wrote : WritesInner s h at bytes s') where
     abbrev v : List ℕ
     v = has.bytes
 
     short : length has.bytes ≤ u
-    short = (let e = piece_is in let l = has.short in omega arith)
+    short = (let e = part_is in let l = has.short in omega arith)
 
     there : get (objects s.held) h ≡ Some has.bytes
     there = laid.small h has.bytes has.found short
@@ -176,89 +176,89 @@ module _ (b : Bool) (pages u : ℕ) (lengths : List (Option ℕ)) (s : HeapState
     pub short_lengths : AreLengths lengths (insert old.objects h (written has.bytes at bytes)) s.profile.proxies
     short_lengths = lengths_same lengths old.objects s.profile.proxies h has.bytes w kept.lengths_are has.found same_length
 
-  -- a short object is there
-  pub short_part : (h at count : ℕ) → HasShort old h at count → HasPart s h at count
-  short_part h at count has = record {
+  -- a short object has its bytes in the inner manager
+  pub short_inner : (h at count : ℕ) → HasShort old h at count → HasInner s h at count
+  short_inner h at count has = record {
     bytes = has.bytes;
-    found = laid.small h has.bytes has.found (let e = piece_is in let l = has.short in omega arith);
+    found = laid.small h has.bytes has.found (let e = part_is in let l = has.short in omega arith);
     within = has.within;
   }
 
-  -- a piece of a long object is there
-  module _ (h i at count : ℕ) (has : HasLongPart old h i at count) where
+  -- a part of a long object has its bytes in the inner manager
+  module _ (h i at count : ℕ) (has : HasPartRange old h i at count) where
     long : u < length has.bytes
-    long = (let e = piece_is in let l = has.long in omega arith)
+    long = (let e = part_is in let l = has.long in omega arith)
 
-    below : i < pieces u (length has.bytes)
-    below = subst (λ (u : ℕ). i < pieces u (length has.bytes)) (sym piece_is) has.below
+    below : i < part_count u (length has.bytes)
+    below = subst (λ (u : ℕ). i < part_count u (length has.bytes)) (sym part_is) has.below
 
     inside : at + count ≤ u
-    inside = (let e = piece_is in let l = has.inside in omega arith)
+    inside = (let e = part_is in let l = has.inside in omega arith)
 
     within : u * i + at + count ≤ length has.bytes
-    within = subst (λ (u : ℕ). u * i + at + count ≤ length has.bytes) (sym piece_is) has.within
+    within = subst (λ (u : ℕ). u * i + at + count ≤ length has.bytes) (sym part_is) has.within
 
-    own : HasPieces u (length has.bytes) (objects s.held) h
-    own = has_pieces u old.objects (objects s.held) laid h has.bytes has.found long
+    own : HasParts u (length has.bytes) (objects s.held) h
+    own = has_parts u old.objects (objects s.held) laid h has.bytes has.found long
 
-    pub handle_there : HasPart s h (4 * i) 4
+    pub handle_there : HasInner s h (4 * i) 4
     handle_there = record { bytes = own.spine.spine; found = own.spine.found; within = (let l = own.spine.long in let lt = below in omega arith) }
 
-    pub piece_found : get (objects s.held) (named (objects s.held) h i) ≡ Some (piece_of u has.bytes i)
-    piece_found = laid.pieces_are h has.bytes has.found long i below
+    pub part_found : get (objects s.held) (named (objects s.held) h i) ≡ Some (part_bytes_at u has.bytes i)
+    part_found = laid.parts_are h has.bytes has.found long i below
 
-    pub piece_there : HasPart s (named (objects s.held) h i) at count
-    piece_there = record {
-      bytes = piece_of u has.bytes i;
-      found = piece_found;
-      within = (let l = piece_of_length u has.bytes i in let n = inside in let m = within in omega arith);
+    pub part_there : HasInner s (named (objects s.held) h i) at count
+    part_there = record {
+      bytes = part_bytes_at u has.bytes i;
+      found = part_found;
+      within = (let l = part_of_length u has.bytes i in let n = inside in let m = within in omega arith);
     }
 
-    pub from_is : u * i + at ≡ piece_in old * i + at
-    from_is = ap (λ (u : ℕ). u * i + at) piece_is
+    pub from_is : u * i + at ≡ part_bytes_in old * i + at
+    from_is = ap (λ (u : ℕ). u * i + at) part_is
 
-    -- and is read
-    pub piece_reads : (v : List ℕ) → get old.objects h ≡ Some v → (out : List ℕ)
+    -- a read of the part returns the bytes of the object
+    pub part_reads : (v : List ℕ) → get old.objects h ≡ Some v → (out : List ℕ)
         → ((b : List ℕ) → get (objects s.held) (named (objects s.held) h i) ≡ Some b → out ≡ take count (drop at b))
-        → out ≡ take count (drop (piece_in old * i + at) v)
-    piece_reads v found out reads =
+        → out ≡ take count (drop (part_bytes_in old * i + at) v)
+    part_reads v found out reads =
         let e = same_Some has.bytes v (sym has.found ∙ found) in
-        reads (piece_of u has.bytes i) piece_found ∙ part_of_piece u has.bytes i at count inside
-        ∙ ap (λ (k : ℕ). take count (drop k has.bytes)) from_is ∙ ap (λ (w : List ℕ). take count (drop (piece_in old * i + at) w)) e
+        reads (part_bytes_at u has.bytes i) part_found ∙ range_of_part u has.bytes i at count inside
+        ∙ ap (λ (k : ℕ). take count (drop k has.bytes)) from_is ∙ ap (λ (w : List ℕ). take count (drop (part_bytes_in old * i + at) w)) e
 
-  -- and is written
-  module _ (h i at : ℕ) (bytes : List ℕ) (has : HasLongPart old h i at (length bytes)) (s' : HeapState)
-      (wrote : WritesPart s (named (objects s.held) h i) at bytes s') where
+  -- a write into the part writes into the object
+  module _ (h i at : ℕ) (bytes : List ℕ) (has : HasPartRange old h i at (length bytes)) (s' : HeapState)
+      (wrote : WritesInner s (named (objects s.held) h i) at bytes s') where
     abbrev q : ℕ
     q = named (objects s.held) h i
 
-    abbrev piece : List ℕ
-    piece = piece_of u has.bytes i
+    abbrev part_bytes : List ℕ
+    part_bytes = part_bytes_at u has.bytes i
 
     abbrev whole : List ℕ
     whole = written has.bytes (u * i + at) bytes
 
-    abbrev mine : HasPieces u (length has.bytes) (objects s.held) h
+    abbrev mine : HasParts u (length has.bytes) (objects s.held) h
     mine = own h i at (length bytes) has
 
     fits : u * i + at + length bytes ≤ length has.bytes
     fits = within h i at (length bytes) has
 
-    fits_piece : at + length bytes ≤ length (piece_of u has.bytes i)
-    fits_piece = (
-        let l = piece_of_length u has.bytes i in
+    fits_part : at + length bytes ≤ length (part_bytes_at u has.bytes i)
+    fits_part = (
+        let l = part_of_length u has.bytes i in
         let n = inside h i at (length bytes) has in
         let m = within h i at (length bytes) has in
         omega arith)
 
-    q_found : get (objects s.held) (named (objects s.held) h i) ≡ Some (piece_of u has.bytes i)
-    q_found = piece_found h i at (length bytes) has
+    q_found : get (objects s.held) (named (objects s.held) h i) ≡ Some (part_bytes_at u has.bytes i)
+    q_found = part_found h i at (length bytes) has
 
-    piece_is_object : wrote.object ≡ piece_of u has.bytes i
-    piece_is_object = same_Some wrote.object (piece_of u has.bytes i) (sym wrote.found ∙ q_found)
+    part_is_object : wrote.object ≡ part_bytes_at u has.bytes i
+    part_is_object = same_Some wrote.object (part_bytes_at u has.bytes i) (sym wrote.found ∙ q_found)
 
-    piece_left : objects s'.held ≡ insert (objects s.held) q (written piece at bytes)
-    piece_left = wrote.left ∙ ap (λ (o : List ℕ). insert (objects s.held) q (written o at bytes)) piece_is_object
+    part_left : objects s'.held ≡ insert (objects s.held) q (written part_bytes at bytes)
+    part_left = wrote.left ∙ ap (λ (o : List ℕ). insert (objects s.held) q (written o at bytes)) part_is_object
 
     same_whole : length whole ≡ length has.bytes
     same_whole = length-written has.bytes (u * i + at) bytes fits
@@ -266,51 +266,51 @@ module _ (b : Bool) (pages u : ℕ) (lengths : List (Option ℕ)) (s : HeapState
     is_long : u < length has.bytes
     is_long = long h i at (length bytes) has
 
-    is_below : i < pieces u (length has.bytes)
+    is_below : i < part_count u (length has.bytes)
     is_below = below h i at (length bytes) has
 
-    parts_there : (j : ℕ) → j < pieces u (length has.bytes)
-        → get (insert (objects s.held) q (written piece at bytes)) (named (objects s.held) h j) ≡ Some (piece_of u whole j)
+    parts_there : (j : ℕ) → j < part_count u (length has.bytes)
+        → get (insert (objects s.held) q (written part_bytes at bytes)) (named (objects s.held) h j) ≡ Some (part_bytes_at u whole j)
     parts_there j lt = elim (cases_eq j i) [
-      | inl is ↦ rw is (get_inserted (objects s.held) q (written piece at bytes)
-          ∙ ap (λ b. Some b) (sym (piece_written u has.bytes i at bytes fits (inside h i at (length bytes) has))))
-      | inr ne ↦ get_insert_other (objects s.held) q (written piece at bytes) (named (objects s.held) h j) (λ e. ne (mine.apart j i lt is_below e))
-          ∙ laid.pieces_are h has.bytes has.found is_long j lt
-          ∙ ap (λ b. Some b) (sym (piece_other u has.bytes i at bytes fits (inside h i at (length bytes) has) j ne))
+      | inl is ↦ rw is (get_inserted (objects s.held) q (written part_bytes at bytes)
+          ∙ ap (λ b. Some b) (sym (part_written u has.bytes i at bytes fits (inside h i at (length bytes) has))))
+      | inr ne ↦ get_insert_other (objects s.held) q (written part_bytes at bytes) (named (objects s.held) h j) (λ e. ne (mine.apart j i lt is_below e))
+          ∙ laid.parts_are h has.bytes has.found is_long j lt
+          ∙ ap (λ b. Some b) (sym (part_other u has.bytes i at bytes fits (inside h i at (length bytes) has) j ne))
     ]
 
     pub long_laid : AreLaidOut u (insert old.objects h (written has.bytes (u * i + at) bytes)) (objects s'.held)
-    long_laid = subst (λ (o : Objects). AreLaidOut u (insert old.objects h whole) o) (sym piece_left)
-        (laid_changed u old.objects (objects s.held) laid h has.bytes has.found (insert (objects s.held) q (written piece at bytes))
-        (λ r not. get_insert_other (objects s.held) q (written piece at bytes) r (λ e. not (inr (is_long, (i, is_below, e)))))
+    long_laid = subst (λ (o : Objects). AreLaidOut u (insert old.objects h whole) o) (sym part_left)
+        (laid_changed u old.objects (objects s.held) laid h has.bytes has.found (insert (objects s.held) q (written part_bytes at bytes))
+        (λ r not. get_insert_other (objects s.held) q (written part_bytes at bytes) r (λ e. not (inr (is_long, (i, is_below, e)))))
         whole same_whole (λ short. absurd (let l = is_long in omega arith))
-        (λ _. get_insert_other (objects s.held) q (written piece at bytes) h (λ e. mine.not_spine i is_below (sym e)))
+        (λ _. get_insert_other (objects s.held) q (written part_bytes at bytes) h (λ e. mine.not_spine i is_below (sym e)))
         (λ _ j lt. parts_there j lt)
-        (λ r c is. elim (some_inserted (objects s.held) q (written piece at bytes) r c is) [
-          | inl (e, _) ↦ (piece, ap (get (objects s.held)) e ∙ q_found)
+        (λ r c is. elim (some_inserted (objects s.held) q (written part_bytes at bytes) r c is) [
+          | inl (e, _) ↦ (part_bytes, ap (get (objects s.held)) e ∙ q_found)
           | inr (_, same) ↦ (c, same)
         ]))
 
     pub long_counted : AreCounted (paging_in s) u (insert old.objects h (written has.bytes (u * i + at) bytes)) (objects s'.held)
-    long_counted = subst (λ (o : Objects). AreCounted (paging_in s) u (insert old.objects h whole) o) (sym piece_left)
-        (counted_written (paging_in s) u old.objects (objects s.held) h q has.bytes whole piece (written piece at bytes) counted has.found same_whole q_found
-        (length-written piece at bytes fits_piece))
+    long_counted = subst (λ (o : Objects). AreCounted (paging_in s) u (insert old.objects h whole) o) (sym part_left)
+        (counted_written (paging_in s) u old.objects (objects s.held) h q has.bytes whole part_bytes (written part_bytes at bytes) counted has.found same_whole q_found
+        (length-written part_bytes at bytes fits_part))
 
     pub long_lengths : AreLengths lengths (insert old.objects h (written has.bytes (u * i + at) bytes)) s.profile.proxies
     long_lengths = lengths_same lengths old.objects s.profile.proxies h has.bytes whole kept.lengths_are has.found same_whole
 
   -- there is room for the parts of an object
-  pub parts_room : (n : ℕ) → HasRoom old n → HasPartsRoom u n s
-  parts_room n room = record {
+  pub object_room : (n : ℕ) → HasRoom old n → HasObjectRoom u n s
+  object_room n room = record {
     ready = ready;
-    piece = kept.piece;
-    fits = subst (λ (u : ℕ). FitsSpine u n) (sym piece_is) room.fits;
+    part_bytes = kept.part_bytes;
+    fits = subst (λ (u : ℕ). FitsSpine u n) (sym part_is) room.fits;
     proxies = (
-        let r = subst (λ (u : ℕ). inner_count u old.objects + length (parts u n) ≤ old.inner.profile.proxies) (sym piece_is) room.proxies in
+        let r = subst (λ (u : ℕ). inner_count u old.objects + length (inner_lengths u n) ≤ old.inner.profile.proxies) (sym part_is) room.proxies in
         let e = ap (λ (s : HeapState). s.profile.proxies) inner_is in
         let c = counted.all in omega arith);
     pages = (
-        let r = subst (λ (u : ℕ). inner_pages_with (paging_in old.inner) u old.objects n ≤ old.inner.profile.pages) (sym piece_is) room.pages in
+        let r = subst (λ (u : ℕ). inner_pages_with (paging_in old.inner) u old.objects n ≤ old.inner.profile.pages) (sym part_is) room.pages in
         let r' : inner_pages_with (paging_in s) u old.objects n ≤ s.profile.pages =
         subst (λ (s : HeapState). inner_pages_with (paging_in s) u old.objects n ≤ s.profile.pages) (sym inner_is) r in
         let e = pages_counted (paging_in s) u old.objects (objects s.held) n counted in omega arith);
@@ -339,7 +339,7 @@ module _ (b : Bool) (pages u : ℕ) (lengths : List (Option ℕ)) (s : HeapState
     made_counted (inr m) =
         counted_long (paging_in s) u kept.some old.objects (objects s.held) laid counted h n m.grown.growing.unused m.long (objects s'.held) m.grown.growing
 
-    -- its handle is live, and so one of the proxies'
+    -- the new handle is live, so it is below the number of proxies
     pub made_below : Makes u n s h s' → h < length lengths
     made_below (inl m) =
         let there : get (objects s'.held) h ≡ Some (replicate n 0) = ap (λ (o : Objects). get o h) m.left ∙ get_inserted (objects s.held) h (replicate n 0) in
@@ -364,7 +364,7 @@ module _ (b : Bool) (pages u : ℕ) (lengths : List (Option ℕ)) (s : HeapState
         go None _ e = absurd (let z : None ≡ Some n = e in cc)
         go (Some w) is_there e = (w, is_there, same_Some (length w) n e)
 
-    -- its handle is one of the proxies'
+    -- the object's handle is below the number of proxies
     pub object_below : h < length lengths
     object_below = elim (cases_lt h (length lengths)) [
       | inl lt ↦ lt
@@ -374,11 +374,11 @@ module _ (b : Bool) (pages u : ℕ) (lengths : List (Option ℕ)) (s : HeapState
           let y : Some n ≡ None = sym is ∙ sym e ∙ z in cc)
     ]
 
-    pub has_parts : HasParts u n s h
-    has_parts =
+    pub has_inner_objects : HasInnerObjects u n s h
+    has_inner_objects =
         let o = object_there in
-        subst (λ (n : ℕ). HasParts u n s h) o.2 (elim (cases_lt u (length o.0)) [
-          | inl long ↦ inr (long, has_pieces u old.objects (objects s.held) laid h o.0 o.1 long)
+        subst (λ (n : ℕ). HasInnerObjects u n s h) o.2 (elim (cases_lt u (length o.0)) [
+          | inl long ↦ inr (long, has_parts u old.objects (objects s.held) laid h o.0 o.1 long)
           | inr short ↦ inl (short, (o.0, laid.small h o.0 o.1 short, refl))
         ])
 
@@ -397,7 +397,7 @@ module _ (b : Bool) (pages u : ℕ) (lengths : List (Option ℕ)) (s : HeapState
     gone_laid s' (inr r) =
         let o = object_there in
         let long : u < length o.0 = (let e = o.2 in let l = r.long in omega arith) in
-        let shrunk = subst (λ (n : ℕ). IsShrinking (paging_in s) u n (objects s.held) h (pieces u n) r.mid) (sym o.2) r.shrunk in
+        let shrunk = subst (λ (n : ℕ). IsShrinking (paging_in s) u n (objects s.held) h (part_count u n) r.mid) (sym o.2) r.shrunk in
         subst (λ (m : Objects). AreLaidOut u (remove old.objects h) m) (sym r.left)
         (laid_less u old.objects (objects s.held) laid h o.0 o.1 (remove r.mid h)
         (others_long (paging_in s) u kept.some old.objects (objects s.held) laid counted h o.0 o.1 long r.mid shrunk)
@@ -412,8 +412,8 @@ module _ (b : Bool) (pages u : ℕ) (lengths : List (Option ℕ)) (s : HeapState
     gone_counted s' (inr r) =
         let o = object_there in
         let long : u < length o.0 = (let e = o.2 in let l = r.long in omega arith) in
-        let shrunk = subst (λ (n : ℕ). IsShrinking (paging_in s) u n (objects s.held) h (pieces u n) r.mid) (sym o.2) r.shrunk in
-        let mine = has_pieces u old.objects (objects s.held) laid h o.0 o.1 long in
+        let shrunk = subst (λ (n : ℕ). IsShrinking (paging_in s) u n (objects s.held) h (part_count u n) r.mid) (sym o.2) r.shrunk in
+        let mine = has_parts u old.objects (objects s.held) laid h o.0 o.1 long in
         subst (λ (m : Objects). AreCounted (paging_in s) u (remove old.objects h) m) (sym r.left)
         (counted_gone_long (paging_in s) u kept.some old.objects (objects s.held) laid counted h o.0 o.1 long r.mid shrunk mine.not_spine)
 
@@ -421,7 +421,7 @@ module _ (b : Bool) (pages u : ℕ) (lengths : List (Option ℕ)) (s : HeapState
     gone_lengths = lengths_less lengths old.objects s.profile.proxies h kept.lengths_are object_below
 
   -- What each call leaves.
-  module _ (h at : ℕ) (bytes : List ℕ) (has : HasShort old h at (length bytes)) (s' : HeapState) (wrote : WritesPart s h at bytes s') where
+  module _ (h at : ℕ) (bytes : List ℕ) (has : HasShort old h at (length bytes)) (s' : HeapState) (wrote : WritesInner s h at bytes s') where
     pub short_valid : IsValid b pages u lengths s'
     short_valid = valid_new s' lengths _ wrote.stays (short_laid h at bytes has s' wrote) (short_counted h at bytes has s' wrote)
         (short_lengths h at bytes has s' wrote)
@@ -439,8 +439,8 @@ module _ (b : Bool) (pages u : ℕ) (lengths : List (Option ℕ)) (s : HeapState
           (short_lengths h at bytes has s' wrote);
     }
 
-  module _ (h i at : ℕ) (bytes : List ℕ) (has : HasLongPart old h i at (length bytes)) (s' : HeapState)
-      (wrote : WritesPart s (named (objects s.held) h i) at bytes s') where
+  module _ (h i at : ℕ) (bytes : List ℕ) (has : HasPartRange old h i at (length bytes)) (s' : HeapState)
+      (wrote : WritesInner s (named (objects s.held) h i) at bytes s') where
     pub long_valid : IsValid b pages u lengths s'
     long_valid = valid_new s' lengths _ wrote.stays (long_laid h i at bytes has s' wrote) (long_counted h i at bytes has s' wrote)
         (long_lengths h i at bytes has s' wrote)
@@ -449,7 +449,7 @@ module _ (b : Bool) (pages u : ℕ) (lengths : List (Option ℕ)) (s : HeapState
     long_kept = stays_new s' lengths _ wrote.stays (long_laid h i at bytes has s' wrote) (long_counted h i at bytes has s' wrote)
         (long_lengths h i at bytes has s' wrote)
 
-    pub long_writes : WritesLarge old (record { number = h; from = piece_in old * i + at }) bytes (large_state b u lengths s')
+    pub long_writes : WritesLarge old (record { number = h; from = part_bytes_in old * i + at }) bytes (large_state b u lengths s')
     long_writes = record {
       object = has.bytes;
       found = has.found;
@@ -488,11 +488,11 @@ module _ (b : Bool) (pages u : ℕ) (lengths : List (Option ℕ)) (s : HeapState
     }
 
   -- Why a malloc is refused, by what the code finds.
-  fits_old : (n : ℕ) → FitsSpine u n → FitsSpine (piece_in old) n
-  fits_old n = subst (λ (u : ℕ). FitsSpine u n) piece_is
+  fits_old : (n : ℕ) → FitsSpine u n → FitsSpine (part_bytes_in old) n
+  fits_old n = subst (λ (u : ℕ). FitsSpine u n) part_is
 
-  count_old : (n : ℕ) → len (objects s.held) + length (parts u n) ≡ inner_count (piece_in old) old.objects + length (parts (piece_in old) n)
-  count_old n = (let c = counted.all in ap (λ k. k + length (parts u n)) c ∙ ap (λ (u : ℕ). inner_count u old.objects + length (parts u n)) piece_is)
+  count_old : (n : ℕ) → len (objects s.held) + length (inner_lengths u n) ≡ inner_count (part_bytes_in old) old.objects + length (inner_lengths (part_bytes_in old) n)
+  count_old n = (let c = counted.all in ap (λ k. k + length (inner_lengths u n)) c ∙ ap (λ (u : ℕ). inner_count u old.objects + length (inner_lengths u n)) part_is)
 
   proxies_old : length lengths ≡ old.inner.profile.proxies
   proxies_old = kept.lengths_are.count ∙ ap (λ (s : HeapState). s.profile.proxies) inner_is
@@ -500,11 +500,11 @@ module _ (b : Bool) (pages u : ℕ) (lengths : List (Option ℕ)) (s : HeapState
   pages_old : pages ≡ old.inner.profile.pages
   pages_old = kept.pages_are ∙ ap (λ (s : HeapState). s.profile.pages) inner_is
 
-  needed_old : (n : ℕ) → pages_for (paging_in s) (λ c. live (paging_in s) (objects s.held) c + in_class (paging_in s) c (parts u n))
-      ≡ inner_pages_with (paging_in old.inner) (piece_in old) old.objects n
+  needed_old : (n : ℕ) → pages_for (paging_in s) (λ c. live (paging_in s) (objects s.held) c + in_class (paging_in s) c (inner_lengths u n))
+      ≡ inner_pages_with (paging_in old.inner) (part_bytes_in old) old.objects n
   needed_old n = pages_counted (paging_in s) u old.objects (objects s.held) n counted
-      ∙ ap (λ (u : ℕ). inner_pages_with (paging_in s) u old.objects n) piece_is
-      ∙ ap (λ (s : HeapState). inner_pages_with (paging_in s) (piece_in old) old.objects n) inner_is
+      ∙ ap (λ (u : ℕ). inner_pages_with (paging_in s) u old.objects n) part_is
+      ∙ ap (λ (s : HeapState). inner_pages_with (paging_in s) (part_bytes_in old) old.objects n) inner_is
 
   live_total : (totals_in s.kind s).live ≡ len (objects s.held)
   live_total = by_kind s.kind ready.pages
@@ -512,34 +512,34 @@ module _ (b : Bool) (pages u : ℕ) (lengths : List (Option ℕ)) (s : HeapState
       by_kind : (k : Kind) → IsPaged k → (totals_in k s).live ≡ len (objects s.held)
       by_kind k is = rw (is, totals_in) refl
 
-  -- the numbers of inner objects are small
-  pub count_small : (n count more : ℕ) → count ≡ (totals_in s.kind s).live → more ≡ length (parts u n) → n < 2 ^ 32 → count + more < 2 ^ 64
+  -- the number of inner objects fits 64 bits
+  pub count_small : (n count more : ℕ) → count ≡ (totals_in s.kind s).live → more ≡ length (inner_lengths u n) → n < 2 ^ 32 → count + more < 2 ^ 64
   count_small n count more count_is more_is small = (
       let c = live_total in
       let l = len-objects s.held in
       let few = ready.rules.numbers.few in
       let most = ready.rules.settings.few_proxies in
-      let p = parts_few u n kept.some in omega arith)
+      let p = inner_lengths_few u n kept.some in omega arith)
 
   pub refused_size : (n : ℕ) → (FitsSpine u n → ⊥) → WantsLongerSpine old n
   refused_size n never = record {
-    long = (let e = piece_is in elim (cases_lt u n) [ inl long ↦ (omega arith) | inr short ↦ absurd (never (inl short)) ]);
+    long = (let e = part_is in elim (cases_lt u n) [ inl long ↦ (omega arith) | inr short ↦ absurd (never (inl short)) ]);
     past = elim (cases_lt u (spine_bytes u n)) [
-      | inl past ↦ subst (λ (u : ℕ). u < spine_bytes u n) piece_is past
+      | inl past ↦ subst (λ (u : ℕ). u < spine_bytes u n) part_is past
       | inr fits ↦ absurd (never (inr fits))
     ];
   }
 
-  pub refused_proxies : (n count more : ℕ) → FitsSpine u n → count ≡ (totals_in s.kind s).live → more ≡ length (parts u n)
+  pub refused_proxies : (n count more : ℕ) → FitsSpine u n → count ≡ (totals_in s.kind s).live → more ≡ length (inner_lengths u n)
       → length lengths < count + more → WantsProxies old n
   refused_proxies n count more fits count_is more_is past = record {
     fits = fits_old n fits;
     past = (let a = count_old n in let b = proxies_old in let c = live_total in omega arith);
   }
 
-  pub refused_pages : (n count more needed : ℕ) → FitsSpine u n → count ≡ (totals_in s.kind s).live → more ≡ length (parts u n)
+  pub refused_pages : (n count more needed : ℕ) → FitsSpine u n → count ≡ (totals_in s.kind s).live → more ≡ length (inner_lengths u n)
       → count + more ≤ length lengths
-      → needed ≡ pages_for (paging_in s) (λ c. live (paging_in s) (objects s.held) c + in_class (paging_in s) c (parts u n))
+      → needed ≡ pages_for (paging_in s) (λ c. live (paging_in s) (objects s.held) c + in_class (paging_in s) c (inner_lengths u n))
       → pages < needed → WantsPages old n
   refused_pages n count more needed fits count_is more_is few needed_is past = record {
     fits = fits_old n fits;
@@ -547,9 +547,9 @@ module _ (b : Bool) (pages u : ℕ) (lengths : List (Option ℕ)) (s : HeapState
     past = (let a = needed_old n in let b = pages_old in omega arith);
   }
 
-  pub not_refused : (n count more needed : ℕ) → FitsSpine u n → count ≡ (totals_in s.kind s).live → more ≡ length (parts u n)
+  pub not_refused : (n count more needed : ℕ) → FitsSpine u n → count ≡ (totals_in s.kind s).live → more ≡ length (inner_lengths u n)
       → count + more ≤ length lengths
-      → needed ≡ pages_for (paging_in s) (λ c. live (paging_in s) (objects s.held) c + in_class (paging_in s) c (parts u n))
+      → needed ≡ pages_for (paging_in s) (λ c. live (paging_in s) (objects s.held) c + in_class (paging_in s) c (inner_lengths u n))
       → needed ≤ pages → HasRoom old n
   not_refused n count more needed fits count_is more_is few needed_is enough = record {
     fits = fits_old n fits;
@@ -557,7 +557,7 @@ module _ (b : Bool) (pages u : ℕ) (lengths : List (Option ℕ)) (s : HeapState
     pages = (let a = needed_old n in let b = pages_old in omega arith);
   }
 
-  -- if nothing changes
+  -- if nothing changes, the heap is kept
   pub same_kept : StaysKept old old
   same_kept = record {
     stays = record {

@@ -1,4 +1,4 @@
--- After each call the inner objects are the short objects, the spines and the pieces (`AreLaidOut`).
+-- After each call the inner objects are the short objects, the spines and the parts (`AreLaidOut`).
 use Rattle.std.proofs.Common.{◌≡◌, ◌≢◌, ℕ, ◌<◌, ◌≤◌, List, Some, None, length, arith, sym, ◌∙◌, ap, refl, inl, inr}
 use Rattle.std.specs.Prelude.{◌⊎◌, Option}
 use Rattle.std.proofs.lemmas.Bool.{cases_eq, cases_lt}
@@ -6,10 +6,10 @@ use Rattle.std.proofs.lemmas.Option.{same_Some}
 use Rattle.std.specs.FinMap.{get, insert, remove}
 use Rattle.cf_lemmas.proofs.Maps.{get_inserted, get_insert_other, get_remove_other, some_inserted, some_removed}
 use Rattle.page_model.specs.Held.{Objects}
-use Rattle.large_objects.specs.Large.{AreLaidOut, HasSpine, IsPiece, bytes_in, handle_at, named, piece_of}
-use Rattle.large_objects.specs.Parts.{pieces, spine_bytes}
-use Rattle.large_objects.specs.Shrinking.{HasPieces}
-use Rattle.large_objects.proofs.Bytes.{piece_of_length}
+use Rattle.large_objects.specs.Large.{AreLaidOut, HasSpine, IsPart, bytes_in, handle_at, named, part_bytes_at}
+use Rattle.large_objects.specs.InnerObjects.{part_count, spine_bytes}
+use Rattle.large_objects.specs.Shrinking.{HasParts}
+use Rattle.large_objects.proofs.Bytes.{part_of_length}
 
 pub clash : {T : Type 0} (o : Objects) (q : ℕ) (v : List ℕ) → get o q ≡ Some v → get o q ≡ None → T
 clash o q v some none = absurd (let z : Some v ≡ None = sym some ∙ none in cc)
@@ -33,21 +33,21 @@ module _ (u : ℕ) (large inner : Objects) (laid : AreLaidOut u large inner) whe
   pub not_large : (h : ℕ) → get inner h ≡ None → get large h ≡ None
   not_large h none = none_by large h (λ w is. (let b = in_inner h w is in clash inner h b.0 b.1 none))
 
-  piece_there : (q g i : ℕ) → (k : IsPiece u large inner q g i) → get inner q ≡ Some (piece_of u k.bytes i)
-  piece_there q g i k = ap (get inner) k.is ∙ laid.pieces_are g k.bytes k.found k.long i k.below
+  part_there : (q g i : ℕ) → (k : IsPart u large inner q g i) → get inner q ≡ Some (part_bytes_at u k.bytes i)
+  part_there q g i k = ap (get inner) k.is ∙ laid.parts_are g k.bytes k.found k.long i k.below
 
-  -- a long object has its spine and its pieces
-  pub has_pieces : (h : ℕ) (v : List ℕ) → get large h ≡ Some v → u < length v → HasPieces u (length v) inner h
-  has_pieces h v is long =
-      let piece : (j : ℕ) → j < pieces u (length v) → IsPiece u large inner (named inner h j) h j = λ j lt.
+  -- a long object has its spine and its parts
+  pub has_parts : (h : ℕ) (v : List ℕ) → get large h ≡ Some v → u < length v → HasParts u (length v) inner h
+  has_parts h v is long =
+      let part_bytes : (j : ℕ) → j < part_count u (length v) → IsPart u large inner (named inner h j) h j = λ j lt.
       record { bytes = v; found = is; long = long; below = lt; is = refl } in
       record {
         spine = laid.spines h v is long;
-        made = λ j lt. (piece_of u v j, laid.pieces_are h v is long j lt, piece_of_length u v j);
-        not_spine = λ j lt e. clash large h v is (sym (ap (get large) e) ∙ laid.not_objects (named inner h j) h j (piece j lt));
+        made = λ j lt. (part_bytes_at u v j, laid.parts_are h v is long j lt, part_of_length u v j);
+        not_spine = λ j lt e. clash large h v is (sym (ap (get large) e) ∙ laid.not_objects (named inner h j) h j (part_bytes j lt));
         apart = λ j k lj lk e. (
-            let other : IsPiece u large inner (named inner h j) h k = record { bytes = v; found = is; long = long; below = lk; is = e } in
-            (laid.of_one (named inner h j) h j h k (piece j lj) other).1);
+            let other : IsPart u large inner (named inner h j) h k = record { bytes = v; found = is; long = long; below = lk; is = e } in
+            (laid.of_one (named inner h j) h j h k (part_bytes j lj) other).1);
       }
 
 -- An object h with these bytes is made, with its parts.
@@ -56,12 +56,12 @@ pub record IsNew (u : ℕ) (inner : Objects) (h : ℕ) (v : List ℕ) (next : Ob
   pub others : (q : ℕ) (b : List ℕ) → get inner q ≡ Some b → get next q ≡ Some b
   pub small : length v ≤ u → get next h ≡ Some v
   pub spine : u < length v → HasSpine u next h (length v)
-  pub pieces_are : u < length v → (i : ℕ) → i < pieces u (length v) → get next (named next h i) ≡ Some (piece_of u v i)
-  pub fresh : u < length v → (i : ℕ) → i < pieces u (length v) → get inner (named next h i) ≡ None
-  pub not_spine : u < length v → (i : ℕ) → i < pieces u (length v) → named next h i ≢ h
-  pub apart : u < length v → (i j : ℕ) → i < pieces u (length v) → j < pieces u (length v) → named next h i ≡ named next h j → i ≡ j
+  pub parts_are : u < length v → (i : ℕ) → i < part_count u (length v) → get next (named next h i) ≡ Some (part_bytes_at u v i)
+  pub fresh : u < length v → (i : ℕ) → i < part_count u (length v) → get inner (named next h i) ≡ None
+  pub not_spine : u < length v → (i : ℕ) → i < part_count u (length v) → named next h i ≢ h
+  pub apart : u < length v → (i j : ℕ) → i < part_count u (length v) → j < part_count u (length v) → named next h i ≡ named next h j → i ≡ j
   pub no_others : (q : ℕ) (b : List ℕ) → get next q ≡ Some b → get inner q ≡ None
-      → (q ≡ h) ⊎ ((u < length v) × ((i : ℕ) × (i < pieces u (length v)) × (q ≡ named next h i)))
+      → (q ≡ h) ⊎ ((u < length v) × ((i : ℕ) × (i < part_count u (length v)) × (q ≡ named next h i)))
 
 module _ (u : ℕ) (large inner : Objects) (laid : AreLaidOut u large inner) (h : ℕ) (v : List ℕ) (next : Objects) (new : IsNew u inner h v next) where
   abbrev more : Objects
@@ -82,17 +82,17 @@ module _ (u : ℕ) (large inner : Objects) (laid : AreLaidOut u large inner) (h 
   same_named : (g : ℕ) (w : List ℕ) → get large g ≡ Some w → (i : ℕ) → named next g i ≡ named inner g i
   same_named g w is i = ap (λ o. handle_at (bytes_in o) i) (same_handle g w is)
 
-  -- a piece afterwards is one of the new object's, or was one before
-  before_or_own : (q g i : ℕ) → IsPiece u more next q g i
-      → ((g ≡ h) × ((u < length v) × ((i < pieces u (length v)) × (q ≡ named next h i)))) ⊎ IsPiece u large inner q g i
+  -- a part afterwards is one of the new object's, or was one before
+  before_or_own : (q g i : ℕ) → IsPart u more next q g i
+      → ((g ≡ h) × ((u < length v) × ((i < part_count u (length v)) × (q ≡ named next h i)))) ⊎ IsPart u large inner q g i
   before_or_own q g i k = elim (some_inserted large h v g k.bytes k.found) [
     | inl (at, is) ↦ inl (
         let l = ap length is in
-        (at, ((let long = k.long in omega arith), ((let below = k.below in rw (ap (pieces u) l) below), k.is ∙ ap (λ g. named next g i) at))))
+        (at, ((let long = k.long in omega arith), ((let below = k.below in rw (ap (part_count u) l) below), k.is ∙ ap (λ g. named next g i) at))))
     | inr (ne, there) ↦ inr (record { bytes = k.bytes; found = there; long = k.long; below = k.below; is = k.is ∙ same_named g k.bytes there i })
   ]
 
-  after : (q g i : ℕ) → IsPiece u large inner q g i → IsPiece u more next q g i
+  after : (q g i : ℕ) → IsPart u large inner q g i → IsPart u more next q g i
   after q g i k = record {
     bytes = k.bytes;
     found = still_large g k.bytes k.found;
@@ -113,28 +113,28 @@ module _ (u : ℕ) (large inner : Objects) (laid : AreLaidOut u large inner) (h 
           record { spine = s.spine; found = ap (get next) at ∙ s.found; long = s.long ∙ ap (λ n. spine_bytes u n) l })
       | inr (ne, there) ↦ (let s = laid.spines g w there long in record { spine = s.spine; found = new.others g s.spine s.found; long = s.long })
     ];
-    pieces_are = λ g w is long i lt. elim (some_inserted large h v g w is) [
+    parts_are = λ g w is long i lt. elim (some_inserted large h v g w is) [
       | inl (at, same) ↦ (
           let l = ap length same in
-          ap (λ g. get next (named next g i)) at ∙ new.pieces_are (omega arith) i (rw (sym (ap (pieces u) l)) at lt) ∙ ap (λ b. Some (piece_of u b i)) same)
+          ap (λ g. get next (named next g i)) at ∙ new.parts_are (omega arith) i (rw (sym (ap (part_count u) l)) at lt) ∙ ap (λ b. Some (part_bytes_at u b i)) same)
       | inr (ne, there) ↦ ap (get next) (same_named g w there i)
-          ∙ new.others (named inner g i) (piece_of u w i) (laid.pieces_are g w there long i lt)
+          ∙ new.others (named inner g i) (part_bytes_at u w i) (laid.parts_are g w there long i lt)
     ];
     not_objects = λ q g i k. elim (before_or_own q g i k) [
       | inl (at, (long, (lt, is))) ↦ (
           let free : get inner q ≡ None = ap (get inner) is ∙ new.fresh long i lt in
           get_insert_other large h v q (λ e. new.not_spine long i lt (sym is ∙ e)) ∙ not_large u large inner laid q free)
       | inr was ↦ get_insert_other large h v q
-          (λ e. clash inner h (piece_of u was.bytes i) (sym (ap (get inner) e) ∙ piece_there u large inner laid q g i was) new.unused)
+          (λ e. clash inner h (part_bytes_at u was.bytes i) (sym (ap (get inner) e) ∙ part_there u large inner laid q g i was) new.unused)
           ∙ laid.not_objects q g i was
     ];
     of_one = λ q g i k j one other. elim (before_or_own q g i one) [
       | inl (at, (long, (lt, is))) ↦ elim (before_or_own q k j other) [
         | inl (at', (_, (lt', is'))) ↦ (at ∙ sym at', new.apart long i j lt lt' (sym is ∙ is'))
-        | inr was ↦ clash inner q (piece_of u was.bytes j) (piece_there u large inner laid q k j was) (ap (get inner) is ∙ new.fresh long i lt)
+        | inr was ↦ clash inner q (part_bytes_at u was.bytes j) (part_there u large inner laid q k j was) (ap (get inner) is ∙ new.fresh long i lt)
       ]
       | inr was ↦ elim (before_or_own q k j other) [
-        | inl (at', (long, (lt', is'))) ↦ clash inner q (piece_of u was.bytes i) (piece_there u large inner laid q g i was)
+        | inl (at', (long, (lt', is'))) ↦ clash inner q (part_bytes_at u was.bytes i) (part_there u large inner laid q g i was)
             (ap (get inner) is' ∙ new.fresh long j lt')
         | inr too ↦ laid.of_one q g i k j was too
       ]
@@ -146,52 +146,52 @@ module _ (u : ℕ) (large inner : Objects) (laid : AreLaidOut u large inner) (h 
   }
     where
       other : (q : ℕ) (b : List ℕ) → get next q ≡ Some b → q ≢ h → get large q ≡ None → (r : Option (List ℕ)) → get inner q ≡ r
-          → (g : ℕ) × (i : ℕ) × IsPiece u more next q g i
+          → (g : ℕ) × (i : ℕ) × IsPart u more next q g i
       other q b is ne none (Some w) there = (let k = laid.no_others q w there none in (k.0, k.1, after q k.0 k.1 k.2))
       other q b is ne none None free = elim (new.no_others q b is free) [
         | inl at ↦ absurd (ne at)
         | inr (long, (i, lt, at)) ↦ (h, i, record { bytes = v; found = get_inserted large h v; long = long; below = lt; is = at })
       ]
 
--- q is the handle of h, or of one of its pieces
-abbrev pub IsPartOf : ℕ → Objects → ℕ → List ℕ → ℕ → Type 0
-IsPartOf u inner h v q = (q ≡ h) ⊎ ((u < length v) × ((i : ℕ) × (i < pieces u (length v)) × (q ≡ named inner h i)))
+-- q is the handle of h, or of one of its parts
+abbrev pub IsInnerOf : ℕ → Objects → ℕ → List ℕ → ℕ → Type 0
+IsInnerOf u inner h v q = (q ≡ h) ⊎ ((u < length v) × ((i : ℕ) × (i < part_count u (length v)) × (q ≡ named inner h i)))
 
--- The parts of h change, and nothing else.
+-- The inner objects of h change, and nothing else.
 module _ (u : ℕ) (large inner : Objects) (laid : AreLaidOut u large inner) (h : ℕ) (v : List ℕ) (found : get large h ≡ Some v) (next : Objects)
-    (others : (q : ℕ) → (IsPartOf u inner h v q → ⊥) → get next q ≡ get inner q) where
-  own_piece : u < length v → (i : ℕ) → i < pieces u (length v) → IsPiece u large inner (named inner h i) h i
-  own_piece long i lt = record { bytes = v; found = found; long = long; below = lt; is = refl }
+    (others : (q : ℕ) → (IsInnerOf u inner h v q → ⊥) → get next q ≡ get inner q) where
+  own_part : u < length v → (i : ℕ) → i < part_count u (length v) → IsPart u large inner (named inner h i) h i
+  own_part long i lt = record { bytes = v; found = found; long = long; below = lt; is = refl }
 
   pub kept_handle : (g : ℕ) (w : List ℕ) → get large g ≡ Some w → g ≢ h → get next g ≡ get inner g
   kept_handle g w is ne = others g (elim [
     | inl at ↦ ne at
-    | inr (long, (i, lt, at)) ↦ clash large g w is (ap (get large) at ∙ laid.not_objects (named inner h i) h i (own_piece long i lt))
+    | inr (long, (i, lt, at)) ↦ clash large g w is (ap (get large) at ∙ laid.not_objects (named inner h i) h i (own_part long i lt))
   ])
 
   pub kept_named : (g : ℕ) (w : List ℕ) → get large g ≡ Some w → g ≢ h → (i : ℕ) → named next g i ≡ named inner g i
   kept_named g w is ne i = ap (λ o. handle_at (bytes_in o) i) (kept_handle g w is ne)
 
-  pub kept_piece : (q g j : ℕ) → IsPiece u large inner q g j → g ≢ h → get next q ≡ get inner q
-  kept_piece q g j k ne = others q (elim [
+  pub kept_part : (q g j : ℕ) → IsPart u large inner q g j → g ≢ h → get next q ≡ get inner q
+  kept_part q g j k ne = others q (elim [
     | inl at ↦ clash large h v found (sym (ap (get large) at) ∙ laid.not_objects q g j k)
     | inr (long, (i, lt, at)) ↦ (
-        let own : IsPiece u large inner q h i = record { bytes = v; found = found; long = long; below = lt; is = at } in
+        let own : IsPart u large inner q h i = record { bytes = v; found = found; long = long; below = lt; is = at } in
         ne (laid.of_one q g j h i k own).0)
   ])
 
   -- all parts of h are removed
-  module _ (gone : (q : ℕ) → IsPartOf u inner h v q → get next q ≡ None) where
+  module _ (gone : (q : ℕ) → IsInnerOf u inner h v q → get next q ≡ None) where
     abbrev less : Objects
     less = remove large h
 
-    was_piece : (q g i : ℕ) → IsPiece u less next q g i → (g ≢ h) × IsPiece u large inner q g i
-    was_piece q g i k =
+    was_part : (q g i : ℕ) → IsPart u less next q g i → (g ≢ h) × IsPart u large inner q g i
+    was_part q g i k =
         let r = some_removed large h g k.bytes k.found in
         (r.0, record { bytes = k.bytes; found = r.1; long = k.long; below = k.below; is = k.is ∙ kept_named g k.bytes r.1 r.0 i })
 
-    still_piece : (q g i : ℕ) → g ≢ h → IsPiece u large inner q g i → IsPiece u less next q g i
-    still_piece q g i ne k = record {
+    still_part : (q g i : ℕ) → g ≢ h → IsPart u large inner q g i → IsPart u less next q g i
+    still_part q g i ne k = record {
       bytes = k.bytes;
       found = get_remove_other large h g ne ∙ k.found;
       long = k.long;
@@ -205,39 +205,39 @@ module _ (u : ℕ) (large inner : Objects) (laid : AreLaidOut u large inner) (h 
       spines = λ g w is long. (
           let r = some_removed large h g w is in let s = laid.spines g w r.1 long in
           record { spine = s.spine; found = kept_handle g w r.1 r.0 ∙ s.found; long = s.long });
-      pieces_are = λ g w is long i lt. (
+      parts_are = λ g w is long i lt. (
           let r = some_removed large h g w is in
-          let k : IsPiece u large inner (named inner g i) g i = record { bytes = w; found = r.1; long = long; below = lt; is = refl } in
-          ap (get next) (kept_named g w r.1 r.0 i) ∙ kept_piece (named inner g i) g i k r.0 ∙ laid.pieces_are g w r.1 long i lt);
+          let k : IsPart u large inner (named inner g i) g i = record { bytes = w; found = r.1; long = long; below = lt; is = refl } in
+          ap (get next) (kept_named g w r.1 r.0 i) ∙ kept_part (named inner g i) g i k r.0 ∙ laid.parts_are g w r.1 long i lt);
       not_objects = λ q g i k. (
-          let was = was_piece q g i k in
+          let was = was_part q g i k in
           get_remove_other large h q (λ e. clash large h v found (sym (ap (get large) e) ∙ laid.not_objects q g i was.1)) ∙ laid.not_objects q g i was.1);
-      of_one = λ q g i k j one other. laid.of_one q g i k j (was_piece q g i one).1 (was_piece q k j other).1;
+      of_one = λ q g i k j one other. laid.of_one q g i k j (was_part q g i one).1 (was_part q k j other).1;
       no_others = λ q b is none.
-          let not_part : IsPartOf u inner h v q → ⊥ = λ part. clash next q b is (gone q part) in
-          let ne : q ≢ h = λ e. not_part (inl e) in
-          let there : get inner q ≡ Some b = sym (others q not_part) ∙ is in
+          let not_inner : IsInnerOf u inner h v q → ⊥ = λ part. clash next q b is (gone q part) in
+          let ne : q ≢ h = λ e. not_inner (inl e) in
+          let there : get inner q ≡ Some b = sym (others q not_inner) ∙ is in
           let none' : get large q ≡ None = sym (get_remove_other large h q ne) ∙ none in
           let k = laid.no_others q b there none' in
           let own : k.0 ≢ h = λ e. (
-          let piece = k.2 in
-          let at : get large h ≡ Some piece.bytes = sym (ap (get large) e) ∙ piece.found in
-          let same = same_Some piece.bytes v (sym at ∙ found) in
+          let part_bytes = k.2 in
+          let at : get large h ≡ Some part_bytes.bytes = sym (ap (get large) e) ∙ part_bytes.found in
+          let same = same_Some part_bytes.bytes v (sym at ∙ found) in
           let l = ap length same in
-          not_part (inr (
-            (let long = piece.long in omega arith),
+          not_inner (inr (
+            (let long = part_bytes.long in omega arith),
             (
               k.1,
-              (let below = piece.below in rw (ap (pieces u) l) at below),
-              piece.is ∙ ap (λ g. named inner g k.1) e,
+              (let below = part_bytes.below in rw (ap (part_count u) l) at below),
+              part_bytes.is ∙ ap (λ g. named inner g k.1) e,
             ),
           ))) in
-          (k.0, k.1, still_piece q k.0 k.1 own k.2);
+          (k.0, k.1, still_part q k.0 k.1 own k.2);
     }
 
   -- the object has other bytes of the same length, and its parts have them
   module _ (w : List ℕ) (same : length w ≡ length v) (small : length v ≤ u → get next h ≡ Some w) (spine : u < length v → get next h ≡ get inner h)
-      (parts_are : u < length v → (i : ℕ) → i < pieces u (length v) → get next (named inner h i) ≡ Some (piece_of u w i))
+      (these_are : u < length v → (i : ℕ) → i < part_count u (length v) → get next (named inner h i) ≡ Some (part_bytes_at u w i))
       (no_more : (q : ℕ) (b : List ℕ) → get next q ≡ Some b → (c : List ℕ) × (get inner q ≡ Some c)) where
     abbrev changed : Objects
     changed = insert large h w
@@ -252,7 +252,7 @@ module _ (u : ℕ) (large inner : Objects) (laid : AreLaidOut u large inner) (h 
       | inr ne ↦ kept_named g x is ne i
     ]
 
-    was_there : (q g i : ℕ) → IsPiece u changed next q g i → IsPiece u large inner q g i
+    was_there : (q g i : ℕ) → IsPart u changed next q g i → IsPart u large inner q g i
     was_there q g i k = elim (some_inserted large h w g k.bytes k.found) [
       | inl (at, is) ↦ (
           let l : length k.bytes ≡ length v = sym (ap length is) ∙ same in
@@ -262,14 +262,14 @@ module _ (u : ℕ) (large inner : Objects) (laid : AreLaidOut u large inner) (h 
             bytes = v;
             found = there;
             long = long;
-            below = (let below = k.below in rw (ap (pieces u) l) at below);
+            below = (let below = k.below in rw (ap (part_count u) l) at below);
             is = k.is
                 ∙ named_same g v there long i;
           })
       | inr (ne, there) ↦ record { bytes = k.bytes; found = there; long = k.long; below = k.below; is = k.is ∙ named_same g k.bytes there k.long i }
     ]
 
-    is_there : (q g i : ℕ) → IsPiece u large inner q g i → IsPiece u changed next q g i
+    is_there : (q g i : ℕ) → IsPart u large inner q g i → IsPart u changed next q g i
     is_there q g i k = elim (cases_eq g h) [
       | inl at ↦ (
           let e : get large h ≡ Some k.bytes = sym (ap (get large) at) ∙ k.found in
@@ -278,7 +278,7 @@ module _ (u : ℕ) (large inner : Objects) (laid : AreLaidOut u large inner) (h 
             bytes = w;
             found = ap (get changed) at ∙ get_inserted large h w;
             long = (let was = k.long in omega arith);
-            below = (let below = k.below in rw (ap (pieces u) l) at below);
+            below = (let below = k.below in rw (ap (part_count u) l) at below);
             is = k.is ∙ sym (named_same g k.bytes k.found k.long i);
           })
       | inr ne ↦ record {
@@ -304,16 +304,16 @@ module _ (u : ℕ) (large inner : Objects) (laid : AreLaidOut u large inner) (h 
             record { spine = s.spine; found = ap (get next) at ∙ spine (omega arith) ∙ s.found; long = s.long ∙ ap (λ n. spine_bytes u n) n })
         | inr (ne, there) ↦ (let s = laid.spines g x there long in record { spine = s.spine; found = kept_handle g x there ne ∙ s.found; long = s.long })
       ];
-      pieces_are = λ g x is long i lt. elim (some_inserted large h w g x is) [
+      parts_are = λ g x is long i lt. elim (some_inserted large h w g x is) [
         | inl (at, e) ↦ (
             let l = ap length e in
             let n : length x ≡ length v = omega arith in
             let there : get large g ≡ Some v = ap (get large) at ∙ found in
             ap (get next) (named_same g v there (omega arith) i ∙ ap (λ g. named inner g i) at)
-            ∙ parts_are (omega arith) i (rw (ap (pieces u) n) at lt) ∙ ap (λ b. Some (piece_of u b i)) e)
+            ∙ these_are (omega arith) i (rw (ap (part_count u) n) at lt) ∙ ap (λ b. Some (part_bytes_at u b i)) e)
         | inr (ne, there) ↦ (
-            let k : IsPiece u large inner (named inner g i) g i = record { bytes = x; found = there; long = long; below = lt; is = refl } in
-            ap (get next) (kept_named g x there ne i) ∙ kept_piece (named inner g i) g i k ne ∙ laid.pieces_are g x there long i lt)
+            let k : IsPart u large inner (named inner g i) g i = record { bytes = x; found = there; long = long; below = lt; is = refl } in
+            ap (get next) (kept_named g x there ne i) ∙ kept_part (named inner g i) g i k ne ∙ laid.parts_are g x there long i lt)
       ];
       not_objects = λ q g i k. (
           let was = was_there q g i k in

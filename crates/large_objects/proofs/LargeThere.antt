@@ -14,21 +14,21 @@ use Rattle.page_model.proofs.CallerLemmas.{bytes_part}
 use Rattle.cf_model.specs.State.{HeapState, paging_in}
 use Rattle.large_objects.specs.InnerCalls.{IsReady}
 use Rattle.large_objects.specs.Large.{KeepsParts, LargeState, named}
-use Rattle.large_objects.specs.LargeSteps.{FreesLarge, GivesLarge, HasLong, HasLongPart, HasRoom, HasShort, IsRefusedLarge, StaysKept, WritesLarge, piece_in}
+use Rattle.large_objects.specs.LargeSteps.{FreesLarge, GivesLarge, HasLong, HasPartRange, HasRoom, HasShort, IsRefusedLarge, StaysKept, WritesLarge, part_bytes_in}
 use Rattle.large_objects.specs.Layout.{AreKept, AreLengths, IsValid, gathered_objects, large_state}
-use Rattle.large_objects.specs.Parts.{inner_count, inner_pages_with, parts, spine_bytes}
-use Rattle.large_objects.proofs.AccessLemmas.{inside_piece, is_ready, next_write, so_far_more, then_kept, wrote_all, wrote_nothing}
+use Rattle.large_objects.specs.InnerObjects.{inner_count, inner_pages_with, inner_lengths, spine_bytes}
+use Rattle.large_objects.proofs.AccessLemmas.{inside_part, is_ready, next_write, so_far_more, then_kept, wrote_all, wrote_nothing}
 use Rattle.large_objects.proofs.Gathering.{all_gathered}
 use Rattle.large_objects.proofs.InnerSteps.{handle_below}
-use Rattle.large_objects.proofs.Kept.{gone_frees, gone_kept, has_parts, long_kept, long_writes, made_gives}
-use Rattle.large_objects.proofs.Kept.{made_kept, parts_room, piece_there, same_kept, short_kept, short_part, short_writes}
+use Rattle.large_objects.proofs.Kept.{gone_frees, gone_kept, has_inner_objects, long_kept, long_writes, made_gives}
+use Rattle.large_objects.proofs.Kept.{made_kept, object_room, part_there, same_kept, short_kept, short_inner, short_writes}
 use Rattle.large_objects.proofs.Opening.{some_words}
 use Rattle.large_objects.proofs.OwnRun.{length-listed, listed, listed_is, writes_there}
-use Rattle.large_objects.proofs.PartsThere.{makes_there, releases_there}
+use Rattle.large_objects.proofs.InnerThere.{makes_there, releases_there}
 
 module _ (old : LargeState) (opened : IsTrue old.is_open) (kept : KeepsParts old) where
   abbrev u : ℕ
-  u = piece_in old
+  u = part_bytes_in old
 
   abbrev s : HeapState
   s = old.inner
@@ -37,14 +37,14 @@ module _ (old : LargeState) (opened : IsTrue old.is_open) (kept : KeepsParts old
   ready = is_ready old kept
 
   -- a page has more than its header
-  some : 0 < piece_in old
+  some : 0 < part_bytes_in old
   some = (let words = some_words old.inner.profile.page_words kept.rules.settings.page_size in omega arith)
 
   abbrev length_at : ℕ → Option ℕ
   length_at q = option_map length (get old.objects q)
 
   object_below : (q : ℕ) (v : List ℕ) → get old.objects q ≡ Some v → q < old.inner.profile.proxies
-  object_below q v found = elim (cases_lt (piece_in old) (length v)) [
+  object_below q v found = elim (cases_lt (part_bytes_in old) (length v)) [
     | inl long ↦ (let spine = kept.laid.spines q v found long in handle_below old.inner ready q spine.spine spine.found)
     | inr short ↦ handle_below old.inner ready q v (kept.laid.small q v found short)
   ]
@@ -78,7 +78,7 @@ module _ (old : LargeState) (opened : IsTrue old.is_open) (kept : KeepsParts old
   valid = subst (λ (o : Objects). AreKept old.inner.profile.pages u lengths o old.inner) (sym gathered) (record {
     parts = subst (λ (x : LargeState). KeepsParts x) (sym whole) kept;
     lengths_are = known;
-    piece = refl;
+    part_bytes = refl;
     some = some;
     pages_are = refl;
   })
@@ -86,14 +86,14 @@ module _ (old : LargeState) (opened : IsTrue old.is_open) (kept : KeepsParts old
   -- an object is made, if there is room
   pub malloc_there : (n : ℕ) → HasRoom old n → (h : ℕ) × (new : LargeState) × GivesLarge old h n new × StaysKept old new
   malloc_there n room =
-      let m = makes_there u n old.inner some (parts_room true old.inner.profile.pages u lengths old.inner old view opened valid n room) in (
+      let m = makes_there u n old.inner some (object_room true old.inner.profile.pages u lengths old.inner old view opened valid n room) in (
         m.0,
         large_state true u (set lengths m.0 (Some n)) m.1,
         made_gives true old.inner.profile.pages u lengths old.inner old view opened valid n m.0 m.1 room m.2,
         made_kept true old.inner.profile.pages u lengths old.inner old view opened valid n m.0 m.1 room m.2,
       )
 
-  -- and else it is refused
+  -- either there is room for an object, or a cause of a refusal holds
   pub room_or_cause : (n : ℕ) → HasRoom old n ⊎ ((e : Refusal) × IsRefusedLarge old n e)
   room_or_cause n = elim (cases_lt u n) [
     | inl long ↦ elim (cases_lt u (spine_bytes u n)) [
@@ -104,7 +104,7 @@ module _ (old : LargeState) (opened : IsTrue old.is_open) (kept : KeepsParts old
   ]
     where
       by_proxies : (n ≤ u) ⊎ (spine_bytes u n ≤ u) → HasRoom old n ⊎ ((e : Refusal) × IsRefusedLarge old n e)
-      by_proxies fits = elim (cases_lt old.inner.profile.proxies (inner_count u old.objects + length (parts u n))) [
+      by_proxies fits = elim (cases_lt old.inner.profile.proxies (inner_count u old.objects + length (inner_lengths u n))) [
         | inl past ↦ inr (refusal.Proxy, record { fits = fits; past = past })
         | inr few ↦ elim (cases_lt old.inner.profile.pages (inner_pages_with (paging_in old.inner) u old.objects n)) [
           | inl past ↦ inr (refusal.Space, record { fits = fits; proxies = few; past = past })
@@ -116,7 +116,7 @@ module _ (old : LargeState) (opened : IsTrue old.is_open) (kept : KeepsParts old
   pub free_there : (h : ℕ) (v : List ℕ) → get old.objects h ≡ Some v → (new : LargeState) × FreesLarge old h new × StaysKept old new
   free_there h v found =
       let is : option_map length (get old.objects h) ≡ Some (length v) = ap (option_map length) found in
-      let r = releases_there u (length v) old.inner h some ready (has_parts true old.inner.profile.pages u lengths old.inner old view opened valid h
+      let r = releases_there u (length v) old.inner h some ready (has_inner_objects true old.inner.profile.pages u lengths old.inner old view opened valid h
       (length v) is) in (
         large_state true u (set lengths h None) r.0,
         gone_frees true old.inner.profile.pages u lengths old.inner old view opened valid h (length v) is r.0 r.1,
@@ -127,18 +127,18 @@ module _ (old : LargeState) (opened : IsTrue old.is_open) (kept : KeepsParts old
   short_there : (h at : ℕ) (bytes : List ℕ) → HasShort old h at (length bytes) → AreBytes bytes → 1 ≤ length bytes → length bytes ≤ 4096
       → (new : LargeState) × WritesLarge old (record { number = h; from = at }) bytes new × StaysKept old new
   short_there h at bytes has are some_bytes few =
-      let part = short_part true old.inner.profile.pages u lengths old.inner old view opened valid h at (length bytes) has in
+      let part = short_inner true old.inner.profile.pages u lengths old.inner old view opened valid h at (length bytes) has in
       let w = writes_there old.inner ready h at bytes part are some_bytes few in (
         large_state true u lengths w.0,
         short_writes true old.inner.profile.pages u lengths old.inner old view opened valid h at bytes has w.0 w.1,
         short_kept true old.inner.profile.pages u lengths old.inner old view opened valid h at bytes has w.0 w.1,
       )
 
-  -- and into a piece of a long one
-  chunk_there : (h i at : ℕ) (bytes : List ℕ) → HasLongPart old h i at (length bytes) → AreBytes bytes → 1 ≤ length bytes → length bytes ≤ 4096
-      → (new : LargeState) × WritesLarge old (record { number = h; from = piece_in old * i + at }) bytes new × StaysKept old new
+  -- bytes are written into a part of a long object
+  chunk_there : (h i at : ℕ) (bytes : List ℕ) → HasPartRange old h i at (length bytes) → AreBytes bytes → 1 ≤ length bytes → length bytes ≤ 4096
+      → (new : LargeState) × WritesLarge old (record { number = h; from = part_bytes_in old * i + at }) bytes new × StaysKept old new
   chunk_there h i at bytes has are some_bytes few =
-      let part = piece_there true old.inner.profile.pages u lengths old.inner old view opened valid h i at (length bytes) has in
+      let part = part_there true old.inner.profile.pages u lengths old.inner old view opened valid h i at (length bytes) has in
       let w = writes_there old.inner ready (named (objects old.inner.held) h i) at bytes part are some_bytes few in (
         large_state true u lengths w.0,
         long_writes true old.inner.profile.pages u lengths old.inner old view opened valid h i at bytes has w.0 w.1,
@@ -159,17 +159,17 @@ module _ (old : LargeState) (opened : IsTrue old.is_open) (kept : KeepsParts old
   written_more : (now : LargeState) (done : ℕ) → IsWritten now done → done < length bytes → (count : ℕ) × (0 < count) × (new : LargeState)
       × IsWritten new (done + count)
   written_more now done w lt =
-      let piece = piece_in old in
+      let part_bytes = part_bytes_in old in
       let positive = some old opened kept in
-      let inside = inside_piece piece (at + done) positive in
-      let count = min (length bytes - done) (piece - (at + done) % piece) in
+      let inside = inside_part part_bytes (at + done) positive in
+      let count = min (length bytes - done) (part_bytes - (at + done) % part_bytes) in
       let low : count ≤ length bytes - done = omega arith in
-      let low' : count ≤ piece - (at + done) % piece = omega arith in
+      let low' : count ≤ part_bytes - (at + done) % part_bytes = omega arith in
       let more : 0 < count = omega arith in
       let long : length (take count (drop done bytes)) ≡ count = length-take count (drop done bytes) ∙ (let d = length-drop done bytes in omega arith) in
-      let part = next_write old now h at done count piece bytes has w.so_far w.stays refl positive (omega arith) more (omega arith) in
-      let c = chunk_there now w.stays.stays.open_now w.stays.parts h ((at + done) / piece) ((at + done) % piece) (take count (drop done bytes))
-      (subst (λ k. HasLongPart now h ((at + done) / piece) ((at + done) % piece) k) (sym long) part) (bytes_part count done bytes are) (omega arith)
+      let part = next_write old now h at done count part_bytes bytes has w.so_far w.stays refl positive (omega arith) more (omega arith) in
+      let c = chunk_there now w.stays.stays.open_now w.stays.parts h ((at + done) / part_bytes) ((at + done) % part_bytes) (take count (drop done bytes))
+      (subst (λ k. HasPartRange now h ((at + done) / part_bytes) ((at + done) % part_bytes) k) (sym long) part) (bytes_part count done bytes are) (omega arith)
       (omega arith) in (
         count,
         more,
@@ -177,7 +177,7 @@ module _ (old : LargeState) (opened : IsTrue old.is_open) (kept : KeepsParts old
         record {
           within = omega arith;
           stays = then_kept old now c.0 w.stays c.2;
-          so_far = so_far_more old now h at done count piece bytes has w.so_far w.stays refl positive (omega arith) more c.0 _ refl c.1;
+          so_far = so_far_more old now h at done count part_bytes bytes has w.so_far w.stays refl positive (omega arith) more c.0 _ refl c.1;
         },
       )
 
@@ -197,11 +197,11 @@ module _ (old : LargeState) (opened : IsTrue old.is_open) (kept : KeepsParts old
         (let same = ap length (same_Some has.bytes v (sym has.found ∙ found)) in let w = has.within in omega arith);
   }) (omega arith)
 
--- bytes are written into an object that has them
+-- bytes are written into any object, if they don't pass its end
 pub write_there : (old : LargeState) → IsTrue old.is_open → KeepsParts old → (h at : ℕ) (bytes v : List ℕ) → get old.objects h ≡ Some v
     → at + length bytes ≤ length v → AreBytes bytes → 1 ≤ length bytes → length bytes ≤ 4096
     → (new : LargeState) × WritesLarge old (record { number = h; from = at }) bytes new × StaysKept old new
-write_there old opened kept h at bytes v found within are some few = elim (cases_lt (piece_in old) (length v)) [
+write_there old opened kept h at bytes v found within are some few = elim (cases_lt (part_bytes_in old) (length v)) [
   | inl long ↦ long_there old opened kept h at bytes (record { bytes = v; found = found; long = long; within = within }) are few
   | inr short ↦ short_there old opened kept h at bytes (record { bytes = v; found = found; short = short; within = within }) are some few
 ]

@@ -17,7 +17,7 @@ pub mod ReplyLemmas
 pub mod ObjectLaws
 pub mod OpenReply
 pub mod OwnRun
-pub mod PartsThere
+pub mod InnerThere
 pub mod LargeThere
 pub mod Turns
 pub mod ReadBack

@@ -14,13 +14,13 @@ use Rattle.page_model.specs.Bytes.{written}
 use Rattle.page_model.specs.Held.{Objects, objects}
 use Rattle.page_model.proofs.CallerLemmas.{used_at_one}
 use Rattle.large_objects.specs.Large.{KeepsParts, LargeState}
-use Rattle.large_objects.specs.LargeSteps.{FitsSpine, GivesLarge, IsLargeFault, IsRefusedLarge, ReadsLarge, WantsLongerSpine, WritesLarge, piece_in}
-use Rattle.large_objects.specs.Parts.{inner_live}
-use Rattle.large_objects.proofs.Bytes.{part_same}
+use Rattle.large_objects.specs.LargeSteps.{FitsSpine, GivesLarge, IsLargeFault, IsRefusedLarge, ReadsLarge, WantsLongerSpine, WritesLarge, part_bytes_in}
+use Rattle.large_objects.specs.InnerObjects.{inner_live}
+use Rattle.large_objects.proofs.Bytes.{range_same}
 use Rattle.large_objects.proofs.InnerSteps.{keeps_pages}
 use Rattle.page_model.proofs.CallerLemmas.{pages_same}
 
-no_spine : (s : LargeState) (n : ℕ) → FitsSpine (piece_in s) n → WantsLongerSpine s n → ⊥
+no_spine : (s : LargeState) (n : ℕ) → FitsSpine (part_bytes_in s) n → WantsLongerSpine s n → ⊥
 no_spine s n (inl short) w = (let l = w.long in omega arith)
 no_spine s n (inr fits) w = (let p = w.past in omega arith)
 
@@ -48,12 +48,12 @@ written_has_no_fault old new part bytes access.Range w past =
     let within = w.within in let over = past.past in omega arith
 
 pub pages_used : (s : LargeState) → KeepsParts s
-    → used_pages (paging_in s.inner) s.inner.held ≡ pages_for (paging_in s.inner) (inner_live (paging_in s.inner) (piece_in s) s.objects)
+    → used_pages (paging_in s.inner) s.inner.held ≡ pages_for (paging_in s.inner) (inner_live (paging_in s.inner) (part_bytes_in s) s.objects)
 unfolding pages_needed
 pages_used s k =
     let kept = keeps_pages s.inner (record { opened = k.opened; rules = k.rules; pages = k.pages; ones = k.ones }) in
     used_at_one (paging_in s.inner) kept.paging k.ones s.inner.held kept.sound
-    ∙ pages_same (paging_in s.inner) (live (paging_in s.inner) (objects s.inner.held)) (inner_live (paging_in s.inner) (piece_in s) s.objects) k.counted.each
+    ∙ pages_same (paging_in s.inner) (live (paging_in s.inner) (objects s.inner.held)) (inner_live (paging_in s.inner) (part_bytes_in s) s.objects) k.counted.each
 
 pub read_back : (old new : LargeState) (part : Part) (bytes out : List ℕ) → WritesLarge old part bytes new → ReadsLarge new part (length bytes) out → out
     ≡ bytes
@@ -61,7 +61,7 @@ read_back old new part bytes out w r =
     let there : get new.objects part.number ≡ Some (written w.object part.from bytes) = ap (λ (o : Objects). get o part.number) w.left
     ∙ get_inserted old.objects part.number _ in
     let same = same_Some r.object (written w.object part.from bytes) (sym r.found ∙ there) in
-    r.value ∙ ap (λ (b : List ℕ). take (length bytes) (drop part.from b)) same ∙ part_same w.object part.from bytes w.within
+    r.value ∙ ap (λ (b : List ℕ). take (length bytes) (drop part.from b)) same ∙ range_same w.object part.from bytes w.within
 
 pub others_stay : (old new : LargeState) (part : Part) (bytes : List ℕ) → WritesLarge old part bytes new → (q : ℕ) → q ≢ part.number
     → get new.objects q ≡ get old.objects q

@@ -22,7 +22,7 @@ use Rattle.cf_model.specs.Steps.{IsEmptyHeap, opening_bounds}
 use Rattle.large_objects.specs.Large.{AreCounted, AreLaidOut, KeepsParts, LargeState}
 use Rattle.large_objects.specs.LargeSteps.{IsEmptyLarge}
 use Rattle.large_objects.specs.Layout.{AreKept, AreLengths, IsValid, gathered_objects, large_state}
-use Rattle.large_objects.specs.Parts.{inner_count, inner_live, inner_sum, length_sum}
+use Rattle.large_objects.specs.InnerObjects.{inner_count, inner_live, inner_sum, length_sum}
 use Rattle.large_objects.proofs.Gathering.{all_gathered}
 
 -- a page has more than its header
@@ -44,7 +44,7 @@ none_laid : (u : ℕ) (inner : Objects) → inner ≡ nothing → AreLaidOut u n
 none_laid u inner is = record {
   small = λ h v some. no_object nothing refl h v some;
   spines = λ h v some. no_object nothing refl h v some;
-  pieces_are = λ h v some. no_object nothing refl h v some;
+  parts_are = λ h v some. no_object nothing refl h v some;
   not_objects = λ q h i k. no_object nothing refl h k.bytes k.found;
   of_one = λ q h i g j k l. no_object nothing refl h k.bytes k.found;
   no_others = λ q b some. no_object inner is q b some;
@@ -118,7 +118,7 @@ module _ (settings : Settings) (kind : Kind) (s : HeapState) (lengths : List (Op
   opened_valid = subst (λ (o : Objects). AreKept settings.pages u lengths o s) (sym gathered_none) (record {
     parts = parts;
     lengths_are = known;
-    piece = sym (ap (λ (p : Profile). 8 * (p.page_words - 1)) profile_is);
+    part_bytes = sym (ap (λ (p : Profile). 8 * (p.page_words - 1)) profile_is);
     some = some;
     pages_are = sym (ap (λ (p : Profile). p.pages) profile_is);
   })

@@ -21,9 +21,9 @@ use Rattle.script_reader.specs.declared.command.Command.TheVariants.{Malloc, Fre
 use Rattle.run_model.specs.Sessions.{AreTied, CostsAtMost, IsGoing, RunState, SessionState}
 use Rattle.run_model.specs.Steps.{Frees, Mallocs, Stays, Writes}
 use Rattle.run_laws.proofs.CallerLemmas.{turn_there}
-use Rattle.large_objects.specs.InnerCalls.{FreesPart, GivesPart, HasPart, HasPartRoom, IsReady, WritesPart}
+use Rattle.large_objects.specs.InnerCalls.{FreesInner, GivesInner, HasInner, HasInnerRoom, IsReady, WritesInner}
 use Rattle.run_model.proofs.CallerLemmas.{held_of_bytes}
-use Rattle.large_objects.proofs.InnerSteps.{part_freed, part_given, part_not_refused, part_written}
+use Rattle.large_objects.proofs.InnerSteps.{inner_freed, inner_given, inner_not_refused, inner_written}
 
 -- the n values of f from k on
 abbrev pub listed : {X : Type 0} → (ℕ → Option X) → ℕ → ℕ → List (Option X)
@@ -40,7 +40,7 @@ module _ {X : Type 0} (f : ℕ → Option X) where
   listed_at k (suc n) zero q lt is = (let e : k ≡ q = omega arith in ap f e)
   listed_at k (suc n) (suc i) q lt is = listed_at (k + 1) n i q (omega arith) (omega arith)
 
-  -- they are all of f's, if it has none from n on
+  -- the first n values are all values of f, if f has none from n on
   pub listed_is : (n : ℕ) → ((q : ℕ) → n ≤ q → f q ≡ None) → (q : ℕ) → get_or (listed f 0 n) q None ≡ f q
   listed_is n none q = elim (cases_lt q n) [
     | inl lt ↦ listed_at 0 n q q lt (omega arith)
@@ -94,7 +94,7 @@ module _ (s : HeapState) (ready : IsReady s) where
   going = record { opened = ready.opened; rules = ready.rules; tied = tied }
 
   -- an inner object is made, if there is room
-  pub gives_there : (n : ℕ) → HasPartRoom s n → (q : ℕ) × (new : HeapState) × GivesPart s q n new
+  pub gives_there : (n : ℕ) → HasInnerRoom s n → (q : ℕ) × (new : HeapState) × GivesInner s q n new
   gives_there n room =
       let t = turn_there run (Malloc s.profile.proxies n) going (record { formed = tt; bytes = tt }) in
       let m = of_free t.0 t.1 (get ids s.profile.proxies) (id_is s.profile.proxies ∙ own_past s.profile.proxies (omega arith)) t.2.step in
@@ -106,17 +106,17 @@ module _ (s : HeapState) (ready : IsReady s) where
       of_free reply new None none m = m
       of_free reply new (Some h) none m = absurd (let z : ◌≡◌ {A = Option ℕ} (Some h) None = none in cc)
 
-      by_answer : (new : HeapState) (r : Result Handle Refusal) → IsMallocStep s n r new → KeepsRules new → (q : ℕ) × (new : HeapState) × GivesPart s q n new
-      by_answer new (Ok h) given rules = (h.0, new, part_given s new (record { number = h.0; length = n }) ready given rules)
-      by_answer new (Err e) (cause, same) rules = absurd (part_not_refused s n ready room e cause)
+      by_answer : (new : HeapState) (r : Result Handle Refusal) → IsMallocStep s n r new → KeepsRules new → (q : ℕ) × (new : HeapState) × GivesInner s q n new
+      by_answer new (Ok h) given rules = (h.0, new, inner_given s new (record { number = h.0; length = n }) ready given rules)
+      by_answer new (Err e) (cause, same) rules = absurd (inner_not_refused s n ready room e cause)
 
   -- a live one is freed
-  pub frees_there : (q : ℕ) → HasPart s q 0 0 → (new : HeapState) × FreesPart s q new
+  pub frees_there : (q : ℕ) → HasInner s q 0 0 → (new : HeapState) × FreesInner s q new
   frees_there q has =
       let x = held_of_bytes s.held q has.bytes has.found in
       let t = turn_there run (Free q) going (record { formed = tt; bytes = tt }) in
       let f = of_live t.0 t.1 (get ids q) (id_is q ∙ ap (option_map (λ (x : Placed). q)) x.1) t.2.step in
-      (t.1.heap, part_freed s t.1.heap q has.bytes (Ok f.freed) ready has.found f.step f.rules)
+      (t.1.heap, inner_freed s t.1.heap q has.bytes (Ok f.freed) ready has.found f.step f.rules)
     where
       of_live : (reply : Reply) (new : RunState) (o : Option ℕ) → o ≡ Some q
           → MatchOption o (Stays run (codes "unknown") reply new) (λ h. Frees run (record { id = q; number = h }) reply new)
@@ -125,13 +125,13 @@ module _ (s : HeapState) (ready : IsReady s) where
       of_live reply new (Some h) live f = (let e = same_Some h q live in subst (λ k. Frees run (record { id = q; number = k }) reply new) e f)
 
   -- bytes are written into one: at most 4,096, as in a command
-  pub writes_there : (q at : ℕ) (bytes : List ℕ) → HasPart s q at (length bytes) → AreBytes bytes → 1 ≤ length bytes → length bytes ≤ 4096
-      → (new : HeapState) × WritesPart s q at bytes new
+  pub writes_there : (q at : ℕ) (bytes : List ℕ) → HasInner s q at (length bytes) → AreBytes bytes → 1 ≤ length bytes → length bytes ≤ 4096
+      → (new : HeapState) × WritesInner s q at bytes new
   writes_there q at bytes has are some few =
       let x = held_of_bytes s.held q has.bytes has.found in
       let t = turn_there run (Write q at bytes) going (record { formed = (some, few); bytes = are }) in
       let w = of_live t.0 t.1 (get ids q) (id_is q ∙ ap (option_map (λ (x : Placed). q)) x.1) t.2.step in
-      (t.1.heap, part_written s t.1.heap (record { number = q; from = at }) bytes w.answer ready has w.step w.rules)
+      (t.1.heap, inner_written s t.1.heap (record { number = q; from = at }) bytes w.answer ready has w.step w.rules)
     where
       of_live : (reply : Reply) (new : RunState) (o : Option ℕ) → o ≡ Some q
           → MatchOption o (Stays run (codes "unknown") reply new) (λ h. Writes run (record { number = h; from = at }) bytes reply new)

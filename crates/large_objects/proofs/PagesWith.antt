@@ -22,8 +22,8 @@ use Rattle.cf_model.specs.Answers.{classes_in, figures_in}
 use Rattle.cf_model.specs.Families.{IsPaged}
 use Rattle.cf_model.specs.State.{HeapState, paging_in}
 use Rattle.large_objects.specs.InnerCalls.{IsReady}
-use Rattle.large_objects.specs.Parts.{in_class, parts, pieces}
-use Rattle.large_objects.proofs.Cutting.{ceil_is, length_long, length_short, pieces_few}
+use Rattle.large_objects.specs.InnerObjects.{in_class, inner_lengths, part_count}
+use Rattle.large_objects.proofs.Cutting.{ceil_is, length_long, length_short, parts_few}
 use Rattle.large_objects.proofs.Fitting.{before_more, ceil_small, in_before, pages_more, pages_up_to, within_before}
 use Rattle.large_objects.proofs.InnerSteps.{keeps_pages}
 
@@ -31,7 +31,7 @@ at_most_one : (b : Bool) → one b ≤ 1
 at_most_one true = omega arith
 at_most_one false = omega arith
 
--- no more objects of a class than there are
+-- a class has at most all objects
 live_few : (p : Paging) (o : Objects) (c : ℕ) → live p o c ≤ len o
 unfolding live
 live_few p o c = (let h = sum_at_most (λ v. one (nat_eq (class_for p (length v)) c)) 1 o (λ q v _. at_most_one _) in omega arith)
@@ -40,16 +40,16 @@ in_class_few : (p : Paging) (c : ℕ) (lengths : List ℕ) → in_class p c leng
 unfolding in_class
 in_class_few p c lengths = count_by-le-length (λ n. nat_eq (class_for p n) c) lengths
 
--- an object of 32 bits has no more parts than bytes, and three
-pub parts_few : (u n : ℕ) → 0 < u → length (parts u n) ≤ n + 3
-parts_few u n some = elim (cases_lt u n) [
+-- an object of n bytes has at most n + 3 inner objects
+pub inner_lengths_few : (u n : ℕ) → 0 < u → length (inner_lengths u n) ≤ n + 3
+inner_lengths_few u n some = elim (cases_lt u n) [
   | inl long ↦ (
       let l = length_long u n some long in
-      let f = pieces_few u n some in
-      let m : 1 * pieces u n ≤ u * pieces u n = mul-le 1 (pieces u n) u (pieces u n) some (omega arith) in
-      elim (cases_lt (n + 2) (pieces u n)) [
+      let f = parts_few u n some in
+      let m : 1 * part_count u n ≤ u * part_count u n = mul-le 1 (part_count u n) u (part_count u n) some (omega arith) in
+      elim (cases_lt (n + 2) (part_count u n)) [
         | inl over ↦ absurd (
-            let k : u * (n + 2) ≤ u * pieces u n = mul-le u (n + 2) u (pieces u n) (omega arith) (omega arith) in
+            let k : u * (n + 2) ≤ u * part_count u n = mul-le u (n + 2) u (part_count u n) (omega arith) (omega arith) in
             let t : u * (n + 2) ≡ u * n + u + u = omega arith in
             let s : 1 * n ≤ u * n = mul-le 1 n u n some (omega arith) in omega arith)
         | inr few ↦ omega arith
@@ -68,7 +68,7 @@ module _ (s : HeapState) (ready : IsReady s) where
   few_classes = (let e = classes_are in let kept = keeps_pages s ready in let few = kept.paging.sized.few in omega arith)
 
   module _ (u n : ℕ) (some : 0 < u) (small : n < 2 ^ 32) (c : ℕ) (lt : c < classes_in s.kind s) (f : Figures) (is : Some f ≡ figures_in s c) (within before : ℕ)
-      (within_is : within ≡ count_by (λ n. nat_le (need n) f.slot_words) (parts u n)) (before_is : before ≡ in_before (paging_in s) c (parts u n)) where
+      (within_is : within ≡ count_by (λ n. nat_le (need n) f.slot_words) (inner_lengths u n)) (before_is : before ≡ in_before (paging_in s) c (inner_lengths u n)) where
     figures_are : f ≡ figures_of (paging_in s) s.held c
     figures_are = same_Some f (figures_of (paging_in s) s.held c) (is ∙ rw (lt_yes c (classes_in s.kind s) lt) refl)
 
@@ -81,19 +81,19 @@ module _ (s : HeapState) (ready : IsReady s) where
         let kept = keeps_pages s ready in
         let p = slots_some (paging_in s) kept.paging c in_classes in omega arith)
 
-    pub within_all : within ≡ in_before (paging_in s) (c + 1) (parts u n)
+    pub within_all : within ≡ in_before (paging_in s) (c + 1) (inner_lengths u n)
     within_all =
         let kept = keeps_pages s ready in
-        within_is ∙ ap (λ (w : ℕ). count_by (λ n. nat_le (need n) w) (parts u n)) (ap (λ (f : Figures). f.slot_words) figures_are)
-        ∙ within_before (paging_in s) kept.paging c in_classes (parts u n)
+        within_is ∙ ap (λ (w : ℕ). count_by (λ n. nat_le (need n) w) (inner_lengths u n)) (ap (λ (f : Figures). f.slot_words) figures_are)
+        ∙ within_before (paging_in s) kept.paging c in_classes (inner_lengths u n)
 
-    more : in_before (paging_in s) (c + 1) (parts u n) ≡ in_before (paging_in s) c (parts u n) + in_class (paging_in s) c (parts u n)
-    more = before_more (paging_in s) c (parts u n)
+    more : in_before (paging_in s) (c + 1) (inner_lengths u n) ≡ in_before (paging_in s) c (inner_lengths u n) + in_class (paging_in s) c (inner_lengths u n)
+    more = before_more (paging_in s) c (inner_lengths u n)
 
     pub before_within : before ≤ within
     before_within = (let a = within_all in let b = more in omega arith)
 
-    class_is : within - before ≡ in_class (paging_in s) c (parts u n)
+    class_is : within - before ≡ in_class (paging_in s) c (inner_lengths u n)
     class_is = (let a = within_all in let b = more in omega arith)
 
     live_is : f.live ≡ live (paging_in s) (objects s.held) c
@@ -106,10 +106,10 @@ module _ (s : HeapState) (ready : IsReady s) where
         let few = ready.rules.numbers.few in
         let most = ready.rules.settings.few_proxies in
         let e = len-objects s.held in
-        let i = in_class_few (paging_in s) c (parts u n) in
-        let p = parts_few u n some in omega arith)
+        let i = in_class_few (paging_in s) c (inner_lengths u n) in
+        let p = inner_lengths_few u n some in omega arith)
 
-    module _ (pages more_pages : ℕ) (sum : pages ≡ pages_up_to (paging_in s) (objects s.held) (parts u n) c) (low : pages ≤ c * 2 ^ 34)
+    module _ (pages more_pages : ℕ) (sum : pages ≡ pages_up_to (paging_in s) (objects s.held) (inner_lengths u n) c) (low : pages ≤ c * 2 ^ 34)
         (divided : more_pages ≡ (f.live + (within - before)) / f.slots + min 1 ((f.live + (within - before)) % f.slots)) where
       ceil : more_pages ≡ ceil_div (f.live + (within - before)) f.slots
       ceil = divided ∙ sym (ceil_is (f.live + (within - before)) f.slots slots_positive)
@@ -125,11 +125,11 @@ module _ (s : HeapState) (ready : IsReady s) where
       pub pages_fit : pages + more_pages < 2 ^ 64
       pages_fit = (let h = pages_small in let f = few_classes in omega arith)
 
-      pub pages_summed : pages + more_pages ≡ pages_up_to (paging_in s) (objects s.held) (parts u n) (c + 1)
+      pub pages_summed : pages + more_pages ≡ pages_up_to (paging_in s) (objects s.held) (inner_lengths u n) (c + 1)
       pages_summed = (
           let a = ceil in
           let x = ap (λ k. ceil_div (k + (within - before)) f.slots) live_is in
           let y = ap (λ k. ceil_div (live (paging_in s) (objects s.held) c + k) f.slots) class_is in
-          let z = ap (λ k. ceil_div (live (paging_in s) (objects s.held) c + in_class (paging_in s) c (parts u n)) k)
+          let z = ap (λ k. ceil_div (live (paging_in s) (objects s.held) c + in_class (paging_in s) c (inner_lengths u n)) k)
           (ap (λ (f : Figures). f.slots) figures_are) in
-          let b = pages_more (paging_in s) (objects s.held) (parts u n) c in omega arith)
+          let b = pages_more (paging_in s) (objects s.held) (inner_lengths u n) c in omega arith)

@@ -10,7 +10,7 @@ use Rattle.large_objects.specs.Playing.{BeginsAtOne, RunsLarge}
 use Rattle.large_objects.proofs.RunInvariant.{named, still_going, turn_named}
 use Rattle.large_objects.proofs.Turns.{begins_going}
 
--- a run over large objects names them
+-- a run over large objects is one whose ids name objects (`NamesObjects`)
 large_names : (kind : Kind) → NamesObjects (BeginsAtOne kind) LargeStep
 large_names kind = record {
   is_going = IsGoingLarge;

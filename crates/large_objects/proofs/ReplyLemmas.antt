@@ -48,7 +48,7 @@ shown_frag old inner c w y r answer is same put shown =
     (reported large_heap (λ _ _ _ _ turn. turn) old old Frag (frag_of old.heap.inner) w y r Other answer (refl, refl) (frag_other old.heap.inner)
     (subst (λ (s : HeapState). Puts w (led [] (frag_of s)) r y) same put) shown)
 
--- a run goes on after an answer
+-- a run is in progress after a command, also if the sink cut the reply
 pub applied_going : (old new : LargeRun) (c : Command) (w y : Written) (answer : Result Outcome Failed) → IsGoingLarge old
     → Applies large_heap (at old w) c answer (at new y) → IsGoingLarge new
 applied_going old new c w y (Ok outcome) going a = still_going old new going a.0.reply c a.0.turns

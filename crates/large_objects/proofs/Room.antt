@@ -1,4 +1,4 @@
--- If all inner objects have room, each in turn has; and the arithmetic of it.
+-- If there is room for all inner objects of an object, there is room for each in turn.
 use Rattle.std.proofs.Common.{◌≡◌, ℕ, ◌+◌, ◌≤◌, List, Some, None, length, take, arith, ap}
 use Rattle.std.specs.Prelude.{nat_eq}
 use Rattle.std.proofs.lemmas.List.Sums.{sum_by-take-le}
@@ -12,63 +12,63 @@ use Rattle.page_model.specs.Held.{Objects}
 use Rattle.page_model.specs.Paging.{Paging, class_for}
 use Rattle.page_model.proofs.CallerLemmas.{pages_grow, pages_same}
 use Rattle.large_objects.specs.Large.{AreCounted}
-use Rattle.large_objects.specs.Parts.{in_class, inner_count, inner_live, inner_pages_with, parts, piece_bytes}
+use Rattle.large_objects.specs.InnerObjects.{in_class, inner_count, inner_live, inner_pages_with, inner_lengths, whole_part_bytes}
 
--- one more of the parts needs no more pages than all of them
-pub part_has_pages : (p : Paging) (o : Objects) (n : ℕ) (g : ℕ → ℕ) (most : ℕ) → pages_for p g ≤ most
+-- if there are pages for all inner objects of an object, there are for one of them
+pub inner_has_pages : (p : Paging) (o : Objects) (n : ℕ) (g : ℕ → ℕ) (most : ℕ) → pages_for p g ≤ most
     → ((c : ℕ) → live p o c + one (nat_eq (class_for p n) c) ≤ g c) → pages_needed_with p o n ≤ most
 unfolding pages_needed_with
-part_has_pages p o n g most le each = (let h = pages_grow p (λ c. live p o c + one (nat_eq (class_for p n) c)) g each in omega arith)
+inner_has_pages p o n g most le each = (let h = pages_grow p (λ c. live p o c + one (nat_eq (class_for p n) c)) g each in omega arith)
 
 pub in_class_take : (p : Paging) (c : ℕ) (xs : List ℕ) (i : ℕ) → in_class p c (take i xs) ≤ in_class p c xs
 unfolding in_class
 in_class_take p c xs i = sum_by-take-le (λ n. one (nat_eq (class_for p n) c)) xs i
 
--- what fits a page needs at most its words
-pub piece_fits : (p : Profile) (n : ℕ) → 1 ≤ p.page_words → n ≤ piece_bytes p → need n ≤ p.page_words
-piece_fits p n some le = omega arith
+-- a part needs at most the words of a page
+pub part_fits : (p : Profile) (n : ℕ) → 1 ≤ p.page_words → n ≤ whole_part_bytes p → need n ≤ p.page_words
+part_fits p n some le = omega arith
 
 module _ (p : Paging) (u : ℕ) (large : Objects) (h : ℕ) (v : List ℕ) where
-  pub count_inserted : get large h ≡ None → inner_count u (insert large h v) ≡ inner_count u large + length (parts u (length v))
+  pub count_inserted : get large h ≡ None → inner_count u (insert large h v) ≡ inner_count u large + length (inner_lengths u (length v))
   unfolding inner_count
-  count_inserted none = sum_by-inserted (λ v. length (parts u (length v))) large h v none
+  count_inserted none = sum_by-inserted (λ v. length (inner_lengths u (length v))) large h v none
 
-  pub live_inserted : (c : ℕ) → get large h ≡ None → inner_live p u (insert large h v) c ≡ inner_live p u large c + in_class p c (parts u (length v))
+  pub live_inserted : (c : ℕ) → get large h ≡ None → inner_live p u (insert large h v) c ≡ inner_live p u large c + in_class p c (inner_lengths u (length v))
   unfolding inner_live
-  live_inserted c none = sum_by-inserted (λ v. in_class p c (parts u (length v))) large h v none
+  live_inserted c none = sum_by-inserted (λ v. in_class p c (inner_lengths u (length v))) large h v none
 
-  pub count_removed : get large h ≡ Some v → inner_count u (remove large h) + length (parts u (length v)) ≡ inner_count u large
+  pub count_removed : get large h ≡ Some v → inner_count u (remove large h) + length (inner_lengths u (length v)) ≡ inner_count u large
   unfolding inner_count
-  count_removed some = sum_by-removed (λ v. length (parts u (length v))) large h v some
+  count_removed some = sum_by-removed (λ v. length (inner_lengths u (length v))) large h v some
 
-  pub live_removed : (c : ℕ) → get large h ≡ Some v → inner_live p u (remove large h) c + in_class p c (parts u (length v)) ≡ inner_live p u large c
+  pub live_removed : (c : ℕ) → get large h ≡ Some v → inner_live p u (remove large h) c + in_class p c (inner_lengths u (length v)) ≡ inner_live p u large c
   unfolding inner_live
-  live_removed c some = sum_by-removed (λ v. in_class p c (parts u (length v))) large h v some
+  live_removed c some = sum_by-removed (λ v. in_class p c (inner_lengths u (length v))) large h v some
 
-  -- a write leaves the counts
+  -- a write doesn't change the counts
   pub count_replaced : (w : List ℕ) → get large h ≡ Some v → length w ≡ length v → inner_count u (insert large h w) ≡ inner_count u large
   unfolding inner_count
   count_replaced w some same =
-      let e = sum_by-replaced (λ v. length (parts u (length v))) large h v w some in
-      let l = ap (λ n. length (parts u n)) same in omega arith
+      let e = sum_by-replaced (λ v. length (inner_lengths u (length v))) large h v w some in
+      let l = ap (λ n. length (inner_lengths u n)) same in omega arith
 
   pub live_replaced : (w : List ℕ) (c : ℕ) → get large h ≡ Some v → length w ≡ length v → inner_live p u (insert large h w) c ≡ inner_live p u large c
   unfolding inner_live
   live_replaced w c some same =
-      let e = sum_by-replaced (λ v. in_class p c (parts u (length v))) large h v w some in
-      let l = ap (λ n. in_class p c (parts u n)) same in omega arith
+      let e = sum_by-replaced (λ v. in_class p c (inner_lengths u (length v))) large h v w some in
+      let l = ap (λ n. in_class p c (inner_lengths u n)) same in omega arith
 
 module _ (p : Paging) (o : Objects) (h : ℕ) (v : List ℕ) where
-  -- one inner object for another of the same length
+  -- an inner object replaced by one of the same length leaves the live objects of each class the same
   pub live_rewritten : (w : List ℕ) (c : ℕ) → get o h ≡ Some v → length w ≡ length v → live p (insert o h w) c ≡ live p o c
   unfolding live
   live_rewritten w c some same =
       let e = sum_by-replaced (λ v. one (nat_eq (class_for p (length v)) c)) o h v w some in
       let l = ap (λ n. one (nat_eq (class_for p n) c)) same in omega arith
 
--- the pages by the inner objects are those by the large ones
+-- the pages counted from the inner objects are those counted from the large objects
 pub pages_counted : (p : Paging) (u : ℕ) (large inner : Objects) (n : ℕ) → AreCounted p u large inner
-    → pages_for p (λ c. live p inner c + in_class p c (parts u n)) ≡ inner_pages_with p u large n
+    → pages_for p (λ c. live p inner c + in_class p c (inner_lengths u n)) ≡ inner_pages_with p u large n
 unfolding inner_pages_with
-pages_counted p u large inner n counted = pages_same p (λ c. live p inner c + in_class p c (parts u n)) (λ c. inner_live p u large c + in_class p c (parts u n))
-    (λ c. ap (λ k. k + in_class p c (parts u n)) (counted.each c))
+pages_counted p u large inner n counted = pages_same p (λ c. live p inner c + in_class p c (inner_lengths u n)) (λ c. inner_live p u large c + in_class p c (inner_lengths u n))
+    (λ c. ap (λ k. k + in_class p c (inner_lengths u n)) (counted.each c))

@@ -1,4 +1,4 @@
--- A run over large objects goes on after each command; and what each command does to the ids and the objects that they name.
+-- A run over large objects is in progress after each command. And what each command does to the ids and the objects that they name.
 use Rattle.std.proofs.Common.{◌≡◌, ◌∙◌, ℕ, List, Some, None, sym, ap, refl, subst, inl, inr}
 use Rattle.std.specs.Prelude.{IsTrue, Option, Result, Ok, Err, codes}
 use Rattle.std.specs.Option.{MatchOption}
@@ -22,7 +22,7 @@ use Rattle.large_objects.specs.LargeSteps.{IsLargeMalloc, IsLargeWrite}
 use Rattle.large_objects.specs.LargeRun.{FreesIdLarge, IsGoingLarge, LargeRun, LargeStep, MallocsLarge, StaysLarge, WritesIdLarge, large_object_of}
 use Rattle.large_objects.specs.LargeRun.{large_read_text, large_run}
 
--- an open heap whose objects the ids name goes on; the session keeps these ids
+-- a session over an open heap is a run in progress, if its ids name the objects
 pub going_before : (ids inside : Ids) → ids ≡ inside → (heap : LargeState) → IsTrue heap.is_open → KeepsParts heap → AreTiedTo ids heap.objects
     → IsGoingLarge (large_run inside heap)
 going_before ids inside same heap opened parts tied = record {
@@ -95,7 +95,7 @@ module _ (old new : LargeRun) (going : IsGoingLarge old) (reply : Reply) where
   turn_named (command.Resize id n) step = inr (refuses (codes "none") refl step.0 (same_named named step.1))
   turn_named c step = same_named named step.1
 
-  -- a command leaves the heap open, with its parts in order
+  -- a command that changes nothing leaves the heap open, with its rules
   open_still : new ≡ old → IsTrue new.heap.is_open × KeepsParts new.heap
   open_still is = subst (λ (s : LargeRun). IsTrue s.heap.is_open × KeepsParts s.heap) (sym is) (going.opened, going.parts)
 

@@ -1,4 +1,4 @@
--- A free of a long object, piece by piece.
+-- A free of a long object, part by part.
 use Rattle.std.proofs.Common.{◌≡◌, ℕ, suc, ◌+◌, ◌*◌, ◌<◌, List, Some, get_or, drop, arith, sym, ◌∙◌, ap, refl, subst, inl, inr, length-drop}
 use Rattle.std.specs.Prelude.{nat_eq}
 use Rattle.std.proofs.lemmas.Bool.{cases_eq}
@@ -11,38 +11,38 @@ use Rattle.page_model.specs.Held.{Objects, objects}
 use Rattle.page_model.specs.Paging.{Paging, class_for}
 use Rattle.page_model.proofs.CallerLemmas.{live_taken}
 use Rattle.cf_model.specs.State.{HeapState, paging_in}
-use Rattle.large_objects.specs.InnerCalls.{FreesPart, HasPart, IsReady}
+use Rattle.large_objects.specs.InnerCalls.{FreesInner, HasInner, IsReady}
 use Rattle.large_objects.specs.Large.{bytes_in, handle_at, named}
-use Rattle.large_objects.specs.Parts.{parts, piece_length, pieces}
-use Rattle.large_objects.specs.Shrinking.{HasPieces, IsShrinking, ReleasesLong, Shrinks}
-use Rattle.large_objects.proofs.Cutting.{in_class_more, in_class_take_none, length_long, part_is}
+use Rattle.large_objects.specs.InnerObjects.{inner_lengths, part_length, part_count}
+use Rattle.large_objects.specs.Shrinking.{HasParts, IsShrinking, ReleasesLong, Shrinks}
+use Rattle.large_objects.proofs.Cutting.{in_class_more, in_class_take_none, length_long, inner_length_is}
 use Rattle.large_objects.proofs.InnerSteps.{same_ready, then_ready}
 use Rattle.large_objects.proofs.Summed.{sum_more, sum_removed, sum_take_none}
 
--- one fewer after a free
+-- a free leaves one object fewer
 pub len_without : (o : Objects) (q : ℕ) (v : List ℕ) → get o q ≡ Some v → len o ≡ len (remove o q) + 1
 len_without o q v is = sym (ap (λ (m : Objects). len m) (put_back o q v is)) ∙ len_fresh (remove o q) q v (get_removed o q)
 
-module _ (p : Paging) (u n : ℕ) (some : 0 < u) (long : u < n) (old : Objects) (h : ℕ) (has : HasPieces u n old h) where
+module _ (p : Paging) (u n : ℕ) (some : 0 < u) (long : u < n) (old : Objects) (h : ℕ) (has : HasParts u n old h) where
   pub shrinking_first : IsShrinking p u n old h 0 old
   shrinking_first = record {
     gone = λ j lt. absurd (omega arith);
     others = λ q ne. refl;
-    live_now = λ c. (let z = in_class_take_none p c (drop 1 (parts u n)) in omega arith);
+    live_now = λ c. (let z = in_class_take_none p c (drop 1 (inner_lengths u n)) in omega arith);
     all = omega arith;
-    sums_now = λ f. (let z = sum_take_none f (drop 1 (parts u n)) in omega arith);
+    sums_now = λ f. (let z = sum_take_none f (drop 1 (inner_lengths u n)) in omega arith);
   }
 
-  module _ (i : ℕ) (below : i < pieces u n) (now : Objects) (g : IsShrinking p u n old h i now) where
-    -- the spine and the next piece are there
+  module _ (i : ℕ) (below : i < part_count u n) (now : Objects) (g : IsShrinking p u n old h i now) where
+    -- the spine and the next part are there
     pub spine_there : get now h ≡ get old h
     spine_there = g.others h (λ j lt e. has.not_spine j (omega arith) (sym e))
 
     pub named_there : named now h i ≡ named old h i
     named_there = ap (λ o. handle_at (bytes_in o) i) spine_there
 
-    pub piece_there : get now (named old h i) ≡ get old (named old h i)
-    piece_there = g.others (named old h i) (λ j lt e. (let same = has.apart i j below (omega arith) e in absurd (omega arith)))
+    pub part_there : get now (named old h i) ≡ get old (named old h i)
+    part_there = g.others (named old h i) (λ j lt e. (let same = has.apart i j below (omega arith) e in absurd (omega arith)))
 
     pub shrinking_more : IsShrinking p u n old h (i + 1) (remove now (named old h i))
     shrinking_more = record {
@@ -53,50 +53,50 @@ module _ (p : Paging) (u n : ℕ) (some : 0 < u) (long : u < n) (old : Objects) 
       others = λ q ne. get_remove_other now (named old h i) q (ne i (omega arith)) ∙ g.others q (λ j lt. ne j (omega arith));
       live_now = λ c. (
           let m = has.made i below in
-          let a = live_taken p now (named old h i) m.0 c (piece_there ∙ m.1) in
+          let a = live_taken p now (named old h i) m.0 c (part_there ∙ m.1) in
           let l = ap (λ k. one (nat_eq (class_for p k) c)) m.2 in
           let ll = length_long u n some long in
-          let d = length-drop 1 (parts u n) in
-          let more = in_class_more p c (drop 1 (parts u n)) i (omega arith) in
-          let at : get_or (drop 1 (parts u n)) i 0 ≡ piece_length u n i = get_or-drop 1 (parts u n) i 0
-          ∙ ap (λ k. get_or (parts u n) k 0) (let e : 1 + i ≡ suc i = omega arith in e) ∙ part_is u n some long i below in
+          let d = length-drop 1 (inner_lengths u n) in
+          let more = in_class_more p c (drop 1 (inner_lengths u n)) i (omega arith) in
+          let at : get_or (drop 1 (inner_lengths u n)) i 0 ≡ part_length u n i = get_or-drop 1 (inner_lengths u n) i 0
+          ∙ ap (λ k. get_or (inner_lengths u n) k 0) (let e : 1 + i ≡ suc i = omega arith in e) ∙ inner_length_is u n some long i below in
           let x = ap (λ k. one (nat_eq (class_for p k) c)) at in
           let before = g.live_now c in omega arith);
       all = (
           let m = has.made i below in
-          let e = len_without now (named old h i) m.0 (piece_there ∙ m.1) in
+          let e = len_without now (named old h i) m.0 (part_there ∙ m.1) in
           let before = g.all in omega arith);
       sums_now = λ f. (
           let m = has.made i below in
-          let a = sum_removed f now (named old h i) m.0 (piece_there ∙ m.1) in
+          let a = sum_removed f now (named old h i) m.0 (part_there ∙ m.1) in
           let l = ap f m.2 in
           let ll = length_long u n some long in
-          let d = length-drop 1 (parts u n) in
-          let more = sum_more f (drop 1 (parts u n)) i (omega arith) in
-          let at : get_or (drop 1 (parts u n)) i 0 ≡ piece_length u n i = get_or-drop 1 (parts u n) i 0
-          ∙ ap (λ k. get_or (parts u n) k 0) (let e : 1 + i ≡ suc i = omega arith in e) ∙ part_is u n some long i below in
+          let d = length-drop 1 (inner_lengths u n) in
+          let more = sum_more f (drop 1 (inner_lengths u n)) i (omega arith) in
+          let at : get_or (drop 1 (inner_lengths u n)) i 0 ≡ part_length u n i = get_or-drop 1 (inner_lengths u n) i 0
+          ∙ ap (λ k. get_or (inner_lengths u n) k 0) (let e : 1 + i ≡ suc i = omega arith in e) ∙ inner_length_is u n some long i below in
           let x = ap f at in
           let before = g.sums_now f in omega arith);
     }
 
-module _ (u n : ℕ) (old now : HeapState) (h i : ℕ) (some : 0 < u) (long : u < n) (has : HasPieces u n (objects old.held) h) (g : Shrinks u n old h i now)
-    (below : i < pieces u n) where
-  pub place_there : HasPart now h (4 * i) 4
+module _ (u n : ℕ) (old now : HeapState) (h i : ℕ) (some : 0 < u) (long : u < n) (has : HasParts u n (objects old.held) h) (g : Shrinks u n old h i now)
+    (below : i < part_count u n) where
+  pub place_there : HasInner now h (4 * i) 4
   place_there = record {
     bytes = has.spine.spine;
     found = spine_there (paging_in old) u n some long (objects old.held) h has i below (objects now.held) g.shrinking ∙ has.spine.found;
     within = (let l = has.spine.long in omega arith);
   }
 
-  pub next_there : HasPart now (named (objects now.held) h i) 0 0
+  pub next_there : HasInner now (named (objects now.held) h i) 0 0
   next_there = record {
     bytes = (has.made i below).0;
     found = ap (λ q. get (objects now.held) q) (named_there (paging_in old) u n some long (objects old.held) h has i below (objects now.held) g.shrinking)
-        ∙ piece_there (paging_in old) u n some long (objects old.held) h has i below (objects now.held) g.shrinking ∙ (has.made i below).1;
+        ∙ part_there (paging_in old) u n some long (objects old.held) h has i below (objects now.held) g.shrinking ∙ (has.made i below).1;
     within = omega arith;
   }
 
-  pub shrinks_more : (next : HeapState) → FreesPart now (named (objects now.held) h i) next → Shrinks u n old h (i + 1) next
+  pub shrinks_more : (next : HeapState) → FreesInner now (named (objects now.held) h i) next → Shrinks u n old h (i + 1) next
   shrinks_more next frees = record {
     stays = then_ready old now next g.stays frees.stays;
     shrinking = subst (λ (o : Objects). IsShrinking (paging_in old) u n (objects old.held) h (i + 1) o)
@@ -105,22 +105,22 @@ module _ (u n : ℕ) (old now : HeapState) (h i : ℕ) (some : 0 < u) (long : u 
         (shrinking_more (paging_in old) u n some long (objects old.held) h has i below (objects now.held) g.shrinking);
   }
 
-pub shrinks_first : (u n : ℕ) (old : HeapState) (h : ℕ) → 0 < u → u < n → HasPieces u n (objects old.held) h → IsReady old → Shrinks u n old h 0 old
+pub shrinks_first : (u n : ℕ) (old : HeapState) (h : ℕ) → 0 < u → u < n → HasParts u n (objects old.held) h → IsReady old → Shrinks u n old h 0 old
 shrinks_first u n old h some long has ready = record {
   stays = same_ready old ready;
   shrinking = shrinking_first (paging_in old) u n some long (objects old.held) h has;
 }
 
--- when all pieces are gone the spine is there
-pub spine_is_live : (u n : ℕ) (old now : HeapState) (h : ℕ) → HasPieces u n (objects old.held) h → Shrinks u n old h (pieces u n) now → HasPart now h 0 0
+-- after all parts were freed, the spine is still live
+pub spine_is_live : (u n : ℕ) (old now : HeapState) (h : ℕ) → HasParts u n (objects old.held) h → Shrinks u n old h (part_count u n) now → HasInner now h 0 0
 spine_is_live u n old now h has g = record {
   bytes = has.spine.spine;
   found = g.shrinking.others h (λ j lt e. has.not_spine j lt (sym e)) ∙ has.spine.found;
   within = omega arith;
 }
 
--- and then it is freed
-pub releases_long : (u n : ℕ) (old now new : HeapState) (h : ℕ) → u < n → Shrinks u n old h (pieces u n) now → FreesPart now h new → ReleasesLong u n old h new
+-- after all parts, the spine is freed
+pub releases_long : (u n : ℕ) (old now new : HeapState) (h : ℕ) → u < n → Shrinks u n old h (part_count u n) now → FreesInner now h new → ReleasesLong u n old h new
 releases_long u n old now new h long g frees = record {
   long = long;
   stays = then_ready old now new g.stays frees.stays;

@@ -1,11 +1,11 @@
--- Sums over the lengths of objects, and of their parts.
+-- Sums over the lengths of objects, and of their inner objects.
 use Rattle.std.proofs.Common.{◌≡◌, ℕ, ◌+◌, ◌<◌, List, [], ◌∷◌, Some, None, length, get_or, take, arith, ap, refl}
 use Rattle.std.specs.Prelude.{sum_by}
 use Rattle.std.specs.FinMap.{get, insert, remove}
 use Rattle.std.proofs.lemmas.List.Sums.{sum_by-cons, sum_by_more}
 use Rattle.cf_lemmas.proofs.Sums.{sum_by-inserted, sum_by-removed, sum_by-replaced}
 use Rattle.page_model.specs.Held.{Objects}
-use Rattle.large_objects.specs.Parts.{inner_sum, length_sum, parts}
+use Rattle.large_objects.specs.InnerObjects.{inner_sum, length_sum, inner_lengths}
 
 module _ (f : ℕ → ℕ) where
   module _ (o : Objects) (h : ℕ) (v : List ℕ) where
@@ -22,19 +22,19 @@ module _ (f : ℕ → ℕ) where
     sum_rewritten w some same = (let e = sum_by-replaced (λ v. f (length v)) o h v w some in let l = ap f same in omega arith)
 
   module _ (u : ℕ) (large : Objects) (h : ℕ) (v : List ℕ) where
-    pub parts_inserted : get large h ≡ None → inner_sum f u (insert large h v) ≡ inner_sum f u large + sum_by f (parts u (length v))
+    pub inner_inserted : get large h ≡ None → inner_sum f u (insert large h v) ≡ inner_sum f u large + sum_by f (inner_lengths u (length v))
     unfolding inner_sum
-    parts_inserted none = sum_by-inserted (λ v. sum_by f (parts u (length v))) large h v none
+    inner_inserted none = sum_by-inserted (λ v. sum_by f (inner_lengths u (length v))) large h v none
 
-    pub parts_removed : get large h ≡ Some v → inner_sum f u (remove large h) + sum_by f (parts u (length v)) ≡ inner_sum f u large
+    pub inner_removed : get large h ≡ Some v → inner_sum f u (remove large h) + sum_by f (inner_lengths u (length v)) ≡ inner_sum f u large
     unfolding inner_sum
-    parts_removed some = sum_by-removed (λ v. sum_by f (parts u (length v))) large h v some
+    inner_removed some = sum_by-removed (λ v. sum_by f (inner_lengths u (length v))) large h v some
 
-    pub parts_rewritten : (w : List ℕ) → get large h ≡ Some v → length w ≡ length v → inner_sum f u (insert large h w) ≡ inner_sum f u large
+    pub inner_rewritten : (w : List ℕ) → get large h ≡ Some v → length w ≡ length v → inner_sum f u (insert large h w) ≡ inner_sum f u large
     unfolding inner_sum
-    parts_rewritten w some same = (
-        let e = sum_by-replaced (λ v. sum_by f (parts u (length v))) large h v w some in
-        let l = ap (λ n. sum_by f (parts u n)) same in
+    inner_rewritten w some same = (
+        let e = sum_by-replaced (λ v. sum_by f (inner_lengths u (length v))) large h v w some in
+        let l = ap (λ n. sum_by f (inner_lengths u n)) same in
         omega arith)
 
   pub sum_one : (n : ℕ) → sum_by f (n ∷ []) ≡ f n

@@ -1,4 +1,4 @@
--- Each command of a run over large objects has its turn, and a run goes on to the end of its items.
+-- Each command of a run over large objects has a reply, and a run can be continued to the end of its items.
 use Rattle.std.proofs.Common.{◌≡◌, ℕ, ◌+◌, List, Some, None, length, arith, refl, inl, inr}
 use Rattle.std.specs.Prelude.{true, Option, Ok, Err, codes}
 use Rattle.std.specs.Option.{MatchOption}
@@ -141,11 +141,11 @@ begins_large kind p paged can =
       },
     )
 
--- a run that began goes on
+-- a run is in progress after its `heap` line
 pub begins_going : (kind : Kind) (p : Profile) (s : LargeRun) → BeginsLarge kind p s → IsGoingLarge s
 begins_going kind p s b = record { opened = b.open_now; parts = b.parts; tied = none_tied s.ids s.heap.objects b.ids b.none }
 
--- a run over large objects goes on
+-- a run over large objects can be continued after each command
 pub large_goes_on : (kind : Kind) → IsPaged kind → CanGoOn (BeginsAtOne kind) LargeStep
 large_goes_on kind paged = record {
   is_going = IsGoingLarge;

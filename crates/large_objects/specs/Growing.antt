@@ -10,37 +10,37 @@ use Rattle.cf_model.specs.State.{HeapState, paging_in}
 use Rattle.large_objects.specs.InnerCalls.{IsReady, StaysReady}
 use Rattle.large_objects.specs.Large.{HasSpine, named}
 use Rattle.large_objects.specs.LargeSteps.{FitsSpine}
-use Rattle.large_objects.specs.Parts.{in_class, length_sum, parts, piece_bytes, piece_length, pieces}
+use Rattle.large_objects.specs.InnerObjects.{in_class, length_sum, inner_lengths, whole_part_bytes, part_length, part_count}
 
--- there is room for all inner objects of one more object of n bytes
-pub record HasPartsRoom (u n : ℕ) (s : HeapState) : Type 0 where
+-- an inner manager has room for all inner objects of one more object of n bytes; a whole part has u bytes
+pub record HasObjectRoom (u n : ℕ) (s : HeapState) : Type 0 where
   pub ready : IsReady s
-  pub piece : u ≡ piece_bytes s.profile
+  pub part_bytes : u ≡ whole_part_bytes s.profile
   pub fits : FitsSpine u n
-  pub proxies : len (objects s.held) + length (parts u n) ≤ s.profile.proxies
-  pub pages : pages_for (paging_in s) (λ c. live (paging_in s) (objects s.held) c + in_class (paging_in s) c (parts u n)) ≤ s.profile.pages
+  pub proxies : len (objects s.held) + length (inner_lengths u n) ≤ s.profile.proxies
+  pub pages : pages_for (paging_in s) (λ c. live (paging_in s) (objects s.held) c + in_class (paging_in s) c (inner_lengths u n)) ≤ s.profile.pages
 
--- The spine h of an object of n bytes is made, with the handles of i pieces. All other objects are unchanged.
+-- The spine h of an object of n bytes and its first i parts are made, and the spine holds the handles of these parts. All other objects are unchanged.
 pub record IsGrowing (p : Paging) (u n : ℕ) (old : Objects) (h i : ℕ) (now : Objects) : Type 0 where
   pub spine : HasSpine u now h n
   pub unused : get old h ≡ None
   pub others : (q : ℕ) (b : List ℕ) → get old q ≡ Some b → get now q ≡ Some b
-  pub made : (j : ℕ) → j < i → get now (named now h j) ≡ Some (replicate (piece_length u n j) 0)
+  pub made : (j : ℕ) → j < i → get now (named now h j) ≡ Some (replicate (part_length u n j) 0)
   pub fresh : (j : ℕ) → j < i → get old (named now h j) ≡ None
   pub not_spine : (j : ℕ) → j < i → named now h j ≢ h
   pub apart : (j k : ℕ) → j < i → k < i → named now h j ≡ named now h k → j ≡ k
   pub no_others : (q : ℕ) (b : List ℕ) → get now q ≡ Some b → get old q ≡ None → (q ≡ h) ⊎ ((j : ℕ) × (j < i) × (q ≡ named now h j))
-  pub live_now : (c : ℕ) → live p now c ≡ live p old c + in_class p c (take (1 + i) (parts u n))
+  pub live_now : (c : ℕ) → live p now c ≡ live p old c + in_class p c (take (1 + i) (inner_lengths u n))
   pub all : len now ≡ len old + (1 + i)
-  pub sums_now : (f : ℕ → ℕ) → length_sum f now ≡ length_sum f old + sum_by f (take (1 + i) (parts u n))
+  pub sums_now : (f : ℕ → ℕ) → length_sum f now ≡ length_sum f old + sum_by f (take (1 + i) (inner_lengths u n))
 
--- the same of an open manager
+-- `IsGrowing` of the objects of an inner manager, which keeps its settings and is ready afterwards
 pub record Grows (u n : ℕ) (old : HeapState) (h i : ℕ) (now : HeapState) : Type 0 where
   pub stays : StaysReady old now
   pub growing : IsGrowing (paging_in old) u n (objects old.held) h i (objects now.held)
 
--- a piece of n bytes is made, and the spine holds its handle at place i
-pub record NamesPiece (old : HeapState) (h i n : ℕ) (new : HeapState) : Type 0 where
+-- a part of n bytes is made, and the spine h holds its handle at place i
+pub record NamesPart (old : HeapState) (h i n : ℕ) (new : HeapState) : Type 0 where
   pub stays : StaysReady old new
   pub number : ℕ
   pub unused : get (objects old.held) number ≡ None
@@ -49,16 +49,18 @@ pub record NamesPiece (old : HeapState) (h i n : ℕ) (new : HeapState) : Type 0
   pub found : get (objects old.held) h ≡ Some spine
   pub left : objects new.held ≡ insert (insert (objects old.held) number (replicate n 0)) h (written spine (4 * i) (to_le_bytes w32 number))
 
--- the inner objects of an object of n bytes are made: itself, or its spine and all pieces
+-- an object of n bytes that fits a page is made, as one inner object
 pub record MakesShort (u n : ℕ) (old : HeapState) (h : ℕ) (new : HeapState) : Type 0 where
   pub short : n ≤ u
   pub stays : StaysReady old new
   pub unused : get (objects old.held) h ≡ None
   pub left : objects new.held ≡ insert (objects old.held) h (replicate n 0)
 
+-- the spine and all parts of an object of n bytes, which is longer than a page, are made
 pub record MakesLong (u n : ℕ) (old : HeapState) (h : ℕ) (new : HeapState) : Type 0 where
   pub long : u < n
-  pub grown : Grows u n old h (pieces u n) new
+  pub grown : Grows u n old h (part_count u n) new
 
+-- all inner objects of an object of n bytes are made
 abbrev pub Makes : ℕ → ℕ → HeapState → ℕ → HeapState → Type 0
 Makes u n old h new = MakesShort u n old h new ⊎ MakesLong u n old h new

@@ -1,4 +1,4 @@
--- The calls of an inner manager that it never refuses. No public clause cites this module.
+-- Calls of an inner manager that it doesn't refuse, since there is room or the object is live. No public clause cites this module.
 use Rattle.std.specs.Prelude.{◌≡◌, ℕ, IsTrue, ◌+◌, ◌^◌, ◌≤◌, ◌<◌, List, Some, None, length, replicate}
 use Rattle.std.specs.FinMap.{get, insert, remove, len}
 use Rattle.cf_base.specs.Classes.{need}
@@ -18,38 +18,38 @@ pub record IsReady (s : HeapState) : Type 0 where
   pub pages : IsPaged s.kind
   pub ones : AreOne (paging_in s)
 
--- the same manager under the same settings and bounds, and ready
+-- after a call the manager has the same settings and bounds, and is ready
 pub record StaysReady (old new : HeapState) : Type 0 where
   pub settings : KeepsSettings old new
   pub ready : IsReady new
 
--- there is room for one more inner object of n bytes
-pub record HasPartRoom (s : HeapState) (n : ℕ) : Type 0 where
+-- the manager has room for one more inner object of n bytes
+pub record HasInnerRoom (s : HeapState) (n : ℕ) : Type 0 where
   pub fits : need n ≤ s.profile.page_words
   pub few : len (objects s.held) < s.profile.proxies
   pub pages : pages_needed_with (paging_in s) (objects s.held) n ≤ s.profile.pages
 
--- an inner object of zeros is made
-pub record GivesPart (old : HeapState) (q n : ℕ) (new : HeapState) : Type 0 where
+-- a malloc made the inner object q, of n zero bytes
+pub record GivesInner (old : HeapState) (q n : ℕ) (new : HeapState) : Type 0 where
   pub stays : StaysReady old new
   pub unused : get (objects old.held) q ≡ None
   pub below : q < 2 ^ 32
   pub left : objects new.held ≡ insert (objects old.held) q (replicate n 0)
 
--- an inner object has `count` bytes from `at` on
-pub record HasPart (s : HeapState) (q at count : ℕ) : Type 0 where
+-- the inner object q is live and has `count` bytes from byte `at` on
+pub record HasInner (s : HeapState) (q at count : ℕ) : Type 0 where
   pub bytes : List ℕ
   pub found : get (objects s.held) q ≡ Some bytes
   pub within : at + count ≤ length bytes
 
--- bytes are written into an inner object
-pub record WritesPart (old : HeapState) (q at : ℕ) (bytes : List ℕ) (new : HeapState) : Type 0 where
+-- a write put these bytes into the live inner object q, from byte `at` on
+pub record WritesInner (old : HeapState) (q at : ℕ) (bytes : List ℕ) (new : HeapState) : Type 0 where
   pub stays : StaysReady old new
   pub object : List ℕ
   pub found : get (objects old.held) q ≡ Some object
   pub left : objects new.held ≡ insert (objects old.held) q (written object at bytes)
 
--- an inner object is freed
-pub record FreesPart (old : HeapState) (q : ℕ) (new : HeapState) : Type 0 where
+-- a free removed the inner object q
+pub record FreesInner (old : HeapState) (q : ℕ) (new : HeapState) : Type 0 where
   pub stays : StaysReady old new
   pub left : objects new.held ≡ remove (objects old.held) q

@@ -1,4 +1,4 @@
--- Large objects, and their inner objects.
+-- The state of a heap of large objects, and the rules that its inner objects keep.
 use Rattle.std.specs.Prelude.{◌≡◌, ℕ, Bool, IsTrue, ◌*◌, ◌<◌, ◌≤◌, List, [], Option, Some, None, length, take, drop, refl}
 use Rattle.std.specs.Coded.{Coded, code_by, coded×, coded_ℕ, coded_list, coded_bool}
 use Rattle.std.specs.FinMap as map
@@ -10,7 +10,7 @@ use Rattle.page_model.specs.Paging.{AreOne, Paging}
 use Rattle.cf_model.specs.Families.{IsPaged}
 use Rattle.cf_model.specs.Rules.{KeepsRules}
 use Rattle.cf_model.specs.State.{HeapState, paging_in, state_code}
-use Rattle.large_objects.specs.Parts.{inner_count, inner_live, inner_sum, length_sum, piece_bytes, pieces, spine_bytes}
+use Rattle.large_objects.specs.InnerObjects.{inner_count, inner_live, inner_sum, length_sum, whole_part_bytes, part_count, spine_bytes}
 
 -- a heap of large objects: the objects by handle, and the inner manager
 pub record LargeState : Type 0 where
@@ -18,11 +18,12 @@ pub record LargeState : Type 0 where
   pub objects : Objects
   pub inner : HeapState
 
+-- the state as nested pairs, since the type's `Model` needs a coded value
 abbrev pub large_code : Coded LargeState
 large_code = code_by (Bool × (Objects × HeapState)) (coded× coded_bool (coded× (map.code coded_ℕ (coded_list coded_ℕ)) state_code))
     (λ s. (s.is_open, (s.objects, s.inner))) (λ q. record { is_open = q.0; objects = q.1.0; inner = q.1.1 }) (λ _. refl)
 
--- the bytes under a number; none if it isn't live
+-- the bytes of an object; no bytes if it isn't live
 abbrev pub bytes_in : Option (List ℕ) → List ℕ
 bytes_in None = []
 bytes_in (Some v) = v
@@ -31,50 +32,51 @@ bytes_in (Some v) = v
 unfoldable pub handle_at : List ℕ → ℕ → ℕ
 handle_at spine i = from_le_bytes w32 (take 4 (drop (4 * i) spine))
 
--- the handle of piece i of an object, by its spine
+-- the handle of part i of the object h, as its spine holds it
 abbrev pub named : Objects → ℕ → ℕ → ℕ
 named inner h i = handle_at (bytes_in (get inner h)) i
 
--- the bytes of piece i
-abbrev pub piece_of : ℕ → List ℕ → ℕ → List ℕ
-piece_of u v i = take u (drop (u * i) v)
+-- the bytes of part i of an object with the bytes v
+abbrev pub part_bytes_at : ℕ → List ℕ → ℕ → List ℕ
+part_bytes_at u v i = take u (drop (u * i) v)
 
--- the inner object q is piece i of the object h
-pub record IsPiece (u : ℕ) (large inner : Objects) (q h i : ℕ) : Type 0 where
+-- the inner object q is part i of the object h, which is longer than a page
+pub record IsPart (u : ℕ) (large inner : Objects) (q h i : ℕ) : Type 0 where
   pub bytes : List ℕ
   pub found : get large h ≡ Some bytes
   pub long : u < length bytes
-  pub below : i < pieces u (length bytes)
+  pub below : i < part_count u (length bytes)
   pub is : q ≡ named inner h i
 
--- an object's handle is that of its spine, which has the bytes of a spine
+-- the handle h of an object of n bytes is the handle of its spine, which has four bytes for each part
 pub record HasSpine (u : ℕ) (inner : Objects) (h n : ℕ) : Type 0 where
   pub spine : List ℕ
   pub found : get inner h ≡ Some spine
   pub long : length spine ≡ spine_bytes u n
 
 -- The inner objects are those of the large ones: an object that fits a page is an inner object, and a longer one has a spine, which holds the handles of its
--- pieces in order. A piece belongs to one object, and isn't an object itself. There are no other inner objects.
+-- parts in order. A part belongs to one object, and isn't an object itself. There are no other inner objects.
 pub record AreLaidOut (u : ℕ) (large inner : Objects) : Type 0 where
   pub small : (h : ℕ) (v : List ℕ) → get large h ≡ Some v → length v ≤ u → get inner h ≡ Some v
   pub spines : (h : ℕ) (v : List ℕ) → get large h ≡ Some v → u < length v → HasSpine u inner h (length v)
-  pub pieces_are : (h : ℕ) (v : List ℕ) → get large h ≡ Some v → u < length v
-      → (i : ℕ) → i < pieces u (length v) → get inner (named inner h i) ≡ Some (piece_of u v i)
-  pub not_objects : (q h i : ℕ) → IsPiece u large inner q h i → get large q ≡ None
-  pub of_one : (q h i g j : ℕ) → IsPiece u large inner q h i → IsPiece u large inner q g j → (h ≡ g) × (i ≡ j)
-  pub no_others : (q : ℕ) (b : List ℕ) → get inner q ≡ Some b → get large q ≡ None → (h : ℕ) × (i : ℕ) × IsPiece u large inner q h i
+  pub parts_are : (h : ℕ) (v : List ℕ) → get large h ≡ Some v → u < length v
+      → (i : ℕ) → i < part_count u (length v) → get inner (named inner h i) ≡ Some (part_bytes_at u v i)
+  pub not_objects : (q h i : ℕ) → IsPart u large inner q h i → get large q ≡ None
+  pub of_one : (q h i g j : ℕ) → IsPart u large inner q h i → IsPart u large inner q g j → (h ≡ g) × (i ≡ j)
+  pub no_others : (q : ℕ) (b : List ℕ) → get inner q ≡ Some b → get large q ≡ None → (h : ℕ) × (i : ℕ) × IsPart u large inner q h i
 
--- The numbers of inner objects, in all and in each class, and all sums over their lengths, are those by the lengths of the large objects.
+-- The number of inner objects, in all and in each class, and every sum over their lengths, are computed from the lengths of the large objects.
 pub record AreCounted (p : Paging) (u : ℕ) (large inner : Objects) : Type 0 where
   pub all : len inner ≡ inner_count u large
   pub each : (c : ℕ) → live p inner c ≡ inner_live p u large c
   pub sums : (f : ℕ → ℕ) → length_sum f inner ≡ inner_sum f u large
 
--- What an open heap of large objects keeps: its inner manager is open, with pages, and each of its classes has the bound 1.
+-- What an open heap of large objects keeps: its inner manager is open, with pages, and each of its classes has the bound 1; and the inner objects are those
+-- of its objects.
 pub record KeepsParts (s : LargeState) : Type 0 where
   pub opened : IsTrue s.inner.is_open
   pub rules : KeepsRules s.inner
   pub pages : IsPaged s.inner.kind
   pub ones : AreOne (paging_in s.inner)
-  pub laid : AreLaidOut (piece_bytes s.inner.profile) s.objects (objects s.inner.held)
-  pub counted : AreCounted (paging_in s.inner) (piece_bytes s.inner.profile) s.objects (objects s.inner.held)
+  pub laid : AreLaidOut (whole_part_bytes s.inner.profile) s.objects (objects s.inner.held)
+  pub counted : AreCounted (paging_in s.inner) (whole_part_bytes s.inner.profile) s.objects (objects s.inner.held)

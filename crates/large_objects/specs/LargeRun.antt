@@ -37,16 +37,16 @@ pub record IsGoingLarge (s : LargeRun) : Type 0 where
 abbrev pub large_object_of : LargeRun → ℕ → Option (List ℕ)
 large_object_of s id = elim (get s.ids id) [ None ↦ None | Some h ↦ get s.heap.objects h ]
 
--- r: `=` and the bytes in hexadecimal
+-- the reply to `r`: `=` and the bytes in hexadecimal; `unknown` if the id isn't live, `range` if the bytes pass the object's end
 abbrev pub large_read_text : Option (List ℕ) → ℕ → ℕ → List ℕ
 large_read_text None at count = codes "unknown"
 large_read_text (Some v) at count = if nat_le (at + count) (length v) then codes "=" ++ encode_lower (take count (drop at v)) else codes "range"
 
--- the command does nothing, and gets this reply
+-- the command changes nothing, and its reply is this text
 abbrev pub StaysLarge : LargeRun → List ℕ → Reply → LargeRun → Type 0
 StaysLarge old text reply new = (reply ≡ said text) × (new ≡ old)
 
--- a malloc for an id that isn't live
+-- a malloc for an id that isn't live: the heap adds an object and the id names it, or the heap refuses; the reply shows which
 pub record MallocsLarge (old : LargeRun) (id bytes : ℕ) (reply : Reply) (new : LargeRun) : Type 0 where
   pub answer : Result Handle Refusal
   pub step : IsLargeMalloc old.heap bytes answer new.heap
@@ -54,14 +54,14 @@ pub record MallocsLarge (old : LargeRun) (id bytes : ℕ) (reply : Reply) (new :
   pub ids : new.ids ≡ ids_given old.ids id answer
   pub reply_is : reply ≡ said (malloc_text answer)
 
--- a free of a live id
+-- a free of a live id: the heap removes the object, and the id is no longer live
 pub record FreesIdLarge (old : LargeRun) (id h : ℕ) (reply : Reply) (new : LargeRun) : Type 0 where
   pub step : FreesLarge old.heap h new.heap
   pub kept : StaysKept old.heap new.heap
   pub ids : new.ids ≡ remove old.ids id
   pub reply_is : reply ≡ said (codes "ok")
 
--- a write into a live object
+-- a write into a live object: the heap replaces the bytes, or refuses; the reply shows which
 pub record WritesIdLarge (old : LargeRun) (part : Part) (bytes : List ℕ) (reply : Reply) (new : LargeRun) : Type 0 where
   pub answer : Result Unit AccessFault
   pub step : IsLargeWrite old.heap part bytes answer new.heap
@@ -84,6 +84,6 @@ LargeStep old (Write id at bytes) reply new =
     MatchOption (get old.ids id) (StaysLarge old (codes "unknown") reply new) (λ h. WritesIdLarge old (record { number = h; from = at }) bytes reply new)
 LargeStep old command reply new = (reply ≡ large_shown old command) × (new ≡ old)
 
--- the state at one moment, and the bytes written by then
+-- a snapshot of a run: its state, and the bytes written to the sink so far
 abbrev pub large_moment : Ids → LargeState → Option (List ℕ) → Snapshot LargeRun
 large_moment ids heap written = snapshot (large_run ids heap) written

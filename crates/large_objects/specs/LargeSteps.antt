@@ -1,4 +1,4 @@
--- The steps of a heap of large objects, from its state before to its state after.
+-- What each call of a heap of large objects does: its state before the call, the result, and its state after it.
 use Rattle.std.specs.Prelude.{◌≡◌, ℕ, ◌+◌, ◌*◌, ◌≤◌, ◌<◌, ◌⊎◌, true, false, List, Some, None, Result, Ok, Err, length, take, drop, replicate}
 use Rattle.std.specs.FinMap.{get, insert, remove, empty}
 use Rattle.cf_base.specs.declared.answers.AccessFault.{AccessFault}
@@ -12,70 +12,70 @@ use Rattle.page_model.specs.Bytes.{written}
 use Rattle.cf_model.specs.State.{paging_in}
 use Rattle.cf_model.specs.Steps.{IsClosed, IsEmptyHeap, Part, StaysOpen}
 use Rattle.large_objects.specs.Large.{KeepsParts, LargeState}
-use Rattle.large_objects.specs.Parts.{inner_count, inner_pages_with, parts, piece_bytes, pieces, spine_bytes}
+use Rattle.large_objects.specs.InnerObjects.{inner_count, inner_pages_with, inner_lengths, whole_part_bytes, part_count, spine_bytes}
 
--- the bytes of a piece on these pages
-abbrev pub piece_in : LargeState → ℕ
-piece_in s = piece_bytes s.inner.profile
+-- the bytes of a whole part under the settings of the heap
+abbrev pub part_bytes_in : LargeState → ℕ
+part_bytes_in s = whole_part_bytes s.inner.profile
 
--- an open heap without objects
+-- `open_heap` succeeded: the heap is open, has no objects, and its inner manager is empty under these settings
 pub record IsEmptyLarge (old : LargeState) (settings : Settings) (new : LargeState) : Type 0 where
   pub open_now : new.is_open ≡ true
   pub none : new.objects ≡ empty
   pub inner : IsEmptyHeap old.inner.kind settings new.inner
 
--- out of memory: the heap is closed and has no objects, and the inner manager is unchanged or closed
+-- `open_heap` failed with `OutOfMemory`: the heap is closed and has no objects, and the inner manager is unchanged or closed
 pub record IsShutLarge (old new : LargeState) : Type 0 where
   pub closed : new.is_open ≡ false
   pub none : new.objects ≡ empty
   pub inner : (new.inner ≡ old.inner) ⊎ IsClosed old.inner new.inner
 
--- the same heap, open under the same settings
+-- after a call the heap is open under the same settings
 pub record StaysOpenLarge (old new : LargeState) : Type 0 where
   pub open_now : new.is_open ≡ true
   pub inner : StaysOpen old.inner new.inner
 
--- the spine of an object of n bytes fits a page, if the object needs one
+-- an object of n bytes fits a page, or its spine does; a whole part has u bytes
 abbrev pub FitsSpine : ℕ → ℕ → Type 0
 FitsSpine u n = (n ≤ u) ⊎ (spine_bytes u n ≤ u)
 
--- the inner objects of one more object of n bytes have handles
+-- there are enough proxies for all inner objects with those of one more object of n bytes
 abbrev pub HasProxies : LargeState → ℕ → Type 0
-HasProxies s n = inner_count (piece_in s) s.objects + length (parts (piece_in s) n) ≤ s.inner.profile.proxies
+HasProxies s n = inner_count (part_bytes_in s) s.objects + length (inner_lengths (part_bytes_in s) n) ≤ s.inner.profile.proxies
 
--- there are as many pages as all inner objects need with them
+-- there are enough pages for all inner objects with those of one more object of n bytes
 abbrev pub HasPages : LargeState → ℕ → Type 0
-HasPages s n = inner_pages_with (paging_in s.inner) (piece_in s) s.objects n ≤ s.inner.profile.pages
+HasPages s n = inner_pages_with (paging_in s.inner) (part_bytes_in s) s.objects n ≤ s.inner.profile.pages
 
--- an object of n bytes isn't refused
+-- the heap has room for one more object of n bytes, so a malloc of n bytes isn't refused
 pub record HasRoom (s : LargeState) (n : ℕ) : Type 0 where
-  pub fits : FitsSpine (piece_in s) n
+  pub fits : FitsSpine (part_bytes_in s) n
   pub proxies : HasProxies s n
   pub pages : HasPages s n
 
--- A handle that wasn't live gets n zeros, which the heap has room for.
+-- A malloc made an object of n zero bytes, which the heap had room for, under a handle that wasn't live.
 pub record GivesLarge (old : LargeState) (h n : ℕ) (new : LargeState) : Type 0 where
   pub room : HasRoom old n
   pub unused : get old.objects h ≡ None
   pub given : new.objects ≡ insert old.objects h (replicate n 0)
 
--- the spine would need more than a page
+-- the cause of `Size`: the object is longer than a page, and so is its spine
 pub record WantsLongerSpine (s : LargeState) (n : ℕ) : Type 0 where
-  pub long : piece_in s < n
-  pub past : piece_in s < spine_bytes (piece_in s) n
+  pub long : part_bytes_in s < n
+  pub past : part_bytes_in s < spine_bytes (part_bytes_in s) n
 
--- the inner objects would be more than the proxies
+-- the cause of `Proxy`: the cause of `Size` doesn't hold, but there would be more inner objects than proxies
 pub record WantsProxies (s : LargeState) (n : ℕ) : Type 0 where
-  pub fits : FitsSpine (piece_in s) n
-  pub past : s.inner.profile.proxies < inner_count (piece_in s) s.objects + length (parts (piece_in s) n)
+  pub fits : FitsSpine (part_bytes_in s) n
+  pub past : s.inner.profile.proxies < inner_count (part_bytes_in s) s.objects + length (inner_lengths (part_bytes_in s) n)
 
--- the inner objects would need more pages than there are
+-- the cause of `Space`: no other cause holds, but the inner objects would need more pages than there are
 pub record WantsPages (s : LargeState) (n : ℕ) : Type 0 where
-  pub fits : FitsSpine (piece_in s) n
+  pub fits : FitsSpine (part_bytes_in s) n
   pub proxies : HasProxies s n
-  pub past : s.inner.profile.pages < inner_pages_with (paging_in s.inner) (piece_in s) s.objects n
+  pub past : s.inner.profile.pages < inner_pages_with (paging_in s.inner) (part_bytes_in s) s.objects n
 
--- the cause of each refusal of a malloc, by arithmetic
+-- the cause of each refusal of a malloc of n bytes
 abbrev pub IsRefusedLarge : LargeState → ℕ → Refusal → Type 0
 IsRefusedLarge s n refusal.Size = WantsLongerSpine s n
 IsRefusedLarge s n refusal.Proxy = WantsProxies s n
@@ -86,7 +86,7 @@ abbrev pub IsLargeMalloc : LargeState → ℕ → Result Handle Refusal → Larg
 IsLargeMalloc old n (Ok h) new = GivesLarge old h.0 n new
 IsLargeMalloc old n (Err e) new = IsRefusedLarge old n e × (new ≡ old)
 
--- an object is removed
+-- a free removed the live object h
 pub record FreesLarge (old : LargeState) (h : ℕ) (new : LargeState) : Type 0 where
   pub bytes : List ℕ
   pub found : get old.objects h ≡ Some bytes
@@ -97,18 +97,18 @@ abbrev pub IsLargeFree : LargeState → ℕ → Result Unit NotLive → LargeSta
 IsLargeFree old h (Ok u) new = FreesLarge old h new
 IsLargeFree old h (Err e) new = (get old.objects h ≡ None) × (new ≡ old)
 
--- the part of n bytes passes the end of the object
+-- the object is live, and `count` bytes from byte `part.from` on pass its end
 pub record PassesLarge (s : LargeState) (part : Part) (count : ℕ) : Type 0 where
   pub bytes : List ℕ
   pub found : get s.objects part.number ≡ Some bytes
   pub past : length bytes < part.from + count
 
--- the cause of each refusal of a read or a write
+-- the cause of each fault of a read or a write of `count` bytes
 abbrev pub IsLargeFault : LargeState → Part → ℕ → AccessFault → Type 0
 IsLargeFault s part count access.Unknown = get s.objects part.number ≡ None
 IsLargeFault s part count access.Range = PassesLarge s part count
 
--- the object holds the bytes from `from` on, and nothing else changes
+-- a write put the bytes into the object, from byte `part.from` on, and no other object changed
 pub record WritesLarge (old : LargeState) (part : Part) (bytes : List ℕ) (new : LargeState) : Type 0 where
   pub object : List ℕ
   pub found : get old.objects part.number ≡ Some object
@@ -120,7 +120,7 @@ abbrev pub IsLargeWrite : LargeState → Part → List ℕ → Result Unit Acces
 IsLargeWrite old part bytes (Ok u) new = WritesLarge old part bytes new
 IsLargeWrite old part bytes (Err e) new = IsLargeFault old part (length bytes) e × (new ≡ old)
 
--- the bytes of a part
+-- a read returned `count` bytes of the live object, from byte `part.from` on
 pub record ReadsLarge (s : LargeState) (part : Part) (count : ℕ) (bytes : List ℕ) : Type 0 where
   pub object : List ℕ
   pub found : get s.objects part.number ≡ Some object
@@ -132,30 +132,30 @@ abbrev pub IsLargeRead : LargeState → Part → List ℕ → Result Unit Access
 IsLargeRead s part room (Ok u) out = ReadsLarge s part (length room) out
 IsLargeRead s part room (Err e) out = IsLargeFault s part (length room) e × (out ≡ room)
 
--- the part from byte `at` on of piece i of a long object
-pub record HasLongPart (s : LargeState) (h i at count : ℕ) : Type 0 where
+-- the object h is longer than a page, and its part i has `count` bytes from byte `at` of the part on
+pub record HasPartRange (s : LargeState) (h i at count : ℕ) : Type 0 where
   pub bytes : List ℕ
   pub found : get s.objects h ≡ Some bytes
-  pub long : piece_in s < length bytes
-  pub below : i < pieces (piece_in s) (length bytes)
-  pub inside : at + count ≤ piece_in s
-  pub within : piece_in s * i + at + count ≤ length bytes
+  pub long : part_bytes_in s < length bytes
+  pub below : i < part_count (part_bytes_in s) (length bytes)
+  pub inside : at + count ≤ part_bytes_in s
+  pub within : part_bytes_in s * i + at + count ≤ length bytes
 
--- the part of a long object from byte `at` on
+-- the object h is longer than a page, and has `count` bytes from byte `at` on
 pub record HasLong (s : LargeState) (h at count : ℕ) : Type 0 where
   pub bytes : List ℕ
   pub found : get s.objects h ≡ Some bytes
-  pub long : piece_in s < length bytes
+  pub long : part_bytes_in s < length bytes
   pub within : at + count ≤ length bytes
 
--- the part of a short one
+-- the object h fits a page, and has `count` bytes from byte `at` on
 pub record HasShort (s : LargeState) (h at count : ℕ) : Type 0 where
   pub bytes : List ℕ
   pub found : get s.objects h ≡ Some bytes
-  pub short : length bytes ≤ piece_in s
+  pub short : length bytes ≤ part_bytes_in s
   pub within : at + count ≤ length bytes
 
--- the same heap, with its parts in order
+-- after a call the heap is open under the same settings and keeps its rules (`KeepsParts`)
 pub record StaysKept (old new : LargeState) : Type 0 where
   pub stays : StaysOpenLarge old new
   pub parts : KeepsParts new

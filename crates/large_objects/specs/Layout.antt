@@ -6,19 +6,19 @@ use Rattle.cf_lemmas.specs.Maps.{numbered}
 use Rattle.page_model.specs.Held.{Objects, objects}
 use Rattle.cf_model.specs.State.{HeapState}
 use Rattle.large_objects.specs.Large.{KeepsParts, LargeState, bytes_in, named}
-use Rattle.large_objects.specs.Parts.{piece_bytes, pieces}
+use Rattle.large_objects.specs.InnerObjects.{whole_part_bytes, part_count}
 
--- the bytes of the object of n bytes under a handle, gathered from its pieces
+-- the bytes of the object of n bytes under a handle, gathered from its parts
 unfoldable pub gathered : ℕ → Objects → ℕ → ℕ → List ℕ
-gathered u inner h n = if nat_le n u then bytes_in (get inner h) else flat_map (λ i. bytes_in (get inner (named inner h i))) (range_with_len 0 (pieces u n))
+gathered u inner h n = if nat_le n u then bytes_in (get inner h) else flat_map (λ i. bytes_in (get inner (named inner h i))) (range_with_len 0 (part_count u n))
 
--- the same for each handle from k on that has a length
+-- for each handle from k on: the gathered bytes of its object, or None if the handle has no length
 abbrev pub gathered_from : ℕ → Objects → ℕ → List (Option ℕ) → List (Option (List ℕ))
 gathered_from u inner k [] = []
 gathered_from u inner k (None ∷ lengths) = None ∷ gathered_from u inner (k + 1) lengths
 gathered_from u inner k (Some n ∷ lengths) = Some (gathered u inner k n) ∷ gathered_from u inner (k + 1) lengths
 
--- the objects that have a length
+-- the map of all objects: the gathered bytes of each handle that has a length
 unfoldable pub gathered_objects : ℕ → List (Option ℕ) → Objects → Objects
 gathered_objects u lengths inner = numbered 0 (gathered_from u inner 0 lengths)
 
@@ -27,23 +27,24 @@ abbrev pub objects_in : Bool → ℕ → List (Option ℕ) → HeapState → Obj
 objects_in true u lengths s = gathered_objects u lengths (objects s.held)
 objects_in false u lengths s = empty
 
+-- the state that the fields of a heap represent
 abbrev pub large_state : Bool → ℕ → List (Option ℕ) → HeapState → LargeState
 large_state is_open u lengths s = record { is_open = is_open; objects = objects_in is_open u lengths s; inner = s }
 
--- the lengths are those of the objects, and there is one for each proxy
+-- there is one entry for each proxy: the length of the object with this handle, None if there is no such object
 pub record AreLengths (lengths : List (Option ℕ)) (large : Objects) (proxies : ℕ) : Type 0 where
   pub count : length lengths ≡ proxies
   pub each : (h : ℕ) → slice_index_or lengths h None ≡ option_map length (get large h)
 
--- the fields for these objects: their lengths, the bytes of a piece, and the number of pages
+-- the fields of an open heap agree with its objects and its inner manager: the lengths, the bytes of a whole part, and the number of pages
 pub record AreKept (pages u : ℕ) (lengths : List (Option ℕ)) (large : Objects) (s : HeapState) : Type 0 where
   pub parts : KeepsParts (record { is_open = true; objects = large; inner = s })
   pub lengths_are : AreLengths lengths large s.profile.proxies
-  pub piece : u ≡ piece_bytes s.profile
+  pub part_bytes : u ≡ whole_part_bytes s.profile
   pub some : 0 < u
   pub pages_are : pages ≡ s.profile.pages
 
--- what holds if it is open
+-- the invariant of the fields: they agree with the objects if the heap is open (`AreKept`)
 abbrev pub IsValid : Bool → ℕ → ℕ → List (Option ℕ) → HeapState → Type 0
 IsValid true pages u lengths s = AreKept pages u lengths (gathered_objects u lengths (objects s.held)) s
 IsValid false pages u lengths s = Unit {0}

@@ -1,4 +1,4 @@
-pub mod Parts
+pub mod InnerObjects
 pub mod Large
 pub mod LargeSteps
 pub mod Layout

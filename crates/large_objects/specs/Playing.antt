@@ -14,7 +14,7 @@ use Rattle.large_objects.specs.Large.{KeepsParts}
 use Rattle.large_objects.specs.LargeRun.{IsGoingLarge, LargeRun, LargeStep}
 use Rattle.large_objects.specs.LargeSteps.{IsShutLarge}
 
--- a heap of large objects was opened over a manager of the kind, with a new session
+-- the run after the `heap` line: the heap is open over a manager of this kind, with no objects and the bound 1, and no id is live
 pub record BeginsLarge (kind : Kind) (p : Profile) (new : LargeRun) : Type 0 where
   pub ids : new.ids ≡ empty
   pub open_now : new.heap.is_open ≡ true
@@ -24,11 +24,11 @@ pub record BeginsLarge (kind : Kind) (p : Profile) (new : LargeRun) : Type 0 whe
   pub inner : new.heap.inner ≡ ordered_heap kind (at_bound_one p) new.heap.inner.words new.heap.inner.order
   pub parts : KeepsParts new.heap
 
--- the same, and the reply is `ok`
+-- the run begins as in `BeginsLarge`, and the reply to the `heap` line is `ok`
 abbrev pub BeginsAtOne : Kind → Profile → Reply → LargeRun → Type 0
 BeginsAtOne kind p reply new = BeginsLarge kind p new × (reply ≡ said (codes "ok"))
 
--- The items of a script may have these replies, one each, and lead to the new state.
+-- A run from a state (None before the `heap` line): the items may have these replies, one each, and lead to the new state.
 abbrev pub RunsLarge : Kind → Option LargeRun → List Item → List Reply → Option LargeRun → Type 0
 RunsLarge kind = PlayRun (BeginsAtOne kind) LargeStep
 
@@ -42,6 +42,7 @@ pub record LacksLarge (old new : LargeRun) : Type 0 where
   pub heap : IsShutLarge old.heap new.heap
   pub ids : new.ids ≡ old.ids
 
+-- mode `large` for the script loop; the plan is the kind of the inner manager
 abbrev pub large_heap : Semantics LargeRun Kind
 large_heap = record {
   plan = λ s. s.heap.inner.kind;

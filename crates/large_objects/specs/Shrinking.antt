@@ -7,44 +7,46 @@ use Rattle.page_model.specs.Paging.{Paging}
 use Rattle.cf_model.specs.State.{HeapState, paging_in}
 use Rattle.large_objects.specs.InnerCalls.{StaysReady}
 use Rattle.large_objects.specs.Large.{HasSpine, named}
-use Rattle.large_objects.specs.Parts.{in_class, length_sum, parts, piece_length, pieces}
+use Rattle.large_objects.specs.InnerObjects.{in_class, length_sum, inner_lengths, part_length, part_count}
 
--- The first i pieces of the object of n bytes with the spine h are freed. Nothing else changed.
+-- The first i parts of the object of n bytes with the spine h are freed. No other inner object has changed.
 pub record IsShrinking (p : Paging) (u n : ℕ) (old : Objects) (h i : ℕ) (now : Objects) : Type 0 where
   pub gone : (j : ℕ) → j < i → get now (named old h j) ≡ None
   pub others : (q : ℕ) → ((j : ℕ) → j < i → q ≢ named old h j) → get now q ≡ get old q
-  pub live_now : (c : ℕ) → live p now c + in_class p c (take i (drop 1 (parts u n))) ≡ live p old c
+  pub live_now : (c : ℕ) → live p now c + in_class p c (take i (drop 1 (inner_lengths u n))) ≡ live p old c
   pub all : len now + i ≡ len old
-  pub sums_now : (f : ℕ → ℕ) → length_sum f now + sum_by f (take i (drop 1 (parts u n))) ≡ length_sum f old
+  pub sums_now : (f : ℕ → ℕ) → length_sum f now + sum_by f (take i (drop 1 (inner_lengths u n))) ≡ length_sum f old
 
--- the spine h of an object of n bytes and its pieces, which are apart
-pub record HasPieces (u n : ℕ) (o : Objects) (h : ℕ) : Type 0 where
+-- the spine h of an object of n bytes and all its parts are live, with different handles
+pub record HasParts (u n : ℕ) (o : Objects) (h : ℕ) : Type 0 where
   pub spine : HasSpine u o h n
-  pub made : (j : ℕ) → j < pieces u n → (v : List ℕ) × (get o (named o h j) ≡ Some v) × (length v ≡ piece_length u n j)
-  pub not_spine : (j : ℕ) → j < pieces u n → named o h j ≢ h
-  pub apart : (j k : ℕ) → j < pieces u n → k < pieces u n → named o h j ≡ named o h k → j ≡ k
+  pub made : (j : ℕ) → j < part_count u n → (v : List ℕ) × (get o (named o h j) ≡ Some v) × (length v ≡ part_length u n j)
+  pub not_spine : (j : ℕ) → j < part_count u n → named o h j ≢ h
+  pub apart : (j k : ℕ) → j < part_count u n → k < part_count u n → named o h j ≡ named o h k → j ≡ k
 
--- the same of an open manager
+-- `IsShrinking` of the objects of an inner manager, which keeps its settings and is ready afterwards
 pub record Shrinks (u n : ℕ) (old : HeapState) (h i : ℕ) (now : HeapState) : Type 0 where
   pub stays : StaysReady old now
   pub shrinking : IsShrinking (paging_in old) u n (objects old.held) h i (objects now.held)
 
--- a short object, or a long one with its pieces
-abbrev pub HasParts : ℕ → ℕ → HeapState → ℕ → Type 0
-HasParts u n s h = ((n ≤ u) × ((v : List ℕ) × (get (objects s.held) h ≡ Some v) × (length v ≡ n))) ⊎ ((u < n) × HasPieces u n (objects s.held) h)
+-- all inner objects of the object h of n bytes are live: the object itself if it fits a page, else its spine and its parts
+abbrev pub HasInnerObjects : ℕ → ℕ → HeapState → ℕ → Type 0
+HasInnerObjects u n s h = ((n ≤ u) × ((v : List ℕ) × (get (objects s.held) h ≡ Some v) × (length v ≡ n))) ⊎ ((u < n) × HasParts u n (objects s.held) h)
 
+-- an object of n bytes that fits a page is freed
 pub record ReleasesShort (u n : ℕ) (old : HeapState) (h : ℕ) (new : HeapState) : Type 0 where
   pub short : n ≤ u
   pub stays : StaysReady old new
   pub left : objects new.held ≡ remove (objects old.held) h
 
--- after all pieces, the spine is freed
+-- all parts of an object of n bytes, and then its spine, are freed
 pub record ReleasesLong (u n : ℕ) (old : HeapState) (h : ℕ) (new : HeapState) : Type 0 where
   pub long : u < n
   pub stays : StaysReady old new
   pub mid : Objects
-  pub shrunk : IsShrinking (paging_in old) u n (objects old.held) h (pieces u n) mid
+  pub shrunk : IsShrinking (paging_in old) u n (objects old.held) h (part_count u n) mid
   pub left : objects new.held ≡ remove mid h
 
+-- all inner objects of an object of n bytes are freed
 abbrev pub Releases : ℕ → ℕ → HeapState → ℕ → HeapState → Type 0
 Releases u n old h new = ReleasesShort u n old h new ⊎ ReleasesLong u n old h new

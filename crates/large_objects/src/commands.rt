@@ -1,4 +1,5 @@
-//! The commands of a session over large objects: each returns its reply; a read writes it on the line.
+//! The commands `m`, `f`, `w` and `r` of a session over large objects. The first three return their reply;
+//! `r` writes its reply on the line.
 ghost use Rattle.std.specs.Prelude.{◌≡◌, ◌<◌, ◌≤◌, [], IsTrue, length};
 ghost use Rattle.cf_io.specs.Lines.{line_room};
 ghost use Rattle.cf_io.specs.Texts.{said};
@@ -15,7 +16,8 @@ use cf_session::{Outcome, Short, fault_reply, push_bytes, push_short, refusal_re
 use id_table::IdTable;
 use step_ledger::Meter;
 
-/// `m`: makes an object for an id that isn't live.
+/// `m`: makes an object of `bytes` bytes for an id that isn't live. The reply is `live` if the id is live,
+/// or names the heap's refusal.
 pub(crate) fn malloc<H: Manager>(
     ids: &mut IdTable,
     heap: &mut LargeHeap<H>,
@@ -38,7 +40,7 @@ pub(crate) fn malloc<H: Manager>(
     }
 }
 
-/// `f`: frees the object of a live id.
+/// `f`: frees the object of a live id. The reply is `unknown` if the id isn't live.
 pub(crate) fn free<H: Manager>(
     ids: &mut IdTable,
     heap: &mut LargeHeap<H>,
@@ -59,7 +61,8 @@ pub(crate) fn free<H: Manager>(
     Short::Done
 }
 
-/// `w`: writes bytes into the object of a live id.
+/// `w`: writes bytes into the object of a live id, from byte `at` on. The reply is `unknown` if the id
+/// isn't live, or names the heap's fault if the bytes pass the object's end.
 pub(crate) fn write<H: Manager>(
     ids: &IdTable,
     heap: &mut LargeHeap<H>,
@@ -80,28 +83,30 @@ pub(crate) fn write<H: Manager>(
     }
 }
 
-/// `r`: writes the bytes of a live id's object from `at` on, in hexadecimal, on the line.
+/// `r`: fills `buffer` with bytes of a live id's object, from byte `at` on, and writes them on the line in
+/// hexadecimal. The reply is `unknown` if the id isn't live, or names the heap's fault if the bytes pass
+/// the object's end.
 pub(crate) fn read<H: Manager>(
     ids: &IdTable,
     heap: &LargeHeap<H>,
     id: u16,
     at: u32,
-    room: &mut [u8],
+    buffer: &mut [u8],
     line: &mut Line,
     meter: &mut Meter,
 ) -> Outcome
     requires open { IsTrue heap.now.is_open }
-    requires few { length room.old ≤ 4096 }
+    requires few { length buffer.old ≤ 4096 }
     requires empty { line.old ≡ [] }
-    ensures text { line.new ≡ large_read_text (large_object_of (large_run ids.now heap.now) id) at (length room.old) }
+    ensures text { line.new ≡ large_read_text (large_object_of (large_run ids.now heap.now) id) at (length buffer.old) }
     ensures room { length line.new < line_room }
     ensures outcome { result ≡ outcome_in line.new }
 {
     let Some(h) = ids.handle(id) else {
         return push_short(line, Short::Unknown);
     };
-    match heap.read(h, at, room, meter) {
-        Ok(()) => push_bytes(line, room),
+    match heap.read(h, at, buffer, meter) {
+        Ok(()) => push_bytes(line, buffer),
         Err(fault) => push_short(line, fault_reply(fault)),
     }
 }

@@ -1,73 +1,73 @@
-//! The inner objects of an object, by arithmetic.
+//! The number and the lengths of an object's inner objects, computed from its length.
 ghost use Rattle.std.specs.Prelude.{◌≡◌, ◌<◌, ◌*◌, ◌↔◌, IsTrue, cond, count_by, length, nat_le};
 ghost use Rattle.cf_base.specs.Classes.{need};
 ghost use Rattle.large_objects.specs.LargeSteps.{FitsSpine};
-ghost use Rattle.large_objects.specs.Parts.{parts, pieces, piece_length};
+ghost use Rattle.large_objects.specs.InnerObjects.{inner_lengths, part_count, part_length};
 
-/// The number of pieces of `piece` bytes for an object of `bytes` bytes.
-#[tactic(auto, using(crate::proofs::Cutting::pieces_are))]
-pub(crate) fn piece_count(bytes: u32, piece: u32) -> u32
-    requires { 0 < piece }
-    ensures { result ≡ pieces piece bytes }
+/// The number of parts of `part_bytes` bytes for an object of `bytes` bytes.
+#[tactic(auto, using(crate::proofs::Cutting::parts_are))]
+pub(crate) fn count_parts(bytes: u32, part_bytes: u32) -> u32
+    requires { 0 < part_bytes }
+    ensures { result ≡ part_count part_bytes bytes }
 {
-    bytes.div_ceil(piece)
+    bytes.div_ceil(part_bytes)
 }
 
-/// The bytes of piece i of such an object.
-pub(crate) fn bytes_of_piece(bytes: u32, piece: u32, i: u32) -> u32
-    requires some { 0 < piece }
-    requires below { i < pieces piece bytes }
-    ensures { result ≡ piece_length piece bytes i }
+/// The bytes of part i of an object of `bytes` bytes.
+pub(crate) fn bytes_of_part(bytes: u32, part_bytes: u32, i: u32) -> u32
+    requires some { 0 < part_bytes }
+    requires below { i < part_count part_bytes bytes }
+    ensures { result ≡ part_length part_bytes bytes i }
 {
-    piece.min(bytes - piece * i)
+    part_bytes.min(bytes - part_bytes * i)
 }
 
-/// Whether the spine of such an object, if it needs one, fits a page.
-pub(crate) fn has_spine_that_fits(bytes: u32, piece: u32) -> bool
-    requires { 0 < piece }
-    ensures { IsTrue result ↔ FitsSpine piece bytes }
+/// Returns true if an object of `bytes` bytes fits a page, or its spine does.
+pub(crate) fn has_spine_that_fits(bytes: u32, part_bytes: u32) -> bool
+    requires { 0 < part_bytes }
+    ensures { IsTrue result ↔ FitsSpine part_bytes bytes }
 {
-    bytes <= piece || 4 * piece_count(bytes, piece) as u64 <= piece as u64
+    bytes <= part_bytes || 4 * count_parts(bytes, part_bytes) as u64 <= part_bytes as u64
 }
 
-/// The number of inner objects of such an object.
-pub(crate) fn part_count(bytes: u32, piece: u32) -> u64
-    requires { 0 < piece }
-    ensures { result ≡ length (parts piece bytes) }
+/// The number of inner objects of an object of `bytes` bytes.
+pub(crate) fn inner_objects(bytes: u32, part_bytes: u32) -> u64
+    requires { 0 < part_bytes }
+    ensures { result ≡ length (inner_lengths part_bytes bytes) }
 {
-    if bytes <= piece {
+    if bytes <= part_bytes {
         1
     } else {
-        1 + piece_count(bytes, piece) as u64
+        1 + count_parts(bytes, part_bytes) as u64
     }
 }
 
-/// Whether an inner object needs at most `words` words, with its header.
+/// Returns true if an inner object of `bytes` bytes needs at most `words` words, with its header.
 fn is_within(bytes: u32, words: u32) -> bool
     ensures { result ≡ nat_le (need bytes) words }
 {
     1 + (bytes as u64).div_ceil(8) <= words as u64
 }
 
-/// The count, or 0.
+/// `count` if `yes` is true, else 0.
 fn count_if(count: u32, yes: bool) -> u64
     ensures { result ≡ count * cond yes 1 0 }
 {
     if yes { count as u64 } else { 0 }
 }
 
-/// The number of inner objects of such an object that need at most `words` words.
-pub(crate) fn parts_within(bytes: u32, piece: u32, words: u32) -> u64
-    requires some { 0 < piece }
-    requires fits { FitsSpine piece bytes }
-    ensures { result ≡ count_by (λ n. nat_le (need n) words) (parts piece bytes) }
+/// The number of inner objects of an object of `bytes` bytes that need at most `words` words each.
+pub(crate) fn inner_objects_within(bytes: u32, part_bytes: u32, words: u32) -> u64
+    requires some { 0 < part_bytes }
+    requires fits { FitsSpine part_bytes bytes }
+    ensures { result ≡ count_by (λ n. nat_le (need n) words) (inner_lengths part_bytes bytes) }
 {
-    if bytes <= piece {
+    if bytes <= part_bytes {
         return count_if(1, is_within(bytes, words));
     }
-    let count = piece_count(bytes, piece);
-    let last = bytes - piece * (count - 1);
+    let count = count_parts(bytes, part_bytes);
+    let last = bytes - part_bytes * (count - 1);
     let spine = count_if(1, is_within(4 * count, words));
-    let whole = count_if(count - 1, is_within(piece, words));
+    let whole = count_if(count - 1, is_within(part_bytes, words));
     spine + (whole + count_if(1, is_within(last, words)))
 }

@@ -1,76 +1,83 @@
-//! Freeing an object.
+//! Frees the inner objects of an object.
 ghost use Rattle.std.specs.Prelude.{◌≡◌, ◌*◌, ◌<◌, ◌^◌};
 ghost use Rattle.page_model.specs.Held.{objects};
-ghost use Rattle.large_objects.specs.InnerCalls.{FreesPart, HasPart, IsReady};
+ghost use Rattle.large_objects.specs.InnerCalls.{FreesInner, HasInner, IsReady};
 ghost use Rattle.large_objects.specs.Large.{named};
-ghost use Rattle.large_objects.specs.Parts.{pieces};
-ghost use Rattle.large_objects.specs.Shrinking.{HasParts, HasPieces, Releases, ReleasesLong, Shrinks};
+ghost use Rattle.large_objects.specs.InnerObjects.{part_count};
+ghost use Rattle.large_objects.specs.Shrinking.{HasInnerObjects, HasParts, Releases, ReleasesLong, Shrinks};
 
-use crate::cut::piece_count;
-use crate::inner_calls::release_part;
-use crate::spine::piece_handle;
+use crate::cut::count_parts;
+use crate::inner_calls::release_inner;
+use crate::spine::part_handle;
 use cf_base::Handle;
 use cf_model::Manager;
 use step_ledger::Meter;
 
-/// Frees the object of `bytes` bytes: its pieces, if any, and then itself.
+/// Frees all inner objects of the object h of `bytes` bytes: the object itself if it fits a page, else its
+/// parts and then its spine.
 pub(crate) fn release<H: Manager>(
     inner: &mut H,
     h: Handle,
     bytes: u32,
-    piece: u32,
+    part_bytes: u32,
     meter: &mut Meter,
 )
-    requires some { 0 < piece }
+    requires some { 0 < part_bytes }
     requires ready { IsReady (H.state inner.old) }
-    requires has { HasParts piece bytes (H.state inner.old) h.0 }
-    ensures { Releases piece bytes (H.state inner.old) h.0 (H.state inner.new) }
+    requires has { HasInnerObjects part_bytes bytes (H.state inner.old) h.0 }
+    ensures { Releases part_bytes bytes (H.state inner.old) h.0 (H.state inner.new) }
 {
-    if bytes <= piece {
-        release_part(inner, h, meter);
+    if bytes <= part_bytes {
+        release_inner(inner, h, meter);
     } else {
-        release_long(inner, h, bytes, piece, meter);
+        release_long(inner, h, bytes, part_bytes, meter);
     }
 }
 
-/// Frees the pieces of a spine, and then the spine.
-fn release_long<H: Manager>(inner: &mut H, spine: Handle, bytes: u32, piece: u32, meter: &mut Meter)
-    requires some { 0 < piece }
-    requires ready { IsReady (H.state inner.old) }
-    requires has { HasPieces piece bytes (objects (H.state inner.old).held) spine.0 }
-    requires long { piece < bytes }
-    ensures { ReleasesLong piece bytes (H.state inner.old) spine.0 (H.state inner.new) }
-{
-    release_pieces(inner, spine, bytes, piece, meter);
-    release_part(inner, spine, meter);
-}
-
-/// Frees all pieces of a spine.
-fn release_pieces<H: Manager>(
+/// Frees the parts of an object longer than a page, and then its spine.
+fn release_long<H: Manager>(
     inner: &mut H,
     spine: Handle,
     bytes: u32,
-    piece: u32,
+    part_bytes: u32,
     meter: &mut Meter,
 )
-    requires some { 0 < piece }
+    requires some { 0 < part_bytes }
     requires ready { IsReady (H.state inner.old) }
-    requires has { HasPieces piece bytes (objects (H.state inner.old).held) spine.0 }
-    requires long { piece < bytes }
-    ensures { Shrinks piece bytes (H.state inner.old) spine.0 (pieces piece bytes) (H.state inner.new) }
+    requires has { HasParts part_bytes bytes (objects (H.state inner.old).held) spine.0 }
+    requires long { part_bytes < bytes }
+    ensures { ReleasesLong part_bytes bytes (H.state inner.old) spine.0 (H.state inner.new) }
 {
-    for i in 0..piece_count(bytes, piece) {
-        release_piece(inner, spine, i, meter);
+    release_parts(inner, spine, bytes, part_bytes, meter);
+    release_inner(inner, spine, meter);
+}
+
+/// Frees all parts that a spine names; the spine stays.
+fn release_parts<H: Manager>(
+    inner: &mut H,
+    spine: Handle,
+    bytes: u32,
+    part_bytes: u32,
+    meter: &mut Meter,
+)
+    requires some { 0 < part_bytes }
+    requires ready { IsReady (H.state inner.old) }
+    requires has { HasParts part_bytes bytes (objects (H.state inner.old).held) spine.0 }
+    requires long { part_bytes < bytes }
+    ensures { Shrinks part_bytes bytes (H.state inner.old) spine.0 (part_count part_bytes bytes) (H.state inner.new) }
+{
+    for i in 0..count_parts(bytes, part_bytes) {
+        release_part(inner, spine, i, meter);
     }
 }
 
-/// Frees piece i of a spine.
-fn release_piece<H: Manager>(inner: &mut H, spine: Handle, i: u32, meter: &mut Meter)
+/// Frees part i, whose handle it reads from the spine.
+fn release_part<H: Manager>(inner: &mut H, spine: Handle, i: u32, meter: &mut Meter)
     requires ready { IsReady (H.state inner.old) }
-    requires has { HasPart (H.state inner.old) spine.0 (4 * i) 4 }
-    requires live { HasPart (H.state inner.old) (named (objects (H.state inner.old).held) spine.0 i) 0 0 }
-    ensures { FreesPart (H.state inner.old) (named (objects (H.state inner.old).held) spine.0 i) (H.state inner.new) }
+    requires has { HasInner (H.state inner.old) spine.0 (4 * i) 4 }
+    requires live { HasInner (H.state inner.old) (named (objects (H.state inner.old).held) spine.0 i) 0 0 }
+    ensures { FreesInner (H.state inner.old) (named (objects (H.state inner.old).held) spine.0 i) (H.state inner.new) }
 {
-    let piece = piece_handle(inner, spine, i, meter);
-    release_part(inner, piece, meter);
+    let part = part_handle(inner, spine, i, meter);
+    release_inner(inner, part, meter);
 }

@@ -22,11 +22,11 @@ pub struct LargeHeap<H: Manager> {
     alloc: Global,
     pub(crate) inner: H,
     is_open: bool,
-    /// The pages of the inner manager.
+    /// The number of pages of the inner manager.
     pub(crate) pages: u32,
-    /// The bytes of a whole piece.
-    pub(crate) piece: u32,
-    /// By handle, the length of the object; none if the handle is a piece's or isn't live.
+    /// The bytes of a whole part, the largest object that fits a page.
+    pub(crate) part_bytes: u32,
+    /// By handle, the length of the object; none if the handle is a part's or isn't live.
     pub(crate) lengths: Vec<Option<u32>>,
 }
 
@@ -39,9 +39,9 @@ impl<H: Manager> Model for LargeHeap<H> {
 
     ghost use Rattle.large_objects.specs.Layout.{IsValid, large_state};
 
-    ghost view = { λ h. large_state h.is_open h.piece h.lengths.items (H.state h.inner) };
+    ghost view = { λ h. large_state h.is_open h.part_bytes h.lengths.items (H.state h.inner) };
 
-    ghost invariant = { λ h. IsValid h.is_open h.pages h.piece h.lengths.items (H.state h.inner) };
+    ghost invariant = { λ h. IsValid h.is_open h.pages h.part_bytes h.lengths.items (H.state h.inner) };
 }
 
 impl<H: Manager> LargeHeap<H> {
@@ -56,7 +56,7 @@ impl<H: Manager> LargeHeap<H> {
             inner: heap,
             is_open: false,
             pages: 0,
-            piece: 0,
+            part_bytes: 0,
             lengths: Vec::new(alloc),
         }
     }
@@ -68,7 +68,7 @@ impl<H: Manager> LargeHeap<H> {
         &self.inner
     }
 
-    /// Whether the heap is open. An open heap keeps its inner objects in order.
+    /// Returns true if the heap is open. An open heap keeps its rules (`KeepsParts`).
     pub fn is_open(&self) -> bool
         ensures value { result ≡ self.now.is_open }
         ensures parts { IsTrue result → KeepsParts self.now }
@@ -98,7 +98,7 @@ impl<H: Manager> LargeHeap<H> {
         }
         self.lengths = lengths;
         self.pages = s.pages;
-        self.piece = 8 * (s.page_words - 1);
+        self.part_bytes = 8 * (s.page_words - 1);
         self.is_open = true;
         Ok(())
     }
@@ -118,8 +118,8 @@ impl<H: Manager> LargeHeap<H> {
         }
     }
 
-    /// Removes an object and its pieces. It fails with `NotLive` if the handle isn't that of an object,
-    /// so also for that of a piece, and changes nothing.
+    /// Removes an object and its parts. It fails with `NotLive` if the handle isn't that of an object,
+    /// so also for that of a part, and changes nothing.
     pub fn free(&mut self, h: Handle, meter: &mut Meter) -> Result<(), NotLive>
         requires { IsTrue self.old.is_open }
         ensures step { IsLargeFree self.old h.0 result self.new }
@@ -134,7 +134,9 @@ impl<H: Manager> LargeHeap<H> {
         }
     }
 
-    /// Writes bytes into an object from byte `at` on, and changes nothing else. A refusal changes nothing.
+    /// Writes bytes into an object from byte `at` on; no other object changes. It fails with `Unknown` if
+    /// the handle isn't that of an object, with `Range` if the bytes pass the object's end, and then
+    /// changes nothing.
     pub fn write(
         &mut self,
         h: Handle,
@@ -148,7 +150,7 @@ impl<H: Manager> LargeHeap<H> {
     {
         match self.length_for(h, at, bytes.len()) {
             Ok(length) => {
-                if length <= self.piece {
+                if length <= self.part_bytes {
                     self.write_short(h, at, bytes, meter);
                 } else {
                     self.write_long(h, at, bytes, meter);
@@ -159,7 +161,9 @@ impl<H: Manager> LargeHeap<H> {
         }
     }
 
-    /// Reads bytes of an object from byte `at` on, until `out` is full. A refusal leaves `out` unchanged.
+    /// Fills `out` with bytes of an object, from byte `at` on. It fails with `Unknown` if the handle isn't
+    /// that of an object, with `Range` if the bytes pass the object's end, and then leaves `out`
+    /// unchanged.
     pub fn read(
         &self,
         h: Handle,
@@ -173,7 +177,7 @@ impl<H: Manager> LargeHeap<H> {
     {
         match self.length_for(h, at, out.len()) {
             Ok(length) => {
-                if length <= self.piece {
+                if length <= self.part_bytes {
                     self.read_short(h, at, out, meter);
                 } else {
                     self.read_long(h, at, out, meter);
@@ -184,14 +188,14 @@ impl<H: Manager> LargeHeap<H> {
         }
     }
 
-    /// Makes an object that the heap has room for.
+    /// Makes an object of `bytes` zero bytes, for which the heap has room, and returns its handle.
     fn make_object(&mut self, bytes: u32, meter: &mut Meter) -> Handle
         requires open { IsTrue self.old.is_open }
         requires room { HasRoom self.old bytes }
         ensures given { GivesLarge self.old result.0 bytes self.new }
         ensures kept { StaysKept self.old self.new }
     {
-        let h = make(&mut self.inner, bytes, self.piece, meter);
+        let h = make(&mut self.inner, bytes, self.part_bytes, meter);
         self.lengths[h.0 as usize] = Some(bytes);
         h
     }
@@ -203,11 +207,11 @@ impl<H: Manager> LargeHeap<H> {
         ensures freed { FreesLarge self.old h.0 self.new }
         ensures kept { StaysKept self.old self.new }
     {
-        release(&mut self.inner, h, bytes, self.piece, meter);
+        release(&mut self.inner, h, bytes, self.part_bytes, meter);
         self.lengths[h.0 as usize] = None;
     }
 
-    /// The length of an object; none if the handle isn't that of an object.
+    /// The length of an object in bytes; none if the handle isn't that of an object.
     fn length_of(&self, h: Handle) -> Option<u32>
         requires { IsTrue self.now.is_open }
         ensures value { result ≡ option_map length (get self.now.objects h.0) }
@@ -219,7 +223,8 @@ impl<H: Manager> LargeHeap<H> {
         }
     }
 
-    /// The length of an object that has `len` bytes from byte `at` on.
+    /// The length of an object that has `count` bytes from byte `at` on. It fails with `Unknown` if the
+    /// handle isn't that of an object, with `Range` if the bytes pass the object's end.
     fn length_for(&self, h: Handle, at: u32, count: usize) -> Result<u32, AccessFault>
         requires { IsTrue self.now.is_open }
         ensures found { IfOk result (λ n. option_map length (get self.now.objects h.0) ≡ Some n) }
@@ -238,7 +243,8 @@ impl<H: Manager> LargeHeap<H> {
     }
 }
 
-/// No length for each proxy.
+/// A table with an entry for each proxy, in which no handle has a length; `AllocError` if the allocation
+/// fails.
 fn no_lengths(alloc: Global, proxies: u32) -> Result<Vec<Option<u32>>, AllocError>
     ensures { IfOk result (λ lengths. lengths.items ≡ vacant proxies) }
 {

@@ -19,12 +19,13 @@ ghost use Rattle.script_reader.specs.Items.{Item, items};
 ghost use Rattle.script_reader.specs.declared.command.Command.{Command};
 ghost use Rattle.large_objects.specs.Large.{KeepsParts, LargeState};
 ghost use Rattle.large_objects.specs.LargeRun.{IsGoingLarge, LargeRun, LargeStep};
-ghost use Rattle.large_objects.specs.LargeSteps.{GivesLarge, IsLargeFault, IsRefusedLarge, ReadsLarge, WritesLarge, piece_in};
-ghost use Rattle.large_objects.specs.Parts.{inner_live, pieces};
+ghost use Rattle.large_objects.specs.LargeSteps.{GivesLarge, IsLargeFault, IsRefusedLarge, ReadsLarge, WritesLarge, part_bytes_in};
+ghost use Rattle.large_objects.specs.InnerObjects.{inner_live, part_count};
 ghost use Rattle.large_objects.specs.Playing.{BeginsLarge, RunsLarge, large_heap};
 
-/// A malloc that makes an object has no cause of a refusal, and at most one cause holds: so each refusal
-/// comes if and only if its arithmetic says so. A write that is done has no fault.
+/// If a malloc makes an object, no cause of a refusal holds; and at most one cause holds at a time. So a
+/// malloc is refused with a cause if and only if the cause holds. If a write is done, no cause of a fault
+/// holds.
 pub fn refusals_come_exactly_by_their_causes()
     ensures malloc { (old new : LargeState) (h n : ℕ) (e : Refusal)
         → GivesLarge old h n new → ¬ IsRefusedLarge old n e }
@@ -34,20 +35,21 @@ pub fn refusals_come_exactly_by_their_causes()
         → WritesLarge old part bytes new → ¬ IsLargeFault old part (length bytes) e }
 {}
 
-/// The inner manager uses as few pages as the inner objects of all large objects need by arithmetic:
-/// every bound is 1.
-pub fn pages_in_use_are_those_of_the_parts()
+/// The inner manager uses exactly the pages that the inner objects of all objects need, computed from the
+/// lengths of the objects, since every bound is 1.
+pub fn pages_in_use_are_those_of_the_inner_objects()
     ensures { (s : LargeState) → KeepsParts s
-        → used_pages (paging_in s.inner) s.inner.held ≡ pages_for (paging_in s.inner) (inner_live (paging_in s.inner) (piece_in s) s.objects) }
+        → used_pages (paging_in s.inner) s.inner.held ≡ pages_for (paging_in s.inner) (inner_live (paging_in s.inner) (part_bytes_in s) s.objects) }
 {}
 
-/// The pieces of an object hold its bytes, and less than one piece is unused.
-pub fn pieces_are_as_many_as_needed()
-    ensures enough { (u n : ℕ) → 0 < u → n ≤ u * pieces u n }
-    ensures few { (u n : ℕ) → 0 < u → u * pieces u n < n + u }
+/// The parts of an object hold its bytes, and less than one part is unused.
+pub fn parts_are_as_many_as_needed()
+    ensures enough { (u n : ℕ) → 0 < u → n ≤ u * part_count u n }
+    ensures few { (u n : ℕ) → 0 < u → u * part_count u n < n + u }
 {}
 
-/// A read after a write returns the written bytes, and no other object changes.
+/// After a write, a read of the same bytes of the object returns what was written, and no other object has
+/// changed.
 pub fn what_is_written_is_read()
     ensures same { (old new : LargeState) (part : Part) (bytes out : List ℕ)
         → WritesLarge old part bytes new → ReadsLarge new part (length bytes) out → out ≡ bytes }
@@ -56,15 +58,15 @@ pub fn what_is_written_is_read()
 {}
 
 /// In every list of commands each read returns the bytes last written through its id, however its object
-/// is cut into pieces. The bytes depend on the ids in the lines and replies alone: on no address, handle
-/// or piece.
+/// is cut into parts. The bytes depend on the ids in the lines and replies alone: on no address, handle
+/// or part.
 pub fn reads_give_what_was_written()
     ensures { (kind : Kind) (items : List Item) (replies : List Reply) (new : Option LargeRun)
         → RunsLarge kind None items replies new → AreReadsOf None items replies }
 {}
 
 /// Over any manager with pages a run can begin with any settings in their ranges. In each state of a run
-/// every command of the grammar has a reply, after which the run goes on.
+/// every command of the grammar has a reply, and the run is in progress after it.
 pub fn each_command_has_its_turn()
     ensures begins { (kind : Kind) (p : Profile) → IsPaged kind → AreInRange p
         → (new : LargeRun) × BeginsLarge kind p new }

@@ -1,5 +1,6 @@
 //! Objects longer than a page, over any manager with pages. Such an object has a spine, which holds the
-//! handles of its pieces. A whole piece is the largest object that fits a page.
+//! handles of its parts. A whole part is the largest object that fits a page. `LargeSession` maps the ids
+//! of a script to handles, and `run_large` runs a script.
 #![tactic(auto)]
 
 mod access;
@@ -17,9 +18,10 @@ mod spine;
 
 pub use heap::LargeHeap;
 pub use laws::{
-    a_long_run_can_always_go_on, each_command_has_its_turn, pages_in_use_are_those_of_the_parts,
-    pieces_are_as_many_as_needed, reads_give_what_was_written,
-    refusals_come_exactly_by_their_causes, what_is_written_is_read, what_was_cut_is_a_prefix,
+    a_long_run_can_always_go_on, each_command_has_its_turn,
+    pages_in_use_are_those_of_the_inner_objects, parts_are_as_many_as_needed,
+    reads_give_what_was_written, refusals_come_exactly_by_their_causes, what_is_written_is_read,
+    what_was_cut_is_a_prefix,
 };
 pub use player::{LargePlayer, run_large};
 pub use session::LargeSession;

@@ -1,50 +1,56 @@
-//! Making an object.
+//! Makes the inner objects of a new object.
 ghost use Rattle.std.specs.Prelude.{◌≡◌, ◌*◌, ◌<◌, ◌^◌};
-ghost use Rattle.large_objects.specs.Growing.{Grows, HasPartsRoom, Makes, NamesPiece};
-ghost use Rattle.large_objects.specs.InnerCalls.{HasPart, HasPartRoom, IsReady};
-ghost use Rattle.large_objects.specs.Parts.{pieces};
+ghost use Rattle.large_objects.specs.Growing.{Grows, HasObjectRoom, Makes, NamesPart};
+ghost use Rattle.large_objects.specs.InnerCalls.{HasInner, HasInnerRoom, IsReady};
+ghost use Rattle.large_objects.specs.InnerObjects.{part_count};
 
-use crate::cut::{bytes_of_piece, piece_count};
-use crate::inner_calls::{make_part, write_part};
+use crate::cut::{bytes_of_part, count_parts};
+use crate::inner_calls::{make_inner, write_inner};
 use cf_base::Handle;
 use cf_model::Manager;
 use step_ledger::Meter;
 
-/// Makes an object that the heap has room for: one inner object, or a spine and its pieces.
-pub(crate) fn make<H: Manager>(inner: &mut H, bytes: u32, piece: u32, meter: &mut Meter) -> Handle
-    requires some { 0 < piece }
-    requires room { HasPartsRoom piece bytes (H.state inner.old) }
-    ensures { Makes piece bytes (H.state inner.old) result.0 (H.state inner.new) }
+/// Makes an object of `bytes` zero bytes, for which the manager has room, and returns its handle. The
+/// object is one inner object if it fits a page, else a spine and its parts.
+pub(crate) fn make<H: Manager>(
+    inner: &mut H,
+    bytes: u32,
+    part_bytes: u32,
+    meter: &mut Meter,
+) -> Handle
+    requires some { 0 < part_bytes }
+    requires room { HasObjectRoom part_bytes bytes (H.state inner.old) }
+    ensures { Makes part_bytes bytes (H.state inner.old) result.0 (H.state inner.new) }
 {
-    if bytes <= piece {
-        return make_part(inner, bytes, meter);
+    if bytes <= part_bytes {
+        return make_inner(inner, bytes, meter);
     }
-    make_long(inner, bytes, piece, meter)
+    make_long(inner, bytes, part_bytes, meter)
 }
 
-/// Makes a spine and its pieces.
-fn make_long<H: Manager>(inner: &mut H, bytes: u32, piece: u32, meter: &mut Meter) -> Handle
-    requires some { 0 < piece }
-    requires long { piece < bytes }
-    requires room { HasPartsRoom piece bytes (H.state inner.old) }
-    ensures { Grows piece bytes (H.state inner.old) result.0 (pieces piece bytes) (H.state inner.new) }
+/// Makes the spine and the parts of an object longer than a page, and returns the spine's handle.
+fn make_long<H: Manager>(inner: &mut H, bytes: u32, part_bytes: u32, meter: &mut Meter) -> Handle
+    requires some { 0 < part_bytes }
+    requires long { part_bytes < bytes }
+    requires room { HasObjectRoom part_bytes bytes (H.state inner.old) }
+    ensures { Grows part_bytes bytes (H.state inner.old) result.0 (part_count part_bytes bytes) (H.state inner.new) }
 {
-    let count = piece_count(bytes, piece);
-    let spine = make_part(inner, 4 * count, meter);
+    let count = count_parts(bytes, part_bytes);
+    let spine = make_inner(inner, 4 * count, meter);
     for i in 0..count {
-        make_piece(inner, spine, i, bytes_of_piece(bytes, piece, i), meter);
+        make_part(inner, spine, i, bytes_of_part(bytes, part_bytes, i), meter);
     }
     spine
 }
 
-/// Makes a piece of `bytes` bytes, and writes its handle into place i of the spine.
-fn make_piece<H: Manager>(inner: &mut H, spine: Handle, i: u32, bytes: u32, meter: &mut Meter)
+/// Makes a part of `bytes` bytes, and writes its handle into place i of the spine.
+fn make_part<H: Manager>(inner: &mut H, spine: Handle, i: u32, bytes: u32, meter: &mut Meter)
     requires ready { IsReady (H.state inner.old) }
-    requires room { HasPartRoom (H.state inner.old) bytes }
-    requires has { HasPart (H.state inner.old) spine.0 (4 * i) 4 }
+    requires room { HasInnerRoom (H.state inner.old) bytes }
+    requires has { HasInner (H.state inner.old) spine.0 (4 * i) 4 }
     requires fits { 4 * i < 2 ^ 32 }
-    ensures { NamesPiece (H.state inner.old) spine.0 i bytes (H.state inner.new) }
+    ensures { NamesPart (H.state inner.old) spine.0 i bytes (H.state inner.new) }
 {
-    let piece = make_part(inner, bytes, meter);
-    write_part(inner, spine, 4 * i, &piece.0.to_le_bytes(), meter);
+    let part = make_inner(inner, bytes, meter);
+    write_inner(inner, spine, 4 * i, &part.0.to_le_bytes(), meter);
 }

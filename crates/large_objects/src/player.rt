@@ -1,4 +1,4 @@
-//! A script on a heap of large objects.
+//! The mode handler of mode `large`, which runs a script on a heap of large objects.
 ghost use Rattle.std.specs.Prelude.{◌≡◌, IfOk};
 ghost use Rattle.std.specs.FinMap as map;
 ghost use Rattle.cf_base.specs.declared.kind.Kind.{Kind};
@@ -17,7 +17,7 @@ use script_reader::CommandRef;
 use std::alloc::Global;
 use step_ledger::Meter;
 
-/// The mode handler: a session over large objects, with its line and its ledger.
+/// The mode handler: a session over large objects, the line in which it builds replies, and its ledger.
 #[derive(Drop)]
 pub struct LargePlayer {
     pub session: LargeSession,
@@ -26,7 +26,8 @@ pub struct LargePlayer {
 }
 
 impl LargePlayer {
-    /// A session in which no id is live.
+    /// A handler with a session in which no id is live. Allocates the table of all 65,536 ids; the result
+    /// is `OutOfMemory` if that fails.
     pub fn start(rt: &HostRuntime, alloc: Global) -> Result<LargePlayer, OutOfMemory>
         ensures { IfOk result (λ p. p.session ≡ map.empty) }
     {

@@ -1,4 +1,4 @@
-//! Whether a malloc is refused, by arithmetic.
+//! Why the heap refuses a malloc, found before it changes anything.
 ghost use Rattle.std.specs.Prelude.{◌≡◌, ◌+◌, ◌<◌, IsTrue};
 ghost use Rattle.std.specs.Option.{MatchOption};
 ghost use Rattle.page_model.specs.Arrangement.{live, pages_for};
@@ -6,9 +6,9 @@ ghost use Rattle.page_model.specs.Held.{objects};
 ghost use Rattle.cf_model.specs.State.{paging_in};
 ghost use Rattle.large_objects.specs.InnerCalls.{IsReady};
 ghost use Rattle.large_objects.specs.LargeSteps.{FitsSpine, HasRoom, IsRefusedLarge, StaysKept};
-ghost use Rattle.large_objects.specs.Parts.{in_class, parts};
+ghost use Rattle.large_objects.specs.InnerObjects.{in_class, inner_lengths};
 
-use crate::cut::{has_spine_that_fits, part_count, parts_within};
+use crate::cut::{has_spine_that_fits, inner_objects, inner_objects_within};
 use crate::heap::LargeHeap;
 use cf_base::Refusal;
 use cf_model::Manager;
@@ -21,36 +21,36 @@ impl<H: Manager> LargeHeap<H> {
         ensures cause { MatchOption result (HasRoom self.now bytes) (λ e. IsRefusedLarge self.now bytes e) }
         ensures kept { StaysKept self.now self.now }
     {
-        if !has_spine_that_fits(bytes, self.piece) {
+        if !has_spine_that_fits(bytes, self.part_bytes) {
             return Some(Refusal::Size);
         }
         let live = self.inner.totals(meter.steps()).live as u64;
-        if (self.lengths.len() as u64) < live + part_count(bytes, self.piece) {
+        if (self.lengths.len() as u64) < live + inner_objects(bytes, self.part_bytes) {
             return Some(Refusal::Proxy);
         }
-        if (self.pages as u64) < pages_with(&self.inner, bytes, self.piece) {
+        if (self.pages as u64) < pages_with(&self.inner, bytes, self.part_bytes) {
             return Some(Refusal::Space);
         }
         None
     }
 }
 
-/// The pages that all inner objects and those of one more object need by arithmetic.
-fn pages_with<H: Manager>(inner: &H, bytes: u32, piece: u32) -> u64
-    requires some { 0 < piece }
-    requires fits { FitsSpine piece bytes }
+/// The number of pages that all inner objects need with those of one more object of `bytes` bytes.
+fn pages_with<H: Manager>(inner: &H, bytes: u32, part_bytes: u32) -> u64
+    requires some { 0 < part_bytes }
+    requires fits { FitsSpine part_bytes bytes }
     requires ready { IsReady (H.state inner.now) }
     ensures { result ≡ pages_for (paging_in (H.state inner.now)) (λ c. live (paging_in (H.state inner.now)) (objects (H.state inner.now).held) c
-        + in_class (paging_in (H.state inner.now)) c (parts piece bytes)) }
+        + in_class (paging_in (H.state inner.now)) c (inner_lengths part_bytes bytes)) }
 {
     let mut pages = 0;
-    // The inner objects of the new one in the classes so far.
+    // The number of the new object's inner objects in the classes so far.
     let mut before = 0;
     for c in 0..inner.classes() {
         let Some(figures) = inner.figures(c) else {
             unreachable!();
         };
-        let within = parts_within(bytes, piece, figures.slot_words);
+        let within = inner_objects_within(bytes, part_bytes, figures.slot_words);
         pages += (figures.live as u64 + (within - before)).div_ceil(figures.slots as u64);
         before = within;
     }

@@ -27,12 +27,12 @@ use step_ledger::Meter;
 /// The most bytes of one read.
 const MOST: usize = 4_096;
 
-/// The ids of the objects of one heap of large objects.
+/// The ids of the objects of one heap of large objects, and the buffer for the bytes of a read.
 #[derive(Drop)]
 pub struct LargeSession {
     ids: IdTable,
-    /// The buffer of a read.
-    room: [u8; MOST],
+    /// The buffer for the bytes of a read.
+    buffer: [u8; MOST],
 }
 
 impl Model for LargeSession {
@@ -46,13 +46,14 @@ impl Model for LargeSession {
 }
 
 impl LargeSession {
-    /// A session in which no id is live. Allocates the table of all 65,536 ids.
+    /// A session in which no id is live. Allocates the table of all 65,536 ids; the result is
+    /// `OutOfMemory` if that fails.
     pub fn start(alloc: Global) -> Result<LargeSession, OutOfMemory>
         ensures { IfOk result (λ s. s ≡ map.empty) }
     {
         Ok(LargeSession {
             ids: IdTable::new(alloc)?,
-            room: [0; MOST],
+            buffer: [0; MOST],
         })
     }
 
@@ -69,7 +70,7 @@ impl LargeSession {
         requires open { IsTrue heap.old.is_open }
         requires tied { AreTiedTo self.old heap.old.objects }
         requires formed { IsWellFormed c.now }
-        ensures answers { Applies large_heap (large_moment self.old heap.old (K.written out.old)) c.now result
+        ensures step { Applies large_heap (large_moment self.old heap.old (K.written out.old)) c.now result
             (large_moment self.new heap.new (K.written out.new)) }
         ensures going { IsGoingLarge (large_run self.new heap.new) }
         ensures grows { K.faults out.old ≤ K.faults out.new }
@@ -91,33 +92,34 @@ impl LargeSession {
         requires open { IsTrue heap.old.is_open }
         requires tied { AreTiedTo self.old heap.old.objects }
         requires formed { IsWellFormed (owned_command c) }
-        ensures answers { Applies large_heap (large_moment self.old heap.old (K.written out.old)) (owned_command c.entry) result
+        ensures step { Applies large_heap (large_moment self.old heap.old (K.written out.old)) (owned_command c.entry) result
             (large_moment self.new heap.new (K.written out.new)) }
         ensures going { IsGoingLarge (large_run self.new heap.new) }
         ensures grows { K.faults out.old ≤ K.faults out.new }
         ensures same { OnOk result (K.faults out.new ≡ K.faults out.old) }
         ensures failed { OnErr result (FailsLast (K.faults out.old) (K.faults out.new) (K.last_failed out.new)) }
     {
-        // For its contract: an open heap keeps its inner objects in order.
+        // For its contract: an open heap keeps its rules.
         let _open = heap.is_open();
-        answer(&mut self.ids, heap, c, &mut self.room, line, out, meter)
+        answer(&mut self.ids, heap, c, &mut self.buffer, line, out, meter)
     }
 }
 
-/// Does the command and writes its reply.
+/// Does the command on the heap and writes its reply to the sink. If the sink fails, the result is
+/// `Failed`: the command has taken effect, and a prefix of its reply was written.
 fn answer<H: Manager, K: Sink>(
     ids: &mut IdTable,
     heap: &mut LargeHeap<H>,
     c: CommandRef,
-    room: &mut [u8],
+    buffer: &mut [u8],
     line: &mut Line,
     out: &mut K,
     meter: &mut Meter,
 ) -> Result<Outcome, Failed>
     requires going { IsGoingLarge (large_run ids.old heap.old) }
     requires formed { IsWellFormed (owned_command c) }
-    requires place { length room.old ≡ 4096 }
-    ensures answers { Applies large_heap (large_moment ids.old heap.old (K.written out.old)) (owned_command c.entry) result
+    requires buffer { length buffer.old ≡ 4096 }
+    ensures step { Applies large_heap (large_moment ids.old heap.old (K.written out.old)) (owned_command c.entry) result
         (large_moment ids.new heap.new (K.written out.new)) }
     ensures grows { K.faults out.old ≤ K.faults out.new }
     ensures same { OnOk result (K.faults out.new ≡ K.faults out.old) }
@@ -133,25 +135,25 @@ fn answer<H: Manager, K: Sink>(
             ended(written, Outcome::Other)
         }
         _ => {
-            let outcome = speak(ids, heap, c, room, line, meter);
+            let outcome = speak(ids, heap, c, buffer, line, meter);
             ended(put_line(line, out), outcome)
         }
     }
 }
 
-/// Does a command with a reply of one line, and writes its text on the line.
+/// Does a command that is no report (`walk` or `frag`), and writes the text of its reply on the line.
 fn speak<H: Manager>(
     ids: &mut IdTable,
     heap: &mut LargeHeap<H>,
     c: CommandRef,
-    room: &mut [u8],
+    buffer: &mut [u8],
     line: &mut Line,
     meter: &mut Meter,
 ) -> Outcome
     requires going { IsGoingLarge (large_run ids.old heap.old) }
     requires formed { IsWellFormed (owned_command c) }
     requires one { IsOneLine (owned_command c) }
-    requires place { length room.old ≡ 4096 }
+    requires buffer { length buffer.old ≡ 4096 }
     ensures speaks { Speaks LargeStep (large_run ids.old heap.old) (owned_command c.entry) (large_run ids.new heap.new) line.new }
     ensures outcome { result ≡ outcome_in line.new }
 {
@@ -165,7 +167,7 @@ fn speak<H: Manager>(
             push_short(line, write(ids, heap, id, at, bytes, meter))
         }
         CommandRef::Read { id, at, len } => {
-            read(ids, heap, id, at, &mut room[..len as usize], line, meter)
+            read(ids, heap, id, at, &mut buffer[..len as usize], line, meter)
         }
         _ => push_short(line, Short::Lacking),
     }

@@ -5,14 +5,14 @@ use Rattle.large_objects.proofs.commands.read.Goals as goal
 
 pub returns-in_default-clause-text : goal.returns-in_default-clause-text
 returns-in_default-clause-text g c = c.push_short.ensures.text
-    ∙ sym (read_unknown (large_run c.args.ids.now c.args.heap.now) c.args.id c.args.at (length c.args.room.now) c.in_default.ensures.found)
+    ∙ sym (read_unknown (large_run c.args.ids.now c.args.heap.now) c.args.id c.args.at (length c.args.buffer.now) c.in_default.ensures.found)
 
 pub returns-in-Ok-clause-text : goal.returns-in-Ok-clause-text
 returns-in-Ok-clause-text g c = c.push_bytes.ensures.text
-    ∙ sym (read_said (large_run c.args.ids.now c.args.heap.now) c.args.id c.args.at (length c.args.room.now) c.in-Some.h.0 c.read.new.out
+    ∙ sym (read_said (large_run c.args.ids.now c.args.heap.now) c.args.id c.args.at (length c.args.buffer.now) c.in-Some.h.0 c.read.new.out
     c.in-Some.ensures.found c.in-Ok.ensures.answer)
 
 pub returns-in-Err-clause-text : goal.returns-in-Err-clause-text
 returns-in-Err-clause-text g c = c.push_short-in-Err.ensures.text ∙ c.fault_reply.ensures
-    ∙ sym (read_fault (large_run c.args.ids.now c.args.heap.now) c.args.id c.args.at (length c.args.room.now) c.in-Some.h.0 c.in-Err.fault
+    ∙ sym (read_fault (large_run c.args.ids.now c.args.heap.now) c.args.id c.args.at (length c.args.buffer.now) c.in-Some.h.0 c.in-Err.fault
     c.in-Some.ensures.found c.in-Err.ensures.answer.0)

@@ -2,16 +2,16 @@ use Rattle.std.proofs.Common.{arith, inl, inr}
 use Rattle.large_objects.proofs.GrowLemmas.{room_for_short}
 use Rattle.large_objects.proofs.malloc.make.Goals as goal
 
-pub make_part-requires-clause-ready : goal.make_part-requires-clause-ready
-make_part-requires-clause-ready g c = c.requires.room.ready
+pub make_inner-requires-clause-ready : goal.make_inner-requires-clause-ready
+make_inner-requires-clause-ready g c = c.requires.room.ready
 
-pub make_part-requires-clause-room : goal.make_part-requires-clause-room
-make_part-requires-clause-room g c =
-    room_for_short c.args.piece c.args.bytes (g.H.Manager.state c.args.inner.now) c.requires.some (omega arith) c.requires.room
+pub make_inner-requires-clause-room : goal.make_inner-requires-clause-room
+make_inner-requires-clause-room g c =
+    room_for_short c.args.part_bytes c.args.bytes (g.H.Manager.state c.args.inner.now) c.requires.some (omega arith) c.requires.room
 
-pub returns-then-bytes-piece : goal.returns-then-bytes-piece
-returns-then-bytes-piece g c = inl (
-    let given = c.make_part.ensures in
+pub returns-then-bytes-part_bytes : goal.returns-then-bytes-part_bytes
+returns-then-bytes-part_bytes g c = inl (
+    let given = c.make_inner.ensures in
     record { short = omega arith; stays = given.stays; unused = given.unused; left = given.left })
 
 pub returns : goal.returns

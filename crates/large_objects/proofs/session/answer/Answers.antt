@@ -6,18 +6,18 @@ use Rattle.large_objects.specs.Playing.{large_heap}
 use Rattle.large_objects.proofs.ReplyLemmas.{shown_frag, shown_walk}
 use Rattle.large_objects.proofs.session.answer.Goals as goal
 
-pub returns-in-Walk-clause-answers : goal.returns-in-Walk-clause-answers
-returns-in-Walk-clause-answers g c = shown_walk (large_run c.args.ids.now c.args.heap.now) (g.H.Manager.state c.inner.result.now) (owned_command c.args.c) _ _
+pub returns-in-Walk-clause-step : goal.returns-in-Walk-clause-step
+returns-in-Walk-clause-step g c = shown_walk (large_run c.args.ids.now c.args.heap.now) (g.H.Manager.state c.inner.result.now) (owned_command c.args.c) _ _
     c.walk_lines-written.result c.ended.result (ap owned_command c.in-Walk.is) c.inner.ensures c.walk_lines-written.ensures.puts c.ended.ensures
 
-pub returns-in-Frag-clause-answers : goal.returns-in-Frag-clause-answers
-returns-in-Frag-clause-answers g c = shown_frag (large_run c.args.ids.now c.args.heap.now) (g.H.Manager.state c.inner-in-Frag.result.now)
+pub returns-in-Frag-clause-step : goal.returns-in-Frag-clause-step
+returns-in-Frag-clause-step g c = shown_frag (large_run c.args.ids.now c.args.heap.now) (g.H.Manager.state c.inner-in-Frag.result.now)
     (owned_command c.args.c) _ _
     c.frag_line-written.result c.ended-in-Frag.result (ap owned_command c.in-Frag.is) c.inner-in-Frag.ensures c.frag_line-written.ensures.puts
     c.ended-in-Frag.ensures
 
-pub returns-in_default-clause-answers : goal.returns-in_default-clause-answers
-returns-in_default-clause-answers g c = shown_line large_heap (λ _ _ _ _ turn. turn) (large_run c.args.ids.now c.args.heap.now) (large_run c.speak-outcome.new.ids c.speak-outcome.new.heap)
+pub returns-in_default-clause-step : goal.returns-in_default-clause-step
+returns-in_default-clause-step g c = shown_line large_heap (λ _ _ _ _ turn. turn) (large_run c.args.ids.now c.args.heap.now) (large_run c.speak-outcome.new.ids c.speak-outcome.new.heap)
     (owned_command c.args.c)
     c.speak-outcome.new.line _ _ c.put_line.result c.speak-outcome.result c.ended-in_default.result c.speak-outcome.ensures.speaks
     c.speak-outcome.ensures.outcome c.put_line.ensures.puts c.ended-in_default.ensures

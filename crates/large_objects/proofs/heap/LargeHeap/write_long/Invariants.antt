@@ -2,13 +2,13 @@ use Rattle.std.proofs.Common.{◌≡◌, ℕ, ◌-◌, ◌<◌, ◌≤◌, List,
 use Rattle.std.specs.Prelude.{IsTrue}
 use Rattle.std.specs.FinMap.{get, insert}
 use Rattle.page_model.specs.Bytes.{written}
-use Rattle.large_objects.specs.LargeSteps.{StaysKept, piece_in}
+use Rattle.large_objects.specs.LargeSteps.{StaysKept, part_bytes_in}
 use Rattle.large_objects.proofs.heap.LargeHeap.write_long.Given as goal
 
-abbrev pub invariant-pieces : goal.invariant-pieces
-invariant-pieces g l = record {
-  piece : l.piece ≡ piece_in l.initial.self;
-  positive : 0 < l.piece;
+abbrev pub invariant-parts : goal.invariant-parts
+invariant-parts g l = record {
+  part_bytes : l.part_bytes ≡ part_bytes_in l.initial.self;
+  positive : 0 < l.part_bytes;
   some : l.done ≤ length l.bytes;
   opened : IsTrue l.self.is_open;
   so_far : (v : List ℕ) → get l.initial.self.objects l.h.0 ≡ Some v → l.self.objects ≡ insert l.initial.self.objects l.h.0
@@ -16,5 +16,5 @@ invariant-pieces g l = record {
   kept : StaysKept l.initial.self l.self;
 }
 
-abbrev pub decreases-pieces : goal.decreases-pieces
-decreases-pieces g l = length l.bytes - l.done
+abbrev pub decreases-parts : goal.decreases-parts
+decreases-parts g l = length l.bytes - l.done

@@ -3,8 +3,8 @@ use Rattle.large_objects.proofs.OpenReply.{kind_kept}
 use Rattle.large_objects.proofs.player.LargePlayerPlayerLargeHeap.answer.Goals as goal
 
 pub returns-clause-plan : goal.returns-clause-plan
-returns-clause-plan g c = kind_kept _ _ c.in_ok-apply_ref.ensures.answers.0.reply (owned_command c.args.command) c.in_ok-apply_ref.ensures.answers.0.turns
+returns-clause-plan g c = kind_kept _ _ c.in_ok-apply_ref.ensures.step.0.reply (owned_command c.args.command) c.in_ok-apply_ref.ensures.step.0.turns
 
 pub returns-in_err-apply_ref-clause-plan : goal.returns-in_err-apply_ref-clause-plan
-returns-in_err-apply_ref-clause-plan g c = kind_kept _ _ c.in_err-apply_ref.ensures.answers.turns.reply (owned_command c.args.command)
-    c.in_err-apply_ref.ensures.answers.turns.turn
+returns-in_err-apply_ref-clause-plan g c = kind_kept _ _ c.in_err-apply_ref.ensures.step.turns.reply (owned_command c.args.command)
+    c.in_err-apply_ref.ensures.step.turns.turn

@@ -14,4 +14,4 @@ pub returns-clause-going : goal.returns-clause-going
 returns-clause-going g c = applied_going (large_run c.self.inside.ids c.args.heap.now) (large_run c.answer.new.ids c.answer.new.heap) (owned_command c.args.c)
     _ _
     c.answer.result (going_before c.args.self.now c.self.inside.ids (sym c.self.view_is) c.args.heap.now c.requires.open
-    (c.is_open-open.ensures.parts (c.is_open-open.ensures.value ∙ c.requires.open)) c.requires.tied) c.answer.ensures.answers
+    (c.is_open-open.ensures.parts (c.is_open-open.ensures.value ∙ c.requires.open)) c.requires.tied) c.answer.ensures.step

@@ -1,9 +1,0 @@
-use Rattle.large_objects.proofs.InnerSteps.{part_given, part_not_refused}
-use Rattle.large_objects.proofs.inner_calls.make_part.Goals as goal
-
-pub unreachable-requires : goal.unreachable-requires
-unreachable-requires g c = part_not_refused (g.H.Manager.state c.args.inner.now) c.args.bytes c.requires.ready c.requires.room _ c.in-Err.ensures.step.0
-
-pub returns : goal.returns
-returns g c = part_given (g.H.Manager.state c.args.inner.now) (g.H.Manager.state c.malloc.new.self)
-    (record { number = c.in-Ok.part.0; length = c.args.bytes }) c.requires.ready c.in-Ok.ensures.step c.malloc.ensures.rules

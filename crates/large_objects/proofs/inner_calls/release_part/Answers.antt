@@ -1,6 +1,0 @@
-use Rattle.large_objects.proofs.InnerSteps.{part_freed}
-use Rattle.large_objects.proofs.inner_calls.release_part.Goals as goal
-
-pub returns : goal.returns
-returns g c = part_freed (g.H.Manager.state c.args.inner.now) (g.H.Manager.state c.free.new.self) c.args.part.0 c.requires.live.bytes c.free.result
-    c.requires.ready c.requires.live.found c.free.ensures.step c.free.ensures.rules

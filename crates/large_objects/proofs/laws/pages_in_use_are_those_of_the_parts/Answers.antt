@@ -1,5 +1,0 @@
-use Rattle.large_objects.proofs.ObjectLaws.{pages_used}
-use Rattle.large_objects.proofs.laws.pages_in_use_are_those_of_the_parts.Goals as goal
-
-pub returns : goal.returns
-returns c = pages_used
