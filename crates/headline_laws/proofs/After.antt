@@ -81,7 +81,7 @@ module _ (t new : ShownHeap) where
   left : (c : Command) (reply : Reply) → view new ≡ view t → bounds_by (view t) c ≡ t.heap.bounds → is_ok reply ≡ false → view new ≡ view_after (view t) c reply
   left c reply e b not_ok = objects_view c reply (objects t.heap.held) e b (sym (ap (λ b. cond b (done_by c (objects t.heap.held)) (objects t.heap.held)) not_ok))
 
-  -- and so does a command that changes nothing
+  -- a command that changes nothing leaves all
   looked : (c : Command) (reply : Reply) → new ≡ t → bounds_by (view t) c ≡ t.heap.bounds → done_by c (objects t.heap.held) ≡ objects t.heap.held
       → view new ≡ view_after (view t) c reply
   looked c reply e b same = objects_view c reply (objects t.heap.held) (ap view e) b

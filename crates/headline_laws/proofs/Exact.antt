@@ -1,4 +1,4 @@
--- Where every bound is 1, the replies that meet the headline are the transcript's.
+-- If every bound is 1, the replies that meet the headline are the transcript's.
 use Rattle.std.proofs.Common.{◌≡◌, ◌≢◌, ℕ, Bool, true, false, cond, ◌+◌, ◌<◌, ◌≤◌, ◌++◌, List, [], ◌∷◌, Option, Some, None, Err, length, map, arith, sym, ◌∙◌, ap, refl, subst, inl, inr}
 use Rattle.std.specs.Prelude.{⊤, ◌⊎◌, ◌↔◌, codes, filter, nat_eq, nat_le, not, option_map, replicate}
 use Rattle.std.proofs.lemmas.Bool.{cases_lt}
@@ -340,7 +340,7 @@ module _ (kind : Kind) (is_paged : IsPaged kind) where
       let more = run_is_transcript rest run.0 end run.2 one.2 ones' none.1 run.5 in
       run.4 ∙ (λ i. one.0 i ∷ more i) ∙ ap (λ h. reply_at (view_in t) item ∷ replies_from kind h rest) one.1
 
--- and so all that meets the headline
+-- all replies that meet the headline are the transcript
 pub headline_is_transcript : (kind : Kind) (items : List Item) (replies : List Reply) → IsPaged kind → StaysAtOne kind None items → ArePlaceless items
     → MeetsHeadline kind items replies → replies ≡ transcript kind items
 headline_is_transcript kind items replies is ones none meets = run_is_transcript kind is items None meets.0 replies tt ones none meets.1

@@ -218,7 +218,7 @@ module _ (kind : Kind) where
 -- ---- there is such a run
 
 module _ (kind : Kind) where
-  -- an order before is there at the end
+  -- a manager that has an order before an item has one after it
   item_after : (old : Option RunState) (i : Item) (reply : Reply) (mid : Option RunState) → BeginNone (i ∷ []) → ItemStep kind old i reply mid → IsOrdered old
       → IsOrdered mid
   item_after old (starts p) reply mid may g here = absurd may.0

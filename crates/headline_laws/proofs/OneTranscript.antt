@@ -11,13 +11,13 @@ use Rattle.page_model.specs.Held.{Placed}
 use Rattle.page_model.specs.Paging.{AreOne}
 use Rattle.cf_model.specs.Rules.{IsPaged}
 use Rattle.cf_model.specs.State.{layout_of, paging_in}
+use Rattle.cf_model.proofs.CallerLemmas.{pages_kept}
 use Rattle.script_reader.specs.Items.{Item, asks, bad, starts}
 use Rattle.script_reader.specs.declared.command.Command.{Command}
 use Rattle.script_reader.specs.declared.command.Command.TheVariants.{Place, Block, Peek, Steps, Bound}
 use Rattle.run_model.specs.Runs.{Run}
 use Rattle.run_model.specs.Sessions.{IsGoing, RunState}
 use Rattle.run_model.specs.Texts.{Reply}
-use Rattle.run_model.proofs.CallerLemmas.{pages_kept}
 use Rattle.transcript_laws.specs.Histories.{AreAlike, AreFurther, IsFurther, bytes_of}
 use Rattle.transcript_laws.specs.Transcripts.{ArePlaceless, AskForOne, AsksForOne, IsPlaceless, StaysAtOne, replies_from, transcript}
 use Rattle.transcript_laws.proofs.CallerLemmas.{stays_at_one}
@@ -73,14 +73,14 @@ module _ (one other : RunState) (going : IsGoing one) (going' : IsGoing other) (
       same_number_lists other.heap.bounds one.heap.bounds (k' ∙ same ∙ sym k)
       (λ d lt. ones' d (subst (λ n. d < n) k' lt) ∙ sym (ones d (subst (λ n. d < n) (k' ∙ same) lt)))
 
-  -- the same objects by id under the same settings are one view
+  -- two runs with equal objects by id and equal settings show the same settings, bounds and bytes
   view_alike : view (shown other) ≡ view (shown one)
   view_alike =
       let o : (view (shown other)).objects ≡ (view (shown one)).objects = equal_maps _ _
       (λ id. sym (bytes_are other going' id) ∙ alike.objects id ∙ bytes_are one going id) in
       λ i. record { kind = alike.kind i; profile = alike.profile i; bounds = bounds_alike i; objects = o i }
 
-  -- the same items then get the same replies
+  -- the same items get the same replies in two such runs
   pub alike_replies : (items : List Item) (replies replies' : List Reply) (last last' : Option RunState) → AreFurther items
       → Run one.heap.kind (Some one) items replies last → Run one.heap.kind (Some other) items replies' last' → replies' ≡ replies
   alike_replies items replies replies' last last' may run run' =

@@ -36,7 +36,7 @@ split_line (a ∷ x) (b ∷ y) u v one two same =
 opened_text : (text : List ℕ) (rest : Reply) (u : List ℕ) → led [] (text ∷ rest) ++ u ≡ text ++ (10 ∷ (led [] rest ++ u))
 opened_text text rest u = append_assoc (text ++ 10 ∷ []) (led [] rest) u ∙ append_assoc text (10 ∷ []) (led [] rest ++ u)
 
--- replies of as many lines end together
+-- if two replies of n lines each begin one text, they are equal, and so is the rest of the text
 split_reply : (n : ℕ) (a b : Reply) (u v : List ℕ) → HasLines n a → HasLines n b → led [] a ++ u ≡ led [] b ++ v → (a ≡ b) × (u ≡ v)
 split_reply zero [] [] u v one two same = (refl, same)
 split_reply zero [] (y ∷ b) u v one two same = absurd two
@@ -108,7 +108,7 @@ module _ {S V : Type 0} (begins : Profile → Reply → S → Type 0) (turns : S
       → PlayRun begins turns None items b other → text_of [] b ≡ text_of [] a → b ≡ a
   parted_from_none items a b end other one two same = parted items None None a b end other tt tt refl one two same
 
--- replies with the same text are the same
+-- replies that meet the headline and have equal texts are equal
 pub shown_by_text : (kind : Kind) (items : List Item) (replies others : List Reply) → MeetsHeadline kind items replies → MeetsHeadline kind items others
     → text_of [] others ≡ text_of [] replies → others ≡ replies
 shown_by_text kind items replies others first second same = parted_from_none (Opens kind) Answers view (λ t. IsArranged t.heap)

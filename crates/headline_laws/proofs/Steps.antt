@@ -31,13 +31,13 @@ use Rattle.cf_model.specs.Rules.{IsPaged, IsTiled, KeepsPages, KeepsRulesOf, Kee
 use Rattle.cf_model.specs.State.{HeapState, paging_in, region_words}
 use Rattle.cf_model.specs.Steps.{IsMallocStep, IsPlacedBy, IsRefusedBy, IsResizeFault, IsResizeStep, IsUnmoved, IsWriteStep, LacksRoomIn, MovesIn, frames_left, number_of, slot_in}
 use Rattle.cf_model.specs.Steps.{tiling_left}
-use Rattle.cf_model.proofs.CallerLemmas.{not_none_found}
+use Rattle.cf_model.proofs.CallerLemmas.{not_none_found, pages_kept}
 use Rattle.run_model.specs.Replies.{block_text, block_text_at, malloc_text, peek_text, resize_text, write_text}
 use Rattle.run_model.specs.Reports.{blocks_line, class_line, frag_line, frag_of, pages_report, total_line, walk_of}
 use Rattle.run_model.specs.Sessions.{CostsAtMost, CostsByKind, Ids, IsGoing, RunState, SessionState, counted}
 use Rattle.run_model.specs.Steps.{Bounds as GetsBound, Frees as FreesStep, bound_text, class_to_bound, ids_given, session_resized}
 use Rattle.run_model.specs.Texts.{Reply, said}
-use Rattle.run_model.proofs.CallerLemmas.{FreesAt, MallocsAt, ResizesAt, WritesAt, counted_bound, counted_ids, pages_kept, resized_ids}
+use Rattle.run_model.proofs.CallerLemmas.{FreesAt, MallocsAt, ResizesAt, WritesAt, counted_bound, counted_ids, resized_ids}
 use Rattle.transcript_laws.proofs.CallerLemmas.{changed_renamed, given_renamed, gone_with, live_renamed}
 use Rattle.headline_laws.specs.Headline.{Bounds, Frees, IsFree, IsMalloc, IsRefusedMalloc, Mallocs, Peeks, RefitsElsewhere, RefitsInPlace, Resizes, Writes}
 use Rattle.headline_laws.specs.Headline.{resize_bound_for, with_object}

@@ -14,8 +14,8 @@ use Rattle.block_model.proofs.CallerLemmas.{lies}
 use Rattle.cf_model.specs.Families.{Family, paged, tiled, family_of}
 use Rattle.cf_model.specs.Rules.{IsTiled, KeepsPages, KeepsRulesOf, KeepsTiling, content_word}
 use Rattle.cf_model.specs.State.{paging_in}
+use Rattle.cf_model.proofs.CallerLemmas.{pages_kept}
 use Rattle.run_model.specs.Sessions.{IsGoing, RunState}
-use Rattle.run_model.proofs.CallerLemmas.{pages_kept}
 use Rattle.transcript_laws.proofs.CallerLemmas.{found_renamed, live_renamed}
 use Rattle.headline_laws.specs.ShownWords.{ShowsBlockWord, ShowsPageWord, ShowsWord}
 use Rattle.headline_laws.specs.ShownHeap.{ShownHeap}

@@ -54,25 +54,25 @@ abbrev one_object : Objects
 one_object = insert empty 1 (replicate 176 0)
 
 -- At bound 1 the transcript alone meets the headline.
-asked_malloc : items (codes "heap 2 512 1 8\nm 1 176\n") true ≡ starts settings ∷ asks (Malloc 1 176) ∷ []
+malloc_items : items (codes "heap 2 512 1 8\nm 1 176\n") true ≡ starts settings ∷ asks (Malloc 1 176) ∷ []
 unfolding decode_pairs
-asked_malloc = refl
+malloc_items = refl
 
-asked_walk : items (codes "heap 2 512 1 8\nm 1 176\nwalk\n") true ≡ starts settings ∷ asks (Malloc 1 176) ∷ asks Walk ∷ []
+walk_items : items (codes "heap 2 512 1 8\nm 1 176\nwalk\n") true ≡ starts settings ∷ asks (Malloc 1 176) ∷ asks Walk ∷ []
 unfolding decode_pairs
-asked_walk = refl
+walk_items = refl
 
-asked_free : items (codes "heap 2 512 1 8\nf 1\n") true ≡ starts settings ∷ asks (Free 1) ∷ []
+free_items : items (codes "heap 2 512 1 8\nf 1\n") true ≡ starts settings ∷ asks (Free 1) ∷ []
 unfolding decode_pairs
-asked_free = refl
+free_items = refl
 
-malloc_said : reply_by_id (with empty) (Malloc 1 176) ≡ said (codes "ok")
+malloc_reply : reply_by_id (with empty) (Malloc 1 176) ≡ said (codes "ok")
 unfolding sizes_from class_for live pages_needed pages_needed_with asked_bytes taken_bytes digits encode_with
-malloc_said = simp maps
+malloc_reply = simp maps
 
-malloc_left : after_by_id (with empty) (Malloc 1 176) ≡ with one_object
+state_after_malloc : after_by_id (with empty) (Malloc 1 176) ≡ with one_object
 unfolding sizes_from class_for live pages_needed pages_needed_with asked_bytes taken_bytes digits encode_with
-malloc_left = simp maps
+state_after_malloc = simp maps
 
 -- the report on one object
 abbrev two_pages : Paging
@@ -113,39 +113,39 @@ total_shown : total_of 1 1 ≡ codes "total live 1 pages 1 free 1"
 unfolding digits
 total_shown = refl
 
-walk_said : reply_by_id (with one_object) Walk ≡ codes "class 23 slots 2 live 1 pages 1 notfull 1" ∷ codes "total live 1 pages 1 free 1" ∷ []
-walk_said =
+walk_reply : reply_by_id (with one_object) Walk ≡ codes "class 23 slots 2 live 1 pages 1 notfull 1" ∷ codes "total live 1 pages 1 free 1" ∷ []
+walk_reply =
     (λ i. map (λ c. class_line (figures_at_one two_pages one_object c)) (one_class i) ++ said (total_line (totals_at_one two_pages one_object)))
     ∙ (λ i. line_of (one_live i) ∷ total_of (one_counted i) (one_needed i) ∷ [])
     ∙ (λ i. line_shown i ∷ total_shown i ∷ [])
 
-free_said_so : reply_by_id (with empty) (Free 1) ≡ said (codes "unknown")
-free_said_so = simp maps
+free_reply : reply_by_id (with empty) (Free 1) ≡ said (codes "unknown")
+free_reply = simp maps
 
-malloc_meets : (replies : List Reply) → MeetsHeadline Moving (items (codes "heap 2 512 1 8\nm 1 176\n") true) replies
+malloc_replies : (replies : List Reply) → MeetsHeadline Moving (items (codes "heap 2 512 1 8\nm 1 176\n") true) replies
     → replies ≡ said (codes "ok") ∷ said (codes "ok") ∷ []
-malloc_meets replies meets =
+malloc_replies replies meets =
     let l : List Item = starts settings ∷ asks (Malloc 1 176) ∷ [] in
     headline_is_transcript Moving l replies refl (stays_at_one Moving refl l None tt (refl, (tt, tt))) (tt, (tt, tt))
-    (subst (λ l. MeetsHeadline Moving l replies) asked_malloc meets)
-    ∙ ap (λ r. said (codes "ok") ∷ r ∷ []) malloc_said
+    (subst (λ l. MeetsHeadline Moving l replies) malloc_items meets)
+    ∙ ap (λ r. said (codes "ok") ∷ r ∷ []) malloc_reply
 
-walk_meets : (replies : List Reply) → MeetsHeadline Moving (items (codes "heap 2 512 1 8\nm 1 176\nwalk\n") true) replies
+walk_replies : (replies : List Reply) → MeetsHeadline Moving (items (codes "heap 2 512 1 8\nm 1 176\nwalk\n") true) replies
     → replies ≡ said (codes "ok") ∷ said (codes "ok") ∷ (codes "class 23 slots 2 live 1 pages 1 notfull 1" ∷ codes "total live 1 pages 1 free 1" ∷ []) ∷ []
-walk_meets replies meets =
+walk_replies replies meets =
     let l : List Item = starts settings ∷ asks (Malloc 1 176) ∷ asks Walk ∷ [] in
     headline_is_transcript Moving l replies refl (stays_at_one Moving refl l None tt (refl, (tt, (tt, tt)))) (tt, (tt, (tt, tt)))
-    (subst (λ l. MeetsHeadline Moving l replies) asked_walk meets)
-    ∙ (λ i. said (codes "ok") ∷ malloc_said i ∷ reply_by_id (malloc_left i) Walk ∷ [])
-    ∙ ap (λ r. said (codes "ok") ∷ said (codes "ok") ∷ r ∷ []) walk_said
+    (subst (λ l. MeetsHeadline Moving l replies) walk_items meets)
+    ∙ (λ i. said (codes "ok") ∷ malloc_reply i ∷ reply_by_id (state_after_malloc i) Walk ∷ [])
+    ∙ ap (λ r. said (codes "ok") ∷ said (codes "ok") ∷ r ∷ []) walk_reply
 
-free_meets : (replies : List Reply) → MeetsHeadline Moving (items (codes "heap 2 512 1 8\nf 1\n") true) replies
+free_replies : (replies : List Reply) → MeetsHeadline Moving (items (codes "heap 2 512 1 8\nf 1\n") true) replies
     → replies ≡ said (codes "ok") ∷ said (codes "unknown") ∷ []
-free_meets replies meets =
+free_replies replies meets =
     let l : List Item = starts settings ∷ asks (Free 1) ∷ [] in
     headline_is_transcript Moving l replies refl (stays_at_one Moving refl l None tt (refl, (tt, tt))) (tt, (tt, tt))
-    (subst (λ l. MeetsHeadline Moving l replies) asked_free meets)
-    ∙ ap (λ r. said (codes "ok") ∷ r ∷ []) free_said_so
+    (subst (λ l. MeetsHeadline Moving l replies) free_items meets)
+    ∙ ap (λ r. said (codes "ok") ∷ r ∷ []) free_reply
 
 -- the second and the third reply, and lines of a reply
 abbrev second : List Reply → Reply
@@ -158,39 +158,39 @@ abbrev line_at : Reply → ℕ → List ℕ
 line_at r i = get_or r i []
 
 -- `refused space` while there is room
-pub refused_wrongly : MeetsHeadline Moving (items (codes "heap 2 512 1 8\nm 1 176\n") true) (said (codes "ok") ∷ said (codes "refused space") ∷ []) → ⊥
-refused_wrongly meets = (let e : said (codes "refused space") ≡ said (codes "ok") = ap second (malloc_meets _ meets) in cc)
+pub fitting_malloc_refused : MeetsHeadline Moving (items (codes "heap 2 512 1 8\nm 1 176\n") true) (said (codes "ok") ∷ said (codes "refused space") ∷ []) → ⊥
+fitting_malloc_refused meets = (let e : said (codes "refused space") ≡ said (codes "ok") = ap second (malloc_replies _ meets) in cc)
 
 -- `refused size` of an object that fits
 pub refused_for_size : MeetsHeadline Moving (items (codes "heap 2 512 1 8\nm 1 176\n") true) (said (codes "ok") ∷ said (codes "refused size") ∷ []) → ⊥
-refused_for_size meets = (let e : said (codes "refused size") ≡ said (codes "ok") = ap second (malloc_meets _ meets) in cc)
+refused_for_size meets = (let e : said (codes "refused size") ≡ said (codes "ok") = ap second (malloc_replies _ meets) in cc)
 
 -- no line at all
-pub silent : MeetsHeadline Moving (items (codes "heap 2 512 1 8\nm 1 176\n") true) (said (codes "ok") ∷ [] ∷ []) → ⊥
-silent meets = (let e : ◌≡◌ {A = Reply} [] (said (codes "ok")) = ap second (malloc_meets _ meets) in cc)
+pub malloc_without_line : MeetsHeadline Moving (items (codes "heap 2 512 1 8\nm 1 176\n") true) (said (codes "ok") ∷ [] ∷ []) → ⊥
+malloc_without_line meets = (let e : ◌≡◌ {A = Reply} [] (said (codes "ok")) = ap second (malloc_replies _ meets) in cc)
 
 -- no reply
-pub no_reply : MeetsHeadline Moving (items (codes "heap 2 512 1 8\nm 1 176\n") true) (said (codes "ok") ∷ []) → ⊥
-no_reply meets = (let e : ◌≡◌ {A = ℕ} 1 2 = ap length (malloc_meets _ meets) in omega arith)
+pub malloc_without_reply : MeetsHeadline Moving (items (codes "heap 2 512 1 8\nm 1 176\n") true) (said (codes "ok") ∷ []) → ⊥
+malloc_without_reply meets = (let e : ◌≡◌ {A = ℕ} 1 2 = ap length (malloc_replies _ meets) in omega arith)
 
 -- a reply more than there are items
-pub one_over : MeetsHeadline Moving (items (codes "heap 2 512 1 8\nm 1 176\n") true)
+pub one_reply_too_many : MeetsHeadline Moving (items (codes "heap 2 512 1 8\nm 1 176\n") true)
     (said (codes "ok") ∷ said (codes "ok") ∷ said (codes "hello") ∷ []) → ⊥
-one_over meets = (let e : ◌≡◌ {A = ℕ} 3 2 = ap length (malloc_meets _ meets) in omega arith)
+one_reply_too_many meets = (let e : ◌≡◌ {A = ℕ} 3 2 = ap length (malloc_replies _ meets) in omega arith)
 
 -- a page more than the object needs and may have
 pub page_in_excess : MeetsHeadline Moving (items (codes "heap 2 512 1 8\nm 1 176\nwalk\n") true) (said (codes "ok") ∷ said (codes "ok")
     ∷ (codes "class 23 slots 2 live 1 pages 2 notfull 0" ∷ codes "total live 1 pages 2 free 0" ∷ []) ∷ []) → ⊥
-page_in_excess meets = (let e : ◌≡◌ {A = ℕ} 50 49 = ap (λ l. get_or (line_at (third l) 0) 30 0) (walk_meets _ meets) in omega arith)
+page_in_excess meets = (let e : ◌≡◌ {A = ℕ} 50 49 = ap (λ l. get_or (line_at (third l) 0) 30 0) (walk_replies _ meets) in omega arith)
 
 -- a total that is not the sum of the lines above it
 pub total_in_excess : MeetsHeadline Moving (items (codes "heap 2 512 1 8\nm 1 176\nwalk\n") true) (said (codes "ok") ∷ said (codes "ok")
     ∷ (codes "class 23 slots 2 live 1 pages 1 notfull 1" ∷ codes "total live 1 pages 2 free 0" ∷ []) ∷ []) → ⊥
-total_in_excess meets = (let e : ◌≡◌ {A = ℕ} 50 49 = ap (λ l. get_or (line_at (third l) 1) 19 0) (walk_meets _ meets) in omega arith)
+total_in_excess meets = (let e : ◌≡◌ {A = ℕ} 50 49 = ap (λ l. get_or (line_at (third l) 1) 19 0) (walk_replies _ meets) in omega arith)
 
 -- a free of an id that isn't live
 pub freed_in_vain : MeetsHeadline Moving (items (codes "heap 2 512 1 8\nf 1\n") true) (said (codes "ok") ∷ said (codes "ok") ∷ []) → ⊥
-freed_in_vain meets = (let e : said (codes "ok") ≡ said (codes "unknown") = ap second (free_meets _ meets) in cc)
+freed_in_vain meets = (let e : said (codes "ok") ≡ said (codes "unknown") = ap second (free_replies _ meets) in cc)
 
 -- What needs the steps themselves: costs and addresses.
 
@@ -267,9 +267,9 @@ shown_once n m x y small_n small_m none_x none_y same =
     cc
 
 -- more steps than a malloc may take
-asked_steps : items (codes "heap 2 512 1 8\nm 1 176\nsteps\n") true ≡ starts settings ∷ asks (Malloc 1 176) ∷ asks Steps ∷ []
+steps_items : items (codes "heap 2 512 1 8\nm 1 176\nsteps\n") true ≡ starts settings ∷ asks (Malloc 1 176) ∷ asks Steps ∷ []
 unfolding decode_pairs
-asked_steps = refl
+steps_items = refl
 
 shown_steps : codes "steps last 65 bound 64 moves 0 words 0" ≡ steps_line 65 64 0 0
 unfolding digits
@@ -280,7 +280,7 @@ pub steps_in_excess : MeetsHeadline Moving (items (codes "heap 2 512 1 8\nm 1 17
 steps_in_excess meets =
     let text : List ℕ = codes "steps last 65 bound 64 moves 0 words 0" in
     let start = after_opening Moving (asks (Malloc 1 176) ∷ asks Steps ∷ []) (said (codes "ok")) (said (codes "ok") ∷ said text ∷ []) settings
-    (subst (λ l. Rest Moving None l (said (codes "ok") ∷ said (codes "ok") ∷ said text ∷ [])) asked_steps meets) in
+    (subst (λ l. Rest Moving None l (said (codes "ok") ∷ said (codes "ok") ∷ said text ∷ [])) steps_items meets) in
     let one = after_command Moving (asks Steps ∷ []) (said (codes "ok")) (said text ∷ []) opened (Malloc 1 176) start in
     let m = given opened one.0 1 176 (none_held 1) one.1 in
     let two = after_command Moving [] (said text) [] one.0 Steps one.2 in
@@ -302,7 +302,7 @@ block_steps_in_excess meets =
     let text : List ℕ = codes "steps last 26" in
     let with_blocks : ShownHeap = heap_opened Tlsf settings in
     let start = after_opening Tlsf (asks (Malloc 1 176) ∷ asks Steps ∷ []) (said (codes "ok")) (said (codes "ok") ∷ said text ∷ []) settings
-    (subst (λ l. Rest Tlsf None l (said (codes "ok") ∷ said (codes "ok") ∷ said text ∷ [])) asked_steps meets) in
+    (subst (λ l. Rest Tlsf None l (said (codes "ok") ∷ said (codes "ok") ∷ said text ∷ [])) steps_items meets) in
     let one = after_command Tlsf (asks Steps ∷ []) (said (codes "ok")) (said text ∷ []) with_blocks (Malloc 1 176) start in
     let m = given with_blocks one.0 1 176 (none_held 1) one.1 in
     let two = after_command Tlsf [] (said text) [] one.0 Steps one.2 in
@@ -314,9 +314,9 @@ block_steps_in_excess meets =
     omega arith
 
 -- a word other than 0 of a heap without objects
-asked_word : items (codes "heap 2 512 1 8\np 0\n") true ≡ starts settings ∷ asks (Peek 0) ∷ []
+word_items : items (codes "heap 2 512 1 8\np 0\n") true ≡ starts settings ∷ asks (Peek 0) ∷ []
 unfolding decode_pairs
-asked_word = refl
+word_items = refl
 
 word_of_zero : peek_text (Some 0) ≡ codes "0000000000000000"
 unfolding encode_with
@@ -326,7 +326,7 @@ pub word_in_nothing : MeetsHeadline Moving (items (codes "heap 2 512 1 8\np 0\n"
 word_in_nothing meets =
     let text : List ℕ = codes "0000000000000001" in
     let start = after_opening Moving (asks (Peek 0) ∷ []) (said (codes "ok")) (said text ∷ []) settings
-    (subst (λ l. Rest Moving None l (said (codes "ok") ∷ said text ∷ [])) asked_word meets) in
+    (subst (λ l. Rest Moving None l (said (codes "ok") ∷ said text ∷ [])) word_items meets) in
     let one = after_command Moving [] (said text) [] opened (Peek 0) start in
     let shows : ShowsPageWord opened 0 one.1.0.0 = one.1.0.2 in
     let zero : one.1.0.0 ≡ 0 = shows.zero (λ id x there. absurd (let none = none_held id in let e : None ≡ Some x = sym none ∙ there in cc)) in
@@ -351,10 +351,10 @@ apart_of t a b arranged one two kind is same =
     let e : a ≡ b = shown_once a b [] [] small_a small_b tt tt (ap (λ l. l ++ []) same) in
     sound.1.own_place 1 (zeros_at a 176) 2 (zeros_at b 176) one two two_is_not_one e
 
-asked_shared : items (codes "heap 2 512 1 8\nm 1 176\nm 2 176\nq 1\nq 2\n") true
+shared_address_items : items (codes "heap 2 512 1 8\nm 1 176\nm 2 176\nq 1\nq 2\n") true
     ≡ starts settings ∷ asks (Malloc 1 176) ∷ asks (Malloc 2 176) ∷ asks (Place 1) ∷ asks (Place 2) ∷ []
 unfolding decode_pairs
-asked_shared = refl
+shared_address_items = refl
 
 pub address_shared : MeetsHeadline Moving (items (codes "heap 2 512 1 8\nm 1 176\nm 2 176\nq 1\nq 2\n") true)
     (said (codes "ok") ∷ said (codes "ok") ∷ said (codes "ok") ∷ said (codes "at 0") ∷ said (codes "at 0") ∷ []) → ⊥
@@ -362,7 +362,7 @@ address_shared meets =
     let ok : Reply = said (codes "ok") in
     let zero_at : Reply = said (codes "at 0") in
     let start = after_opening Moving (asks (Malloc 1 176) ∷ asks (Malloc 2 176) ∷ asks (Place 1) ∷ asks (Place 2) ∷ []) ok (ok ∷ ok ∷ zero_at ∷ zero_at ∷ []) settings
-    (subst (λ l. Rest Moving None l (ok ∷ ok ∷ ok ∷ zero_at ∷ zero_at ∷ [])) asked_shared meets) in
+    (subst (λ l. Rest Moving None l (ok ∷ ok ∷ ok ∷ zero_at ∷ zero_at ∷ [])) shared_address_items meets) in
     let one = after_command Moving (asks (Malloc 2 176) ∷ asks (Place 1) ∷ asks (Place 2) ∷ []) ok (ok ∷ zero_at ∷ zero_at ∷ []) opened (Malloc 1 176) start in
     let first = given opened one.0 1 176 (none_held 1) one.1 in
     let held : one.0.heap.held ≡ insert empty 1 (zeros_at first.place 176) = ap (λ (t : ShownHeap). t.heap.held) first.heap_is in
@@ -385,10 +385,10 @@ address_shared meets =
     (ap (λ (t : ShownHeap). t.heap.profile) other.heap_is ∙ ap (λ (t : ShownHeap). t.heap.profile) first.heap_is) numbers
 
 -- an object at another address, though nothing was freed or resized
-asked_twice : items (codes "heap 2 512 1 8\nm 1 176\nq 1\nm 2 176\nq 1\n") true
+changed_address_items : items (codes "heap 2 512 1 8\nm 1 176\nq 1\nm 2 176\nq 1\n") true
     ≡ starts settings ∷ asks (Malloc 1 176) ∷ asks (Place 1) ∷ asks (Malloc 2 176) ∷ asks (Place 1) ∷ []
 unfolding decode_pairs
-asked_twice = refl
+changed_address_items = refl
 
 pub address_changed : MeetsHeadline Moving (items (codes "heap 2 512 1 8\nm 1 176\nq 1\nm 2 176\nq 1\n") true)
     (said (codes "ok") ∷ said (codes "ok") ∷ said (codes "at 0") ∷ said (codes "ok") ∷ said (codes "at 23") ∷ []) → ⊥
@@ -397,7 +397,7 @@ address_changed meets =
     let here : Reply = said (codes "at 0") in
     let there : Reply = said (codes "at 23") in
     let start = after_opening Moving (asks (Malloc 1 176) ∷ asks (Place 1) ∷ asks (Malloc 2 176) ∷ asks (Place 1) ∷ []) ok (ok ∷ here ∷ ok ∷ there ∷ []) settings
-    (subst (λ l. Rest Moving None l (ok ∷ ok ∷ here ∷ ok ∷ there ∷ [])) asked_twice meets) in
+    (subst (λ l. Rest Moving None l (ok ∷ ok ∷ here ∷ ok ∷ there ∷ [])) changed_address_items meets) in
     let one = after_command Moving (asks (Place 1) ∷ asks (Malloc 2 176) ∷ asks (Place 1) ∷ []) ok (here ∷ ok ∷ there ∷ []) opened (Malloc 1 176) start in
     let first = given opened one.0 1 176 (none_held 1) one.1 in
     let held : one.0.heap.held ≡ insert empty 1 (zeros_at first.place 176) = ap (λ (t : ShownHeap). t.heap.held) first.heap_is in

@@ -32,7 +32,7 @@ use Rattle.run_model.specs.Texts.{Reply, said, with_number}
 use Rattle.headline_laws.specs.ShownHeap.{IsArranged, ShownHeap, heap_opened, with_move}
 use Rattle.headline_laws.specs.ShownWords.{ShowsWord}
 
--- one line, and nothing changes
+-- the reply is this one line, and nothing changes
 abbrev pub OnlyReplies : ShownHeap → List ℕ → Reply → ShownHeap → Type 0
 OnlyReplies old text reply new = (reply ≡ said text) × (new ≡ old)
 
@@ -64,11 +64,12 @@ pub record IsRefusedMalloc (old : ShownHeap) (n : ℕ) (reply : Reply) (new : Sh
   pub reply_is : reply ≡ said (malloc_text (Err refusal))
   pub heap_is : new ≡ record old { heap = record old.heap { cost = new.heap.cost }; step_bound = 64 }
 
+-- m, by the object that the id names: `live` if there is one; else `ok`, or refused
 abbrev pub Mallocs : Option Placed → ShownHeap → ℕ → ℕ → Reply → ShownHeap → Type 0
 Mallocs (Some x) old id n reply new = OnlyReplies old (codes "live") reply new
 Mallocs None old id n reply new = IsMalloc old id n reply new ⊎ IsRefusedMalloc old n reply new
 
--- f, of a live id: its object goes. With pages one other object of its class moves into its slot if and only if its page was full, with several slots, and
+-- f, of a live id: its object is removed. With pages one other object of its class moves into its slot if and only if its page was full, with several slots, and
 -- its class had as many partly full pages as it may; that object comes from a partly full page. No other address changes.
 pub record IsFree (old : ShownHeap) (id : ℕ) (x : Placed) (reply : Reply) (new : ShownHeap) : Type 0 where
   pub moved : Option ℕ
@@ -86,14 +87,16 @@ pub record IsFree (old : ShownHeap) (id : ℕ) (x : Placed) (reply : Reply) (new
     step_bound = 96 + 2 * slot_in old.heap.kind old.heap x;
   }) moved (slot_in old.heap.kind old.heap x)
 
+-- f, by the object that the id names: `unknown` if there is none
 abbrev pub Frees : Option Placed → ShownHeap → ℕ → Reply → ShownHeap → Type 0
 Frees None old id reply new = OnlyReplies old (codes "unknown") reply new
 Frees (Some x) old id reply new = IsFree old id x reply new
 
--- w: the bytes are written if they lie within the object, else `range`
+-- the heap with this object under the id
 abbrev pub with_object : ShownHeap → ℕ → Placed → ShownHeap
 with_object s id x = record s { heap = record s.heap { held = insert s.heap.held id x } }
 
+-- w: the bytes are written if they lie within the object, else `range`
 abbrev pub Writes : Option Placed → ShownHeap → ℕ → ℕ → List ℕ → Reply → ShownHeap → Type 0
 Writes None old id at bytes reply new = OnlyReplies old (codes "unknown") reply new
 Writes (Some x) old id at bytes reply new =
@@ -114,6 +117,7 @@ pub record RefitsElsewhere (old : ShownHeap) (id : ℕ) (x : Placed) (n : ℕ) (
   pub moves : Moves (paging_in old.heap) old.heap.held x after.moved
   pub placed : after.held ≡ insert (without old.heap.held id x.place after.moved) id (resized_at place x n)
 
+-- the step bound of a resize of x to n bytes: 160, and three for each word of the larger slot
 abbrev pub resize_bound_for : ShownHeap → Placed → ℕ → ℕ
 resize_bound_for old x n = 160 + 3 * max (slot_for (paging_in old.heap) (length x.bytes)) (slot_for (paging_in old.heap) n)
 
@@ -139,6 +143,7 @@ pub record IsRefusedResize (old : ShownHeap) (id n : ℕ) (reply : Reply) (new :
   pub still : IsUnmoved old.heap.kind old.heap new.heap
   pub heap_is : new ≡ record old { heap = new.heap; step_bound = 160 }
 
+-- z, by the object that the id names: `unknown` if there is none
 abbrev pub Resizes : Option Placed → ShownHeap → ℕ → ℕ → Reply → ShownHeap → Type 0
 Resizes None old id n reply new = OnlyReplies old (codes "unknown") reply new
 Resizes (Some x) old id n reply new = IsResize old id x n reply new ⊎ IsRefusedResize old id n reply new
@@ -180,10 +185,11 @@ IsAnswer old (Bound slot_words k) reply new = Bounds old slot_words k reply new
 IsAnswer old (Resize id n) reply new = Resizes (get old.heap.held id) old id n reply new
 IsAnswer old command reply new = OnlyReplies old (codes "none") reply new
 
--- the `heap` line, and each command; every heap is arranged by the rules
+-- the reply to the `heap` line is `ok`, and the new heap is empty and arranged by the rules
 abbrev pub Opens : Kind → Profile → Reply → ShownHeap → Type 0
 Opens kind p reply new = (reply ≡ said (codes "ok")) × (new ≡ heap_opened kind p) × IsArranged new.heap
 
+-- a command gets its reply as claimed, and the heap after it is arranged by the rules
 abbrev pub Answers : ShownHeap → Command → Reply → ShownHeap → Type 0
 Answers old command reply new = IsAnswer old command reply new × IsArranged new.heap
 

@@ -23,7 +23,7 @@ pub record ShownHeap : Type 0 where
   pub moves : ℕ
   pub moved_words : ℕ
 
--- after the `heap` line
+-- the heap after the `heap` line, without objects
 abbrev pub heap_opened : Kind → Profile → ShownHeap
 heap_opened kind p = record { heap = empty_heap kind p []; numbers = empty; step_bound = 0; moves = 0; moved_words = 0 }
 

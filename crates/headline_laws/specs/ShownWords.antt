@@ -13,7 +13,7 @@ use Rattle.headline_laws.specs.ShownHeap.{ShownHeap}
 abbrev pub IsWordOf : ShownHeap → ℕ → Placed → ℕ → ℕ → Type 0
 IsWordOf s id x i value = (number : ℕ) × (get s.numbers id ≡ Some number) × (value ≡ object_word number x.bytes i)
 
--- with pages: a word of an object's slot is one of the object's, and every other word is 0
+-- with pages: a word of an object's slot has the value of that word of the object, and a word outside all slots of objects is 0
 pub record ShowsPageWord (s : ShownHeap) (word value : ℕ) : Type 0 where
   pub object : (id : ℕ) (x : Placed) (i : ℕ) → get s.heap.held id ≡ Some x → i < slot_for (paging_in s.heap) (length x.bytes) → word ≡ x.place + i
       → IsWordOf s id x i value

@@ -17,8 +17,8 @@ ghost use Rattle.transcript_laws.specs.Transcripts.{ArePlaceless, StaysAtOne, tr
 ghost use Rattle.headline_laws.specs.Headline.{MeetsHeadline};
 ghost use Rattle.headline_laws.specs.OneOutput.{BeginNone, BeginOnce, IsOrdered};
 
-/// The replies of every run over a script meet the headline: one for each item, none over, each as
-/// the heap before it and the item say. It is a heap of objects numbered by the ids of the script.
+/// The replies of every run over a script meet the headline: exactly one for each item, and each follows
+/// from the item and the heap before it, whose objects are numbered by the ids of the script.
 pub fn the_headline()
     ensures { (kind : Kind) (items : List Item) (replies : List Reply) (end : Option RunState)
         → Run kind None items replies end → MeetsHeadline kind items replies }
@@ -32,8 +32,8 @@ pub fn the_output_shows_the_replies()
         → text_of [] others ≡ text_of [] replies → others ≡ replies }
 {}
 
-/// Of a kind with pages the headline leaves one list of replies if every bound is 1 and no item asks
-/// for an address or a cost: the transcript.
+/// For a kind with pages, if every bound is 1 and no item asks for an address or a cost, only one list
+/// of replies meets the headline: the transcript.
 pub fn at_bound_one_the_headline_is_the_transcript()
     ensures { (kind : Kind) (items : List Item) (replies : List Reply)
         → IsPaged kind → StaysAtOne kind None items → ArePlaceless items
@@ -80,8 +80,8 @@ pub fn wrong_replies_fall_short()
         (said (codes "ok") ∷ said (codes "ok") ∷ said (codes "steps last 26") ∷ []) }
 {}
 
-/// Of a kind with pages, all runs over these items have one list of replies if every bound is 1 and
-/// no item asks for an address or a cost: whichever slot, page, number or object was chosen.
+/// For a kind with pages, if every bound is 1 and no item asks for an address or a cost, all runs over
+/// the items have the same replies, whichever slot, page, number or object the manager chose.
 pub fn one_transcript()
     ensures { (kind : Kind) (items : List Item) (replies : List Reply) (last : Option RunState)
         → IsPaged kind → StaysAtOne kind None items → ArePlaceless items

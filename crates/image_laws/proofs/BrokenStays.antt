@@ -1,4 +1,4 @@
--- What breaks a rule is broken whatever follows.
+-- Bytes that break a rule of images still do so if more bytes follow.
 use Rattle.std.proofs.Common.{◌≡◌, ◌∙◌, ◌++◌, ◌≤◌, ◌<◌, ℕ, zero, suc, Bool, true, false, List, [], ◌∷◌, Some, None, length, take, drop}
 use Rattle.std.proofs.Common.{refl, ap, sym, arith, inl, inr, length-append}
 use Rattle.std.specs.Prelude.{if◌then◌else◌, nat_le, nat_lt}
@@ -55,13 +55,13 @@ module _ (k : ℕ) (bad : Decoded) (go : List ℕ → Reading) where
         ∙ sym here
   ]
 
--- a number that is tested
+-- `Stays` of a number that must pass a test
 number_stays : (w : Width) (bad : Decoded) (test : ℕ → Bool) (go : ℕ → Reading) → ((n : ℕ) → Stays (go n))
     → Stays (λ bytes. number w bytes bad (λ n rest. if test n then go n rest else bad))
 number_stays w bad test go h = field_stays (byte_len w) bad (λ field rest. if test (number_of_bytes w field) then go (number_of_bytes w field) rest else bad)
     (λ field. if_stays (test (number_of_bytes w field)) (go (number_of_bytes w field)) (λ _. bad) (h (number_of_bytes w field)) (same_stays bad))
 
--- an entry
+-- `Stays` of an entry
 module _ (p : Profile) (r : Reached) (go : Reached → Reading) (h : (r : Reached) → Stays (go r)) where
   bytes_stay : (id n : ℕ) → Stays (λ bytes. bytes_decoded p r id n bytes go)
   unfolding bytes_decoded
@@ -75,7 +75,7 @@ module _ (p : Profile) (r : Reached) (go : Reached → Reading) (h : (r : Reache
   unfolding entry_decoded
   entry_stays = number_stays w16 (breaks_in p r 0) (λ id. nat_le r.next id) (λ id rest. length_decoded p r id rest go) (λ id. length_stays id)
 
--- the end
+-- `Stays` of the end
 end_stays : (p : Profile) (r : Reached) → Stays (end_decoded p r)
 unfolding end_decoded
 end_stays p r [] more at broken rule = absurd (let z : None ≡ Some at = broken in cc)
@@ -86,7 +86,7 @@ unfolding entries_decoded
 entries_stay zero p r = end_stays p r
 entries_stay (suc n) p r = entry_stays p r (λ r rest. entries_decoded p n r rest) (λ r. entries_stay n p r)
 
--- the number of objects, and the settings
+-- `Stays` of the number of objects and of the settings
 count_stays : (p : Profile) → Stays (count_decoded p)
 unfolding count_decoded
 count_stays p = number_stays w32 (breaks_behind p empty 16) (λ n. nat_le n p.proxies) (λ n rest. entries_decoded p n at_first rest)
@@ -105,7 +105,7 @@ pages_stay : Stays pages_decoded
 unfolding pages_decoded
 pages_stay = number_stays w32 (unopened 4) (λ n. is_within 1 4096 n) (λ n rest. page_bytes_decoded n rest) (λ n. page_bytes_stay n)
 
--- the mark
+-- `Stays` of the mark
 abbrev unmarked : List ℕ → Decoded
 unmarked bytes = record (unopened 0) { is_cut = nat_lt (length bytes) 4 }
 

@@ -1,4 +1,4 @@
--- Of the script of some objects mode `save` prints just their image, and of the image mode `load` just the script.
+-- From the script of some objects mode `save` prints exactly their image, and from the image mode `load` prints exactly the script.
 use Rattle.std.proofs.Common.{◌≡◌, ◌≢◌, ◌∙◌, ◌+◌, ◌*◌, ℕ, List, [], Option, Some, None, true, length, arith, refl, ap, sym}
 use Rattle.std.specs.Prelude.{option_map}
 use Rattle.std.specs.FinMap.{get, insert, len}
@@ -35,7 +35,7 @@ module _ (p : Profile) (o : Objects) (h : HaveImage p o) where
           let same : view t ≡ holding p o = cc in
           ap (λ (v : ById). image_under v.profile v.objects) same
 
-  -- nothing, and another length
+  -- empty output and output of another length don't meet the claim of mode `save`
   pub nothing_saved : ¬ MeetsSave (script_items p o) []
   nothing_saved m =
       let e = ap (length {A = ℕ}) (saves_exactly [] m) in
@@ -45,7 +45,7 @@ module _ (p : Profile) (o : Objects) (h : HaveImage p o) where
   pub another_length : (printed : List ℕ) → length printed ≢ 20 + 6 * len o + asked_bytes o → ¬ MeetsSave (script_items p o) printed
   another_length printed other m = other (ap (length {A = ℕ}) (saves_exactly printed m) ∙ image_long o h.ids p)
 
-  -- an entry too many
+  -- an image with an entry too many doesn't meet the claim of mode `save`
   pub entry_over : (id : ℕ) (v : List ℕ) → get o id ≡ None → HaveImage p (insert o id v) → ¬ MeetsSave (script_items p o) (image_under p (insert o id v))
   entry_over id v none more m =
       let e = ap (length {A = ℕ}) (saves_exactly (image_under p (insert o id v)) m) in
@@ -56,7 +56,7 @@ module _ (p : Profile) (o : Objects) (h : HaveImage p o) where
       omega (arith, e, long, longer, one, asked)
 
   module _ (n : Objects) (other : n ≢ o) where
-    -- the image of other objects
+    -- the image of other objects doesn't meet the claim of mode `save`
     pub others_saved : ((p q : Profile) (o n : Objects) → HaveImage p o → HaveImage q n → image_under p o ≡ image_under q n → (p ≡ q) × (o ≡ n))
         → HaveImage p n → ¬ MeetsSave (script_items p o) (image_under p n)
     others_saved determines have m = other (determines p p n o have h (saves_exactly (image_under p n) m)).1
@@ -69,7 +69,7 @@ module _ (p : Profile) (o : Objects) (h : HaveImage p o) where
         let profile : p ≡ m.profile = cc in
         m.script ∙ (λ i. script_under (sym profile i) (sym (ap (λ (d : Decoded). d.objects) e) i))
 
-    -- the script of other objects
+    -- the script of other objects doesn't meet the claim of mode `load`
     pub others_loaded : (n : Objects) → n ≢ o → HaveImage p n → ¬ MeetsLoad (image_under p o) (script_under p n)
     others_loaded n other have m =
         let e = loads_exactly (script_under p n) m in
@@ -78,7 +78,7 @@ module _ (p : Profile) (o : Objects) (h : HaveImage p o) where
         let is : holding p n ≡ holding p o = cc in
         other (ap (λ (t : ById). t.objects) is)
 
-    -- nothing
+    -- empty output doesn't meet the claim of mode `load`
     pub nothing_loaded : ¬ MeetsLoad (image_under p o) []
     nothing_loaded m =
         let e = loads_exactly [] m in

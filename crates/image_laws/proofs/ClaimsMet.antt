@@ -24,7 +24,7 @@ use Rattle.script_loop.proofs.CallerLemmas.{appended_none, wrote_all}
 use Rattle.script_loop.specs.Consequences.{AnswersAll}
 use Rattle.script_loop.specs.ScriptOutcome.{Effects, EndsAt, items_within}
 
--- Mode `save`.
+-- Mode `save`, from a closed moving heap.
 module _ (from to : RunState) (call : Effects) (read : List ℕ) (moving : from.heap.kind ≡ Moving) (closed : from.heap.is_open ≡ false)
     (had : call.had ≡ Some read) where
   image_is : (end : Option RunState) → EndsAt from end to → IsUnderWay Moving end → saved to ≡ image_shown (shown_at end)

@@ -1,4 +1,4 @@
--- A run over the script of objects holds them.
+-- After a run over the script of some objects, the heap holds these objects.
 use Rattle.std.proofs.Common.{◌≡◌, ◌≢◌, ◌∙◌, append-nil, ◌++◌, ◌≤◌, ℕ, zero, suc, true, List, [], ◌∷◌, Option, Some, None, length, map, refl, ap, sym, subst}
 use Rattle.std.specs.Prelude.{⊤, Err, Ok, codes, option_map, if◌then◌else◌}
 use Rattle.std.specs.FinMap.{entries}
@@ -106,7 +106,7 @@ module _ (p : Profile) (o : Objects) (h : HaveImage p o) where
       go None e on = absurd (let f : None ≡ Some (holding p o) = e in cc)
       go (Some s) e on = record { state = s; is = refl; kind = on.0; going = on.1; objects = (let f : Some (view (shown s)) ≡ Some (holding p o) = e in cc) }
 
-  -- and each reply is `ok`
+  -- each reply of a run over the script is `ok`
   pub run_ok : (replies : List Reply) (last : Option RunState) → Run Moving None (items (script_under p o) true) replies last
       → replies ≡ map (λ i. said (codes "ok")) (script_items p o)
   run_ok replies last run =
@@ -170,7 +170,7 @@ load_done from to call all had done ends =
       script = e.2 ∙ (λ i. appended call.before (script_under (l.holds.profile i) (l.holds.objects i)));
     }
 
--- it never refuses an image
+-- mode `load` never refuses an image
 pub image_taken : (from to : RunState) (call : Effects) (all : List ℕ) → call.had ≡ Some all → IsImage all → EndsLoad from call to → call.status ≢ BadImage
 image_taken from to call all had image ends bad =
     let e = subst (λ st. EndsLoadBy st from call to) bad ends in

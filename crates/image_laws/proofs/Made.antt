@@ -167,7 +167,7 @@ module _ (p : Profile) (id : ℕ) (m : Objects) where
       (all_writes (div_ceil (length v) 4096) 0 [] v refl (omega arith) (omega arith))
 
 module _ (p : Profile) (o : Objects) (h : HaveImage p o) where
-  -- some of the objects need no more pages, and are no more
+  -- some of the objects: they need at most the pages of all, and their number is at most that of all
   record IsLess (m : Objects) : Type 0 where
     pages : pages_needed (image_paging p) m ≤ pages_needed (image_paging p) o
     few : len m ≤ len o
@@ -231,6 +231,6 @@ module _ (p : Profile) (o : Objects) (h : HaveImage p o) where
   pub makes : after_items Moving None (script_items p o) ≡ Some (holding p o)
   makes = left_is (holding p empty) (commands_of (entries o)) ∙ ap (λ t. Some t) all_leads.state
 
-  -- and each reply is `ok`
+  -- each reply to the script is `ok`
   pub all_ok : transcript Moving (script_items p o) ≡ map (λ i. said (codes "ok")) (script_items p o)
   all_ok = ap (λ (replies : List Reply). said (codes "ok") ∷ replies) (ok_is (holding p empty) (commands_of (entries o)) all_leads.ok)

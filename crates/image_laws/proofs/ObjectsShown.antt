@@ -19,11 +19,11 @@ use Rattle.script_reader.specs.Items.{Item}
 use Rattle.transcript_laws.specs.ById.{ById}
 use Rattle.transcript_laws.specs.Transcripts.{ArePlaceless, StaysAtOne}
 
--- they are the same
+-- the objects by id of a run are those of the heap that it shows
 pub objects_shown : (s : RunState) → IsGoing s → objects_of s ≡ (view (shown s)).objects
 objects_shown s going = equal_maps _ _ (λ id. objects_of_is s going.tied id ∙ bytes_are s going id)
 
--- and so is their image
+-- the image of a run's heap is the image of the heap that it shows
 pub same_image : (s : RunState) → IsGoing s → heap_image s ≡ image_shown (Some (shown s))
 same_image s going = ap (λ (o : Objects). image_under s.heap.profile o) (objects_shown s going)
 

@@ -44,8 +44,8 @@ pub first_whole : (t : Bool) (x y : Decoded) (at : ℕ) → y.broken ≡ Some at
 first_whole true x y at breaks none = (refl, none)
 first_whole false x y at breaks none = absurd (breaks_not y at breaks none)
 
--- a number that is accepted: its bytes, and what follows
-pub record Accepts (w : Width) (bytes : List ℕ) (test : ℕ → Bool) (yes : ℕ → List ℕ → Decoded) : Type 0 where
+-- a number that is accepted: its value, its bytes, what follows them, and the test that it passes
+pub record AcceptedNumber (w : Width) (bytes : List ℕ) (test : ℕ → Bool) (go : ℕ → List ℕ → Decoded) : Type 0 where
   pub n : ℕ
   pub rest : List ℕ
   pub field : List ℕ
@@ -53,14 +53,14 @@ pub record Accepts (w : Width) (bytes : List ℕ) (test : ℕ → Bool) (yes : �
   pub small : AreBytes field
   pub is : n ≡ number_of_bytes w field
   pub are : bytes ≡ field ++ rest
-  pub left : AreBytes rest
-  pub good : test n ≡ true
-  pub on : (yes n rest).broken ≡ None
+  pub rest_bytes : AreBytes rest
+  pub passes : test n ≡ true
+  pub rest_whole : (go n rest).broken ≡ None
 
 module _ (w : Width) (bytes : List ℕ) (b : AreBytes bytes) (bad : Decoded) (at : ℕ) (breaks : bad.broken ≡ Some at) (test : ℕ → Bool)
-    (yes : ℕ → List ℕ → Decoded) where
+    (go : ℕ → List ℕ → Decoded) where
   abbrev pub tested : ℕ → List ℕ → Decoded
-  tested n rest = if test n then yes n rest else bad
+  tested n rest = if test n then go n rest else bad
 
   abbrev front : List ℕ
   front = take (byte_len w) bytes
@@ -68,10 +68,10 @@ module _ (w : Width) (bytes : List ℕ) (b : AreBytes bytes) (bad : Decoded) (at
   abbrev behind : List ℕ
   behind = drop (byte_len w) bytes
 
-  pub accepts : (number w bytes bad tested).broken ≡ None → Accepts w bytes test yes
-  accepts is =
+  pub number_accepted : (number w bytes bad tested).broken ≡ None → AcceptedNumber w bytes test go
+  number_accepted is =
       let whole = second_whole (nat_lt (length bytes) (byte_len w)) (cut bad) (tested (number_of_bytes w front) behind) at breaks is in
-      let good = first_whole (test (number_of_bytes w front)) (yes (number_of_bytes w front) behind) bad at breaks whole.1 in
+      let good = first_whole (test (number_of_bytes w front)) (go (number_of_bytes w front) behind) bad at breaks whole.1 in
       record {
         n = number_of_bytes w front;
         rest = behind;
@@ -80,9 +80,9 @@ module _ (w : Width) (bytes : List ℕ) (b : AreBytes bytes) (bad : Decoded) (at
         small = bytes_taken (byte_len w) bytes b;
         is = refl;
         are = sym (take-append-drop (byte_len w) bytes);
-        left = bytes_left (byte_len w) bytes b;
-        good = good.0;
-        on = good.1;
+        rest_bytes = bytes_left (byte_len w) bytes b;
+        passes = good.0;
+        rest_whole = good.1;
       }
 
 -- the bytes of a field are those of its number
@@ -114,8 +114,8 @@ none_held p = record {
     no : (id : ℕ) (v : List ℕ) → get {R = nat_cmp} empty id ≡ Some v → ⊥
     no id v is = (let z : Some v ≡ None = sym is ∙ get-empty nat_cmp id in cc)
 
--- an entry that is accepted
-record Enters (p : Profile) (r : Reached) (bytes : List ℕ) (go : Reached → List ℕ → Decoded) : Type 0 where
+-- an entry that is accepted: an id above those before it, and bytes that fit
+record AcceptedEntry (p : Profile) (r : Reached) (bytes : List ℕ) (go : Reached → List ℕ → Decoded) : Type 0 where
   id : ℕ
   v : List ℕ
   rest : List ℕ
@@ -124,23 +124,23 @@ record Enters (p : Profile) (r : Reached) (bytes : List ℕ) (go : Reached → L
   room : has_room p r.objects (length v) ≡ true
   small : AreBytes v
   are : bytes ≡ entry_of id v ++ rest
-  left : AreBytes rest
-  on : (go (passed r id v) rest).broken ≡ None
+  rest_bytes : AreBytes rest
+  rest_whole : (go (passed r id v) rest).broken ≡ None
 
 module _ (p : Profile) (r : Reached) (go : Reached → List ℕ → Decoded) where
-  -- its bytes
-  record HasBytes (id n : ℕ) (bytes : List ℕ) : Type 0 where
+  -- the accepted bytes of an entry's object
+  record AcceptedBytes (id n : ℕ) (bytes : List ℕ) : Type 0 where
     v : List ℕ
     rest : List ℕ
     long : length v ≡ n
     small : AreBytes v
     are : bytes ≡ v ++ rest
-    left : AreBytes rest
-    on : (go (passed r id v) rest).broken ≡ None
+    rest_bytes : AreBytes rest
+    rest_whole : (go (passed r id v) rest).broken ≡ None
 
-  has_bytes : (id n : ℕ) (bytes : List ℕ) → AreBytes bytes → (bytes_decoded p r id n bytes go).broken ≡ None → HasBytes id n bytes
+  bytes_accepted : (id n : ℕ) (bytes : List ℕ) → AreBytes bytes → (bytes_decoded p r id n bytes go).broken ≡ None → AcceptedBytes id n bytes
   unfolding bytes_decoded
-  has_bytes id n bytes b is =
+  bytes_accepted id n bytes b is =
       let whole = second_whole (nat_lt (length bytes) n) (cut (breaks_in p r 6)) (go (passed r id (take n bytes)) (drop n bytes)) (r.at + 6) refl is in
       record {
         v = take n bytes;
@@ -148,26 +148,26 @@ module _ (p : Profile) (r : Reached) (go : Reached → List ℕ → Decoded) whe
         long = length-take-le n bytes (ltb-false (length bytes) n whole.0);
         small = bytes_taken n bytes b;
         are = sym (take-append-drop n bytes);
-        left = bytes_left n bytes b;
-        on = whole.1;
+        rest_bytes = bytes_left n bytes b;
+        rest_whole = whole.1;
       }
 
   length_accepted : (id : ℕ) (bytes : List ℕ) → AreBytes bytes → (length_decoded p r id bytes go).broken ≡ None
-      → Accepts w32 bytes (λ n. has_room p r.objects n) (λ n rest. bytes_decoded p r id n rest go)
+      → AcceptedNumber w32 bytes (λ n. has_room p r.objects n) (λ n rest. bytes_decoded p r id n rest go)
   unfolding length_decoded
-  length_accepted id bytes b is = accepts w32 bytes b (breaks_in p r 2) (r.at + 2) refl (λ n. has_room p r.objects n)
+  length_accepted id bytes b is = number_accepted w32 bytes b (breaks_in p r 2) (r.at + 2) refl (λ n. has_room p r.objects n)
       (λ n rest. bytes_decoded p r id n rest go) is
 
   id_accepted : (bytes : List ℕ) → AreBytes bytes → (entry_decoded p r bytes go).broken ≡ None
-      → Accepts w16 bytes (λ id. nat_le r.next id) (λ id rest. length_decoded p r id rest go)
+      → AcceptedNumber w16 bytes (λ id. nat_le r.next id) (λ id rest. length_decoded p r id rest go)
   unfolding entry_decoded
-  id_accepted bytes b is = accepts w16 bytes b (breaks_in p r 0) (r.at + 0) refl (λ id. nat_le r.next id) (λ id rest. length_decoded p r id rest go) is
+  id_accepted bytes b is = number_accepted w16 bytes b (breaks_in p r 0) (r.at + 0) refl (λ id. nat_le r.next id) (λ id rest. length_decoded p r id rest go) is
 
-  enters : (bytes : List ℕ) → AreBytes bytes → (entry_decoded p r bytes go).broken ≡ None → Enters p r bytes go
-  enters bytes b is =
+  entry_accepted : (bytes : List ℕ) → AreBytes bytes → (entry_decoded p r bytes go).broken ≡ None → AcceptedEntry p r bytes go
+  entry_accepted bytes b is =
       let a = id_accepted bytes b is in
-      let l = length_accepted a.n a.rest a.left a.on in
-      let h = has_bytes a.n l.n l.rest l.left l.on in
+      let l = length_accepted a.n a.rest a.rest_bytes a.rest_whole in
+      let h = bytes_accepted a.n l.n l.rest l.rest_bytes l.rest_whole in
       let id_is = field_2 a.field a.n a.long a.small a.is in
       let length_is = field_4 l.field l.n l.long l.small l.is ∙ ap (number_bytes w32) (sym h.long) in
       record {
@@ -175,17 +175,17 @@ module _ (p : Profile) (r : Reached) (go : Reached → List ℕ → Decoded) whe
         v = h.v;
         rest = h.rest;
         low = subst (λ n. n < 2 ^ 16) (sym a.is) (small_2 a.field a.small);
-        rises = leb-true r.next a.n a.good;
-        room = ap (has_room p r.objects) h.long ∙ l.good;
+        rises = leb-true r.next a.n a.passes;
+        room = ap (has_room p r.objects) h.long ∙ l.passes;
         small = h.small;
         are = a.are ∙ (λ i. id_is i ++ (l.are ∙ (λ j. length_is j ++ h.are j)) i)
             ∙ sym (append_assoc (number_bytes w16 a.n) (number_bytes w32 (length h.v) ++ h.v) h.rest
             ∙ ap (λ (l : List ℕ). number_bytes w16 a.n ++ l) (append_assoc (number_bytes w32 (length h.v)) h.v h.rest));
-        left = h.left;
-        on = h.on;
+        rest_bytes = h.rest_bytes;
+        rest_whole = h.rest_whole;
       }
 
--- one object more
+-- objects that may be held, with one object more
 module _ (p : Profile) (o : Objects) (h : MayBeHeld p o) (id : ℕ) (v : List ℕ) (low : id < 2 ^ 16) (small : AreBytes v) (unused : get o id ≡ None)
     (room : has_room p o (length v) ≡ true) where
   fits : need (length v) ≤ p.page_words
@@ -210,7 +210,7 @@ module _ (p : Profile) (o : Objects) (h : MayBeHeld p o) (id : ℕ) (v : List �
   }
 
 -- the objects that the entries up to the end add
-pub record EntersAll (p : Profile) (r : Reached) (n : ℕ) (bytes : List ℕ) : Type 0 where
+pub record AcceptedEntries (p : Profile) (r : Reached) (n : ℕ) (bytes : List ℕ) : Type 0 where
   pub more : List (ℕ × List ℕ)
   pub objects : Objects
   pub many : length more ≡ n
@@ -218,27 +218,27 @@ pub record EntersAll (p : Profile) (r : Reached) (n : ℕ) (bytes : List ℕ) : 
   pub all : entries objects ≡ entries r.objects ++ more
   pub held : MayBeHeld p objects
 
-enters_end : (p : Profile) (r : Reached) (bytes : List ℕ) → MayBeHeld p r.objects → (entries_decoded p 0 r bytes).broken ≡ None → EntersAll p r 0 bytes
+no_entries_accepted : (p : Profile) (r : Reached) (bytes : List ℕ) → MayBeHeld p r.objects → (entries_decoded p 0 r bytes).broken ≡ None → AcceptedEntries p r 0 bytes
 unfolding entries_decoded end_decoded
-enters_end p r [] h is = record { more = []; objects = r.objects; many = refl; are = refl; all = sym (append-nil (entries r.objects)); held = h }
-enters_end p r (b ∷ rest) h is = absurd (breaks_not (breaks_in p r 0) (r.at + 0) refl is)
+no_entries_accepted p r [] h is = record { more = []; objects = r.objects; many = refl; are = refl; all = sym (append-nil (entries r.objects)); held = h }
+no_entries_accepted p r (b ∷ rest) h is = absurd (breaks_not (breaks_in p r 0) (r.at + 0) refl is)
 
-on_next : (p : Profile) (n : ℕ) (r : Reached) (bytes : List ℕ) → (entries_decoded p (suc n) r bytes).broken ≡ None
+next_entry_whole : (p : Profile) (n : ℕ) (r : Reached) (bytes : List ℕ) → (entries_decoded p (suc n) r bytes).broken ≡ None
     → (entry_decoded p r bytes (λ r rest. entries_decoded p n r rest)).broken ≡ None
 unfolding entries_decoded
-on_next p n r bytes is = is
+next_entry_whole p n r bytes is = is
 
-pub enters_all : (n : ℕ) (p : Profile) (r : Reached) (bytes : List ℕ) → AreBytes bytes → MayBeHeld p r.objects → AreUnder r.next (entries r.objects)
-    → (entries_decoded p n r bytes).broken ≡ None → EntersAll p r n bytes
-enters_all zero p r bytes b h under is = enters_end p r bytes h is
-enters_all (suc n) p r bytes b h under is =
-    let e = enters p r (λ r rest. entries_decoded p n r rest) bytes b (on_next p n r bytes is) in
+pub entries_accepted : (n : ℕ) (p : Profile) (r : Reached) (bytes : List ℕ) → AreBytes bytes → MayBeHeld p r.objects → AreUnder r.next (entries r.objects)
+    → (entries_decoded p n r bytes).broken ≡ None → AcceptedEntries p r n bytes
+entries_accepted zero p r bytes b h under is = no_entries_accepted p r bytes h is
+entries_accepted (suc n) p r bytes b h under is =
+    let e = entry_accepted p r (λ r rest. entries_decoded p n r rest) bytes b (next_entry_whole p n r bytes is) in
     let before = under_more r.next e.id (entries r.objects) e.rises under in
     let last = entries_last r.objects e.id before e.v in
     let all_under = subst (AreUnder (e.id + 1)) (sym last)
     (under_last (e.id + 1) e.id e.v (entries r.objects) (omega arith) (under_more e.id (e.id + 1) (entries r.objects) (omega arith) before)) in
     let held = held_more p r.objects h e.id e.v e.low e.small (unused_under r.objects e.id before) e.room in
-    let rest = enters_all n p (passed r e.id e.v) e.rest e.left held all_under e.on in
+    let rest = entries_accepted n p (passed r e.id e.v) e.rest e.rest_bytes held all_under e.rest_whole in
     record {
       more = (e.id, e.v) ∷ rest.more;
       objects = rest.objects;

@@ -21,28 +21,28 @@ use Rattle.heap_image.specs.Decoded.{pages_decoded, proxies_decoded, unopened, w
 use Rattle.heap_image.specs.Heaps.{HaveImage, image_under}
 use Rattle.heap_image.specs.Image.{entries_of, mark, number_bytes}
 use Rattle.image_laws.specs.Images.{IsImageOf}
-use Rattle.image_laws.proofs.OnlyEntries.{Accepts, MayBeHeld, accepts, bytes_left, enters_all, field_4, first_whole, none_held}
+use Rattle.image_laws.proofs.OnlyEntries.{AcceptedNumber, MayBeHeld, number_accepted, bytes_left, entries_accepted, field_4, first_whole, none_held}
 use Rattle.image_laws.proofs.Rising.{AreUnder}
 
--- the objects, from their number on
-record HasObjects (p : Profile) (bytes : List ℕ) : Type 0 where
+-- the bytes from the number of objects on are accepted: they are the entries of some objects
+record AcceptedObjects (p : Profile) (bytes : List ℕ) : Type 0 where
   objects : Objects
   held : MayBeHeld p objects
   few : len objects ≤ p.proxies
   are : bytes ≡ number_bytes w32 (len objects) ++ entries_of (entries objects)
 
 count_accepted : (p : Profile) (bytes : List ℕ) → AreBytes bytes → (count_decoded p bytes).broken ≡ None
-    → Accepts w32 bytes (λ n. nat_le n p.proxies) (λ n rest. entries_decoded p n at_first rest)
+    → AcceptedNumber w32 bytes (λ n. nat_le n p.proxies) (λ n rest. entries_decoded p n at_first rest)
 unfolding count_decoded
-count_accepted p bytes b is = accepts w32 bytes b (breaks_behind p empty 16) 16 refl (λ n. nat_le n p.proxies) (λ n rest. entries_decoded p n at_first rest) is
+count_accepted p bytes b is = number_accepted w32 bytes b (breaks_behind p empty 16) 16 refl (λ n. nat_le n p.proxies) (λ n rest. entries_decoded p n at_first rest) is
 
-has_objects : (p : Profile) (bytes : List ℕ) → AreBytes bytes → (count_decoded p bytes).broken ≡ None → HasObjects p bytes
-has_objects p bytes b is =
+objects_accepted : (p : Profile) (bytes : List ℕ) → AreBytes bytes → (count_decoded p bytes).broken ≡ None → AcceptedObjects p bytes
+objects_accepted p bytes b is =
     let a = count_accepted p bytes b is in
-    let all = enters_all a.n p at_first a.rest a.left (none_held p) (subst (AreUnder 0) (sym listed_none) tt) a.on in
+    let all = entries_accepted a.n p at_first a.rest a.rest_bytes (none_held p) (subst (AreUnder 0) (sym listed_none) tt) a.rest_whole in
     let listed : entries all.objects ≡ all.more = all.all ∙ ap (λ (l : List (ℕ × List ℕ)). l ++ all.more) listed_none in
     let many : len all.objects ≡ a.n = len-entries all.objects ∙ ap (length {A = ℕ × List ℕ}) listed ∙ all.many in
-    let few = leb-true a.n p.proxies a.good in
+    let few = leb-true a.n p.proxies a.passes in
     record {
       objects = all.objects;
       held = all.held;
@@ -50,24 +50,24 @@ has_objects p bytes b is =
       are = a.are ∙ (λ i. (field_4 a.field a.n a.long a.small a.is ∙ ap (number_bytes w32) (sym many)) i ++ (all.are ∙ ap entries_of (sym listed)) i);
     }
 
--- the settings
+-- an accepted number of proxies, the last of the settings
 proxies_accepted : (pages page_bytes : ℕ) (bytes : List ℕ) → AreBytes bytes → (proxies_decoded pages page_bytes bytes).broken ≡ None
-    → Accepts w32 bytes (λ n. is_within 1 65536 n) (λ n rest. count_decoded (profile_from pages page_bytes 1 n) rest)
+    → AcceptedNumber w32 bytes (λ n. is_within 1 65536 n) (λ n rest. count_decoded (profile_from pages page_bytes 1 n) rest)
 unfolding proxies_decoded
 proxies_accepted pages page_bytes bytes b is =
-    accepts w32 bytes b (unopened 12) 12 refl (λ n. is_within 1 65536 n) (λ n rest. count_decoded (profile_from pages page_bytes 1 n) rest) is
+    number_accepted w32 bytes b (unopened 12) 12 refl (λ n. is_within 1 65536 n) (λ n rest. count_decoded (profile_from pages page_bytes 1 n) rest) is
 
 page_bytes_accepted : (pages : ℕ) (bytes : List ℕ) → AreBytes bytes → (page_bytes_decoded pages bytes).broken ≡ None
-    → Accepts w32 bytes (λ n. is_page_of pages n) (λ n rest. proxies_decoded pages n rest)
+    → AcceptedNumber w32 bytes (λ n. is_page_of pages n) (λ n rest. proxies_decoded pages n rest)
 unfolding page_bytes_decoded
-page_bytes_accepted pages bytes b is = accepts w32 bytes b (unopened 8) 8 refl (λ n. is_page_of pages n) (λ n rest. proxies_decoded pages n rest) is
+page_bytes_accepted pages bytes b is = number_accepted w32 bytes b (unopened 8) 8 refl (λ n. is_page_of pages n) (λ n rest. proxies_decoded pages n rest) is
 
 pages_accepted : (bytes : List ℕ) → AreBytes bytes → (pages_decoded bytes).broken ≡ None
-    → Accepts w32 bytes (λ n. is_within 1 4096 n) (λ n rest. page_bytes_decoded n rest)
+    → AcceptedNumber w32 bytes (λ n. is_within 1 4096 n) (λ n rest. page_bytes_decoded n rest)
 unfolding pages_decoded
-pages_accepted bytes b is = accepts w32 bytes b (unopened 4) 4 refl (λ n. is_within 1 4096 n) (λ n rest. page_bytes_decoded n rest) is
+pages_accepted bytes b is = number_accepted w32 bytes b (unopened 4) 4 refl (λ n. is_within 1 4096 n) (λ n rest. page_bytes_decoded n rest) is
 
--- the mark
+-- an image begins with the mark
 mark_accepted : (bytes : List ℕ) → IsImage bytes → (take 4 bytes ≡ mark) × ((pages_decoded (drop 4 bytes)).broken ≡ None)
 unfolding decoded
 mark_accepted bytes is =
@@ -114,10 +114,10 @@ pub image_of_objects : (bytes : List ℕ) → AreBytes bytes → IsImage bytes �
 image_of_objects bytes b is =
     let m = mark_accepted bytes is in
     let x = pages_accepted (drop 4 bytes) (bytes_left 4 bytes b) m.1 in
-    let y = page_bytes_accepted x.n x.rest x.left x.on in
-    let z = proxies_accepted x.n y.n y.rest y.left y.on in
-    let o = has_objects (profile_from x.n y.n 1 z.n) z.rest z.left z.on in
-    let size = page_of x.n y.n y.good in
+    let y = page_bytes_accepted x.n x.rest x.rest_bytes x.rest_whole in
+    let z = proxies_accepted x.n y.n y.rest y.rest_bytes y.rest_whole in
+    let o = objects_accepted (profile_from x.n y.n 1 z.n) z.rest z.rest_bytes z.rest_whole in
+    let size = page_of x.n y.n y.passes in
     let pages_are = field_4 x.field x.n x.long x.small x.is in
     let page_is = field_4 y.field y.n y.long y.small y.is ∙ ap (number_bytes w32) (sym size.0) in
     let proxies_are = field_4 z.field z.n z.long z.small z.is in (
@@ -125,7 +125,7 @@ image_of_objects bytes b is =
       o.objects,
       record {
         have = record {
-          settings = in_range x.n y.n z.n x.good y.good z.good;
+          settings = in_range x.n y.n z.n x.passes y.passes z.passes;
           one = refl;
           ids = o.held.ids;
           bytes = o.held.bytes;

@@ -1,4 +1,4 @@
--- What mode `save` prints is an image, and mode `load` takes it.
+-- What mode `save` prints is an image, and mode `load` never refuses it.
 use Rattle.std.proofs.Common.{◌≡◌, ◌≢◌, ◌∙◌, ℕ, List, [], Option, Some, refl, ap, sym, subst}
 use Rattle.std.specs.Prelude.{IsTrue, if◌then◌else◌}
 use Rattle.cf_base.specs.Settings.{Profile, at_bound_one}
@@ -42,12 +42,12 @@ module _ (read_back : (p : Profile) (o : Objects) → HaveImage p o → decoded 
         let is : Some image ≡ Some (heap_image to) = sym after ∙ wrote ∙ (λ i. appended (before i) (saved_is i)) in
         cc
 
-    -- mode `load` never refuses it
+    -- mode `load` never refuses the image
     pub never_refused : (there from2 : RunState) (two : Effects) → two.had ≡ Some image → EndsLoad from2 two there → two.status ≢ BadImage
     never_refused there from2 two had2 ends2 = image_taken from2 there two image had2
         (subst IsImage (saved_is ∙ sym same) saved_image) ends2
 
-    -- and holds the same objects after it
+    -- when `load` is done, its heap has the same objects by id
     pub loaded_again : (there from2 : RunState) (two : Effects) → two.had ≡ Some image → two.status ≡ Done → EndsLoad from2 two there
         → (objects_of there ≡ objects_of to) × (there.heap.profile ≡ at_bound_one to.heap.profile) × IsLoading there
     loaded_again there from2 two had2 done2 ends2 =
@@ -58,7 +58,7 @@ module _ (read_back : (p : Profile) (o : Objects) → HaveImage p o → decoded 
         let profile : at_bound_one to.heap.profile ≡ l.profile = cc in
         (l.held.1 ∙ sym (ap (λ (d : Decoded). d.objects) stated), l.held.0 ∙ sym profile, l.loading)
 
-    -- so the same further items get the same replies
+    -- both heaps give the same further items the same replies
     module _ (there from2 : RunState) (two : Effects) (had2 : two.had ≡ Some image) (done2 : two.status ≡ Done) (ends2 : EndsLoad from2 two there)
         (equally : (one other : RunState) (items : List Item) (replies stated : List Reply) (last end : Option RunState)
         → IsGoing one → IsGoing other → IsPaged one.heap.kind → AreAlike one other → AreOne (paging_in one.heap) → AreOne (paging_in other.heap)

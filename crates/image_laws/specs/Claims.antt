@@ -22,7 +22,7 @@ abbrev pub image_shown : Option ShownHeap → List ℕ
 image_shown None = []
 image_shown (Some t) = image_under t.heap.profile (objects t.heap.held)
 
--- Mode `save` prints the image of the last heap, for some replies to the script and some heaps between them that meet the headline.
+-- Mode `save`: the script has some replies that meet the headline and lead to the heap `left`, and what is printed is the image of this heap.
 pub record MeetsSave (script : List Item) (printed : List ℕ) : Type 0 where
   pub replies : List Reply
   pub left : Option ShownHeap
@@ -36,7 +36,7 @@ pub record MeetsLoad (read printed : List ℕ) : Type 0 where
   pub image : decoded read ≡ whole profile objects
   pub script : printed ≡ script_under profile objects
 
--- Mode `load`: the bytes read are no image, and what is printed says at which offset.
+-- Mode `load`: the bytes read are no image, and what is printed shows the offset at which they break a rule.
 pub record IsRefusedLoad (read printed : List ℕ) : Type 0 where
   pub at : ℕ
   pub broken : (decoded read).broken ≡ Some at
@@ -53,7 +53,7 @@ LoadsAs Done read printed = MeetsLoad read printed
 LoadsAs BadImage read printed = IsRefusedLoad read printed
 LoadsAs status read printed = printed ≡ []
 
--- bytes were printed, and they are as claimed of the status and the bytes read
+-- a call appended the bytes `printed` to the output, and `Claim` holds of its status, the bytes read and the bytes printed
 pub record Prints (Claim : Status → List ℕ → List ℕ → Type 0) (read : List ℕ) (call : Effects) : Type 0 where
   pub printed : List ℕ
   pub written : call.after ≡ appended call.before printed

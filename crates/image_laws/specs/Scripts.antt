@@ -1,4 +1,4 @@
--- What a script leaves, by id, and the items of the script that makes objects.
+-- The state by id that a script leaves, and the script that mode `load` prints for an image, as items.
 use Rattle.std.specs.Prelude.{List, [], ◌∷◌, Option, map}
 use Rattle.std.specs.FinMap.{entries}
 use Rattle.cf_base.specs.Settings.{Profile}

@@ -1,6 +1,6 @@
-//! Laws of heap images: which bytes are one, how long it is, that the script that mode `load` prints
-//! makes the objects of the image, and that modes `save` and `load` undo each other. The public
-//! functions do nothing: each one's contract is a law.
+//! Laws of heap images: which bytes are an image, how many bytes an image has, that the script that mode
+//! `load` prints makes the objects of the image, and that modes `save` and `load` undo each other. The
+//! public functions do nothing: each one's contract is a law.
 #![tactic(auto)]
 
 ghost use Rattle.std.specs.Prelude.{IsTrue, ◌≡◌, ◌≢◌, ◌↔◌, ◌+◌, ◌*◌, ◌<◌, ◌^◌, ◌++◌, [], ℕ, List, None, Option, Some, codes, false, length, map, true};
@@ -33,8 +33,8 @@ use headline_laws::equal_objects_get_equal_replies;
 use heap_image::{an_image_determines_its_objects, an_image_is_read_back};
 
 /// Only images are read: bytes that are accepted are the image of some objects under some settings,
-/// byte for byte. Bytes decode to settings and objects if and only if they are their image, so an image
-/// that is read and written again has the same bytes.
+/// byte for byte. Bytes decode to settings and objects if and only if the bytes are the image of these.
+/// So an image that is read and written again has the same bytes.
 pub fn only_images_are_read()
     ensures images { (bytes : List ℕ) → AreBytes bytes → IsImage bytes
         → (p : Profile) × (o : Objects) × IsImageOf bytes p o }
@@ -44,14 +44,14 @@ pub fn only_images_are_read()
     an_image_is_read_back();
 }
 
-/// Bytes that break a rule break it whatever follows. So if bytes without their last byte break no rule,
-/// no prefix of them does.
+/// If bytes break a rule of images, and not only because they end too early, then all longer bytes that
+/// begin with them break it at the same offset. So if bytes break no rule, no prefix of them does.
 pub fn a_broken_rule_stays_broken()
     ensures { (bytes more : List ℕ) (at : ℕ) → (decoded bytes).broken ≡ Some at → (decoded bytes).is_cut ≡ false
         → decoded (bytes ++ more) ≡ decoded bytes }
 {}
 
-/// An image has 20 bytes, 6 for each object, and the bytes of all objects.
+/// An image has 20 bytes, 6 more for each object, and the bytes of all objects.
 pub fn the_size_of_an_image_is_known_beforehand()
     ensures { (p : Profile) (o : Objects) → ((id : ℕ) (v : List ℕ) → get o id ≡ Some v → id < 2 ^ 16)
         → length (image_under p o) ≡ 20 + 6 * len o + asked_bytes o }
@@ -70,8 +70,8 @@ pub fn printed_scripts_are_read_back()
         → replies ≡ map (λ i. said (codes "ok")) (script_items p o) }
 {}
 
-/// The script that mode `load` prints of an image, run in mode `save`, gives that image back, byte for
-/// byte, and ends with equal objects by id.
+/// If mode `load` prints the script of an image and mode `save` runs this script, then mode `save` prints
+/// the image again, byte for byte, and both heaps have the same objects by id.
 pub fn what_was_loaded_is_saved_again()
     ensures { (from to begin end : RunState) (one two : Effects) (all script : List ℕ)
         → AreBytes all → one.had ≡ Some all → one.status ≡ Done → one.before ≡ Some [] → one.after ≡ Some script → EndsLoad from one to
@@ -83,8 +83,9 @@ pub fn what_was_loaded_is_saved_again()
 }
 
 /// What mode `save` prints at the end of a script with a `heap` line is an image. Mode `load` never
-/// refuses it, and holds the same objects by id after it, under the same settings with the bound 1.
-/// So if all bounds of the first heap are 1, the same further items get the same replies from both.
+/// refuses the image. When `load` is done, its heap has the same objects by id, under the same settings
+/// with the bound 1. So if all bounds of the saved heap are 1, both heaps give the same further items the
+/// same replies.
 pub fn what_was_saved_is_loaded_again()
     ensures image { (from to : RunState) (one : Effects) → one.status ≡ Done → EndsSave from one to → IsTrue to.heap.is_open
         → IsImage (saved to) }
@@ -106,9 +107,10 @@ pub fn what_was_saved_is_loaded_again()
     equal_objects_get_equal_replies();
 }
 
-/// Of the script of objects nothing meets the claim of mode `save` but their image: not nothing, not
-/// another length, not an entry too many, not the image of other objects. Of their image nothing meets
-/// the claim of mode `load` but their script: not nothing, not the script of other objects.
+/// If mode `save` reads the script of some objects, only their image meets its claim: no empty output, no
+/// output of another length, no image with an entry too many, and no image of other objects. If mode
+/// `load` reads the image, only the script of the objects meets its claim: no empty output, and no script
+/// of other objects.
 pub fn wrong_images_fall_short()
     ensures save { (p : Profile) (o : Objects) → HaveImage p o → (printed : List ℕ) → MeetsSave (script_items p o) printed
         → printed ≡ image_under p o }

@@ -33,7 +33,7 @@ sum_below (x ∷ xs) (y ∷ ys) len le =
     let rest = sum_below xs ys (omega arith) (λ i. le (suc i)) in
     omega arith
 
--- `own` and `all` are the same for the task, and in `own` the other tasks have no quota
+-- `own` and `all` have equal settings, and for the task equal quotas and objects; in `own` the other tasks have no quota
 pub record IsOwn (task : ℕ) (all own : Tasks) : Type 0 where
   pub profile : own.profile ≡ all.profile
   pub objects : own.objects task ≡ all.objects task
@@ -64,7 +64,7 @@ module _ (task : ℕ) (lt : task < 16) where
         as_many = o.as_many;
       }
 
-  -- a call of another one
+  -- a call of another task
   pub others_call : (all own : Tasks) (u : ℕ) (command : Command) → u ≢ task → IsOwn task all own → IsOwn task (after_item all (calls u command)) own
   others_call all own u command ne o =
       let no : nat_eq task u ≡ false = eq_no task u (λ e. ne (sym e)) in
@@ -241,7 +241,7 @@ module _ (task : ℕ) (lt : task < 16) where
     foreign = not-true (nat_eq all.present task) out;
   }
 
-  -- a command that stays
+  -- a command that isn't left out
   record Keeps (all own : TaskState) (c : Command) : Type 0 where
     state : AreOwn (state_after all c) (state_after own c)
     own_too : is_own task own.present c ≡ is_own task all.present c
@@ -302,7 +302,7 @@ module _ (task : ℕ) (lt : task < 16) where
   by_own true one other reply same = λ i. reply refl i ∷ same i
   by_own false one other reply same = same
 
-  -- one command more; `left` is what is left of the items after it
+  -- one command more; `left` has the items after this command that are not left out
   module _ (all own : TaskState) (o : AreOwn all own) (c : Command) (left rest : List Item) (replies : List Reply) where
     with_command : (b : Bool) → is_left_out task all c ≡ b
         → (AreOwn (state_after all c) own

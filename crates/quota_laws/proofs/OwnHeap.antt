@@ -1,4 +1,4 @@
--- While its quota stays, a task gets the replies of a heap of its own.
+-- While no line sets the quota of a task, the replies to the task are those of a heap of its own.
 use Rattle.std.proofs.Common.{◌≡◌, ◌≢◌, ℕ, true, false, cond, List, [], ◌∷◌, Option, Some, None, ap, sym, ◌∙◌, refl, inl, inr}
 use Rattle.std.specs.Prelude.{nat_eq, codes}
 use Rattle.std.proofs.lemmas.Bool.{cases_eq}
@@ -38,7 +38,7 @@ bounds_stay h (Need t n m) e = absurd (let e' : false ≡ true = e in cc)
 bounds_stay h (Admit t) e = absurd (let e' : false ≡ true = e in cc)
 
 module _ (task : ℕ) where
-  -- after a call of the task its heap is the one after the command
+  -- after a call of the task, the task's own heap is the one that the command leaves
   heap_after : (s : Tasks) (u : ℕ) (command : Command) → u ≡ task → is_for_task command ≡ true
       → own_heap (after_item s (calls u command)) task ≡ after_by_id (own_heap s task) command
   heap_after s u command is served =
@@ -52,13 +52,13 @@ module _ (task : ℕ) where
       let objects : cond (nat_eq task u) (task_leaves s u command) (s.objects task) ≡ objects_after (own_heap s task) command = a ∙ b ∙ d in
       λ i. record (own_heap s task) { bounds = e i; objects = objects i }
 
-  -- a call of another task leaves it
+  -- a call of another task leaves the task's own heap unchanged
   heap_stays : (s : Tasks) (u : ℕ) (command : Command) → u ≢ task → own_heap (after_item s (calls u command)) task ≡ own_heap s task
   heap_stays s u command ne =
       let no : nat_eq task u ≡ false = eq_no task u (λ e. ne (sym e)) in
       ap (λ b. record (own_heap s task) { objects = cond b (task_leaves s u command) (s.objects task) }) no
 
-  -- and so does another task's quota
+  -- a quota line of another task leaves the task's own heap unchanged
   heap_kept : (s : Tasks) (u pages : ℕ) → u ≢ task → own_heap (after_item s (sets u pages)) task ≡ own_heap s task
   heap_kept s u pages ne = go (set_refusal s u pages)
     where

@@ -22,127 +22,127 @@ ruleset maps = (got, got_none, counted, listed, listed_none)
 abbrev settings : Profile
 settings = record { pages = 2; page_words = 64; k = 1; proxies = 8 }
 
-abbrev given_one : (ℕ → Objects) → TaskState
-given_one o = record {
+abbrev with_quota_one : (ℕ → Objects) → TaskState
+with_quota_one o = record {
   present = 0;
   tasks = record { profile = settings; quotas = 1 ∷ 0 ∷ 0 ∷ 0 ∷ 0 ∷ 0 ∷ 0 ∷ 0 ∷ 0 ∷ 0 ∷ 0 ∷ 0 ∷ 0 ∷ 0 ∷ 0 ∷ 0 ∷ []; objects = o };
   needs = λ task. [];
 }
 
-abbrev begun : TaskState
-begun = given_one (λ task. empty)
+abbrev after_quota_line : TaskState
+after_quota_line = with_quota_one (λ task. empty)
 
-quota_said : command_reply (first_state settings) (Quota 0 1) ≡ said (codes "ok")
+quota_reply : command_reply (first_state settings) (Quota 0 1) ≡ said (codes "ok")
 unfolding sizes_from class_for live pages_needed pages_needed_with
-quota_said = simp maps
+quota_reply = simp maps
 
-quota_left : state_after (first_state settings) (Quota 0 1) ≡ begun
+state_after_quota : state_after (first_state settings) (Quota 0 1) ≡ after_quota_line
 unfolding sizes_from class_for live pages_needed pages_needed_with
-quota_left = simp maps
+state_after_quota = simp maps
 
--- the replies to a script that begins so
-begins_with : (all : List Item) (rest : List Item) (replies : List Reply) → all ≡ starts settings ∷ asks (Quota 0 1) ∷ rest → MeetsTasks all replies
-    → replies ≡ said (codes "ok") ∷ said (codes "ok") ∷ task_replies (Some begun) rest
-begins_with all rest replies is meets =
-    meets ∙ ap (task_replies None) is ∙ (λ i. said (codes "ok") ∷ quota_said i ∷ task_replies (Some (quota_left i)) rest)
+-- the replies to a script that begins with these two lines
+replies_after_quota : (all : List Item) (rest : List Item) (replies : List Reply) → all ≡ starts settings ∷ asks (Quota 0 1) ∷ rest → MeetsTasks all replies
+    → replies ≡ said (codes "ok") ∷ said (codes "ok") ∷ task_replies (Some after_quota_line) rest
+replies_after_quota all rest replies is meets =
+    meets ∙ ap (task_replies None) is ∙ (λ i. said (codes "ok") ∷ quota_reply i ∷ task_replies (Some (state_after_quota i)) rest)
 
--- a malloc
-asked_malloc : items (codes "heap 2 512 1 8\nquota 0 1\nm 1 176\n") true ≡ starts settings ∷ asks (Quota 0 1) ∷ asks (Malloc 1 176) ∷ []
+-- wrong replies to a malloc of 176 bytes, which the quota has a page for
+malloc_items : items (codes "heap 2 512 1 8\nquota 0 1\nm 1 176\n") true ≡ starts settings ∷ asks (Quota 0 1) ∷ asks (Malloc 1 176) ∷ []
 unfolding decode_pairs
-asked_malloc = refl
+malloc_items = refl
 
-malloc_said : command_reply begun (Malloc 1 176) ≡ said (codes "ok")
+malloc_reply : command_reply after_quota_line (Malloc 1 176) ≡ said (codes "ok")
 unfolding sizes_from class_for live pages_needed pages_needed_with
-malloc_said = simp maps
+malloc_reply = simp maps
 
-malloc_meets : (replies : List Reply) → MeetsTasks (items (codes "heap 2 512 1 8\nquota 0 1\nm 1 176\n") true) replies
+malloc_replies : (replies : List Reply) → MeetsTasks (items (codes "heap 2 512 1 8\nquota 0 1\nm 1 176\n") true) replies
     → replies ≡ said (codes "ok") ∷ said (codes "ok") ∷ said (codes "ok") ∷ []
-malloc_meets replies meets = begins_with _ _ replies asked_malloc meets ∙ (λ i. said (codes "ok") ∷ said (codes "ok") ∷ malloc_said i ∷ [])
+malloc_replies replies meets = replies_after_quota _ _ replies malloc_items meets ∙ (λ i. said (codes "ok") ∷ said (codes "ok") ∷ malloc_reply i ∷ [])
 
-pub quota_refused_wrongly : MeetsTasks (items (codes "heap 2 512 1 8\nquota 0 1\nm 1 176\n") true)
+pub every_command_refused : MeetsTasks (items (codes "heap 2 512 1 8\nquota 0 1\nm 1 176\n") true)
     (said (codes "ok") ∷ said (codes "refused sum") ∷ said (codes "refused space") ∷ []) → ⊥
-quota_refused_wrongly meets = (let d : ◌≡◌ {A = ℕ} 114 111 = ap (λ (l : List Reply). byte_at 0 (get_or l 1 [])) (malloc_meets _ meets) in omega arith)
+every_command_refused meets = (let d : ◌≡◌ {A = ℕ} 114 111 = ap (λ (l : List Reply). byte_at 0 (get_or l 1 [])) (malloc_replies _ meets) in omega arith)
 
-pub refused_wrongly : MeetsTasks (items (codes "heap 2 512 1 8\nquota 0 1\nm 1 176\n") true)
+pub fitting_malloc_refused : MeetsTasks (items (codes "heap 2 512 1 8\nquota 0 1\nm 1 176\n") true)
     (said (codes "ok") ∷ said (codes "ok") ∷ said (codes "refused space") ∷ []) → ⊥
-refused_wrongly meets = (let d : ◌≡◌ {A = ℕ} 114 111 = ap (λ (l : List Reply). byte_at 0 (get_or l 2 [])) (malloc_meets _ meets) in omega arith)
+fitting_malloc_refused meets = (let d : ◌≡◌ {A = ℕ} 114 111 = ap (λ (l : List Reply). byte_at 0 (get_or l 2 [])) (malloc_replies _ meets) in omega arith)
 
-pub silent : MeetsTasks (items (codes "heap 2 512 1 8\nquota 0 1\nm 1 176\n") true) (said (codes "ok") ∷ said (codes "ok") ∷ [] ∷ []) → ⊥
-silent meets = (let d : ◌≡◌ {A = ℕ} 0 1 = ap (λ (l : List Reply). length (get_or l 2 [])) (malloc_meets _ meets) in omega arith)
+pub malloc_without_line : MeetsTasks (items (codes "heap 2 512 1 8\nquota 0 1\nm 1 176\n") true) (said (codes "ok") ∷ said (codes "ok") ∷ [] ∷ []) → ⊥
+malloc_without_line meets = (let d : ◌≡◌ {A = ℕ} 0 1 = ap (λ (l : List Reply). length (get_or l 2 [])) (malloc_replies _ meets) in omega arith)
 
-pub no_reply : MeetsTasks (items (codes "heap 2 512 1 8\nquota 0 1\nm 1 176\n") true) (said (codes "ok") ∷ said (codes "ok") ∷ []) → ⊥
-no_reply meets = (let d : ◌≡◌ {A = ℕ} 2 3 = ap length (malloc_meets _ meets) in omega arith)
+pub malloc_without_reply : MeetsTasks (items (codes "heap 2 512 1 8\nquota 0 1\nm 1 176\n") true) (said (codes "ok") ∷ said (codes "ok") ∷ []) → ⊥
+malloc_without_reply meets = (let d : ◌≡◌ {A = ℕ} 2 3 = ap length (malloc_replies _ meets) in omega arith)
 
-pub one_over : MeetsTasks (items (codes "heap 2 512 1 8\nquota 0 1\nm 1 176\n") true)
+pub one_reply_too_many : MeetsTasks (items (codes "heap 2 512 1 8\nquota 0 1\nm 1 176\n") true)
     (said (codes "ok") ∷ said (codes "ok") ∷ said (codes "ok") ∷ said (codes "ok") ∷ []) → ⊥
-one_over meets = (let d : ◌≡◌ {A = ℕ} 4 3 = ap length (malloc_meets _ meets) in omega arith)
+one_reply_too_many meets = (let d : ◌≡◌ {A = ℕ} 4 3 = ap length (malloc_replies _ meets) in omega arith)
 
 -- a second malloc needs a second page
-asked_second : items (codes "heap 2 512 1 8\nquota 0 1\nm 1 504\nm 2 504\n") true
+second_malloc_items : items (codes "heap 2 512 1 8\nquota 0 1\nm 1 504\nm 2 504\n") true
     ≡ starts settings ∷ asks (Quota 0 1) ∷ asks (Malloc 1 504) ∷ asks (Malloc 2 504) ∷ []
 unfolding decode_pairs
-asked_second = refl
+second_malloc_items = refl
 
-abbrev one_full : ℕ → Objects
-one_full task = if nat_eq task 0 then insert empty 1 (replicate 504 0) else empty
+abbrev full_page : ℕ → Objects
+full_page task = if nat_eq task 0 then insert empty 1 (replicate 504 0) else empty
 
-first_left : state_after begun (Malloc 1 504) ≡ given_one one_full
+state_after_malloc : state_after after_quota_line (Malloc 1 504) ≡ with_quota_one full_page
 unfolding sizes_from class_for live pages_needed pages_needed_with
-first_left = simp maps
+state_after_malloc = simp maps
 
-second_said : command_reply (given_one one_full) (Malloc 2 504) ≡ said (codes "refused space")
+second_malloc_reply : command_reply (with_quota_one full_page) (Malloc 2 504) ≡ said (codes "refused space")
 unfolding sizes_from class_for live pages_needed pages_needed_with
-second_said = simp maps
+second_malloc_reply = simp maps
 
-pub beyond_quota : MeetsTasks (items (codes "heap 2 512 1 8\nquota 0 1\nm 1 504\nm 2 504\n") true)
+pub malloc_beyond_quota : MeetsTasks (items (codes "heap 2 512 1 8\nquota 0 1\nm 1 504\nm 2 504\n") true)
     (said (codes "ok") ∷ said (codes "ok") ∷ said (codes "ok") ∷ said (codes "ok") ∷ []) → ⊥
-beyond_quota meets =
-    let e : said (codes "ok") ≡ command_reply (state_after begun (Malloc 1 504)) (Malloc 2 504) =
-    ap (λ (l : List Reply). get_or l 3 []) (begins_with _ _ _ asked_second meets) in
-    let d : ◌≡◌ {A = ℕ} 111 114 = ap (byte_at 0) (e ∙ ap (λ s. command_reply s (Malloc 2 504)) first_left ∙ second_said) in
+malloc_beyond_quota meets =
+    let e : said (codes "ok") ≡ command_reply (state_after after_quota_line (Malloc 1 504)) (Malloc 2 504) =
+    ap (λ (l : List Reply). get_or l 3 []) (replies_after_quota _ _ _ second_malloc_items meets) in
+    let d : ◌≡◌ {A = ℕ} 111 114 = ap (byte_at 0) (e ∙ ap (λ s. command_reply s (Malloc 2 504)) state_after_malloc ∙ second_malloc_reply) in
     omega arith
 
--- another task has no such id
-asked_other : items (codes "heap 2 512 1 8\nquota 0 1\nm 1 1\nw 1 0 aa\nt 1\nr 1 0 1\n") true
+-- a read by another task, in which the id isn't live
+foreign_read_items : items (codes "heap 2 512 1 8\nquota 0 1\nm 1 1\nw 1 0 aa\nt 1\nr 1 0 1\n") true
     ≡ starts settings ∷ asks (Quota 0 1) ∷ asks (Malloc 1 1) ∷ asks (Write 1 0 (170 ∷ [])) ∷ asks (Task 1) ∷ asks (Read 1 0 1) ∷ []
 unfolding decode_pairs
-asked_other = refl
+foreign_read_items = refl
 
-other_said : get_or (task_replies (Some begun) (asks (Malloc 1 1) ∷ asks (Write 1 0 (170 ∷ [])) ∷ asks (Task 1) ∷ asks (Read 1 0 1) ∷ [])) 3 []
+foreign_read_reply : get_or (task_replies (Some after_quota_line) (asks (Malloc 1 1) ∷ asks (Write 1 0 (170 ∷ [])) ∷ asks (Task 1) ∷ asks (Read 1 0 1) ∷ [])) 3 []
     ≡ said (codes "unknown")
-other_said = simp maps
+foreign_read_reply = simp maps
 
-pub read_of_another : MeetsTasks (items (codes "heap 2 512 1 8\nquota 0 1\nm 1 1\nw 1 0 aa\nt 1\nr 1 0 1\n") true)
+pub bytes_of_another_task : MeetsTasks (items (codes "heap 2 512 1 8\nquota 0 1\nm 1 1\nw 1 0 aa\nt 1\nr 1 0 1\n") true)
     (said (codes "ok") ∷ said (codes "ok") ∷ said (codes "ok") ∷ said (codes "ok") ∷ said (codes "ok") ∷ said (codes "=aa") ∷ []) → ⊥
-read_of_another meets =
-    let d : ◌≡◌ {A = ℕ} 61 117 = ap (byte_at 0) (ap (λ (l : List Reply). get_or l 5 []) (begins_with _ _ _ asked_other meets) ∙ other_said) in omega arith
+bytes_of_another_task meets =
+    let d : ◌≡◌ {A = ℕ} 61 117 = ap (byte_at 0) (ap (λ (l : List Reply). get_or l 5 []) (replies_after_quota _ _ _ foreign_read_items meets) ∙ foreign_read_reply) in omega arith
 
 -- two objects of a page each in a quota of one page
-asked_admit : items (codes "heap 2 512 1 8\nquota 0 1\nneed 0 504 2\nadmit 0\n") true
+admit_items : items (codes "heap 2 512 1 8\nquota 0 1\nneed 0 504 2\nadmit 0\n") true
     ≡ starts settings ∷ asks (Quota 0 1) ∷ asks (Need 0 504 2) ∷ asks (Admit 0) ∷ []
 unfolding decode_pairs
-asked_admit = refl
+admit_items = refl
 
-admit_said : get_or (task_replies (Some begun) (asks (Need 0 504 2) ∷ asks (Admit 0) ∷ [])) 1 [] ≡ said (codes "no 2")
+admit_reply : get_or (task_replies (Some after_quota_line) (asks (Need 0 504 2) ∷ asks (Admit 0) ∷ [])) 1 [] ≡ said (codes "no 2")
 unfolding sizes_from class_for live pages_needed pages_needed_with digits
-admit_said = simp maps
+admit_reply = simp maps
 
-pub admitted_in_error : MeetsTasks (items (codes "heap 2 512 1 8\nquota 0 1\nneed 0 504 2\nadmit 0\n") true)
+pub admitted_beyond_quota : MeetsTasks (items (codes "heap 2 512 1 8\nquota 0 1\nneed 0 504 2\nadmit 0\n") true)
     (said (codes "ok") ∷ said (codes "ok") ∷ said (codes "ok") ∷ said (codes "yes") ∷ []) → ⊥
-admitted_in_error meets =
-    let d : ◌≡◌ {A = ℕ} 121 110 = ap (byte_at 0) (ap (λ (l : List Reply). get_or l 3 []) (begins_with _ _ _ asked_admit meets) ∙ admit_said) in omega arith
+admitted_beyond_quota meets =
+    let d : ◌≡◌ {A = ℕ} 121 110 = ap (byte_at 0) (ap (λ (l : List Reply). get_or l 3 []) (replies_after_quota _ _ _ admit_items meets) ∙ admit_reply) in omega arith
 
 -- quotas of three pages in all
-asked_sum : items (codes "heap 2 512 1 8\nquota 0 1\nquota 1 2\n") true ≡ starts settings ∷ asks (Quota 0 1) ∷ asks (Quota 1 2) ∷ []
+sum_items : items (codes "heap 2 512 1 8\nquota 0 1\nquota 1 2\n") true ≡ starts settings ∷ asks (Quota 0 1) ∷ asks (Quota 1 2) ∷ []
 unfolding decode_pairs
-asked_sum = refl
+sum_items = refl
 
-sum_said : command_reply begun (Quota 1 2) ≡ said (codes "refused sum")
-sum_said = refl
+sum_reply : command_reply after_quota_line (Quota 1 2) ≡ said (codes "refused sum")
+sum_reply = refl
 
-pub quotas_in_excess : MeetsTasks (items (codes "heap 2 512 1 8\nquota 0 1\nquota 1 2\n") true)
+pub quotas_beyond_pages : MeetsTasks (items (codes "heap 2 512 1 8\nquota 0 1\nquota 1 2\n") true)
     (said (codes "ok") ∷ said (codes "ok") ∷ said (codes "ok") ∷ []) → ⊥
-quotas_in_excess meets =
-    let e : said (codes "ok") ≡ command_reply begun (Quota 1 2) = ap (λ (l : List Reply). get_or l 2 []) (begins_with _ _ _ asked_sum meets) in
-    let d : ◌≡◌ {A = ℕ} 111 114 = ap (byte_at 0) (e ∙ sum_said) in
+quotas_beyond_pages meets =
+    let e : said (codes "ok") ≡ command_reply after_quota_line (Quota 1 2) = ap (λ (l : List Reply). get_or l 2 []) (replies_after_quota _ _ _ sum_items meets) in
+    let d : ◌≡◌ {A = ℕ} 111 114 = ap (byte_at 0) (e ∙ sum_reply) in
     omega arith

@@ -1,4 +1,4 @@
--- A task that was admitted, and then stays within what it declared.
+-- What `admit` promises a task: if its mallocs stay within the needs that it declared, none is refused.
 use Rattle.std.specs.Prelude.{◌≡◌, ⊤, ◌⊎◌, ℕ, ◌≤◌, List, [], ◌∷◌, Option, Some, None, codes, replicate, slice_index}
 use Rattle.std.specs.FinMap.{get, insert}
 use Rattle.quota_model.specs.Admission.{declared, live_of}
@@ -8,34 +8,35 @@ use Rattle.script_reader.specs.declared.command.Command.TheVariants.{Malloc}
 use Rattle.quota_laws.specs.Own.{present_in}
 use Rattle.quota_laws.specs.Transcript.{TaskState, state_in}
 
--- the state after the items
+-- the state after the items, from a state on; None before the `heap` line
 abbrev pub states_in : Option TaskState → List Item → Option TaskState
 states_in s [] = s
 states_in s (item ∷ rest) = states_in (state_in s item) rest
 
--- a malloc of n bytes: the task's quota is no less than in `admitted`, and with the new object no more objects of any number of bytes are live than it had
--- declared there
+-- A malloc of n bytes stays within the needs declared in state `admitted`. The task's quota is no smaller than then. For each length m, the number of the
+-- task's live objects of m bytes, with the new one, is at most the number that it had declared.
 pub record IsMallocWithin (admitted now : TaskState) (task id n : ℕ) : Type 0 where
   pub quota : slice_index admitted.tasks.quotas task ≤ slice_index now.tasks.quotas task
   pub declared : (m : ℕ) → live_of (insert (now.tasks.objects task) id (replicate n 0)) m ≤ declared (admitted.needs task) m
 
--- a malloc of the task, for an id that isn't live, is within that; and no script has a second `heap` line
+-- if the item is a malloc while the task is present, for an id that isn't live, `IsMallocWithin` holds; a `heap` line isn't allowed, any other item is
 abbrev pub StaysWithin : TaskState → ℕ → Option TaskState → Item → Type 0
 StaysWithin admitted task (Some now) (asks (Malloc id n)) =
     now.present ≡ task → get (now.tasks.objects task) id ≡ None → IsMallocWithin admitted now task id n
 StaysWithin admitted task now (starts p) = ⊥
 StaysWithin admitted task now item = ⊤
 
+-- `StaysWithin` holds of each item, in the state that the items before it leave
 abbrev pub StayWithin : TaskState → ℕ → Option TaskState → List Item → Type 0
 StayWithin admitted task now [] = ⊤
 StayWithin admitted task now (item ∷ rest) = StaysWithin admitted task now item × StayWithin admitted task (state_in now item) rest
 
--- if the item is a malloc of the task, the reply is `ok`, or `live` of an id that is live
+-- if the item is a malloc while the task is present, its reply is `ok` or `live`, and so no refusal; other items may have any reply
 abbrev pub IsServed : ℕ → ℕ → Item → Reply → Type 0
 IsServed task present (asks (Malloc id n)) reply = present ≡ task → (reply ≡ said (codes "ok")) ⊎ (reply ≡ said (codes "live"))
 IsServed task present item reply = ⊤
 
--- no malloc of the task is refused, while this task is present at first
+-- each item has a reply, and no malloc of the task is refused; `present` is the task that is present before the first item
 abbrev pub AreServed : ℕ → ℕ → List Item → List Reply → Type 0
 AreServed task present [] replies = ⊤
 AreServed task present (item ∷ rest) [] = ⊥

@@ -1,11 +1,11 @@
--- Runs of the calls of many tasks, and what is left of one for a task.
+-- Lists of calls and quota lines of many tasks, and the part of such a list that concerns one task.
 use Rattle.std.specs.Prelude.{◌≡◌, ◌≢◌, ⊤, ℕ, Bool, true, false, ◌&&◌, List, [], ◌∷◌, Option, Some, None, if◌then◌else◌, nat_eq}
 use Rattle.quota_model.specs.declared.answers.QuotaFault.{QuotaFault}
 use Rattle.run_model.specs.Texts.{Reply}
 use Rattle.script_reader.specs.Items.{Item, asks}
 use Rattle.quota_laws.specs.Tasks.{TaskItem, Tasks, after_item, calls, is_for_task, set_refusal, sets, task_reply}
 
--- the replies to the calls of a task, in a run of the items from a state on
+-- the replies to the calls of one task, in order, if all items are done from the state s on
 abbrev pub replies_to : ℕ → Tasks → List TaskItem → List Reply
 replies_to task s [] = []
 replies_to task s (calls u command ∷ rest) =
@@ -13,12 +13,12 @@ replies_to task s (calls u command ∷ rest) =
     else replies_to task (after_item s (calls u command)) rest
 replies_to task s (sets u pages ∷ rest) = replies_to task (after_item s (sets u pages)) rest
 
--- whether a quota line was accepted
+-- true if a quota line is accepted, and so has no refusal
 abbrev pub is_accepted : Option QuotaFault → Bool
 is_accepted None = true
 is_accepted (Some e) = false
 
--- the calls without those of other tasks, and without every quota that is another task's or is refused
+-- the items without the calls and quota lines of other tasks and without refused quota lines; s is the state before the first item
 abbrev pub own_calls : ℕ → Tasks → List TaskItem → List TaskItem
 own_calls task s [] = []
 own_calls task s (calls u command ∷ rest) =
@@ -34,7 +34,7 @@ LeaveQuota task [] = ⊤
 LeaveQuota task (calls u command ∷ rest) = LeaveQuota task rest
 LeaveQuota task (sets u pages ∷ rest) = (u ≢ task) × LeaveQuota task rest
 
--- the calls of the task are commands on its objects
+-- each call of the task is a command on its objects (`is_for_task`)
 abbrev pub AreTaskCommands : ℕ → List TaskItem → Type 0
 AreTaskCommands task [] = ⊤
 AreTaskCommands task (calls u command ∷ rest) = (u ≡ task → is_for_task command ≡ true) × AreTaskCommands task rest

@@ -1,4 +1,4 @@
--- Tasks that share a region, by the ids of a script: each has a quota and objects of its own.
+-- The tasks of a script in mode `quota`, which share one region. Each has a quota of pages and objects of its own, here by the ids of the script.
 use Rattle.std.specs.Prelude.{ℕ, Bool, true, false, List, Option, Some, None, codes, if◌then◌else◌, nat_eq, replicate, slice_index, slice_set}
 use Rattle.std.specs.FinMap.{empty}
 use Rattle.cf_base.specs.Settings.{Profile}
@@ -13,21 +13,21 @@ use Rattle.script_reader.specs.declared.command.Command.TheVariants.{Malloc, Fre
 use Rattle.transcript_laws.specs.ById.{ById, begun}
 use Rattle.transcript_laws.specs.Replies.{objects_after, reply_by_id}
 
--- The settings, and by task its quota of pages and its objects by id.
+-- the settings of the heap; and for each task its quota in pages and its objects by id
 pub record Tasks : Type 0 where
   pub profile : Profile
   pub quotas : List ℕ
   pub objects : ℕ → Objects
 
--- sixteen tasks at first: no objects, and all quotas 0
+-- the sixteen tasks after the `heap` line: no objects, and all quotas 0
 abbrev pub no_tasks : Profile → Tasks
 no_tasks s = record { profile = s; quotas = replicate 16 0; objects = λ task. empty }
 
--- the heap that a task has for itself: as many pages as its quota, and for each class the bound 1
+-- the moving heap that a task would have for itself: its quota is the number of pages, each class has the bound 1, and the objects are the task's
 abbrev pub own_heap : Tasks → ℕ → ById
 own_heap s task = record (begun Moving (record s.profile { pages = slice_index s.quotas task; k = 1 })) { objects = s.objects task }
 
--- whether a command is one of a task on its objects: `m`, `f`, `w`, `r`, `walk`
+-- true for the commands of a task on its own objects: `m`, `f`, `w`, `r`, `walk`
 abbrev pub is_for_task : Command → Bool
 is_for_task (Malloc id bytes) = true
 is_for_task (Free id) = true
@@ -36,11 +36,11 @@ is_for_task (Read id at count) = true
 is_for_task Walk = true
 is_for_task command = false
 
--- the reply to a command of a task: that of its own heap, and `none` to the commands that it hasn't
+-- the reply to a command of a task: for a command on its objects the reply of its own heap, else `none`
 abbrev pub task_reply : Tasks → ℕ → Command → Reply
 task_reply s task command = if is_for_task command then reply_by_id (own_heap s task) command else said (codes "none")
 
--- the objects that a command leaves the task
+-- the objects of the task after one of its commands
 abbrev pub task_leaves : Tasks → ℕ → Command → Objects
 task_leaves s task command = if is_for_task command then objects_after (own_heap s task) command else s.objects task
 
@@ -49,7 +49,7 @@ pub data TaskItem : Type 0 where
   calls : (task : ℕ) → Command → TaskItem
   sets : (task pages : ℕ) → TaskItem
 
--- the refusal of a quota line, if it is refused
+-- why the line that sets the task's quota to `pages` is refused; None if it is accepted
 abbrev pub set_refusal : Tasks → ℕ → ℕ → Option QuotaFault
 set_refusal s task pages = quota_refusal s.profile s.quotas task pages (s.objects task)
 
@@ -64,7 +64,7 @@ abbrev pub quotas_after : Option QuotaFault → List ℕ → ℕ → ℕ → Lis
 quotas_after (Some e) quotas task pages = quotas
 quotas_after None quotas task pages = slice_set quotas task pages
 
--- the reply to an item
+-- the reply to a call or to a quota line
 abbrev pub item_reply : Tasks → TaskItem → Reply
 item_reply s (calls task command) = task_reply s task command
 item_reply s (sets task pages) = said (quota_text (set_refusal s task pages))

@@ -12,47 +12,49 @@ use Rattle.script_reader.specs.declared.command.Command.{Command}
 use Rattle.script_reader.specs.declared.command.Command.TheVariants as command
 use Rattle.quota_laws.specs.Tasks.{TaskItem, Tasks, after_item, calls, no_tasks, quota_text, set_refusal, sets, task_reply}
 
--- what the lines of a script leave: the present task; by task its quota, its objects by id, and the entries that it declared
+-- the state after some lines of a script: the present task; and for each task its quota, its objects by id, and the entries that it declared with `need`
 pub record TaskState : Type 0 where
   pub present : ℕ
   pub tasks : Tasks
   pub needs : ℕ → List Need
 
--- after the `heap` line task 0 is present, and there are no quotas, objects and entries; each class has the bound 1, whatever K is
+-- the state after the `heap` line: task 0 is present, all quotas are 0, no object is live, nothing is declared; each class has the bound 1, whatever K is
 abbrev pub first_state : Profile → TaskState
 first_state p = record { present = 0; tasks = no_tasks (at_bound_one p); needs = λ task. [] }
 
--- need: `full` if the task declared 64 entries
+-- the reply to `need`: `full` if the task has declared 64 entries, else `ok`
 abbrev pub need_text : List Need → List ℕ
 need_text needs = if nat_lt (length needs) 64 then codes "ok" else codes "full"
 
--- the entries with one more, if there is room for it
+-- the entries with one more at the end, if there are fewer than 64
 abbrev pub one_more : List Need → Need → List Need
 one_more needs entry = if nat_lt (length needs) 64 then needs ++ entry ∷ [] else needs
 
--- admit
+-- the reply to `admit`, by the result of its tests
 abbrev pub admission_text : Admission → List ℕ
 admission_text (Size entry) = codes "size"
 admission_text Proxies = codes "proxies"
 admission_text (No nth) = with_number (codes "no ") nth
 admission_text Yes = codes "yes"
 
--- admit: a declared object exceeds a page; else the counts exceed the proxies; else of the declared mallocs, made in order, one is the first refused for space
+-- The result of `admit`, by three tests in turn. `Size`: this entry declares objects longer than a page. `Proxies`: more objects are declared than there are
+-- proxies. `No`: of the declared mallocs, made in order, this one is the first refused for space, counted from 1. Else `Yes`.
 abbrev pub admission_by : Option ℕ → Bool → Option ℕ → Admission
 admission_by (Some entry) exceeds short = Size entry
 admission_by None true short = Proxies
 admission_by None false (Some nth) = No nth
 admission_by None false None = Yes
 
+-- the result of `admit` for a task with this share that declared these needs
 abbrev pub admission : Share → List Need → Admission
 admission t needs =
     admission_by (first_large t.profile needs) (nat_lt t.profile.proxies (declared_in_all needs)) (first_short t empty 0 (in_order needs))
 
--- the settings and the task's quota
+-- the share of a task: the settings of the heap, and the task's quota in pages
 abbrev pub share_of : Tasks → ℕ → Share
 share_of s task = record { profile = s.profile; quota = slice_index s.quotas task }
 
--- the reply to a command
+-- the reply to a command in this state
 abbrev pub command_reply : TaskState → Command → Reply
 command_reply s (command.Task task) = said (codes "ok")
 command_reply s (command.Quota task pages) = said (quota_text (set_refusal s.tasks task pages))
@@ -60,7 +62,7 @@ command_reply s (command.Need task bytes count) = said (need_text (s.needs task)
 command_reply s (command.Admit task) = said (admission_text (admission (share_of s.tasks task) (s.needs task)))
 command_reply s command = task_reply s.tasks s.present command
 
--- what a command is to the tasks while one of them is present: a call of that one, or a quota; `t`, `need` and `admit` are neither
+-- the command as a call of the present task or as a quota line; None for `t`, `need` and `admit`, which change no object and no quota
 abbrev pub item_of : ℕ → Command → Option TaskItem
 item_of present (command.Task task) = None
 item_of present (command.Quota task pages) = Some (sets task pages)
@@ -68,7 +70,7 @@ item_of present (command.Need task bytes count) = None
 item_of present (command.Admit task) = None
 item_of present command = Some (calls present command)
 
--- the tasks after an item, if there is one
+-- the tasks after a call or a quota line; unchanged if there is neither
 abbrev pub after_if : Tasks → Option TaskItem → Tasks
 after_if s None = s
 after_if s (Some item) = after_item s item
@@ -78,7 +80,7 @@ abbrev pub present_after : ℕ → Command → ℕ
 present_after present (command.Task task) = task
 present_after present command = present
 
--- the entries by task after a command
+-- the entries that task u has declared after a command
 abbrev pub needs_after : (ℕ → List Need) → Command → ℕ → List Need
 needs_after needs (command.Need task bytes count) u =
     if nat_eq u task then one_more (needs u) (record { bytes = bytes; count = count }) else needs u
@@ -111,6 +113,6 @@ abbrev pub task_replies : Option TaskState → List Item → List Reply
 task_replies s [] = []
 task_replies s (item ∷ rest) = reply_in s item ∷ task_replies (state_in s item) rest
 
--- the claim: the replies to a script are these
+-- the claim: the replies to a script are those of `task_replies`
 abbrev pub MeetsTasks : List Item → List Reply → Type 0
 MeetsTasks items replies = replies ≡ task_replies None items

@@ -20,8 +20,9 @@ ghost use Rattle.quota_laws.specs.Runs.{AreTaskCommands, LeaveQuota, commands_of
 ghost use Rattle.quota_laws.specs.Tasks.{TaskItem, Tasks, no_tasks, own_heap, task_leaves, task_reply};
 ghost use Rattle.quota_laws.specs.Transcript.{MeetsTasks, TaskState};
 
-/// The reply to a call of a task, and the objects that the call leaves it, are the same wherever
-/// the settings, the task's quota and its objects by id are the same.
+/// If two states have the same settings, and a task has the same quota and the same objects by id in
+/// both, a command of the task has the same reply in both and leaves the task the same objects. Clause
+/// `refusal`: the task's own heap refuses a malloc for the reason in `malloc_refusal`.
 pub fn a_reply_follows_from_the_task_alone()
     ensures reply { (one other : Tasks) (task : ℕ) (command : Command)
         → other.profile ≡ one.profile
@@ -38,8 +39,8 @@ pub fn a_reply_follows_from_the_task_alone()
         ≡ malloc_refusal one.profile (slice_index one.quotas task) (one.objects task) bytes }
 {}
 
-/// Isolation: of a list of calls, each with its task, leave out all calls and all quotas of other
-/// tasks, and every quota that is refused; the replies to the task are the same, in the same order.
+/// Isolation: remove from a list of calls and quota lines those of the other tasks, and every refused
+/// quota line. The replies to the task are the same, in the same order.
 pub fn tasks_are_isolated()
     ensures { (s : Profile) (task : ℕ) (items : List TaskItem) → task < 16
         → replies_to task (no_tasks s) (own_calls task (no_tasks s) items)
@@ -48,8 +49,8 @@ pub fn tasks_are_isolated()
 
 /// Isolation: remove from a script every line of the other tasks, and every refused quota line. The
 /// replies to the commands of the task are the same, in the same order. If two scripts have the same
-/// lines after this, the replies to the task are the same in both, whatever the other tasks do. The
-/// scripts may belong to different calls: only replies are compared.
+/// lines after this, the replies to the task are the same in both, whatever the other tasks do. The two
+/// scripts may be run separately: only their replies are compared.
 pub fn tasks_are_isolated_in_a_script()
     ensures own { (items : List Item) (task : ℕ) (replies shown : List Reply) → task < 16
         → MeetsTasks items replies → MeetsTasks (own_items task None items) shown
@@ -98,8 +99,8 @@ pub fn wrong_task_replies_fall_short()
         (said (codes "ok") ∷ said (codes "ok") ∷ said (codes "ok") ∷ []) }
 {}
 
-/// While its quota stays, a task gets the replies of a heap of its own that has the pages of its quota
-/// and at most one partly full page a class.
+/// If no line sets the quota of a task, the replies to its commands are those of a moving heap of its
+/// own, with its quota as the number of pages and the bound 1 in each class.
 pub fn a_task_has_a_heap_of_its_own()
     ensures { (one : Tasks) (task : ℕ) (items : List TaskItem) → LeaveQuota task items
         → AreTaskCommands task items

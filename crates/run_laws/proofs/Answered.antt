@@ -82,7 +82,7 @@ pub follows_some : (step : Order → Order → Type 0) (old new : Option Order) 
     → Follows step old new
 follows_some step old new was now a b done = subst (λ o. Follows step o new) (sym a) (subst (λ o. Follows step (Some was) o) (sym b) done)
 
--- the same order is followed
+-- an order that doesn't change follows every rule that allows no change
 pub follows_same : (step : Order → Order → Type 0) (o : Option Order) → ((was : Order) → step was was) → Follows step o o
 follows_same step None all = tt
 follows_same step (Some was) all = all was

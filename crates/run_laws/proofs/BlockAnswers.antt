@@ -57,7 +57,7 @@ record AreSpare (n : ℕ) (m : Held) (spare : List ℕ) : Type 0 where
   once : IsDistinct nat_eq spare
   all : length spare + len m ≡ n
 
--- as long as there are fewer objects than numbers, one is left
+-- if there are fewer objects than numbers, some number has no object
 some_spare : (spare : List ℕ) (m n : ℕ) → length spare + m ≡ n → m < n → (h : ℕ) × (rest : List ℕ) × (spare ≡ h ∷ rest)
 some_spare [] m n all few = absurd (omega arith)
 some_spare (h ∷ rest) m n all few = (h, rest, refl)
@@ -74,7 +74,7 @@ module _ (n : ℕ) (m : Held) (h : ℕ) (x : Placed) (spare : List ℕ) where
     all = (let more = len_fresh m h x (are.below h (contains_head h spare)).1 in let all = are.all in omega arith);
   }
 
-  -- the number of an object that is gone is the first
+  -- the number of an object that is removed becomes the first one without an object
   spare_left : get m h ≡ Some x → h < n → AreSpare n m spare → AreSpare n (remove m h) (h ∷ spare)
   spare_left there low are = record {
     below = λ q here. elim (contains_cases q h spare here) [

@@ -14,7 +14,7 @@ use Rattle.cf_model.specs.Steps.{frames_left, number_of}
 pub table_kept : (k : Kind) (s : HeapState) → IsPaged k → KeepsRulesOf k s → KeepsTable k s
 table_kept k s is rules = (let kept : KeepsPages s × KeepsTable k s = rw (is, KeepsRulesOf) at rules in kept.1)
 
--- states with the same table
+-- a state with equal settings and block table keeps what its kind keeps of the table
 pub table_moved : (k : Kind) (a b : HeapState) → b.profile ≡ a.profile → b.frames ≡ a.frames → KeepsTable k a → KeepsTable k b
 table_moved Moving a b p f kept = f ∙ kept
 table_moved NonMoving a b p f kept = record { count = rw (p, f) kept.count; permuted = rw f kept.permuted }

@@ -64,7 +64,7 @@ module _ {A B : Type 0} (P : A → Type 0) (Q : B → Type 0) where
   bound f None is all = sort_none Q
   bound f (Some x) is all = all x (is.each x refl)
 
--- any first value will do
+-- a mapped option satisfies Q if f makes Q of every value
 module _ {A B : Type 0} (Q : B → Type 0) where
   mapped_any : (f : A → B) (o : Option A) → ((x : A) → Q (f x)) → OfSort Q (option_map f o)
   mapped_any f None all = sort_none Q

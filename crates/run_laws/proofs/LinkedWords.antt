@@ -13,7 +13,7 @@ use Rattle.block_model.specs.FreeOrder.{AreListsOf, AreThreaded, HaveLinks, firs
 use Rattle.block_model.specs.ReadWords.{tiling_words}
 use Rattle.block_model.specs.Tiling.{Block, IsTiling, block_at, is_free, size_at, size_of}
 use Rattle.block_model.specs.Words.{AreTilingWords}
-use Rattle.block_model.proofs.CallerLemmas.{apart, headers_stay, lies, made}
+use Rattle.block_model.proofs.CallerLemmas.{apart, headers_stay, lies, made, used_is_not_free}
 
 -- word 1 of the block at the address, by its list; before the first block there is `previous`
 abbrev word_in_list : ℕ → List ℕ → ℕ → ℕ
@@ -78,7 +78,7 @@ module _ (content : ℕ → ℕ → ℕ) (count : ℕ) (blocks : List Block) (t 
       by_block None is = refl
       by_block (Some c) is = by_owner c is c.owner refl
 
-  -- so does every word of a block but word 1 of a free one
+  -- every word of a block but word 1 of a free block stays
   inside : (a : ℕ) (b : Block) → block_at blocks a ≡ Some b → (i : ℕ) → i < b.size → (i ≡ 1 → b.owner ≡ None → ⊥) → get_or linked (a + i) 0 ≡ get_or base (a + i) 0
   inside a b at i lt other = (let l = lies blocks 0 count a b t.fill at in let high = l.high in stays (a + i) (omega arith) no_link)
     where
@@ -96,17 +96,13 @@ module _ (content : ℕ → ℕ → ℕ) (count : ℕ) (blocks : List Block) (t 
             ])
       ]
 
-  -- a used block is not free
-  used_not_free : (b : Block) (h : ℕ) → b.owner ≡ Some h → b.owner ≡ None → ⊥
-  used_not_free b h used free = (let e : Some h ≡ None = sym used ∙ free in cc)
-
   pub linked_words : AreTilingWords content blocks linked
   linked_words = record {
     headers = headers_stay base linked blocks 0 count 0 t.fill head based.headers;
     cleared = λ a b at free i low high. inside a b at i high (λ one _. absurd (omega arith)) ∙ based.cleared a b at free i low high;
     contents = λ a b h at used i lt. (
         let same : a + (1 + i) ≡ a + 1 + i = omega arith in
-        subst (λ w. get_or linked w 0 ≡ get_or base w 0) same (inside a b at (1 + i) lt (λ _ free. used_not_free b h used free))
+        subst (λ w. get_or linked w 0 ≡ get_or base w 0) same (inside a b at (1 + i) lt (λ _ free. used_is_not_free b h used free))
         ∙ based.contents a b h at used i lt);
   }
     where

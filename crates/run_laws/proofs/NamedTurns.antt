@@ -75,7 +75,7 @@ pub record Named : Type 0 where
 abbrev pub bytes_of : Named → ℕ → Option (List ℕ)
 bytes_of s id = through s.objects (get s.ids id)
 
--- the same ids, and the same objects
+-- the ids and the objects are unchanged
 pub record IsSame (old new : Named) : Type 0 where
   pub ids : new.ids ≡ old.ids
   pub objects : new.objects ≡ old.objects
@@ -88,7 +88,7 @@ pub record Refuses (old : Named) (reply : Reply) (new : Named) : Type 0 where
 pub refuses : {old new : Named} {reply : Reply} (text : List ℕ) → is_ok (said text) ≡ false → reply ≡ said text → IsSame old new → Refuses old reply new
 refuses text fails is rest = record { shown = ap is_ok is ∙ fails; same = rest }
 
--- a state that stays the same names the same
+-- a state that doesn't change has unchanged ids and objects
 pub same_named : {S : Type 0} (named : S → Named) {old new : S} → new ≡ old → IsSame (named old) (named new)
 same_named named is = record { ids = ap (λ s. (named s).ids) is; objects = ap (λ s. (named s).objects) is }
 
@@ -157,7 +157,7 @@ abbrev pub next : Command → IdBytes → Reply → IdBytes
 next c m reply = cond (is_ok reply) (done_by c m) m
 
 module _ (old new : Named) (m : IdBytes) (tied : AreTiedTo old.ids old.objects) (shown : AreBytesOf old.ids old.objects m) where
-  -- the same for equal ids and objects
+  -- bytes that follow from ids and objects follow from equal ids and objects
   shown_with : (ids : Ids) (o : Objects) (after : IdBytes) → new.ids ≡ ids → new.objects ≡ o → AreBytesOf ids o after → AreBytesOf new.ids new.objects after
   shown_with ids o after e f is = subst (λ i. AreBytesOf i new.objects after) (sym e) (subst (λ b. AreBytesOf ids b after) (sym f) is)
 

@@ -9,8 +9,8 @@ use Rattle.page_model.specs.Paging.{Paging}
 use Rattle.page_model.proofs.CallerLemmas.{own_words}
 use Rattle.cf_model.specs.Rules.{IsPaged, KeepsPages, KeepsRules, KeepsRulesOf, KeepsTable}
 use Rattle.cf_model.specs.State.{HeapState, paging_in, region_words}
+use Rattle.cf_model.proofs.CallerLemmas.{pages_kept}
 use Rattle.run_model.specs.Sessions.{CostsAtMost, CostsByKind}
-use Rattle.run_model.proofs.CallerLemmas.{pages_kept}
 use Rattle.run_laws.proofs.Images.{sound_image}
 use Rattle.run_laws.proofs.Answered.{AreFew, few_in, objects_in}
 use Rattle.run_laws.proofs.ByKind.{table_kept, table_moved}

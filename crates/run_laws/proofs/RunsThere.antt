@@ -73,7 +73,7 @@ module _ {S : Type 0} (begins : Profile → Reply → S → Type 0) (turns : S �
             (run_joined begins turns None done after replies rest.0 mid rest.1 run rest.2),
       )
 
-  -- the same for the items of any bytes
+  -- there is a run over the items of any bytes
   pub runs_there : (given : List ℕ) (ended : Bool) → (replies : List Reply) × (new : Option S) × PlayRun begins turns None (items given ended) replies new
   runs_there given ended = run_there None (items given ended) tt (items_sayable given ended)
 

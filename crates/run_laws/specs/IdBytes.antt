@@ -15,12 +15,12 @@ use Rattle.run_model.specs.Texts.{Reply, said}
 abbrev pub IdBytes : Type 0
 IdBytes = FinMap nat_cmp (List ℕ)
 
--- whether the reply is `ok`
+-- whether the first line of the reply is `ok`
 abbrev pub is_ok : Reply → Bool
 is_ok [] = false
 is_ok (text ∷ rest) = bytes_eq text (codes "ok")
 
--- f applied to the id's bytes, if it has any
+-- the id's bytes v replaced by `f v`, if the id is live
 abbrev pub changed : IdBytes → ℕ → (List ℕ → List ℕ) → IdBytes
 changed m id f = elim (get m id) [ None ↦ m | Some v ↦ insert m id (f v) ]
 
@@ -39,12 +39,12 @@ shown_after None (asks command) reply = None
 shown_after (Some m) (asks command) reply = Some (if is_ok reply then done_by command m else m)
 shown_after shown (bad n) reply = shown
 
--- the reply to a read: `=` and the id's bytes in hexadecimal
+-- the reply to a read: `=` and the id's bytes in hexadecimal; `unknown` if the id isn't live, `range` if the read passes the object's end
 abbrev pub read_shown : Option (List ℕ) → ℕ → ℕ → List ℕ
 read_shown None at count = codes "unknown"
 read_shown (Some v) at count = if nat_le (at + count) (length v) then codes "=" ++ encode_lower (take count (drop at v)) else codes "range"
 
--- if the item is a read, its reply has the id's bytes
+-- if the item is a read, its reply is `read_shown` of the id's bytes
 abbrev pub IsReadOf : Option IdBytes → Item → Reply → Type 0
 IsReadOf (Some m) (asks (Read id at count)) reply = reply ≡ said (read_shown (get m id) at count)
 IsReadOf shown item reply = ⊤

@@ -1,4 +1,4 @@
-//! What reads print.
+//! Laws of what reads print.
 ghost use Rattle.std.specs.Prelude.{ℕ, ◌≡◌, ◌≢◌, ◌+◌, ◌<◌, ◌≤◌, List, Option, Some, None, length, replicate, slice_index};
 ghost use Rattle.std.specs.FinMap.{get};
 ghost use Rattle.page_model.specs.Image.{IsOutside};

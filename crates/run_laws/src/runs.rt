@@ -1,4 +1,4 @@
-//! Runs can be continued.
+//! Laws of runs: every run can be continued to the end of its script.
 ghost use Rattle.std.specs.Prelude.{ℕ, ◌≡◌, Bool, List, ◌++◌, Option, None};
 ghost use Rattle.cf_base.specs.Settings.{Profile};
 ghost use Rattle.cf_base.specs.declared.kind.Kind.{Kind};

@@ -28,7 +28,7 @@ opened quantum p s b =
 abbrev shown_at : Option SliceRun → Option ShownSlices
 shown_at s = option_map shown s
 
--- the run goes on, if it has begun
+-- the run is in progress, if it has begun
 abbrev pub GoesOn : Option SliceRun → Type 0
 GoesOn None = ⊤
 GoesOn (Some s) = IsGoingSliced s
@@ -62,7 +62,7 @@ pub run_meets : (quantum : ℕ) (items : List Item) (replies : List Reply) (end 
     → MeetsSliced quantum items replies
 run_meets quantum items replies end run = (shown_at end, run_met quantum items None replies end tt run)
 
--- and over one of a player
+-- over a run of the mode handler the replies are as claimed
 pub sliced_headline_met : (from : SlicePlay) (items : List Item) (replies : List Reply) (end : Option SlicePlay) → RunBy slices from None items replies end
     → MeetsSliced from.quantum items replies
 sliced_headline_met from items replies end run =

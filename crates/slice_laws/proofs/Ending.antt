@@ -1,4 +1,4 @@
--- Slices alone end the job and the one that may follow; then a malloc that had to wait is done.
+-- Slices alone end the pending job and the one that may follow; then a malloc that was refused with `busy` succeeds.
 use Rattle.std.proofs.Common.{◌≡◌, ℕ, zero, suc, true, false, cond, ◌+◌, ◌*◌, ◌<◌, ◌≤◌, Bool, Option, Some, None, arith, sym, ◌∙◌, ap, refl, subst, inl, inr}
 use Rattle.std.specs.Prelude.{◌&&◌, nat_eq, nat_lt, not}
 use Rattle.std.proofs.lemmas.Bool.{cases_lt}
@@ -17,12 +17,12 @@ use Rattle.slice_laws.proofs.Steps.{refusal_by}
 abbrev size : ShownSlices → ShownJob → ℕ
 size t job = slot_words (paging_shown t) job.class
 
--- some words are left of the job, and n slices do them
+-- the job has words left, and n slices are enough for them; true without a job
 abbrev IsWithin : ℕ → ShownSlices → Option ShownJob → Type 0
 IsWithin n t None = Unit {0}
 IsWithin n t (Some job) = (job.done < size t job) × (size t job ≤ job.done + n * t.quantum)
 
--- n slices do the words of its slot
+-- n slices are enough for all words of the job's slot; true without a job
 abbrev Fits : ℕ → ShownSlices → Option ShownJob → Type 0
 Fits n t None = Unit {0}
 Fits n t (Some job) = size t job ≤ n * t.quantum
@@ -33,7 +33,7 @@ moved t job = record job { done = job.done + t.quantum }
 abbrev followed : ShownJob → ShownJob
 followed job = record { class = job.class; done = 0; filled = false }
 
--- whether another job follows
+-- true if another job follows when this one ends
 abbrev chains : ShownSlices → ShownJob → Bool
 chains t job = job.filled && not (are_full t job.class)
 
@@ -102,7 +102,7 @@ same_heap : (n : ℕ) (t : ShownSlices) → (after_slices n t).heap ≡ t.heap
 same_heap zero t = refl
 same_heap (suc n) t = same_heap n (after_slice t)
 
--- without a job a malloc that had to wait is done
+-- without a job a malloc that was refused with `busy` succeeds
 module _ (t : ShownSlices) (n : ℕ) where
   alone_needed : needed_beside (record t { job = None }) n ≡ pages_needed_with (paging_shown t) t.heap.objects n
   unfolding pages_needed_with

@@ -11,24 +11,24 @@ use Rattle.cf_lemmas.proofs.Tests.{eq_yes, le_yes}
 use Rattle.page_model.specs.Arrangement.{IsSlotAt, IsSound, class_at, is_on, live, not_full_pages, objects_on}
 use Rattle.page_model.specs.Held.{Held, Placed, objects}
 use Rattle.page_model.specs.Paging.{Paging, classes, page_of, slots_of}
-use Rattle.page_model.proofs.CallerLemmas.{bytes_missing, live_added, objects_on-elsewhere, objects_on-inserted, open_counts, part_full, part_yes, slots_some}
+use Rattle.page_model.proofs.CallerLemmas.{bytes_missing, less_where_vacant, live_added, objects_on-elsewhere, objects_on-inserted, open_counts, part_full, part_yes, slots_some}
 use Rattle.page_model.proofs.CallerLemmas.{part_over}
 use Rattle.slice_model.specs.declared.job_slot.JobSlot.{JobSlot}
 use Rattle.slice_model.specs.State.{IsKept, IsPlan, Plan, Sliced, job_slot, placeholder, with_slot}
-use Rattle.slice_model.proofs.CallerLemmas.{job_class, less_where_vacant, must_is_two, no_placeholder, one_more, other_than}
+use Rattle.slice_model.proofs.CallerLemmas.{job_class, must_is_two, no_placeholder, one_more, other_than}
 use Rattle.slice_model.proofs.CallerLemmas.{same_elsewhere, sound_without_slot, placeholder_class, two_is_last}
 use Rattle.transcript_laws.specs.AtOne.{part_pages}
 use Rattle.transcript_laws.proofs.CallerLemmas.{figures_are}
 
--- whether the page of a job's slot is full, with the slot counted
+-- true if the page of the job's slot is full, with the slot counted as taken
 abbrev pub is_filled : Paging → Held → JobSlot → Bool
 is_filled p m k = nat_le (slots_of p k.class) (objects_on p m k.class (page_of p k.address) + 1)
 
--- whether the slots that are taken in its class fill their pages
+-- true if n slots and the job's own, all of its class, fill whole pages
 abbrev pub are_filled : Paging → ℕ → JobSlot → Bool
 are_filled p n k = nat_eq ((n + 1) % slots_of p k.class) 0
 
--- an object that comes counts in its class
+-- a new object adds one to the live objects of its class
 pub live_with : (p : Paging) (m : Held) (h : ℕ) (x : Placed) → get m h ≡ None → (c : ℕ)
     → live p (objects (insert m h x)) c ≡ live p (objects m) c + one (nat_eq (class_at p x) c)
 live_with p m h x none c =
@@ -128,15 +128,12 @@ module _ (plan : Plan) (ok : IsPlan plan) (s : Sliced) (kept : IsKept plan s) (k
           (get_inserted s.held plan.proxies (placeholder p k)) (λ e. other_than s.held plan.proxies q y none there (sym e))
 
       below : not_full_pages p s.held k.class ≢ 2 → objects_on p s.held k.class here < slots_of p k.class
-      below ne = elim (cases_lt 0 (objects_on p s.held k.class here)) [
-        | inr nothing ↦ (let some = slots_some p ok.paging k.class class in omega arith)
-        | inl some ↦ (
-            let slot = sound.slots plan.proxies (placeholder p k) (get_inserted s.held plan.proxies (placeholder p k)) in
-            let at = subst (λ c. IsSlotAt p c k.address) (placeholder_class p ok.paging k class) slot in
-            less_where_vacant p ok.paging k.class class here within s.held (sound_without_slot plan ok s.held k none class sound ne) some k.address at refl vacant)
-      ]
+      below ne =
+          let slot = sound.slots plan.proxies (placeholder p k) (get_inserted s.held plan.proxies (placeholder p k)) in
+          let at = subst (λ c. IsSlotAt p c k.address) (placeholder_class p ok.paging k class) slot in
+          less_where_vacant p ok.paging k.class s.held (sound_without_slot plan ok s.held k none class sound ne) k.address at vacant
 
-  -- so unless the class has two partly full pages, the number of used slots shows whether the page is filled
+  -- so unless the class has two partly full pages, the slot's page is full if and only if the taken slots fill whole pages
   pub once_filled : not_full_pages plan.paging s.held k.class ≢ 2
       → is_filled plan.paging s.held k ≡ are_filled plan.paging (live plan.paging (objects s.held) k.class) k
   once_filled ne = go (is_filled p s.held k) (are_filled p (live p (objects s.held) k.class) k) refl refl
@@ -172,7 +169,7 @@ module _ (plan : Plan) (ok : IsPlan plan) (old new : Sliced) (kept : IsKept plan
       let m = more page in
       le_yes size (objects_on plan.paging new.held k.class page + 1) (omega arith)
 
-  -- if it is on the slot's page, the other pages are as they were
+  -- if the new object is on the slot's page, no other page changes
   away : page_of plan.paging x.place ≡ page → (g : ℕ) → g ≢ page
       → objects_on plan.paging then_ k.class g ≡ objects_on plan.paging before k.class g
   away on g ne =

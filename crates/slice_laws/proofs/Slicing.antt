@@ -31,7 +31,7 @@ heap_with s o = record (begun Moving s) { objects = o }
 abbrev pub plan_by : Profile → ℕ → Plan
 plan_by s quantum = record { paging = paging_of s Words (first_bounds s Words); proxies = s.proxies; quantum = quantum }
 
--- with these objects by id
+-- the heap that a state of the model shows, with these objects by id
 abbrev pub state_shown : Profile → ℕ → Objects → Sliced → ShownSlices
 state_shown s quantum o w = record {
   heap = heap_with s o;
@@ -49,7 +49,7 @@ module _ (s : Profile) (quantum : ℕ) (ok : IsPlan (plan_by s quantum)) where
   abbrev with_job : Objects → Option ShownJob → ShownSlices
   with_job o job = record { heap = heap_with s o; quantum = quantum; job = job }
 
-  -- the objects by id are as many in each class
+  -- each class has the same number of objects by id as by handle
   abbrev pub AreCounted : Objects → Held → Type 0
   AreCounted o m = (c : ℕ) → live (plan_by s quantum).paging o c ≡ live (plan_by s quantum).paging (objects m) c
 

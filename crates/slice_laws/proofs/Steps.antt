@@ -85,7 +85,7 @@ module _ (s : SliceRun) (going : IsGoingSliced s) where
   pub found : (id h : ℕ) → get s.ids id ≡ Some h → (v : List ℕ) × (get (objects s.heap.held) h ≡ Some v) × (get (by_id s) id ≡ Some v)
   found id h named = (let v = going.tied.named id h named in (v.0, v.1, live_by_id s.ids (objects m) id h v.0 named v.1))
 
-  -- with the slot of the job
+  -- the taken slots, with one more for an object, need the pages that the objects need with the slot of the job
   beside_is : (n : ℕ) → needed_beside (shown s) n ≡ pages_needed_with (plan_in s.heap).paging (objects (with_slot (plan_in s.heap) s.heap.held (job_slot s.heap.job))) n
   unfolding pages_needed_with
   beside_is n = λ i. pages_for p (λ c. each (job_slot s.heap.job) refl c i + cond (nat_eq (class_for p n) c) 1 0)
@@ -167,7 +167,7 @@ module _ (s : SliceRun) (going : IsGoingSliced s) where
     answer_shown (Ok h) new d = given_shown h.0 (working_in new).state d.happens.gives
     answer_shown (Err e) new d = refusal_shown e d.happens.0
 
--- the same settings
+-- the heap that a run shows after a call has the settings and the quantum of the heap before it
 pub stays_shown : (old new : SliceRun) (event : Event) → Does old.heap event new.heap
     → shown new ≡ state_shown old.heap.profile old.heap.quantum (by_id new) (working_in new.heap).state
 stays_shown old new event d = λ i. state_shown (d.stays.profile i) (d.stays.quantum i) (by_id new) (working_in new.heap).state
@@ -292,7 +292,7 @@ module _ (old new : SliceRun) (going : IsGoingSliced old) (later : IsGoingSliced
         stated.1 ∙ sym (ap (λ o. after_free o t.job t id) v.2),
       )
 
-  -- w: no object comes or goes, or moves
+  -- w: no object is made, freed or moved
   same_job : (h : ℕ) (x : Placed) (bytes : List ℕ) → get old.heap.held h ≡ Some x → length bytes ≡ length x.bytes
       → (working_in new.heap).state ≡ record (working_in old.heap).state { held = insert old.heap.held h (record { place = x.place; bytes = bytes }) }
       → job_shown (plan_by s q).paging new.heap.held (job_slot new.heap.job) ≡ t.job

@@ -1,4 +1,4 @@
--- A small script: its replies, and that others fall short.
+-- The right replies to the small script meet the claim, and wrong ones don't.
 use Rattle.std.proofs.Common.{◌≡◌, ℕ, true, List, [], ◌∷◌, Option, Some, None, length, replicate, get_or, sym, ◌∙◌, ap, refl, subst, inl, inr}
 use Rattle.std.specs.Prelude.{codes}
 use Rattle.std.proofs.lemmas.Bool.{cases_eq}
@@ -30,7 +30,7 @@ o2 = insert o1 2 (replicate 176 0)
 abbrev o3 : Objects
 o3 = insert o1 3 (replicate 504 0)
 
--- the second object goes again
+-- without the second object only the first is left
 second_goes : remove o2 2 ≡ o1
 second_goes = equal_maps (remove o2 2) o1 (λ q. elim (cases_eq q 2) [
   | inl is ↦ (let none : get o1 2 ≡ None = simp (got, got_none) in rw is (get_removed o2 2 ∙ sym none))
@@ -127,7 +127,7 @@ pub right_meets : MeetsSmall (small_replies (codes "ok") (codes "left 7") (codes
 right_meets = subst (λ l. MeetsSliced 8 l right) (sym asked)
     (subst (MeetsSliced 8 script) replies_are (transcript_meets 8 script (tt, (tt, (tt, (tt, (tt, (tt, (tt, (tt, tt))))))))))
 
--- replies that meet the claim are eight, with these letters
+-- only the right replies meet the claim
 only_right : (replies : List Reply) → MeetsSmall replies → replies ≡ right
 only_right replies meets = is_transcript 8 script replies (tt, (tt, (tt, (tt, (tt, (tt, (tt, (tt, tt)))))))) (subst (λ l. MeetsSliced 8 l replies) asked meets)
     ∙ replies_are

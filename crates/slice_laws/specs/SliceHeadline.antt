@@ -1,6 +1,6 @@
 -- What is claimed of every script in mode slice, by its lines and their replies alone.
 --
--- Each reply is a function of the heap that the lines before show, but for the word that `p` prints.
+-- Each reply is a function of the lines before it, which determine the heap that is shown (`ShownSlices`). Only the word that `p` prints is left open.
 use Rattle.std.specs.Prelude.{◌≡◌, ⊤, ℕ, zero, suc, false, List, [], ◌∷◌, Option, Some, None, Err, codes, if◌then◌else◌, length, nat_eq, nat_lt, replicate}
 use Rattle.std.specs.FinMap.{get, insert, len, remove}
 use Rattle.cf_base.specs.Classes.{need}
@@ -23,7 +23,8 @@ use Rattle.slice_session.specs.SliceRun.{slice_free_text, slice_malloc_text}
 use Rattle.transcript_laws.specs.Replies.{objects_after, ok_or, read_said, write_said}
 use Rattle.slice_laws.specs.ShownSlices.{ShownJob, ShownSlices, after_slice, needed_beside, noted, paging_shown, slices_opened, words_left}
 
--- why a malloc is refused, if it is: the size; then the proxies; then the pages that the objects need; then those that are needed while the job has its slot
+-- Why a malloc of n bytes is refused; None if it isn't. The causes in turn: the object exceeds a page; all proxies are used; the objects with the new one need
+-- more pages than there are; they need more pages while the job has its slot.
 abbrev pub slice_refusal : ShownSlices → ℕ → Option SliceRefusal
 slice_refusal t n =
     if nat_lt t.heap.profile.page_words (need n) then Some refusal.Size
@@ -31,18 +32,18 @@ slice_refusal t n =
     else (if nat_lt t.heap.profile.pages (pages_needed_with (paging_shown t) t.heap.objects n) then Some refusal.Space
     else (if nat_lt t.heap.profile.pages (needed_beside t n) then Some refusal.Busy else None)))
 
--- why a free is refused, if it is
+-- why a free is refused, by the bytes of the id (None if it isn't live) and by the job: `Unknown` or `Busy`; None if the free is done
 abbrev pub slice_fault : Option (List ℕ) → Option ShownJob → Option SliceFault
 slice_fault None job = Some fault.Unknown
 slice_fault (Some v) None = None
 slice_fault (Some v) (Some job) = Some fault.Busy
 
--- m
+-- the reply to `m`, by the bytes of the id (None if it isn't live)
 abbrev pub malloc_line : Option (List ℕ) → ShownSlices → ℕ → List ℕ
 malloc_line (Some v) t n = codes "live"
 malloc_line None t n = ok_or (λ e. slice_malloc_text (Err e)) (slice_refusal t n)
 
--- the reply to a command, but for `p`; `none` to the commands of other modes
+-- the reply to a command other than `p`; `none` to the commands of other modes
 abbrev pub line_of : ShownSlices → Command → List ℕ
 line_of t (Malloc id n) = malloc_line (get t.heap.objects id) t n
 line_of t (Free id) = slice_free_text (slice_fault (get t.heap.objects id) t.job)
@@ -51,19 +52,21 @@ line_of t (Write id at bytes) = write_said (get t.heap.objects id) at (length by
 line_of t (Read id at count) = read_said (get t.heap.objects id) at count
 line_of t command = codes "none"
 
+-- the heap with these objects by id in place of its own
 abbrev pub with_objects : ShownSlices → Objects → ShownSlices
 with_objects t o = record t { heap = record t.heap { objects = o } }
 
--- after m: n zeros under the id, unless it is live or the malloc is refused
+-- the heap after `m`: the id names n zero bytes; unchanged if the id was live or the malloc is refused
 abbrev pub after_malloc : Option (List ℕ) → Option SliceRefusal → ShownSlices → ℕ → ℕ → ShownSlices
 after_malloc None None t id n = noted (with_objects t (insert t.heap.objects id (replicate n 0)))
 after_malloc None (Some e) t id n = t
 after_malloc (Some v) e t id n = t
 
--- after f: the object is gone, a slot of its class is the job's, and one slice is done, unless the id isn't live or a job is pending
+-- the job that a free of an object with these bytes begins, in a slot of the object's class
 abbrev pub job_begun : ShownSlices → List ℕ → ShownJob
 job_begun t v = record { class = class_for (paging_shown t) (length v); done = 0; filled = false }
 
+-- the heap after `f`: the object is removed, a job begins, and its first slice is done; unchanged if the id isn't live or a job was pending
 abbrev pub after_free : Option (List ℕ) → Option ShownJob → ShownSlices → ℕ → ShownSlices
 after_free None job t id = t
 after_free (Some v) None t id = after_slice (noted (record (with_objects t (remove t.heap.objects id)) { job = Some (job_begun t v) }))
@@ -77,17 +80,19 @@ after t Slice = after_slice t
 after t (Write id at bytes) = with_objects t (objects_after t.heap (Write id at bytes))
 after t command = t
 
--- after n slices
+-- the heap after n slices
 abbrev pub after_slices : ℕ → ShownSlices → ShownSlices
 after_slices zero t = t
 after_slices (suc n) t = after_slices n (after t Slice)
 
--- `p` prints 16 digits of a word of the region, else `range`; every other command has one reply
+-- One command: its reply, and the heap after it. To `p` the reply is some word in 16 digits if the region has a word of this number, else `range`. To every
+-- other command the heap determines the reply.
 abbrev pub Answers : ShownSlices → Command → Reply → ShownSlices → Type 0
 Answers old (Peek word) reply new = (value : ℕ)
     × (reply ≡ said (peek_text (if nat_lt word (region_words old.heap.profile) then Some value else None))) × (new ≡ old)
 Answers old command reply new = (reply ≡ said (line_of old command)) × (new ≡ after old command)
 
+-- the `heap` line: its reply is `ok`, and the heap is new
 abbrev pub Opens : ℕ → Profile → Reply → ShownSlices → Type 0
 Opens quantum p reply new = (reply ≡ said (codes "ok")) × (new ≡ slices_opened quantum p)
 
@@ -95,11 +100,12 @@ Opens quantum p reply new = (reply ≡ said (codes "ok")) × (new ≡ slices_ope
 abbrev pub MeetsSliced : ℕ → List Item → List Reply → Type 0
 MeetsSliced quantum items replies = (end : Option ShownSlices) × PlayRun (Opens quantum) Answers None items replies end
 
--- no item asks for a word of the region
+-- the item isn't `p`, which prints a word of the region
 abbrev pub IsNoPeek : Item → Type 0
 IsNoPeek (asks (Peek word)) = ⊥
 IsNoPeek item = ⊤
 
+-- none of the items asks for a word of the region
 abbrev pub AreNoPeeks : List Item → Type 0
 AreNoPeeks [] = ⊤
 AreNoPeeks (item ∷ rest) = IsNoPeek item × AreNoPeeks rest

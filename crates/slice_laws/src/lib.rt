@@ -18,7 +18,8 @@ ghost use Rattle.slice_laws.specs.ShownSlices.{ShownJob, ShownSlices, paging_sho
 ghost use Rattle.slice_laws.specs.SliceHeadline.{AreNoPeeks, MeetsSliced, after, after_slices, line_of, slice_refusal};
 ghost use Rattle.slice_laws.specs.Small.{MeetsSmall, small_replies};
 
-/// The replies of every run in mode slice meet the claim, with its own words of a slice.
+/// The replies of every run in mode slice meet the claim (`MeetsSliced`) for its quantum. `run` is about a
+/// run of a session, `play` about a run of the mode handler in the script loop (`RunBy`).
 pub fn the_sliced_headline()
     ensures run { (quantum : ℕ) (items : List Item) (replies : List Reply) (end : Option SliceRun)
         → RunsSliced quantum None items replies end → MeetsSliced quantum items replies }
@@ -26,7 +27,7 @@ pub fn the_sliced_headline()
         → RunBy slices from None items replies end → MeetsSliced from.quantum items replies }
 {}
 
-/// Without `p` just one list of replies meets the claim: nothing is left open.
+/// If a script has no `p`, exactly one list of replies meets the claim for a quantum.
 pub fn one_sliced_transcript()
     ensures one { (quantum : ℕ) (items : List Item) (replies others : List Reply) → AreNoPeeks items
         → MeetsSliced quantum items replies → MeetsSliced quantum items others → others ≡ replies }
@@ -34,9 +35,9 @@ pub fn one_sliced_transcript()
         → (replies : List Reply) × MeetsSliced quantum items replies }
 {}
 
-/// One script has one output in mode slice: two runs over the same items, with the same words of a slice,
-/// have the same replies, also the words that `p` prints while a job is half done. They lead to the same
-/// ids, the same heap with its words, and the same order. The same holds of the replies of the mode handler.
+/// One script has one output in mode slice: two runs over the same items with the same quantum have the
+/// same replies, also to `p` while a job is pending. They end with the same ids and the same heap, with
+/// its words and its order. `run` is about runs of a session, `play` about runs of the mode handler.
 pub fn one_sliced_output()
     ensures run { (quantum : ℕ) (items : List Item) (replies others : List Reply) (last end : Option SliceRun)
         → RunsSliced quantum None items replies last → RunsSliced quantum None items others end
@@ -49,10 +50,10 @@ pub fn one_sliced_output()
 
 /// Which calls wait for a job, and how long. A free of a live id prints `busy` if and only if a job is
 /// pending. A malloc does not print `busy` if the objects with the new one need fewer pages than there
-/// are. `s` prints `left 0` if and only if no job is pending after it. After a free each `s` lowers the
-/// words that are left by those of a slice, if no malloc comes between. A malloc that prints `busy` is
-/// not refused after a slices that finish the job and b slices that do a whole slot, if no other command
-/// comes between: at most one more job follows.
+/// are. `s` prints `left 0` if and only if no job is pending after it. After a free, if only slices
+/// follow, each `s` lowers the words that are left by the quantum, down to 0. Suppose a malloc prints
+/// `busy`, a slices are enough for the rest of the job, and b slices are enough for a whole slot. Then the
+/// malloc is not refused after a + b slices without another command: at most one more job follows.
 pub fn who_waits_and_how_long()
     ensures free { (t : ShownSlices) (id : ℕ) (v : List ℕ) → get t.heap.objects id ≡ Some v
         → (line_of t (Free id) ≡ codes "busy") ↔ (t.job ≢ None) }
@@ -75,8 +76,9 @@ pub fn who_waits_and_how_long()
 /// of two objects of 23 words, a free of one, a slice, a free of the other, a malloc of a whole page, and
 /// a malloc of a third object of 23 words. The claim holds for `ok` to the first malloc, `left 7`, `busy`,
 /// `ok` and `busy`. It fails for `refused size` to a malloc that fits, for no reply, for a reply too few
-/// or too many, for `left 0` at once or the words that are done, for `ok` to a free beside the job, for
-/// `busy` while a page is free, and for `ok` while the job has the only slot.
+/// or too many, for `left 0` at once, for the words that are done instead of those left, for `ok` to a
+/// free while the job is pending, for `busy` while a page is free, and for `ok` while the job has the only
+/// slot.
 pub fn wrong_sliced_replies_fall_short()
     ensures right { MeetsSmall (small_replies (codes "ok") (codes "left 7") (codes "busy") (codes "ok") (codes "busy")) }
     ensures size { ¬ MeetsSmall (small_replies (codes "refused size") (codes "left 7") (codes "busy") (codes "ok") (codes "busy")) }

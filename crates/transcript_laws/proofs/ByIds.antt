@@ -78,7 +78,7 @@ module _ {V : Type 0} (d : V) where
       elsewhere q ne =
           get-renamed ids' m' q ∙ ap (option_map (under m')) (same_ids q ne) ∙ same_under q ne (get ids q) refl ∙ sym (get-renamed ids m q)
 
-    -- a fresh id comes with a fresh number
+    -- the values by id after a fresh id gets a value under a fresh number
     pub given_renamed : (id h : ℕ) (v : V) → get m h ≡ None → renamed (insert ids id h) (insert m h v) ≡ insert (renamed ids m) id v
     given_renamed id h v unused = equal_maps _ _ (λ q. elim (cases_eq q id) [
       | inl is ↦ rw is (live_renamed (insert ids id h) (insert m h v) id h v (get_inserted ids id h) (get_inserted m h v)
@@ -97,7 +97,7 @@ module _ {V : Type 0} (d : V) where
       own : (q g : ℕ) → q ≢ id → get ids q ≡ Some g → g ≢ h
       own q g ne other is = ne (names.once id q h named (other ∙ ap (λ k. Some k) is))
 
-      -- an id goes with its number
+      -- the values by id after an id and its number are removed
       pub gone_with : renamed (remove ids id) (remove m h) ≡ remove (renamed ids m) id
       gone_with = equal_maps _ _ (λ q. elim (cases_eq q id) [
         | inl is ↦ rw is (gone_renamed (remove ids id) (remove m h) id (get_removed ids id) ∙ sym (get_removed (renamed ids m) id))

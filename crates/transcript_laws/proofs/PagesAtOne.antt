@@ -54,7 +54,7 @@ module _ (p : Paging) (ok : IsPaging p) (ones : AreOne p) (m : Held) (s : IsSoun
     pub figures_are : figures_of p m c ≡ figures_at_one p (objects m) c
     figures_are = λ i. record { slot_words = slot_words p c; slots = slots_of p c; live = live p (objects m) c; pages = home_is i; not_full = not_full_is i }
 
-  -- and so are those of the whole heap
+  -- the figures of the whole heap are counted from its objects
   pub totals_are : totals_of p m ≡ totals_at_one p (objects m)
   totals_are = ap (λ used. record (totals_of p m) {
     held = 8 * p.page_words * used;
@@ -64,7 +64,7 @@ module _ (p : Paging) (ok : IsPaging p) (ones : AreOne p) (m : Held) (s : IsSoun
         cond (nat_eq (p.pages - used) 0) 0 p.page_words;
   }) (used_at_one p ok ones m s)
 
--- as many objects with as many bytes have the same figures
+-- objects that count alike, by number and by bytes, have equal figures
 module _ (p : Paging) (m n : Objects) (a : CountAlike m n) where
   pub live_alike : (c : ℕ) → live p n c ≡ live p m c
   unfolding live

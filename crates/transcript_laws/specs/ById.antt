@@ -15,10 +15,10 @@ pub record ById : Type 0 where
   pub bounds : List ℕ
   pub objects : Objects
 
--- nothing is live yet
+-- the state after the `heap` line: no object is live
 abbrev pub begun : Kind → Profile → ById
 begun kind p = record { kind = kind; profile = p; bounds = opening_bounds kind p; objects = empty }
 
--- the pages and size classes
+-- the pages and size classes of this state
 abbrev pub paging_by_id : ById → Paging
 paging_by_id t = paging_of t.profile (layout_of t.kind) t.bounds

@@ -10,7 +10,7 @@ use Rattle.run_model.specs.Replies.{object_of}
 use Rattle.run_model.specs.Sessions.{Ids, RunState}
 use Rattle.transcript_laws.specs.Transcripts.{IsPlaceless}
 
--- each id with the bytes of its number
+-- each id with the bytes of the object that its number names
 abbrev pub objects_by_id : Ids → Objects → Objects
 objects_by_id ids m = map_values (λ h. unwrap_or (get m h) []) ids
 

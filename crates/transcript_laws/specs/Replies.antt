@@ -23,7 +23,7 @@ use Rattle.run_model.specs.Texts.{Reply, said}
 use Rattle.transcript_laws.specs.AtOne.{totals_at_one, walk_at_one}
 use Rattle.transcript_laws.specs.ById.{ById, paging_by_id}
 
--- whether the objects with one more of `bytes` bytes need more pages than there are, by arithmetic
+-- whether the objects and one more of `bytes` bytes need more pages than the region has
 abbrev pub passes_pages : ById → ℕ → Bool
 passes_pages t bytes = nat_lt t.profile.pages (pages_needed_with (paging_by_id t) t.objects bytes)
 
@@ -53,26 +53,26 @@ abbrev pub ok_or : {E : Type 0} → (E → List ℕ) → Option E → List ℕ
 ok_or text None = codes "ok"
 ok_or text (Some e) = text e
 
--- m
+-- the reply to `m`, by the bytes that the id names
 abbrev pub malloc_said : Option (List ℕ) → ById → ℕ → List ℕ
 malloc_said (Some v) t bytes = codes "live"
 malloc_said None t bytes = ok_or (λ e. malloc_text (Err e)) (malloc_fault t bytes)
 
--- f
+-- the reply to `f`
 abbrev pub free_said : Option (List ℕ) → List ℕ
 free_said (Some v) = codes "ok"
 free_said None = codes "unknown"
 
--- w
+-- the reply to `w`, by the bytes that the id names
 abbrev pub write_said : Option (List ℕ) → ℕ → ℕ → List ℕ
 write_said (Some v) at count = ok_or (λ e. write_text (Err e)) (write_fault v at count)
 write_said None at count = codes "unknown"
 
--- r: of an object it is the bytes alone that count
+-- the reply to `r`: it depends on the object's bytes alone, so the address 0 stands for any
 abbrev pub read_said : Option (List ℕ) → ℕ → ℕ → List ℕ
 read_said found at count = read_text (option_map (λ v. record { place = 0; bytes = v }) found) at count
 
--- z
+-- the reply to `z`, by the bytes that the id names
 abbrev pub resize_said : Option (List ℕ) → ById → ℕ → List ℕ
 resize_said (Some v) t bytes = ok_or (λ e. resize_text (Err e)) (resize_fault t v bytes)
 resize_said None t bytes = codes "unknown"
@@ -93,7 +93,7 @@ reply_by_id t (Bound slot_words k) = said (bound_text (class_bounded t slot_word
 reply_by_id t (Resize id bytes) = said (resize_said (get t.objects id) t bytes)
 reply_by_id t command = said (codes "none")
 
--- these bytes under the id; after a fault the objects as they were
+-- the objects with the bytes v under the id; after a fault the objects as they were
 abbrev pub put_unless : {E : Type 0} → Option E → Objects → ℕ → List ℕ → Objects
 put_unless (Some e) objects id v = objects
 put_unless None objects id v = insert objects id v
@@ -103,7 +103,7 @@ abbrev pub malloc_leaves : Option (List ℕ) → ById → Request → Objects
 malloc_leaves (Some v) t asked = t.objects
 malloc_leaves None t asked = put_unless (malloc_fault t asked.length) t.objects asked.number (replicate asked.length 0)
 
--- after a resize
+-- the objects after a resize, by what the id names
 abbrev pub resize_leaves : Option (List ℕ) → ById → Request → Objects
 resize_leaves (Some v) t asked = put_unless (resize_fault t v asked.length) t.objects asked.number (resized v asked.length)
 resize_leaves None t asked = t.objects
@@ -114,7 +114,7 @@ pub record Writing : Type 0 where
   pub at : ℕ
   pub bytes : List ℕ
 
--- after a write
+-- the objects after a write, by what the id names
 abbrev pub write_leaves : Option (List ℕ) → Objects → Writing → Objects
 write_leaves (Some v) objects w = put_unless (write_fault v w.at (length w.bytes)) objects w.id (written v w.at w.bytes)
 write_leaves None objects w = objects
@@ -127,7 +127,7 @@ objects_after t (Write id at bytes) = write_leaves (get t.objects id) t.objects 
 objects_after t (Resize id bytes) = resize_leaves (get t.objects id) t (record { number = id; length = bytes })
 objects_after t command = t.objects
 
--- this class, if there is one, has the bound k
+-- the bounds, with k for this class if there is one
 abbrev pub bounds_with : List ℕ → Option ℕ → ℕ → List ℕ
 bounds_with bounds None k = bounds
 bounds_with bounds (Some c) k = slice_set bounds c k

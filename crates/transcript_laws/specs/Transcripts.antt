@@ -64,6 +64,7 @@ ShowsNoPlace (Peek word) = ⊥
 ShowsNoPlace Steps = ⊥
 ShowsNoPlace command = ⊤
 
+-- the item is no command that asks for an address or a cost
 abbrev pub IsPlaceless : Item → Type 0
 IsPlaceless (asks command) = ShowsNoPlace command
 IsPlaceless item = ⊤

@@ -1,21 +1,21 @@
-use Rattle.headline_laws.proofs.Worked.{address_changed, address_shared, block_steps_in_excess, freed_in_vain, no_reply, one_over, page_in_excess, refused_for_size, refused_wrongly, silent, steps_in_excess, total_in_excess}
+use Rattle.headline_laws.proofs.Worked.{address_changed, address_shared, block_steps_in_excess, freed_in_vain, malloc_without_reply, one_reply_too_many, page_in_excess, refused_for_size, fitting_malloc_refused, malloc_without_line, steps_in_excess, total_in_excess}
 use Rattle.headline_laws.proofs.Worked.{word_in_nothing}
 use Rattle.headline_laws.proofs.wrong_replies_fall_short.Goals as goal
 
 pub returns-clause-room : goal.returns-clause-room
-returns-clause-room c = refused_wrongly
+returns-clause-room c = fitting_malloc_refused
 
 pub returns-clause-size : goal.returns-clause-size
 returns-clause-size c = refused_for_size
 
 pub returns-clause-silent : goal.returns-clause-silent
-returns-clause-silent c = silent
+returns-clause-silent c = malloc_without_line
 
 pub returns-clause-missing : goal.returns-clause-missing
-returns-clause-missing c = no_reply
+returns-clause-missing c = malloc_without_reply
 
 pub returns-clause-over : goal.returns-clause-over
-returns-clause-over c = one_over
+returns-clause-over c = one_reply_too_many
 
 pub returns-clause-pages : goal.returns-clause-pages
 returns-clause-pages c = page_in_excess
