@@ -19,7 +19,7 @@ use page_reference::Plain;
 use page_reference::order::PlainOrder;
 use page_reference::steps::{copy_steps, run_steps, slot_steps, wipe_steps, word_steps};
 
-/// What the steps of a call depend on.
+/// What the steps of a call depend on: the kind of manager, the objects on their pages, and the order.
 #[derive(Clone, Copy)]
 pub(crate) struct Exact<'a> {
     pub(crate) kind: Kind,
@@ -28,7 +28,7 @@ pub(crate) struct Exact<'a> {
 }
 
 impl<'a> Exact<'a> {
-    /// A malloc of `bytes` bytes, which is given or refused.
+    /// The steps of a malloc of `bytes` bytes that succeeds (`is_given`) or is refused.
     pub(crate) fn malloc_steps(&self, bytes: u32, is_given: bool) -> u64
         ensures given { (s : HeapState) (h : Handle) → HasPages self.now.kind self.now.plain.now s → IsTrue is_given
             → class_for self.now.plain.now.paging bytes < classes self.now.plain.now.paging
@@ -43,7 +43,7 @@ impl<'a> Exact<'a> {
         }
     }
 
-    /// A free of the object of this number, or of none.
+    /// The steps of a free of the object with this number; 1 if no object has it.
     pub(crate) fn free_steps(&self, number: u16) -> u64
         ensures live { (s : HeapState) (x : Placed) (freed : Freed) → HasPages self.now.kind self.now.plain.now s
             → IsFreed self.now.plain.now number x freed.moved → result ≡ free_cost s (order_of self.now.order.now) number (Ok freed) }
@@ -59,7 +59,8 @@ impl<'a> Exact<'a> {
         }
     }
 
-    /// An object of `length` bytes leaves its slot at this address, and another one moves there or not.
+    /// The steps to vacate the slot at this address, of an object of `length` bytes: the slot is cleared and
+    /// becomes free; or, if `moves`, another object moves into it, and that object's slot becomes free.
     fn leaving_steps(&self, place: u32, length: u32, moves: bool) -> u64
         ensures value { (s : HeapState) (x : Placed) (moved : Option Handle) → HasPages self.now.kind self.now.plain.now s
             → IsObject self.now.plain.now place length x → is_some moved ≡ moves
@@ -81,7 +82,7 @@ impl<'a> Exact<'a> {
         }
     }
 
-    /// A resize of the object of this number to `bytes` bytes, or why it is refused.
+    /// The steps of a resize of the object with this number to `bytes` bytes, or of its refusal by `fault`.
     pub(crate) fn resize_steps(&self, number: u16, bytes: u32, fault: Option<ResizeFault>) -> u64
         ensures done { (s : HeapState) (x : Placed) (done : Resized) → HasPages self.now.kind self.now.plain.now s → fault ≡ None
             → IsFreed self.now.plain.now number x done.moved → class_for self.now.plain.now.paging bytes < classes self.now.plain.now.paging
@@ -100,7 +101,8 @@ impl<'a> Exact<'a> {
         }
     }
 
-    /// An object of `length` bytes gets `bytes` bytes.
+    /// The steps of a resize, which is not refused, of an object of `length` bytes at this address to `bytes`
+    /// bytes. If its class changes and `moves` is true, another object moves into its old slot.
     fn resized_steps(&self, place: u32, length: u32, bytes: u32, moves: bool) -> u64
         ensures { (s : HeapState) (x : Placed) (moved : Option Handle) → HasPages self.now.kind self.now.plain.now s
             → IsObject self.now.plain.now place length x → is_some moved ≡ moves
@@ -120,7 +122,8 @@ impl<'a> Exact<'a> {
         }
     }
 
-    /// `most` bytes are cut to `bytes`: the word where they end, and the cleared ones after it.
+    /// The steps to cut `most` bytes to `bytes` bytes: those of the word in which the bytes then end, and
+    /// those of clearing the words after it; 0 if nothing is cut.
     fn tail_steps(&self, bytes: u32, most: u64) -> u64
         requires { most ≤ 4294967303 }
         ensures value { result ≡ tail self.now.kind 0 bytes most }
@@ -136,8 +139,8 @@ impl<'a> Exact<'a> {
         }
     }
 
-    /// An object of `length` bytes is copied to another slot with `bytes` bytes: the words that it keeps,
-    /// which are cut, the header and the proxy.
+    /// The steps to copy an object of `length` bytes into another slot, where it has `bytes` bytes: to copy
+    /// the words that it keeps and cut them, and to write the header and the proxy.
     fn carrying_steps(&self, length: u32, bytes: u32) -> u64
         ensures value { result ≡ carrying_cost self.now.kind length bytes }
         ensures few { result ≤ 100000000000 }

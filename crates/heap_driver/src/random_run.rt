@@ -258,8 +258,8 @@ impl<H: Manager> RandomRun<H> {
         self.compare_figures(class)
     }
 
-    /// If an object moved, it is at the address now, and its blocks have changed places with the blocks
-    /// there.
+    /// Records that the object `moved`, if there is one, is now at this address, exchanges its blocks with
+    /// those there, and compares its address in the heap.
     fn fill_hole(
         &mut self,
         alloc: Global,
@@ -342,7 +342,7 @@ impl<H: Manager> RandomRun<H> {
         self.put(alloc, number)
     }
 
-    /// Reads a whole object.
+    /// Reads a whole object and compares its bytes.
     pub(crate) fn read(&mut self, number: u16) -> Result<(), Wrong> {
         let handle = Handle(u32::from(number));
         let length = self.objects.length(handle.0).unwrap_or(0);

@@ -3,5 +3,4 @@ mod compared;
 mod driver;
 mod edges;
 mod long;
-mod needs;
 mod rows;

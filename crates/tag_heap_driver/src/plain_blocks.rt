@@ -16,7 +16,7 @@ pub struct Block {
     pub owner: Option<u32>,
 }
 
-/// The blocks of a region, in order, and the free ones by list: the last of a list is the next to be
+/// The blocks of a region in order of address, and the free ones by list: the last of a list is the next to be
 /// taken.
 #[derive(Drop)]
 pub struct PlainBlocks {
@@ -55,16 +55,16 @@ impl PlainBlocks {
         }
     }
 
-    /// The blocks, in order.
+    /// The blocks, in order of address.
     pub fn blocks(&self) -> &[Block]
         ensures value { result.now ≡ self.now.blocks.items }
     {
         self.blocks.as_slice()
     }
 
-    /// The first words of a free block become the owner's: the block that came last into the first list
-    /// that has one, of those where each block has enough. If two words or more are left, they
-    /// become a free block. Returns its address.
+    /// Splits a free block: the one that was listed last in the first list that isn't empty, from the first
+    /// list on whose blocks all have `need` words. Its first `need` words get the owner; a rest of two words
+    /// or more becomes a free block. Returns its address; none if no such list has a block.
     pub fn carve(&mut self, need: u32, owner: u32) -> Result<Option<u32>, Wrong> {
         for list in first_for(self.sizes.as_slice(), need)..self.lists.len() {
             let taken = match self.lists.get_mut(list) {
@@ -152,7 +152,7 @@ impl PlainBlocks {
         self.blocks.get(at).is_some_and(|b| b.owner.is_none())
     }
 
-    /// The block is the next to be taken of its list.
+    /// Adds the block to its free list, as the next to be taken.
     fn list(&mut self, block: Block) -> Result<(), Wrong> {
         let list = list_of(self.sizes.as_slice(), block.size);
         if let Some(addresses) = self.lists.get_mut(list) {

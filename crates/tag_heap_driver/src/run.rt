@@ -106,7 +106,7 @@ impl<H: Manager> BlockRun<H> {
         Ok(())
     }
 
-    /// The figures of the heap, which are those of the plain list.
+    /// Returns the heap's figures. Fails if they differ from those of the plain list.
     pub fn totals(&mut self) -> Result<Totals, Wrong>
         ensures shown { IfOk result (λ totals. totals ≡ totals_in (H.state self.new.calls.heap).kind (H.state self.new.calls.heap)) }
         ensures heap { self.new.calls.heap ≡ self.old.calls.heap }
@@ -114,10 +114,9 @@ impl<H: Manager> BlockRun<H> {
         let (words, used, free, largest) = self.plain.figures();
         let live = self.objects.count();
         let mut asked: u64 = 0;
-        for entry in self.objects.entries() {
-            if let Some(object) = entry {
-                asked = asked.wrapping_add(object.bytes.len() as u64);
-            }
+        let lengths = self.objects.lengths_at(|_place| true)?;
+        for length in lengths.iter() {
+            asked = asked.wrapping_add(u64::from(*length));
         }
         let want = Totals {
             live,
@@ -252,8 +251,7 @@ impl<H: Manager> BlockRun<H> {
         };
         match word {
             0 => header | 1 << 31,
-            1 => u64::from(owner) | (object.bytes.len() as u64) << 32,
-            _ => word_of_bytes(object.bytes.as_slice(), word - 2),
+            _ => object.word(owner, word - 1),
         }
     }
 }
@@ -261,16 +259,4 @@ impl<H: Manager> BlockRun<H> {
 /// The words of a block for `bytes` bytes: two, and one for each eight of them.
 fn block_need(bytes: u32) -> u32 {
     bytes.div_ceil(8).saturating_add(2)
-}
-
-/// Word `word` of the bytes, eight to a word, the least first; 0 past their end.
-fn word_of_bytes(bytes: &[u8], word: u32) -> u64 {
-    let mut cell = [0; 8];
-    for i in 0..8 {
-        let at = 8 * word as usize + i;
-        if at < bytes.len() {
-            cell[i] = bytes[at];
-        }
-    }
-    u64::from_le_bytes(cell)
 }

@@ -1,4 +1,5 @@
-//! Long runs of drawn calls on both managers of blocks, against plain lists of blocks.
+//! Tests of TLSF and Half-Fit: long runs of drawn calls, compared with plain lists of blocks, and the steps
+//! and results of `has_room` and `length`.
 mod coalesced;
 mod costs;
 mod tlsf;
@@ -8,14 +9,15 @@ use cf_model::Manager;
 use half_fit_heap::HalfFitHeap;
 use std::test::Fail;
 use step_ledger::Meter;
-use tag_heap::{TagHeap, Yardstick};
+use tag_heap::{FitPolicy, TagHeap};
 use tag_heap_driver::{BlockRun, half_fit_sizes, tlsf_sizes};
 use tlsf_heap::TlsfHeap;
 
-/// 1,024 words in 16 pages, and 48 proxies.
+/// The settings of the long runs: 16 pages of 512 bytes, which are 1,024 words, and 48 proxies.
 const CHURNED: [u32; 3] = [16, 512, 48];
 
-/// 10,000 calls, compared after each hundred; at the end all is one free block again.
+/// Makes 10,000 drawn calls, and compares the heap with the plain lists after each hundred. Then frees all
+/// objects, and returns the words of the largest free block. Fails if a comparison does.
 fn churn<H: Manager>(rt: &HostRuntime, heap: H, sizes: Vec<u32>) -> Result<u32, Fail> {
     let alloc = rt.alloc();
     let mut run = BlockRun::new(alloc, heap, Meter::new(rt), sizes, CHURNED)?;
@@ -43,12 +45,15 @@ fn half_fit_agrees_with_plain_blocks(rt: HostRuntime) -> Result<(), Fail> {
     Ok(())
 }
 
-/// The lengths that are asked for, one after the other, on one page of 64 words with two proxies: above
-/// the page; a block of 61 words, which leaves one of 3; no block of 15; that of 3; and no proxy.
+/// The bytes of five mallocs, made in turn on one page of 64 words with two proxies. 505 bytes fit no page.
+/// 472 bytes take a block of 61 words, which leaves a free block of 3. 100 bytes need 15 words, and no block
+/// has them. 0 bytes take the block of 3 words. The last malloc finds no free proxy.
 const ASKED: [u32; 5] = [505, 472, 100, 0, 0];
 
-/// The steps of each look for room, which returns what the malloc after it does. None if one doesn't.
-fn room_steps<B: Yardstick>(heap: &mut TagHeap<B>, meter: &mut Meter) -> Option<[u64; 5]> {
+/// Opens the heap, and makes the mallocs of `ASKED` with a call of `has_room` before each. Returns the steps
+/// of each `has_room`. None if the heap isn't opened, or `has_room` returns another refusal than the malloc
+/// after it.
+fn room_steps<B: FitPolicy>(heap: &mut TagHeap<B>, meter: &mut Meter) -> Option<[u64; 5]> {
     let settings = Settings::check(1, 512, 1, 2).ok()?;
     heap.open_heap(&settings).ok()?;
     let mut steps = [0; 5];
@@ -70,8 +75,9 @@ fn room_steps<B: Yardstick>(heap: &mut TagHeap<B>, meter: &mut Meter) -> Option<
     Some(steps)
 }
 
-/// The lengths of the objects 0, 1 and 2, and the steps of the three looks.
-fn lengths<B: Yardstick>(heap: &TagHeap<B>, meter: &mut Meter) -> Option<([Option<u32>; 3], u64)> {
+/// The lengths of the objects 0, 1 and 2 in bytes, and the steps of the three calls together. None if the
+/// heap is closed.
+fn lengths<B: FitPolicy>(heap: &TagHeap<B>, meter: &mut Meter) -> Option<([Option<u32>; 3], u64)> {
     if !heap.is_open() {
         return None;
     }

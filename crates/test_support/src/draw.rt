@@ -18,12 +18,12 @@ impl Draw {
         }
     }
 
-    /// A number.
+    /// Draws a number of 64 bits.
     pub fn number(&mut self) -> u64 {
         self.numbers.next_u64()
     }
 
-    /// A number below the bound.
+    /// Draws a number below the bound.
     pub fn below(&mut self, bound: u32) -> u32
         requires { 1 ≤ bound }
         ensures { result < bound }
@@ -38,7 +38,7 @@ impl Draw {
 }
 
 /// Bytes that count up from `first`, and from 0 after 255.
-pub fn counted_from(first: u8) -> [u8; 1_200] {
+fn counted_from(first: u8) -> [u8; 1_200] {
     let mut bytes = [0; 1_200];
     let mut byte = first;
     for i in 0..1_200 {

@@ -18,6 +18,26 @@ impl<P: Drop> Object<P> {
     pub fn length(&self) -> u32 {
         self.bytes.len().min(u32::MAX as usize) as u32
     }
+
+    /// Word i of it under this number: its header, its bytes, then zeros.
+    pub fn word(&self, number: u32, i: u32) -> u64 {
+        if i == 0 {
+            return header(number, self.length());
+        }
+        let first = 8 * (i as usize - 1);
+        let mut cell = [0; 8];
+        for k in 0..8 {
+            if let Some(byte) = self.bytes.get(first + k) {
+                cell[k] = *byte;
+            }
+        }
+        u64::from_le_bytes(cell)
+    }
+}
+
+/// The header of an object of this number and length.
+pub fn header(number: u32, length: u32) -> u64 {
+    u64::from(number) | u64::from(length) << 32
 }
 
 /// The objects by number.
@@ -35,11 +55,6 @@ impl<P: Drop> Objects<P> {
             entries.push(None)?;
         }
         Ok(Objects { alloc, entries })
-    }
-
-    /// The entry of each number.
-    pub fn entries(&self) -> &[Option<Object<P>>] {
-        self.entries.as_slice()
     }
 
     /// The object of this number, if there is one.
@@ -60,13 +75,37 @@ impl<P: Drop> Objects<P> {
 
     /// How many objects there are.
     pub fn count(&self) -> u32 {
+        self.count_at(|_place| true)
+    }
+
+    /// How many objects are at these places.
+    pub fn count_at<F: Fn(&P) -> bool>(&self, is_counted: F) -> u32
+        requires { F.IsAlwaysCallable is_counted }
+    {
         let mut count: u32 = 0;
         for entry in self.entries.iter() {
-            if entry.is_some() {
-                count = count.wrapping_add(1);
+            if let Some(object) = entry {
+                if is_counted(&object.place) {
+                    count = count.wrapping_add(1);
+                }
             }
         }
         count
+    }
+
+    /// The lengths of the objects at these places.
+    pub fn lengths_at<F: Fn(&P) -> bool>(&self, is_listed: F) -> Result<Vec<u32>, Wrong>
+        requires { F.IsAlwaysCallable is_listed }
+    {
+        let mut lengths = Vec::new(self.alloc);
+        for entry in self.entries.iter() {
+            if let Some(object) = entry {
+                if is_listed(&object.place) {
+                    lengths.push(object.length())?;
+                }
+            }
+        }
+        Ok(lengths)
     }
 
     /// Adds an object of `length` zeros under a number that has none.

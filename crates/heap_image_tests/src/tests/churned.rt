@@ -1,5 +1,5 @@
 //! Heaps on which many drawn commands were done.
-ghost use Rattle.std.specs.Prelude.{◌≡◌, ◌<◌, ◌≤◌};
+ghost use Rattle.std.specs.Prelude.{◌≡◌};
 ghost use Rattle.cf_base.specs.Settings.{Profile};
 ghost use Rattle.cf_base.specs.declared.kind.Kind.TheVariants.{Moving};
 ghost use Rattle.cf_session.specs.Apply.{run_at};
@@ -11,38 +11,28 @@ use cf_base::Settings;
 use cf_model::Manager;
 use cf_session::Session;
 use moving_heap::MovingHeap;
-use rand_core::{Rng, SeedableRng};
-use rand_xoshiro::SplitMix64;
 use script_reader::CommandRef;
 use std::alloc::Global;
 use std::test::Fail;
-use wrong_answers::Wrong;
+use test_support::{Draw, Wrong};
 
 /// How many commands are done on a heap.
 const COMMANDS: u32 = 3_000;
 
-/// A number below the bound.
-fn below(draw: &mut SplitMix64, bound: u32) -> u32
-    requires { 1 ≤ bound }
-    ensures { result < bound }
-{
-    (draw.next_u64() >> 32) as u32 % bound
-}
-
 /// A length of up to 540 bytes. Half of them are of few classes, so that objects move.
-fn length(draw: &mut SplitMix64) -> u32 {
-    if below(draw, 2) == 0 {
-        140 + below(draw, 24)
+fn length(draw: &mut Draw) -> u32 {
+    if draw.below(2) == 0 {
+        140 + draw.below(24)
     } else {
-        below(draw, 540)
+        draw.below(540)
     }
 }
 
 /// A malloc, a free, a resize or a write, drawn, of one of 64 ids. Some are refused: a write is of up
 /// to 40 bytes, which may pass the end of the object.
-fn drawn<'a>(draw: &mut SplitMix64, bytes: &'a [u8; 40]) -> CommandRef<'a> {
-    let id = 1_040 * below(draw, 64) as u16;
-    match below(draw, 8) {
+fn drawn<'a>(draw: &mut Draw, bytes: &'a [u8; 1_200]) -> CommandRef<'a> {
+    let id = 1_040 * draw.below(64) as u16;
+    match draw.below(8) {
         0 | 1 | 2 => CommandRef::Malloc {
             id,
             bytes: length(draw),
@@ -54,19 +44,19 @@ fn drawn<'a>(draw: &mut SplitMix64, bytes: &'a [u8; 40]) -> CommandRef<'a> {
         },
         _ => CommandRef::Write {
             id,
-            at: below(draw, 160),
-            bytes: &bytes[..1 + below(draw, 40) as usize],
+            at: draw.below(160),
+            bytes: &bytes[..1 + draw.below(40) as usize],
         },
     }
 }
 
 /// Does many drawn commands.
-fn churn<H: Manager>(heap: &mut H, session: &mut Session, draw: &mut SplitMix64)
+fn churn<H: Manager>(heap: &mut H, session: &mut Session, draw: &mut Draw)
     requires { IsGoing (run_at session.old (H.state heap.old)) }
     ensures { (p : Profile) → IsReady p (run_at session.old (H.state heap.old)) → IsReady p (run_at session.new (H.state heap.new)) }
 {
     'commands: for _i in 0..COMMANDS {
-        let bytes = [below(draw, 256) as u8; 40];
+        let bytes = draw.bytes();
         give(heap, session, drawn(draw, &bytes));
     }
 }
@@ -84,11 +74,7 @@ fn churned_image<H: Manager>(
     let settings = Settings::check(24, 512, k, 48)?;
     let mut session = Session::start(rt, alloc)?;
     open(heap, &session, &settings)?;
-    churn(
-        heap,
-        &mut session,
-        &mut SplitMix64::seed_from_u64(u64::from(k)),
-    );
+    churn(heap, &mut session, &mut Draw::seeded(u64::from(k)));
     image(rt, alloc, heap, &session, &settings)
 }
 

@@ -10,7 +10,7 @@ use heap_image::LoadFault;
 use moving_heap::MovingHeap;
 use std::alloc::Global;
 use std::test::Fail;
-use wrong_answers::Wrong;
+use test_support::Wrong;
 
 /// Whether what is loaded of the bytes is what the rules require: the same image again, or `Bad` at the
 /// first field that is broken.

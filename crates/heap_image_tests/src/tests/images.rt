@@ -17,7 +17,7 @@ use heap_image::{LoadFault, load, save};
 use script_reader::CommandRef;
 use std::alloc::Global;
 use step_ledger::Meter;
-use wrong_answers::Wrong;
+use test_support::Wrong;
 
 /// No image here is longer.
 const ROOM: usize = 16_384;

@@ -1,6 +1,7 @@
 //! Which bytes are an image: a plain program, slow, with the rules in their order.
 
 use std::alloc::{AllocError, Global};
+use test_support::{pages_needed, slot_for, slot_sizes};
 
 /// The sizes of a page in bytes.
 const PAGE_BYTES: [u32; 9] = [
@@ -54,6 +55,7 @@ fn read_header(bytes: &[u8]) -> Result<Header, usize> {
 
 /// The offset of the first field from the entries on that is broken.
 fn read_entries(alloc: Global, bytes: &[u8], header: Header) -> Result<Option<usize>, AllocError> {
+    let sizes = slot_sizes(alloc, header.page_words)?;
     let mut lengths = Vec::new(alloc);
     let mut least = 0;
     let mut at = 20_usize;
@@ -66,9 +68,7 @@ fn read_entries(alloc: Global, bytes: &[u8], header: Header) -> Result<Option<us
             return Ok(Some(at.saturating_add(2)));
         };
         lengths.push(length)?;
-        if header.page_words < words(length)
-            || header.pages < pages_needed(&lengths, header.page_words)
-        {
+        if slot_for(&sizes, length) == 0 || header.pages < pages_needed(&sizes, &lengths) {
             return Ok(Some(at.saturating_add(2)));
         }
         at = at.saturating_add(6);
@@ -89,39 +89,4 @@ fn number(bytes: &[u8], at: usize, width: usize) -> Option<u32> {
         number = number.wrapping_mul(256).wrapping_add(u32::from(*byte));
     }
     Some(number)
-}
-
-/// The words of an object of this length: a header, and eight bytes to a word.
-fn words(length: u32) -> u32 {
-    length / 8 + if length % 8 == 0 { 1 } else { 2 }
-}
-
-/// The pages for objects of these lengths if each class is full but for its last page. The slots have
-/// 4 words, then each time nine eighths of that, rounded up, and a page at last.
-fn pages_needed(lengths: &[u32], page_words: u32) -> u32 {
-    let mut pages = 0_u32;
-    let mut below = 0;
-    let mut slot = 4_u32;
-    for _class in 0..page_words {
-        let slots = (page_words / slot.max(1)).max(1);
-        pages = pages.saturating_add(count(lengths, below, slot).div_ceil(slots));
-        if slot == page_words {
-            break;
-        }
-        below = slot;
-        slot = (slot.saturating_mul(9).saturating_add(7) / 8).min(page_words);
-    }
-    pages
-}
-
-/// How many of these lengths need more than `below` words, and at most those of a slot.
-fn count(lengths: &[u32], below: u32, slot: u32) -> u32 {
-    let mut count = 0_u32;
-    for length in lengths {
-        let need = words(*length);
-        if below < need && need <= slot {
-            count = count.saturating_add(1);
-        }
-    }
-    count
 }

@@ -14,7 +14,7 @@ use moving_heap::MovingHeap;
 use script_reader::CommandRef;
 use std::alloc::Global;
 use std::test::Fail;
-use wrong_answers::Wrong;
+use test_support::Wrong;
 
 /// A heap, what is done on it, and its image.
 pub struct Row {

@@ -25,8 +25,8 @@ fn gives<S: Source + Drop>(
 
 /// Writes these bytes, and compares each result.
 fn takes<K: Sink>(rt: &impl Abort, sink: &mut K, wanted: &[(&[u8], Result<usize, Failed>)]) {
-    for (piece, answer) in wanted {
-        assert_eq!(rt; sink.put(piece), *answer);
+    for (bytes, answer) in wanted {
+        assert_eq!(rt; sink.put(bytes), *answer);
     }
 }
 

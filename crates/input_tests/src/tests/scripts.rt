@@ -1,7 +1,7 @@
 //! Scripts and their items under every chunking, payloads, and a command that borrows its bytes.
 ghost use Rattle.std.specs.Prelude.{◌≡◌, ◌<◌, false};
 
-use script_reader::{Command, CommandRef, Next, NextRef, Payload, Reader, Room};
+use script_reader::{Command, CommandRef, Next, NextRef, Payload, PayloadBuffer, Reader};
 use std::alloc::{AllocError, Global};
 use std::test::Fail;
 
@@ -205,12 +205,12 @@ fn read(alloc: Global, script: &[u8], size: usize) -> Result<String, AllocError>
 {
     let mut reader = Reader::new();
     let mut text = String::new(alloc);
-    'pieces: for piece in script.chunks(size) {
-        let n = reader.feed(piece);
+    'chunks: for chunk in script.chunks(size) {
+        let n = reader.feed(chunk);
         if drain(alloc, &mut reader, &mut text)? {
             return Ok(text);
         }
-        let _ = reader.feed(&piece[n..]);
+        let _ = reader.feed(&chunk[n..]);
         if drain(alloc, &mut reader, &mut text)? {
             return Ok(text);
         }
@@ -253,15 +253,15 @@ fn payloads_have_1_to_4096_bytes(rt: HostRuntime) {
 #[test]
 fn a_write_borrows_its_bytes(rt: HostRuntime) {
     let mut reader = Reader::new();
-    let mut room = Room::new();
+    let mut payload = PayloadBuffer::new();
     let _ = reader.feed(b"heap 1 512 1 4\nw 7 8 0Aff\n");
-    let _ = reader.next_ref(&mut room);
+    let _ = reader.next_ref(&mut payload);
     let write = CommandRef::Write {
         id: 7,
         at: 8,
         bytes: &[10, 255],
     };
-    let next = reader.next_ref(&mut room);
+    let next = reader.next_ref(&mut payload);
     assert_eq!(rt; next, NextRef::Command(write), "a write");
     let command = Command::Free { id: 7 };
     assert_eq!(rt; command.as_ref(), CommandRef::Free { id: 7 }, "a free");

@@ -1,18 +1,13 @@
 //! A heap of large objects. Each call is compared with a map of byte lists.
-ghost use Rattle.std.specs.Prelude.{◌<◌};
 ghost use Rattle.cf_model.specs.Families.{IsPaged};
 
 use crate::tests::driver::Driver;
-use crate::tests::needs::{Needs, parts_of};
-use cf_base::{AccessFault, Handle, Layout, Refusal, Settings};
+use cf_base::{Handle, Layout, Refusal, Settings};
 use cf_model::Manager;
 use page_reference::Plain;
 use std::alloc::Global;
 use step_ledger::Meter;
-use wrong_answers::{Wrong, hold};
-
-/// No object is longer.
-const MOST: usize = 1_000_000;
+use test_support::{Objects, Wrong, hold, pages_needed};
 
 /// Pages, the bytes of a page, the bytes that it has for one object, and proxies; and how slots are laid
 /// out.
@@ -20,7 +15,7 @@ const MOST: usize = 1_000_000;
 pub struct Shape {
     pub pages: u32,
     pub page_bytes: u32,
-    pub piece: u32,
+    pub part_bytes: u32,
     pub proxies: u32,
     pub layout: Layout,
 }
@@ -31,10 +26,11 @@ pub struct Compared<H: Manager> {
     pub driver: Driver<H>,
     alloc: Global,
     shape: Shape,
-    classes: Plain,
-    pub objects: Vec<Option<Vec<u8>>>,
+    /// The sizes of slots.
+    sizes: Vec<u32>,
+    pub objects: Objects<()>,
     /// How often a free was refused of a handle that the inner manager has.
-    pub pieces_kept: u32,
+    pub parts_kept: u32,
 }
 
 impl<H: Manager> Compared<H> {
@@ -44,105 +40,69 @@ impl<H: Manager> Compared<H> {
     {
         let settings = Settings::check(shape.pages, shape.page_bytes, 1, shape.proxies)?;
         let classes = Plain::new(alloc, &settings, shape.layout)?;
-        let mut objects = Vec::new(alloc);
-        for _i in 0..shape.proxies {
-            objects.push(None)?;
+        let mut sizes = Vec::new(alloc);
+        for c in 0..classes.classes() {
+            sizes.push(classes.slot_words(c))?;
         }
         let settings = [shape.pages, shape.page_bytes, shape.proxies];
         Ok(Compared {
             driver: Driver::open(alloc, inner, meter, settings)?,
             alloc,
             shape,
-            classes,
-            objects,
-            pieces_kept: 0,
+            sizes,
+            objects: Objects::none(alloc, shape.proxies)?,
+            parts_kept: 0,
         })
     }
 
-    /// What all objects need.
-    fn needs(&self) -> Result<Needs, Wrong> {
-        let mut needs = Needs::none(self.alloc, &self.classes)?;
-        for object in self.objects.iter() {
-            if let Some(bytes) = object {
-                let parts = self.parts(bytes.len().min(MOST) as u32)?;
-                needs.add(&self.classes, &parts);
-            }
+    /// The lengths of the inner objects of all objects.
+    fn inner_lengths(&self) -> Result<Vec<u32>, Wrong> {
+        let mut inner = Vec::new(self.alloc);
+        let lengths = self.objects.lengths_at(|_place| true)?;
+        for length in lengths.iter() {
+            push_inner(&mut inner, self.shape.part_bytes, *length)?;
         }
-        Ok(needs)
-    }
-
-    /// The lengths of the parts of an object.
-    fn parts(&self, bytes: u32) -> Result<Vec<u32>, Wrong> {
-        if self.shape.piece == 0 {
-            return Err(Wrong::Line);
-        }
-        parts_of(self.alloc, self.shape.piece, bytes)
+        Ok(inner)
     }
 
     /// Why an object of this length is refused, if it is.
     fn refusal(&self, bytes: u32) -> Result<Option<Refusal>, Wrong> {
-        let parts = self.parts(bytes)?;
-        if let Some(spine) = parts.last() {
-            if self.shape.piece < *spine {
-                return Ok(Some(Refusal::Size));
-            }
-        }
-        let mut needs = self.needs()?;
-        needs.add(&self.classes, &parts);
-        if self.shape.proxies < needs.parts {
-            return Ok(Some(Refusal::Proxy));
-        }
-        if self.shape.pages < needs.pages(&self.classes) {
-            return Ok(Some(Refusal::Space));
-        }
-        Ok(None)
+        let mut lengths = self.inner_lengths()?;
+        let last = push_inner(&mut lengths, self.shape.part_bytes, bytes)?;
+        Ok(if self.shape.part_bytes < last {
+            Some(Refusal::Size)
+        } else if (self.shape.proxies as usize) < lengths.len() {
+            Some(Refusal::Proxy)
+        } else if self.shape.pages < pages_needed(&self.sizes, &lengths) {
+            Some(Refusal::Space)
+        } else {
+            None
+        })
     }
 
-    /// A malloc.
+    /// Makes an object in the heap, compares the answer with the expected one, and adds the expected object.
     pub fn malloc(&mut self, bytes: u32) -> Result<Result<Handle, Refusal>, Wrong> {
         let want = self.refusal(bytes)?;
         let answer = self.driver.malloc(bytes)?;
         hold(answer.err() == want, Wrong::Malloc(answer))?;
         if let Ok(h) = answer {
-            let zeros = Vec::from_elem(self.alloc, 0, bytes as usize)?;
-            let was_free = match self.objects.get(h.0 as usize) {
-                Some(None) => true,
-                _ => false,
-            };
-            hold(was_free, Wrong::Differs("the handle of a new object"))?;
-            self.set(h, Some(zeros));
+            self.objects.add(h.0, (), bytes)?;
         }
         Ok(answer)
     }
 
-    /// The object of a handle from now on.
-    fn set(&mut self, h: Handle, object: Option<Vec<u8>>) {
-        if let Some(entry) = self.objects.get_mut(h.0 as usize) {
-            *entry = object;
-        }
-    }
-
-    /// The length of an object; none if the handle isn't that of one.
-    pub fn length(&self, h: Handle) -> Option<usize> {
-        match self.objects.get(h.0 as usize) {
-            Some(Some(bytes)) => Some(bytes.len()),
-            _ => None,
-        }
-    }
-
-    /// A free.
+    /// Frees an object of the heap and the expected one. Fails if just one of them was live.
     pub fn free(&mut self, h: Handle) -> Result<(), Wrong> {
-        let is_object = self.length(h).is_some();
         let is_part = self.is_part(h)?;
         let answer = self.driver.free(h)?;
+        let is_object = self.objects.take(h.0).is_some();
         hold(
             answer.is_ok() == is_object,
             Wrong::Differs("whether a free was refused"),
         )?;
         if is_part && !is_object {
-            self.pieces_kept = self.pieces_kept.saturating_add(1);
+            self.parts_kept = self.parts_kept.saturating_add(1);
         }
-        self.set(h, None);
         Ok(())
     }
 
@@ -155,75 +115,57 @@ impl<H: Manager> Compared<H> {
         Ok(inner.place(h, self.driver.meter.steps()).is_some())
     }
 
-    /// What a read or a write of this part returns.
-    fn access(&self, h: Handle, at: u32, count: usize) -> Result<(), AccessFault> {
-        let Some(length) = self.length(h) else {
-            return Err(AccessFault::Unknown);
-        };
-        if at as usize <= length && count <= length - at as usize {
-            Ok(())
-        } else {
-            Err(AccessFault::Range)
-        }
-    }
-
-    /// A write.
+    /// Writes the bytes, compares the answer with the expected one, and writes them to the expected object.
     pub fn write(&mut self, h: Handle, at: u32, bytes: &[u8]) -> Result<(), Wrong> {
-        let want = self.access(h, at, bytes.len());
         let answer = self.driver.write(h, at, bytes)?;
-        hold(answer == want, Wrong::Access(answer))?;
-        if let Some(Some(object)) = self.objects.get_mut(h.0 as usize) {
-            overwrite(object.as_mut_slice(), at as usize, bytes);
-        }
-        Ok(())
+        self.objects.written(h.0, at, bytes, answer)
     }
 
-    /// A read of `count` bytes. One that is refused leaves the room as it was.
-    pub fn read(&mut self, h: Handle, at: u32, count: usize) -> Result<(), Wrong> {
-        let mut out = Vec::from_elem(self.alloc, 0xee, count)?;
-        let mut want = Vec::from_elem(self.alloc, 0xee, count)?;
-        if let Some(Some(object)) = self.objects.get(h.0 as usize) {
-            copy_part(object, at as usize, want.as_mut_slice());
-        }
-        let answer = self.driver.read(h, at, out.as_mut_slice())?;
-        hold(answer == self.access(h, at, count), Wrong::Access(answer))?;
-        hold(
-            out.as_slice() == want.as_slice(),
-            Wrong::Differs("the bytes of an object"),
-        )
+    /// A read of `count` bytes. One that is refused leaves the buffer as it was.
+    pub fn read(&mut self, h: Handle, at: u32, count: u32) -> Result<(), Wrong> {
+        let mut buffer = self.objects.buffer(count)?;
+        let answer = self.driver.read(h, at, buffer.as_mut_slice())?;
+        self.objects.read(h.0, at, buffer.as_slice(), answer)
     }
 
-    /// Reads every object whole, and compares the parts and the pages of all with those of the inner
-    /// manager.
+    /// Reads every object whole, and compares the inner objects and the pages of all with those of the
+    /// inner manager.
     pub fn compare(&mut self) -> Result<(), Wrong> {
         for number in 0..self.shape.proxies {
-            let h = Handle(number);
-            self.read(h, 0, self.length(h).unwrap_or(0))?;
+            let length = self.objects.length(number).unwrap_or(0);
+            self.read(Handle(number), 0, length)?;
         }
-        let needs = self.needs()?;
-        let pages = needs.pages(&self.classes);
+        let lengths = self.inner_lengths()?;
+        let pages = pages_needed(&self.sizes, &lengths);
         let inner = self.driver.heap.inner();
         if !inner.is_open() {
             return Err(Wrong::Closed);
         }
         let totals = inner.totals(self.driver.meter.steps());
         hold(
-            totals.live == needs.parts && totals.used == pages,
+            totals.live as usize == lengths.len() && totals.used == pages,
             Wrong::Whole(totals),
         )
     }
 }
 
-/// Writes the bytes into the object from byte `at` on, if they are within it.
-fn overwrite(object: &mut [u8], at: usize, bytes: &[u8]) {
-    if at <= object.len() && bytes.len() <= object.len() - at {
-        object[at..at + bytes.len()].copy_from_slice(bytes);
+/// Adds the lengths of the inner objects of an object whose parts have `part_bytes` bytes each: of the
+/// object alone; or of its parts, and at last of the spine, which has four bytes for each. Returns the
+/// last one.
+fn push_inner(lengths: &mut Vec<u32>, part_bytes: u32, bytes: u32) -> Result<u32, Wrong> {
+    if part_bytes == 0 {
+        return Err(Wrong::Line);
     }
-}
-
-/// Fills `out` with the bytes of the object from byte `at` on, if they are within it.
-fn copy_part(object: &[u8], at: usize, room: &mut [u8]) {
-    if at <= object.len() && room.len() <= object.len() - at {
-        room.copy_from_slice(&object[at..at + room.len()]);
+    let parts = bytes.div_ceil(part_bytes);
+    let mut last = bytes;
+    for _i in 1..parts {
+        lengths.push(part_bytes)?;
+        last = last.saturating_sub(part_bytes);
     }
+    lengths.push(last)?;
+    if 1 < parts {
+        last = parts.saturating_mul(4);
+        lengths.push(last)?;
+    }
+    Ok(last)
 }

@@ -6,7 +6,7 @@ use cf_model::Manager;
 use large_objects::LargeHeap;
 use std::alloc::Global;
 use step_ledger::Meter;
-use wrong_answers::{Wrong, hold};
+use test_support::{Wrong, hold};
 
 /// A heap of large objects, with the meter of its calls.
 #[derive(Drop)]
@@ -38,7 +38,7 @@ impl<H: Manager> Driver<H> {
         Ok(Driver { heap, meter })
     }
 
-    /// A malloc.
+    /// Returns the heap's answer to a malloc. Fails if the heap is closed.
     pub fn malloc(&mut self, bytes: u32) -> Result<Result<Handle, Refusal>, Wrong> {
         if !self.heap.is_open() {
             return Err(Wrong::Closed);
@@ -46,7 +46,7 @@ impl<H: Manager> Driver<H> {
         Ok(self.heap.malloc(bytes, &mut self.meter))
     }
 
-    /// A malloc that isn't refused.
+    /// Returns the handle of a new object. Fails if the malloc is refused.
     pub fn given(&mut self, bytes: u32) -> Result<Handle, Wrong> {
         match self.malloc(bytes)? {
             Ok(h) => Ok(h),
@@ -54,7 +54,7 @@ impl<H: Manager> Driver<H> {
         }
     }
 
-    /// A free.
+    /// Returns the heap's answer to a free. Fails if the heap is closed.
     pub fn free(&mut self, h: Handle) -> Result<Result<(), NotLive>, Wrong> {
         if !self.heap.is_open() {
             return Err(Wrong::Closed);
@@ -62,7 +62,7 @@ impl<H: Manager> Driver<H> {
         Ok(self.heap.free(h, &mut self.meter))
     }
 
-    /// A write.
+    /// Writes the bytes, and returns the heap's answer. Fails if the heap is closed.
     pub fn write(
         &mut self,
         h: Handle,
@@ -81,7 +81,7 @@ impl<H: Manager> Driver<H> {
         hold(done.is_ok(), Wrong::Access(done))
     }
 
-    /// A read.
+    /// Reads bytes into `out`, and returns the heap's answer. Fails if the heap is closed.
     pub fn read(
         &mut self,
         h: Handle,

@@ -1,4 +1,4 @@
-//! Reads and writes across the edges of pieces.
+//! Reads and writes across the edges of parts.
 ghost use Rattle.std.specs.Prelude.{◌≤◌};
 ghost use Rattle.cf_model.specs.Families.{IsPaged};
 
@@ -10,12 +10,12 @@ use nonmoving_heap::NonMovingHeap;
 use std::alloc::Global;
 use std::test::Fail;
 use step_ledger::Meter;
-use wrong_answers::Wrong;
+use test_support::Wrong;
 
-/// The bytes of a page, and those of a piece.
+/// The bytes of a page, and those of a part.
 static PAGES: [(u32, u32); 3] = [(512, 504), (4_096, 4_088), (131_072, 131_064)];
 
-/// An object of five pieces and seven bytes.
+/// An object of five parts and seven bytes.
 fn across_edges<H: Manager>(
     alloc: Global,
     inner: H,
@@ -25,25 +25,25 @@ fn across_edges<H: Manager>(
 ) -> Result<(), Wrong>
     requires { IsPaged (H.state inner).kind }
 {
-    let (page_bytes, piece) = page;
-    if piece < 16 || 1_000_000 < piece {
+    let (page_bytes, part_bytes) = page;
+    if part_bytes < 16 || 1_000_000 < part_bytes {
         return Err(Wrong::Line);
     }
     let shape = Shape {
         pages: 16,
         page_bytes,
-        piece,
+        part_bytes,
         proxies: 16,
         layout,
     };
     let mut both = Compared::open(alloc, inner, meter, shape)?;
-    let Ok(h) = both.malloc(5 * piece + 7)? else {
+    let Ok(h) = both.malloc(5 * part_bytes + 7)? else {
         return Err(Wrong::Closed);
     };
     for i in 1..6 {
-        around_edge(&mut both, h, i * piece)?;
+        around_edge(&mut both, h, i * part_bytes)?;
     }
-    over_many(alloc, &mut both, h, piece)?;
+    over_many(alloc, &mut both, h, part_bytes)?;
     both.compare()
 }
 
@@ -65,26 +65,27 @@ fn around_edge<H: Manager>(both: &mut Compared<H>, h: Handle, edge: u32) -> Resu
     Ok(())
 }
 
-/// Writes from the last byte of a piece over two whole pieces into a fourth, and reads around that.
+/// Writes from the last byte of a part over two whole parts into a fourth, and reads around that.
 fn over_many<H: Manager>(
     alloc: Global,
     both: &mut Compared<H>,
     h: Handle,
-    piece: u32,
+    part_bytes: u32,
 ) -> Result<(), Wrong>
-    requires first { 16 ≤ piece }
-    requires last { piece ≤ 1000000 }
+    requires first { 16 ≤ part_bytes }
+    requires last { part_bytes ≤ 1000000 }
 {
+    let count = 2 * part_bytes + 3;
     let mut bytes = Vec::new(alloc);
-    for i in 0..2 * piece + 3 {
+    for i in 0..count {
         bytes.push((i % 251) as u8)?;
     }
-    both.write(h, piece - 1, &bytes)?;
-    both.read(h, piece - 2, bytes.len())?;
-    both.read(h, 4 * piece, piece as usize + 7)?;
+    both.write(h, part_bytes - 1, &bytes)?;
+    both.read(h, part_bytes - 2, count)?;
+    both.read(h, 4 * part_bytes, part_bytes + 7)?;
     // A byte too many.
-    both.read(h, 4 * piece, piece as usize + 8)?;
-    both.write(h, 3 * piece + 8, &bytes)
+    both.read(h, 4 * part_bytes, part_bytes + 8)?;
+    both.write(h, 3 * part_bytes + 8, &bytes)
 }
 
 #[test]

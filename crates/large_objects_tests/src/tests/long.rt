@@ -10,7 +10,7 @@ use nonmoving_heap::NonMovingHeap;
 use std::alloc::Global;
 use std::test::Fail;
 use step_ledger::Meter;
-use wrong_answers::Wrong;
+use test_support::Wrong;
 
 /// The bytes of the object.
 const BYTES: u32 = 60_000_000;
@@ -18,11 +18,11 @@ const BYTES: u32 = 60_000_000;
 /// How many bytes are written and read at once.
 const CHUNK: usize = 4_096;
 
-/// The byte at each place is its place over 251, the rest: no length of a page or of a piece is a
+/// The byte at each place is its place over 251, the rest: no length of a page or of a part is a
 /// multiple of that.
 const PERIOD: u32 = 251;
 
-/// Pages, the bytes of a page, and proxies; and the bytes of a piece.
+/// Pages, the bytes of a page, and proxies; and the bytes of a part.
 static PAGES: [([u32; 3], u32); 2] = [
     ([4_096, 16_384, 4_096], 16_376),
     ([512, 131_072, 512], 131_064),
@@ -38,7 +38,7 @@ fn bytes_at(table: &[u8], at: u32) -> Result<&[u8], Wrong> {
     }
 }
 
-/// Writes the object chunk by chunk, and reads it back; and then around each edge of its pieces.
+/// Writes the object chunk by chunk, and reads it back; and then around each edge of its parts.
 fn written_and_read<H: Manager>(
     alloc: Global,
     inner: H,
@@ -47,7 +47,7 @@ fn written_and_read<H: Manager>(
 ) -> Result<(), Wrong>
     requires { IsPaged (H.state inner).kind }
 {
-    let (settings, piece) = page;
+    let (settings, part_bytes) = page;
     let mut table = Vec::new(alloc);
     for i in 0..CHUNK as u32 + PERIOD {
         table.push((i % PERIOD) as u8)?;
@@ -56,7 +56,7 @@ fn written_and_read<H: Manager>(
     let h = driver.given(BYTES)?;
     write_chunks(&mut driver, h, &table)?;
     read_chunks(&mut driver, h, &table)?;
-    read_edges(&mut driver, h, &table, piece)
+    read_edges(&mut driver, h, &table, part_bytes)
 }
 
 /// Writes the object, chunk by chunk.
@@ -82,21 +82,21 @@ fn read_chunks<H: Manager>(driver: &mut Driver<H>, h: Handle, table: &[u8]) -> R
     Ok(())
 }
 
-/// Reads eight bytes across each edge of the pieces.
+/// Reads eight bytes across each edge of the parts.
 fn read_edges<H: Manager>(
     driver: &mut Driver<H>,
     h: Handle,
     table: &[u8],
-    piece: u32,
+    part_bytes: u32,
 ) -> Result<(), Wrong> {
     let mut out = [0; 8];
-    let mut at = piece.saturating_sub(4);
-    for _i in 1..BYTES.div_ceil(piece.max(1)) {
+    let mut at = part_bytes.saturating_sub(4);
+    for _i in 1..BYTES.div_ceil(part_bytes.max(1)) {
         let Some(want) = bytes_at(table, at)?.get(..8) else {
             return Err(Wrong::Line);
         };
         driver.gives(h, at, &mut out, want)?;
-        at = at.saturating_add(piece);
+        at = at.saturating_add(part_bytes);
     }
     Ok(())
 }

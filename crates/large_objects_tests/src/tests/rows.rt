@@ -9,7 +9,7 @@ use nonmoving_heap::NonMovingHeap;
 use std::alloc::Global;
 use std::test::Fail;
 use step_ledger::Meter;
-use wrong_answers::{Wrong, hold};
+use test_support::{Wrong, hold};
 
 /// The bytes that are written.
 static EIGHT: [u8; 8] = [1, 2, 3, 4, 5, 6, 7, 8];
@@ -46,10 +46,10 @@ struct Row {
     calls: &'static [Call],
 }
 
-/// First, on pages of 512 bytes, of 4 KiB and of 128 KiB: of four pages an object of two pieces has two, and
-/// its spine one, which the other spines and pieces of one byte share; so that of two objects of a
-/// byte more than a piece the second waits until the long one goes. Then the longest objects: their
-/// spines take a page, or would take more. With a spine and two pieces an object has three proxies.
+/// First, on pages of 512 bytes, of 4 KiB and of 128 KiB: of four pages an object of two parts has two, and
+/// its spine one, which the other spines and parts of one byte share; so that of two objects of a
+/// byte more than a part the second waits until the long one goes. Then the longest objects: their
+/// spines take a page, or would take more. With a spine and two parts an object has three proxies.
 static ROWS: [Row; 9] = [
     Row {
         settings: [4, 512, 16],

@@ -47,14 +47,9 @@ const CALLS: [(Call, &str, u64); 20] = [
 
 #[test]
 fn each_call_takes_its_steps(rt: HostRuntime) -> Result<(), Fail> {
-    let Ok(s) = Settings::check(3, 512, 1, 8) else {
-        panic!(rt; "the settings are in range");
-    };
     let mut meter = Meter::new(&rt);
     let mut heap = QuotaHeap::closed(rt.alloc());
-    let Ok(()) = heap.open_heap(&s) else {
-        panic!(rt; "no memory");
-    };
+    heap.open_heap(&Settings::check(3, 512, 1, 8)?)?;
     for (call, want, steps) in CALLS {
         assert_eq!(rt; answer(&mut heap, &mut meter, 0, call), want);
         assert_eq!(rt; meter.lap(), steps);

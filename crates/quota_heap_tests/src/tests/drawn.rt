@@ -1,130 +1,140 @@
-//! Drawn calls of sixteen tasks, against a plain table of the lengths of their objects.
-ghost use Rattle.std.specs.Prelude.{◌<◌, ◌≤◌, ◌^◌, ◌≡◌, IsTrue, length};
+//! Drawn calls of sixteen tasks, against a plain table of their objects' bytes.
+ghost use Rattle.std.specs.Prelude.{◌≡◌, ◌<◌, IsTrue, OnOk};
 
 use quota_heap::{Handle, QuotaHeap, Refusal, Settings};
-use rand_core::{Rng, SeedableRng};
-use rand_xoshiro::SplitMix64;
+use std::alloc::Global;
 use std::test::Fail;
 use step_ledger::Meter;
+use test_support::{Draw, Objects, Wrong, hold, pages_needed, slot_sizes};
 
 /// Objects that a task may have.
-const PROXIES: usize = 8;
+const PROXIES: u32 = 8;
 
-/// The words of a page.
-const PAGE: u32 = 64;
-
-/// The lengths of the live objects of one task, by number.
-type Lengths = [Option<u32>; PROXIES];
-
-/// The words of the least slot that holds an object of `bytes` bytes and its header. Each size is nine
-/// eighths of the one before it, rounded up; the last one is the page.
-fn slot_of(bytes: u32) -> u32
-    requires { bytes ≤ 504 }
-{
-    let words = 1 + bytes.div_ceil(8);
-    let mut size = 4;
-    for _step in 0..64 {
-        if size < words && size < PAGE {
-            size = ((9 * size).div_ceil(8)).min(PAGE);
-        }
-    }
-    size
+/// The heap, and the table: object n of task t has number 8 t + n there, and the task in place of an
+/// address.
+#[derive(Drop)]
+struct Drawn {
+    heap: QuotaHeap,
+    meter: Meter,
+    objects: Objects<u32>,
+    sizes: Vec<u32>,
+    draw: Draw,
 }
 
-/// The pages that the objects of a task need: by size of slot, their number over the slots of a page.
-fn pages_of(lengths: &Lengths) -> u32 {
-    let mut pages = 0u32;
-    for size in 4..PAGE + 1 {
-        let mut count = 0u32;
-        for bytes in lengths {
-            if let Some(bytes) = bytes {
-                if *bytes <= 504 && slot_of(*bytes) == size {
-                    count = count.saturating_add(1);
-                }
-            }
-        }
-        pages = pages.saturating_add(count.div_ceil(PAGE / size));
-    }
-    pages
+/// The quota of a task.
+fn quota_of(task: u32) -> u32 {
+    1 + task % 2
 }
 
-/// The refusal that a malloc of a task with these objects and this quota must return.
-fn refusal_of(lengths: &Lengths, quota: u32, bytes: u32) -> Option<Refusal>
-    requires { bytes ≤ 504 }
-{
-    let mut with = *lengths;
-    for number in 0..PROXIES {
-        if with[number].is_none() {
-            with[number] = Some(bytes);
-            if pages_of(&with) > quota {
-                return Some(Refusal::Space);
-            }
-            return None;
+impl Drawn {
+    /// Without objects.
+    fn open(alloc: Global, meter: Meter) -> Result<Drawn, Wrong> {
+        let mut heap = QuotaHeap::closed(alloc);
+        heap.open_heap(&Settings::check(24, 512, 1, PROXIES)?)?;
+        for task in 0..16 {
+            let set = heap.is_open() && heap.set_quota(task, quota_of(task)).is_ok();
+            hold(set, Wrong::Differs("a quota"))?;
         }
+        Ok(Drawn {
+            heap,
+            meter,
+            objects: Objects::none(alloc, 16 * PROXIES)?,
+            sizes: slot_sizes(alloc, 64)?,
+            draw: Draw::seeded(16),
+        })
     }
-    Some(Refusal::Proxy)
-}
 
-/// The byte that an object is filled with.
-fn filling(task: u32, number: u32) -> u8 {
-    (1 + (task % 16) * 8 + number % 8) as u8
+    /// Sets the ledger to 0 for a call, if the heap is open.
+    fn start(&mut self) -> Result<(), Wrong>
+        ensures open { OnOk result (IsTrue self.new.heap.is_open) }
+        ensures ledger { OnOk result (self.new.meter ≡ 0) }
+    {
+        self.meter.lap();
+        hold(self.heap.is_open(), Wrong::Closed)
+    }
+
+    /// A malloc or a free, and a read of another object.
+    fn call(&mut self) -> Result<(), Wrong> {
+        let task = self.draw.below(16);
+        let number = self.draw.below(PROXIES);
+        if self.draw.below(5) < 3 {
+            self.malloc(task)?;
+        } else {
+            self.free(task, number)?;
+        }
+        let other = self.draw.below(16);
+        self.read(other, number)
+    }
+
+    /// The refusal that a malloc must return.
+    fn refusal(&self, task: u32, bytes: u32) -> Result<Option<Refusal>, Wrong> {
+        let mut lengths = self.objects.lengths_at(|owner| *owner == task)?;
+        lengths.push(bytes)?;
+        Ok(if lengths.len() > PROXIES as usize {
+            Some(Refusal::Proxy)
+        } else if pages_needed(&self.sizes, &lengths) > quota_of(task) {
+            Some(Refusal::Space)
+        } else {
+            None
+        })
+    }
+
+    /// A malloc. All bytes of the object are written.
+    fn malloc(&mut self, task: u32) -> Result<(), Wrong>
+        requires { task < 16 }
+    {
+        let length = self.draw.below(505);
+        let want = self.refusal(task, length)?;
+        self.start()?;
+        let given = self.heap.malloc(task, length, self.meter.steps());
+        hold(given.err() == want, Wrong::Malloc(given))?;
+        let Ok(h) = given else {
+            return Ok(());
+        };
+        hold(h.0 < PROXIES, Wrong::Malloc(given))?;
+        let number = PROXIES * task + h.0;
+        self.objects.add(number, task, length)?;
+        let bytes = self.draw.bytes();
+        let part = &bytes[..length as usize];
+        self.start()?;
+        let done = self.heap.write(task, h, 0, part, self.meter.steps());
+        self.objects.written(number, 0, part, done)
+    }
+
+    /// Frees an object of the heap and the expected one, and fails if just one of them was live.
+    fn free(&mut self, task: u32, number: u32) -> Result<(), Wrong>
+        requires task { task < 16 }
+        requires number { number < 8 }
+    {
+        self.start()?;
+        let freed = self.heap.free(task, Handle(number), self.meter.steps());
+        let object = self.objects.take(PROXIES * task + number);
+        hold(freed.is_ok() == object.is_some(), Wrong::Free(freed))
+    }
+
+    /// A read of all bytes.
+    fn read(&mut self, task: u32, number: u32) -> Result<(), Wrong>
+        requires task { task < 16 }
+        requires number { number < 8 }
+    {
+        let entry = PROXIES * task + number;
+        let length = self.objects.length(entry).unwrap_or(0);
+        let mut buffer = self.objects.buffer(length)?;
+        self.start()?;
+        let out = buffer.as_mut_slice();
+        let done = self
+            .heap
+            .read(task, Handle(number), 0, out, self.meter.steps());
+        self.objects.read(entry, 0, buffer.as_slice(), done)
+    }
 }
 
 #[test]
 fn drawn_calls_of_all_tasks_are_answered_as_by_a_table(rt: HostRuntime) -> Result<(), Fail> {
-    let Ok(s) = Settings::check(24, 512, 1, 8) else {
-        panic!(rt; "the settings are in range");
-    };
-    let mut meter = Meter::new(&rt);
-    let mut heap = QuotaHeap::closed(rt.alloc());
-    let Ok(()) = heap.open_heap(&s) else {
-        panic!(rt; "no memory");
-    };
-    let mut table: [Lengths; 16] = [[None; PROXIES]; 16];
-    for task in 0..16 {
-        assert_eq!(rt; heap.set_quota(task, 1 + task % 2), Ok(()));
-    }
-    let mut rng = SplitMix64::seed_from_u64(16);
-    let mut out = [0u8; 504];
+    let mut drawn = Drawn::open(rt.alloc(), Meter::new(&rt))?;
     for call in 0..4000 {
-        let word = rng.next_u64();
-        let task = (word % 16) as u32;
-        let number = (word / 16 % 8) as u32;
-        let bytes = (word / 128 % 505) as u32;
-        meter.lap();
-        if word / 65536 % 5 < 3 {
-            let wanted = refusal_of(&table[task as usize], 1 + task % 2, bytes);
-            match heap.malloc(task, bytes, meter.steps()) {
-                Ok(h) => {
-                    assert_eq!(rt; wanted, None, "call {call}");
-                    assert!(rt; h.0 < 8, "call {call}");
-                    let slot = &mut table[task as usize][(h.0 % 8) as usize];
-                    assert_eq!(rt; *slot, None, "call {call}");
-                    *slot = Some(bytes);
-                    let fill = [filling(task, h.0); 504];
-                    meter.lap();
-                    let part = &fill[..bytes as usize];
-                    assert_eq!(rt; heap.write(task, h, 0, part, meter.steps()), Ok(()));
-                }
-                Err(refusal) => assert_eq!(rt; wanted, Some(refusal), "call {call}"),
-            }
-        } else {
-            let freed = heap.free(task, Handle(number), meter.steps());
-            let slot = &mut table[task as usize][number as usize];
-            assert_eq!(rt; freed.is_ok(), slot.is_some(), "call {call}");
-            *slot = None;
-        }
-        let other = (word / 1048576 % 16) as u32;
-        if let Some(bytes) = table[other as usize][number as usize] {
-            let len = bytes.min(504) as usize;
-            meter.lap();
-            assert_eq!(rt;
-                heap.read(other, Handle(number), 0, &mut out[..len], meter.steps()),
-                Ok(())
-            );
-            let fill = filling(other, number);
-            assert!(rt; out[..len].iter().all(|b| *b == fill), "call {call}");
-        }
+        let done = drawn.call();
+        assert!(rt; done.is_ok(), "call {call}: {done:?}");
     }
     Ok(())
 }

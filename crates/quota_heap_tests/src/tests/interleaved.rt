@@ -90,9 +90,7 @@ fn together(heap: &mut QuotaHeap, meter: &mut Meter, order: u32) -> bool
 
 #[test]
 fn two_tasks_are_answered_in_every_order_as_each_alone(rt: HostRuntime) -> Result<(), Fail> {
-    let Ok(settings) = Settings::check(4, 512, 1, 8) else {
-        panic!(rt; "the settings are in range");
-    };
+    let settings = Settings::check(4, 512, 1, 8)?;
     let mut meter = Meter::new(&rt);
     let mut heap = QuotaHeap::closed(rt.alloc());
     for task in 0..2 {

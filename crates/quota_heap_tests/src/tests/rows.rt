@@ -8,14 +8,9 @@ use step_ledger::Meter;
 // page. Task 1 gets what task 0 returns of its quota.
 #[test]
 fn a_page_that_is_freed_stays_in_the_quota(rt: HostRuntime) -> Result<(), Fail> {
-    let Ok(s) = Settings::check(3, 512, 1, 8) else {
-        panic!(rt; "the settings are in range");
-    };
     let mut meter = Meter::new(&rt);
     let mut heap = QuotaHeap::closed(rt.alloc());
-    let Ok(()) = heap.open_heap(&s) else {
-        panic!(rt; "no memory");
-    };
+    heap.open_heap(&Settings::check(3, 512, 1, 8)?)?;
     for (task, call, want) in [
         (0, Call::Quota(2), "ok"),
         (1, Call::Quota(1), "ok"),

@@ -79,7 +79,7 @@ const CALLS: [(Call, u64); 30] = [
     (Call::Malloc(504), 15),
     // No page is left.
     (Call::Malloc(504), 1),
-    // Object 2 is to be carried to the slot.
+    // Object 2 is to be moved to the slot.
     (Call::Free(0), 22),
     // Unknown, and busy.
     (Call::Free(7), 1),
@@ -104,7 +104,7 @@ const CALLS: [(Call, u64); 30] = [
     (Call::Peek(256), 0),
 ];
 
-/// A slice of 30 words carries an object of that slot whole.
+/// A slice of 30 words moves an object of that slot whole.
 const AT_ONCE: [(Call, u64); 4] = [
     (Call::Malloc(232), 15),
     (Call::Malloc(232), 17),

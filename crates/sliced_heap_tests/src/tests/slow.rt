@@ -1,9 +1,8 @@
 //! A slow reference implementation of a heap whose frees leave their work in slices. It computes each
 //! result and each word from the objects and the job alone, by their definitions.
-ghost use Rattle.std.specs.Prelude.{◌≤◌};
-
 use slice_model::{SliceFault, SliceRefusal};
-use std::alloc::{AllocError, Global};
+use std::alloc::Global;
+use test_support::{Object, Objects, Wrong, pages_needed, slot_for, slot_sizes};
 
 /// Pages, the words of a page, and proxies.
 pub const PAGES: u32 = 12;
@@ -12,22 +11,15 @@ pub const PAGE_WORDS: u32 = 256;
 
 pub const PROXIES: u32 = 24;
 
-/// The words of the least slot, and how many sizes there are at most.
-const LEAST: u32 = 4;
-
-const SIZES: u32 = 40;
-
 /// No object is longer.
-pub const MOST: usize = 2040;
+pub const MOST: u32 = 2040;
 
-/// An object: its owner, the first word of its slot, the words of the slot, and its bytes.
+/// Where an object is: its owner, and the first word and the words of its slot.
 #[derive(Clone, Copy)]
-pub struct Object {
+pub struct Slot {
     pub task: u32,
     pub place: u32,
     pub words: u32,
-    pub length: u32,
-    pub bytes: [u8; MOST],
 }
 
 /// What the words of a job's slot are for.
@@ -35,10 +27,10 @@ pub struct Object {
 pub enum Work {
     /// They are to be cleared.
     Clears,
-    /// An object of this page is to be carried to the slot. The first slice shows which one.
+    /// An object of this page is to be moved to the slot. The first slice shows which one.
     Awaits(u32),
-    /// They are those of the object of this number, which are carried to its address.
-    Carries(u32),
+    /// They are those of the object of this number, which move to its address.
+    Moves(u32),
 }
 
 /// A job: its slot, and how many words are done.
@@ -50,28 +42,12 @@ pub struct Job {
     pub work: Work,
 }
 
-/// The objects by number, and the job.
+/// The objects by number, the sizes of slots, and the job.
 #[derive(Drop)]
 pub struct Slow {
-    objects: Vec<Option<Object>>,
+    pub objects: Objects<Slot>,
+    sizes: Vec<u32>,
     job: Option<Job>,
-}
-
-/// The slot size after this one: nine eighths of it, rounded up, and at last the page.
-fn next_size(words: u32) -> u32 {
-    words.saturating_mul(9).div_ceil(8).min(PAGE_WORDS)
-}
-
-/// The words of the least slot that holds an object of this length with its header.
-pub fn slot_words(bytes: u32) -> u32 {
-    let words = 1 + bytes.div_ceil(8);
-    let mut size = LEAST;
-    for _step in 0..SIZES {
-        if size < words {
-            size = next_size(size);
-        }
-    }
-    size
 }
 
 /// How many slots of this size a page has.
@@ -90,82 +66,31 @@ fn page_of(place: u32) -> u32 {
     place / PAGE_WORDS
 }
 
-/// Word i of an object: its header, its bytes, then zeros.
-fn word_of(number: u32, object: &Object, i: u32) -> u64 {
-    if i == 0 {
-        return u64::from(number) | (u64::from(object.length) << 32);
-    }
-    let first = 8 * (i as usize - 1);
-    let mut bytes = [0u8; 8];
-    for k in 0..8 {
-        if let Some(byte) = object.bytes.get(first + k) {
-            bytes[k] = *byte;
-        }
-    }
-    u64::from_le_bytes(bytes)
-}
-
 impl Slow {
     /// No objects, and no job.
-    pub fn new(alloc: Global) -> Result<Slow, AllocError> {
-        let mut objects = Vec::new(alloc);
-        for _i in 0..PROXIES {
-            objects.push(None)?;
-        }
-        Ok(Slow { objects, job: None })
+    pub fn new(alloc: Global) -> Result<Slow, Wrong> {
+        Ok(Slow {
+            objects: Objects::none(alloc, PROXIES)?,
+            sizes: slot_sizes(alloc, PAGE_WORDS)?,
+            job: None,
+        })
     }
 
-    /// The object of this number, if there is one.
-    pub fn object(&self, number: u32) -> Option<&Object> {
-        match self.objects.get(number as usize) {
-            Some(Some(object)) => Some(object),
-            _ => None,
-        }
+    /// The words of the slot of an object of this length.
+    pub fn slot_words(&self, length: u32) -> u32 {
+        slot_for(&self.sizes, length)
     }
 
     /// Whether the job's slot has this size, and is on this page.
     fn holds(&self, words: u32, page: u32) -> bool {
-        match self.job {
-            Some(job) => job.words == words && page_of(job.place) == page,
-            None => false,
-        }
+        self.job
+            .is_some_and(|job| job.words == words && page_of(job.place) == page)
     }
 
-    /// How many objects there are.
-    fn count(&self) -> u32 {
-        let mut count = 0u32;
-        for entry in self.objects.iter() {
-            if entry.is_some() {
-                count = count.saturating_add(1);
-            }
-        }
-        count
-    }
-
-    /// How many objects have slots of this size.
-    fn live(&self, words: u32) -> u32 {
-        let mut count = 0u32;
-        for entry in self.objects.iter() {
-            if let Some(object) = entry {
-                if object.words == words {
-                    count = count.saturating_add(1);
-                }
-            }
-        }
-        count
-    }
-
-    /// How many of them are on the page.
+    /// How many objects with slots of this size are on the page.
     fn on_page(&self, words: u32, page: u32) -> u32 {
-        let mut count = 0u32;
-        for entry in self.objects.iter() {
-            if let Some(object) = entry {
-                if object.words == words && page_of(object.place) == page {
-                    count = count.saturating_add(1);
-                }
-            }
-        }
-        count
+        self.objects
+            .count_at(|slot| slot.words == words && page_of(slot.place) == page)
     }
 
     /// Whether the page holds an object with a slot of this size, and has a free slot.
@@ -195,36 +120,10 @@ impl Slow {
         pages
     }
 
-    /// How many pages the objects need with one more that has a slot of this size: for each size
-    /// the objects over the slots, rounded up.
-    fn needed_with(&self, words: u32) -> u32 {
-        let mut pages = 0u32;
-        let mut size = LEAST;
-        for _step in 0..SIZES {
-            let more = u32::from(size == words);
-            let live = self.live(size).saturating_add(more);
-            pages = pages.saturating_add(live.div_ceil(slots(size).max(1)));
-            if size == PAGE_WORDS {
-                return pages;
-            }
-            size = next_size(size);
-        }
-        pages
-    }
-
     /// Whether an object or a job's slot has this address.
     fn is_taken(&self, place: u32) -> bool {
-        for entry in self.objects.iter() {
-            if let Some(object) = entry {
-                if object.place == place {
-                    return true;
-                }
-            }
-        }
-        match self.job {
-            Some(job) => job.place == place,
-            None => false,
-        }
+        0 < self.objects.count_at(|slot| slot.place == place)
+            || self.job.is_some_and(|job| job.place == place)
     }
 
     /// Whether the slot of this size at the address is usable: it is neither taken nor a job's, and
@@ -256,17 +155,8 @@ impl Slow {
 
     /// Whether the page holds no object, and no job's slot.
     fn is_free_page(&self, page: u32) -> bool {
-        for entry in self.objects.iter() {
-            if let Some(object) = entry {
-                if page_of(object.place) == page {
-                    return false;
-                }
-            }
-        }
-        match self.job {
-            Some(job) => page_of(job.place) != page,
-            None => true,
-        }
+        let objects = self.objects.count_at(|slot| page_of(slot.place) == page);
+        objects == 0 && !self.job.is_some_and(|job| page_of(job.place) == page)
     }
 
     /// Whether any page is so.
@@ -290,35 +180,25 @@ impl Slow {
     }
 
     /// Why an object of this length is refused.
-    pub fn refusal(&self, bytes: u32) -> Option<SliceRefusal> {
-        let words = slot_words(bytes);
-        if bytes as usize > MOST {
+    pub fn refusal(&self, length: u32) -> Result<Option<SliceRefusal>, Wrong> {
+        let mut lengths = self.objects.lengths_at(|_slot| true)?;
+        lengths.push(length)?;
+        Ok(if length > MOST {
             Some(SliceRefusal::Size)
-        } else if self.count() == PROXIES {
+        } else if lengths.len() > PROXIES as usize {
             Some(SliceRefusal::Proxy)
-        } else if self.needed_with(words) > PAGES {
+        } else if pages_needed(&self.sizes, &lengths) > PAGES {
             Some(SliceRefusal::Space)
-        } else if !self.has_usable(words) && !self.has_free_page() {
+        } else if !self.has_usable(self.slot_words(length)) && !self.has_free_page() {
             Some(SliceRefusal::Busy)
         } else {
             None
-        }
-    }
-
-    /// Puts this object under a number; false if the number has one.
-    pub fn put(&mut self, number: u32, object: Object) -> bool {
-        match self.objects.get_mut(number as usize) {
-            Some(entry) if entry.is_none() => {
-                *entry = Some(object);
-                true
-            }
-            _ => false,
-        }
+        })
     }
 
     /// Why the object of this number isn't freed.
     pub fn fault(&self, number: u32) -> Option<SliceFault> {
-        if self.object(number).is_none() {
+        if self.objects.get(number).is_none() {
             Some(SliceFault::Unknown)
         } else if self.job.is_some() {
             Some(SliceFault::Busy)
@@ -327,21 +207,18 @@ impl Slow {
         }
     }
 
-    /// Removes the object of this number, which leaves a job. An object is to be carried to its slot if
-    /// its page was full of several, and another page of the size is partly full.
+    /// Removes the object of this number, which leaves a job. An object will move into its slot if
+    /// its page was full, has several slots, and another page of its class is partly full.
     pub fn remove(&mut self, number: u32) {
-        let Some(object) = self.object(number) else {
+        let Some(object) = self.objects.take(number) else {
             return;
         };
-        let (place, words) = (object.place, object.words);
-        let full = self.on_page(words, page_of(place)) == slots(words);
+        let Slot { place, words, .. } = object.place;
+        let full = self.on_page(words, page_of(place)).saturating_add(1) == slots(words);
         let work = match self.part_full_beside(words, place) {
             Some(page) if full && 1 < slots(words) => Work::Awaits(page),
             _ => Work::Clears,
         };
-        if let Some(entry) = self.objects.get_mut(number as usize) {
-            *entry = None;
-        }
         self.job = Some(Job {
             place,
             words,
@@ -350,7 +227,7 @@ impl Slow {
         });
     }
 
-    /// The address to which an object is to be carried that is yet to be seen.
+    /// The address to which an object is to be moved that is yet to be seen.
     pub fn awaited(&self) -> Option<u32> {
         match self.job {
             Some(
@@ -364,34 +241,36 @@ impl Slow {
         }
     }
 
-    /// Whether the object of this number may be carried from its slot to the job's slot; if so, it is
+    /// Whether the object of this number may move from its slot to the job's slot; if so, it is
     /// to be.
-    pub fn carry(&mut self, number: u32) -> bool {
-        let (Some(job), Some(object)) = (self.job, self.object(number)) else {
+    pub fn start_move(&mut self, number: u32) -> bool {
+        let (Some(job), Some(object)) = (self.job, self.objects.get(number)) else {
             return false;
         };
-        let (from, words) = (object.place, object.words);
-        if words != job.words || job.work != Work::Awaits(page_of(from)) {
+        let slot = object.place;
+        if slot.words != job.words || job.work != Work::Awaits(page_of(slot.place)) {
             return false;
         }
-        if let Some(Some(object)) = self.objects.get_mut(number as usize) {
-            object.place = job.place;
-        }
+        let to = Slot {
+            place: job.place,
+            ..slot
+        };
+        self.objects.move_to(number, to);
         self.job = Some(Job {
-            place: from,
-            words,
+            place: slot.place,
+            words: slot.words,
             done: 0,
-            work: Work::Carries(number),
+            work: Work::Moves(number),
         });
         true
     }
 
-    /// The number of the object that is carried.
-    pub fn carried(&self) -> Option<u32> {
+    /// The number of the object that moves.
+    pub fn moving(&self) -> Option<u32> {
         match self.job {
             Some(
                 Job {
-                    work: Work::Carries(number),
+                    work: Work::Moves(number),
                     ..
                 },
             ) => Some(number),
@@ -400,7 +279,7 @@ impl Slow {
     }
 
     /// A slice of `quantum` words. If it is the last of the job, and two pages of the size are partly
-    /// full, an object is to be carried to the slot next.
+    /// full, an object is to be moved to the slot next.
     pub fn advance(&mut self, quantum: u32) {
         let Some(job) = self.job else {
             return;
@@ -433,25 +312,13 @@ impl Slow {
         }
     }
 
-    /// These bytes are those of the object from byte `at` on.
-    pub fn write(&mut self, number: u32, at: u32, bytes: &[u8]) {
-        if let Some(Some(object)) = self.objects.get_mut(number as usize) {
-            let mut i = at as usize;
-            for byte in bytes {
-                if let Some(kept) = object.bytes.get_mut(i) {
-                    *kept = *byte;
-                }
-                i = i.wrapping_add(1);
-            }
-        }
-    }
-
     /// Word w of the region; none if the job leaves it open.
     pub fn word(&self, w: u32) -> Option<u64> {
         for number in 0..PROXIES {
-            if let Some(object) = self.object(number) {
-                if object.place <= w && w - object.place < object.words {
-                    return self.word_at(number, object, w - object.place);
+            if let Some(object) = self.objects.get(number) {
+                let Slot { place, words, .. } = object.place;
+                if place <= w && w - place < words {
+                    return self.word_at(number, object, w - place);
                 }
             }
         }
@@ -463,11 +330,11 @@ impl Slow {
         }
     }
 
-    /// Word i of an object at its address; none if it is yet to be carried there.
-    fn word_at(&self, number: u32, object: &Object, i: u32) -> Option<u64> {
+    /// Word i of an object at its address; none if it is yet to be moved there.
+    fn word_at(&self, number: u32, object: &Object<Slot>, i: u32) -> Option<u64> {
         match self.job {
-            Some(job) if job.work == Work::Carries(number) && job.done <= i => None,
-            _ => Some(word_of(number, object, i)),
+            Some(job) if job.work == Work::Moves(number) && job.done <= i => None,
+            _ => Some(object.word(number, i)),
         }
     }
 
@@ -477,8 +344,8 @@ impl Slow {
             return Some(0);
         }
         match job.work {
-            Work::Carries(number) => match self.object(number) {
-                Some(object) => Some(word_of(number, object, i)),
+            Work::Moves(number) => match self.objects.get(number) {
+                Some(object) => Some(object.word(number, i)),
                 None => None,
             },
             _ => None,

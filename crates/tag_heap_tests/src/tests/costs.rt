@@ -48,8 +48,8 @@ static TLSF_MALLOC: [Row; 1] = [Row {
     steps: 25,
 }];
 
-/// A malloc of Half-Fit: five objects of a page are freed, which with the rest of the region are the two
-/// blocks of the first list of the second group, and what is over stays in that list.
+/// A malloc of Half-Fit. Five freed objects of a page and the rest of the region are two free blocks, both in
+/// the first list of the second group. The rest of the split block stays in that list.
 static HALF_FIT_MALLOC: [Row; 1] = [Row {
     settings: [16, 131_072, 16],
     script: &[

@@ -8,5 +8,5 @@ returns-clause-going g c = record { opened = c.in-Ok.ensures.open; rules = c.in-
 
 pub returns-clause-ready : goal.returns-clause-ready
 returns-clause-ready g c = given_ready (run_at c.args.session.now (g.H.Manager.state c.args.heap.now))
-    (run_at c.apply_ref.new.self (g.H.Manager.state c.apply_ref.new.heap)) (owned_command c.args.command) c.in-Ok.ensures.answers.0.reply
-    c.in-Ok.ensures.answers.0.turn.step
+    (run_at c.apply_ref.new.self (g.H.Manager.state c.apply_ref.new.heap)) (owned_command c.args.command) c.in-Ok.ensures.step.0.reply
+    c.in-Ok.ensures.step.0.turn.step
