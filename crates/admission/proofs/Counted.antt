@@ -47,7 +47,7 @@ pub fewer_is_short : (t : Share) (needs : List Need) → CanBeAsked t.profile ne
     → t.quota < pages → ¬ IsEnough t needs
 fewer_is_short t needs asked pages is less = λ enough. (let within = (enough_iff t needs asked).0 enough in absurd (omega arith))
 
--- requests that number no more than the quota has pages fit it, in order too
+-- if the quota has at least the number of proxies in pages, no request is refused for space
 pub never_short : (t : Share) (needs : List Need) → CanBeAsked t.profile needs → t.profile.proxies ≤ t.quota
     → (nth : ℕ) → first_short t empty 0 (in_order needs) ≡ Some nth → ⊥
 never_short t needs asked wide nth short =

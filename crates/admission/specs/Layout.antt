@@ -1,4 +1,4 @@
--- What the loops keep. No public clause cites this module.
+-- The invariants of the loops. No public clause cites this module.
 use Rattle.std.specs.Prelude.{◌≡◌, ℕ, ◌+◌, ◌≤◌, ◌<◌, List, ◌++◌, length, slice_index, take}
 use Rattle.cf_base.specs.Classes.{sizes, sizes_from}
 use Rattle.cf_base.specs.declared.kind.Layout.TheVariants.{Words}
@@ -13,13 +13,13 @@ pub record IsFilled (page_words : ℕ) (table : List ℕ) (count size : ℕ) : T
   pub enough : page_words ≤ size + left
   pub made : take count table ++ sizes_from left size page_words ≡ sizes page_words Words
 
--- of these objects the first `fit` need no more pages than the quota has with those of other classes, and with one more they do
+-- with the first `fit` of `more` added objects, the pages of the class and of the others are within the quota; with one object more they exceed it
 pub record IsPast (quota others had more slots fit : ℕ) : Type 0 where
   pub fewer : fit < more
   pub within : others + ceil_div (had + fit) slots ≤ quota
   pub past : quota < others + ceil_div (had + (fit + 1)) slots
 
--- the mallocs of these bytes so far: how many there are of each class, and the pages that they need, which the quota has
+-- the mallocs of these bytes so far: how many there are of each class, and the pages that they need, which are within the quota
 pub record AreCounted (p : Paging) (quota : ℕ) (asked counts : List ℕ) (pages before : ℕ) : Type 0 where
   pub counts_are : (c : ℕ) → c < classes p → slice_index counts c ≡ count_of_class p asked c
   pub pages_are : pages ≡ pages_of p asked

@@ -14,12 +14,12 @@ use crate::sizes::{CLASSES, class_at, fill_sizes, slots_at};
 use cf_base::{Settings, need_of};
 use quota_model::{Admission, Need};
 
-/// Whether `quota` pages are enough for a task under these settings that never has more objects
-/// than it declares, live or asked for. For each length it declares the sum of the counts of the
-/// entries with that length. A quota that is enough is so after every history of the task. Else the
-/// result names the malloc that is refused for space if the declared objects are all asked for in
-/// order. An entry whose object is larger than a page comes before all else, then counts that sum to
-/// more than the proxies.
+/// Returns whether `quota` pages are enough for a task under these settings that never has more
+/// objects than it declares, live or asked for. For each length it declares the sum of the counts of
+/// the entries with that length. A quota that is enough is so after every history of the task. Else
+/// the result has the number, from 1 on, of the first malloc that is refused for space if the
+/// declared objects are all asked for in order. Before that it tests whether an entry's object is
+/// larger than a page, and then whether the counts sum to more than the proxies.
 pub fn admit(s: &Settings, quota: u32, needs: &[Need]) -> Admission
     requires few { length needs.now ≤ 64 }
     ensures { IsAdmission (record { profile = profile_of s.now; quota = quota }) needs.now result }
@@ -58,7 +58,7 @@ pub fn least_quota(s: &Settings, needs: &[Need]) -> Option<u32>
     }
 }
 
-/// The first entry whose object is larger than a page.
+/// The index of the first entry whose object is larger than a page, if there is one.
 fn first_large(page_words: u32, needs: &[Need]) -> Option<usize>
     ensures { result ≡ position (λ e. nat_lt page_words (need e.bytes)) needs.now }
 {
@@ -67,7 +67,7 @@ fn first_large(page_words: u32, needs: &[Need]) -> Option<usize>
         .position(|entry| page_words < need_of(entry.bytes))
 }
 
-/// The objects that are declared, of whatever size.
+/// The number of objects that all entries declare together.
 fn count_in_all(needs: &[Need]) -> u64
     requires few { length needs.now ≤ 64 }
     ensures { result ≡ declared_in_all needs.now }
@@ -75,7 +75,7 @@ fn count_in_all(needs: &[Need]) -> u64
     needs.iter().map(|entry| entry.count as u64).sum()
 }
 
-/// The least number of pages that hold `count` objects.
+/// The least number of pages of `slots` slots that hold `count` objects.
 fn pages_for(count: u64, slots: u64) -> u64
     requires some { 1 ≤ slots }
     requires few { count + slots < 2 ^ 63 }
@@ -84,8 +84,9 @@ fn pages_for(count: u64, slots: u64) -> u64
     (count + (slots - 1)) / slots
 }
 
-/// The pages with `more` objects of a class that had `had`, `slots` to a page; if these exceed the
-/// quota, how many of the objects fit.
+/// Adds `more` objects of a class, `slots` to a page, to `pages` pages, on which the class has
+/// `had` objects. Returns the number of pages that are then needed. If it exceeds the quota, fails
+/// with the number of the added objects that fit.
 fn pages_with(quota: u64, pages: u64, had: u64, more: u64, slots: u64) -> Result<u64, u64>
     requires some { 1 ≤ slots }
     requires low { slots ≤ 4096 }
@@ -106,8 +107,8 @@ fn pages_with(quota: u64, pages: u64, had: u64, more: u64, slots: u64) -> Result
     Ok(others + pages_for(had + more, slots))
 }
 
-/// The pages that the declared objects need, or which of their mallocs in order is the first that is
-/// refused for space, from 1 on.
+/// Returns the number of pages that the declared objects need. If it exceeds the quota, fails with
+/// the number, from 1 on, of the first of their mallocs, in order, that is refused for space.
 fn pages_within(s: &Settings, quota: u32, needs: &[Need]) -> Result<u32, u32>
     requires asked { CanBeAsked (profile_of s.now) needs.now }
     ensures pages { IfOk result (λ pages. pages ≡ pages_of (task_paging (profile_of s.now)) (in_order needs.now)) }
@@ -119,7 +120,7 @@ fn pages_within(s: &Settings, quota: u32, needs: &[Need]) -> Result<u32, u32>
     count_pages(s, quota, &table[..classes], needs)
 }
 
-/// The same, with the slot sizes of a page.
+/// Does what `pages_within` does, with the slot sizes of a page.
 fn count_pages(s: &Settings, quota: u32, slot_sizes: &[u32], needs: &[Need]) -> Result<u32, u32>
     requires sized { slot_sizes.now ≡ sizes s.now.page_words Words }
     requires asked { CanBeAsked (profile_of s.now) needs.now }

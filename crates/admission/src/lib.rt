@@ -1,5 +1,6 @@
 //! Admission: whether a quota of pages is enough for a task, whatever the task does within the
-//! objects that it declares, known before it runs. It needs no memory and no heap.
+//! objects that it declares. The test is done before the task runs, allocates nothing, and needs no
+//! heap.
 #![tactic(auto)]
 
 mod enough;

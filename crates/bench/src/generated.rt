@@ -1,4 +1,4 @@
-//! The commands of a generated script on a manager alone: no session, and no reply.
+//! Runs the commands of a generated script on a manager, without a session and without printing replies.
 ghost use Rattle.std.specs.Prelude.{IsTrue};
 
 use crate::script::Table;
@@ -7,10 +7,10 @@ use generator::Generator;
 use script_reader::CommandRef;
 use step_ledger::Meter;
 
-/// The handle of no object.
+/// The number that stands for no object.
 const NONE: u32 = 4_294_967_295;
 
-/// Runs one command, and returns whether it succeeded.
+/// Runs one command of a generated script, and returns whether it succeeded.
 fn call<H: Manager>(heap: &mut H, c: CommandRef, table: &mut Table, meter: &mut Meter) -> bool
     requires { IsTrue (H.state heap.old).is_open }
     ensures { IsTrue (H.state heap.new).is_open }
@@ -49,7 +49,7 @@ fn call<H: Manager>(heap: &mut H, c: CommandRef, table: &mut Table, meter: &mut 
     }
 }
 
-/// Runs the first `count` commands of seed 1, and returns whether one succeeded.
+/// Runs the first `count` commands of the generator with seed 1, and returns whether any succeeded.
 #[inline(never)]
 pub(crate) fn calls<H: Manager>(
     heap: &mut H,

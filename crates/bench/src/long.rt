@@ -1,4 +1,4 @@
-//! Calls on a heap of long objects.
+//! Makes the calls of a script on a heap of long objects.
 ghost use Rattle.std.specs.Prelude.{◌≡◌, IsTrue};
 
 use crate::script::{LINE, Line, Table};
@@ -9,7 +9,7 @@ use moving_heap::MovingHeap;
 use std::alloc::Global;
 use step_ledger::Meter;
 
-/// A write.
+/// Writes into a long object, and returns whether it succeeded.
 #[inline(never)]
 fn long_write<H: Manager>(
     heap: &mut LargeHeap<H>,
@@ -23,7 +23,7 @@ fn long_write<H: Manager>(
     heap.write(h, at, bytes, meter).is_ok()
 }
 
-/// A read.
+/// Reads from a long object, and returns whether it succeeded.
 #[inline(never)]
 fn long_read<H: Manager>(
     heap: &LargeHeap<H>,
@@ -62,8 +62,8 @@ fn apply<H: Manager>(
     }
 }
 
-/// Opens the heap and makes the calls. Returns how many succeeded, or `None` for a bad script or out of
-/// memory.
+/// Opens the heap and makes the calls. Returns the number of calls that succeeded, or `None` for a bad
+/// script or out of memory.
 pub(crate) fn run(
     alloc: Global,
     settings: &Settings,

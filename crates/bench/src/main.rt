@@ -1,20 +1,21 @@
-//! Calls on heaps alone; docs/SPEED.md has the commands that count their instructions. Standard input
-//! is a script. Each line has 24 bytes: a letter, and three numbers of 5, 7 and 7 digits, with a space
-//! before each. Each call is made by a function of its own, which is not inlined.
+//! Makes calls on heaps without sessions, to count the instructions of each call; docs/SPEED.md has the
+//! commands. Standard input is a script. Each line has 24 bytes: a letter, three numbers of 5, 7 and 7
+//! digits with a space before each, and a line feed. Each kind of call has a function of its own, which
+//! is not inlined, so that a profile shows it.
 //!
-//! The first line opens a heap: its pages, the bytes of a page, and how many pages of a class may be
-//! partly full (for `s` the words of a slice).
+//! The first line opens a heap. Its letter is the kind of heap; its numbers are the pages, the bytes of
+//! a page, and the bound k (for `s` the quantum in words).
 //!
 //! - `c`, `n`, `t`, `h`: the moving, the non-moving, the TLSF and the Half-Fit manager.
 //! - `l`: long objects over the moving manager.
 //! - `s`: the sliced heap.
 //!
-//! The other lines are calls, on the object of an id.
+//! The other lines are calls. ID is the script's number for an object, below 65,536.
 //!
 //! - `m ID BYTES`, `f ID`, `z ID BYTES`: makes, frees, resizes an object.
 //! - `w ID AT BYTES`, `r ID AT BYTES`: writes, reads BYTES bytes, 1,000,000 at most.
-//! - `g 0 COUNT`: COUNT commands of seed 1.
-//! - `s`, `d 0 COUNT`: one step of the sliced heap; COUNT drawn mallocs, frees and steps on it.
+//! - `g 0 COUNT`: the first COUNT commands of the generator with seed 1.
+//! - `s`, `d 0 COUNT`: one step of the sliced heap; COUNT mallocs, frees and steps on it, drawn at random.
 #![tactic(auto)]
 
 mod generated;
@@ -34,7 +35,7 @@ use std::process::ExitCode;
 use step_ledger::Meter;
 use tlsf_heap::TlsfHeap;
 
-/// All bytes of standard input; `None` if reading fails or memory runs out.
+/// Reads all bytes of standard input; `None` if reading fails or memory runs out.
 fn all_input(rt: &HostRuntime) -> Option<Vec<u8>> {
     let mut source = StdSource::new(rt.stdin());
     let mut text = Vec::new(rt.alloc());
@@ -49,7 +50,8 @@ fn all_input(rt: &HostRuntime) -> Option<Vec<u8>> {
     None
 }
 
-/// Opens a manager and makes the calls. Returns how many succeeded.
+/// Opens a manager and makes the calls. Returns the number of calls that succeeded, or `None` for a bad
+/// script or out of memory.
 fn on_manager<H: Manager>(
     mut heap: H,
     settings: &Settings,
@@ -68,7 +70,8 @@ fn on_manager<H: Manager>(
     Some(served)
 }
 
-/// Makes the calls of a script. Returns how many succeeded, or `None` for a bad script or out of memory.
+/// Opens the heap of a script's first line and makes its calls. Returns the number of calls that
+/// succeeded, or `None` for a bad script or out of memory.
 fn on_heap(rt: &HostRuntime, text: &[u8]) -> Option<u64> {
     let first = Line::read(text.get(..script::LINE)?)?;
     let calls = text.get(script::LINE..)?;
@@ -113,6 +116,8 @@ fn on_heap(rt: &HostRuntime, text: &[u8]) -> Option<u64> {
     }
 }
 
+/// Prints `served N`, the number of calls that succeeded. Exits with 3 if the script is bad or can't be
+/// read or memory runs out, and with 5 if printing fails.
 fn main(rt: HostRuntime) -> ExitCode {
     let served = match all_input(&rt) {
         Some(text) => on_heap(&rt, text.as_slice()),

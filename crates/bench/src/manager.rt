@@ -1,4 +1,4 @@
-//! Calls on a manager.
+//! Makes the calls of a script on a manager.
 ghost use Rattle.std.specs.Prelude.{IsTrue};
 
 use crate::generated;
@@ -7,7 +7,7 @@ use cf_base::Handle;
 use cf_model::Manager;
 use step_ledger::Meter;
 
-/// A malloc.
+/// Makes an object; none if refused.
 #[inline(never)]
 fn malloc_call<H: Manager>(heap: &mut H, bytes: u32, meter: &mut Meter) -> Option<Handle>
     requires { IsTrue (H.state heap.old).is_open }
@@ -16,7 +16,7 @@ fn malloc_call<H: Manager>(heap: &mut H, bytes: u32, meter: &mut Meter) -> Optio
     heap.malloc(bytes, meter.steps()).ok()
 }
 
-/// A free.
+/// Frees an object, and returns whether it succeeded.
 #[inline(never)]
 fn free_call<H: Manager>(heap: &mut H, h: Handle, meter: &mut Meter) -> bool
     requires { IsTrue (H.state heap.old).is_open }
@@ -25,7 +25,7 @@ fn free_call<H: Manager>(heap: &mut H, h: Handle, meter: &mut Meter) -> bool
     heap.free(h, meter.steps()).is_ok()
 }
 
-/// A resize.
+/// Resizes an object, and returns whether it succeeded.
 #[inline(never)]
 fn resize_call<H: Manager>(heap: &mut H, h: Handle, bytes: u32, meter: &mut Meter) -> bool
     requires { IsTrue (H.state heap.old).is_open }
@@ -34,7 +34,7 @@ fn resize_call<H: Manager>(heap: &mut H, h: Handle, bytes: u32, meter: &mut Mete
     heap.resize(h, bytes, meter.steps()).is_ok()
 }
 
-/// A write.
+/// Writes into an object, and returns whether it succeeded.
 #[inline(never)]
 fn write_call<H: Manager>(heap: &mut H, h: Handle, at: u32, bytes: &[u8], meter: &mut Meter) -> bool
     requires { IsTrue (H.state heap.old).is_open }
@@ -43,7 +43,7 @@ fn write_call<H: Manager>(heap: &mut H, h: Handle, at: u32, bytes: &[u8], meter:
     heap.write(h, at, bytes, meter.steps()).is_ok()
 }
 
-/// A read.
+/// Reads from an object, and returns whether it succeeded.
 #[inline(never)]
 fn read_call<H: Manager>(heap: &H, h: Handle, at: u32, out: &mut [u8], meter: &mut Meter) -> bool
     requires { IsTrue (H.state heap.now).is_open }

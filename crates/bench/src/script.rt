@@ -1,12 +1,12 @@
-//! The lines of a script, and what its calls share.
+//! The lines of a script, and the table of handles and bytes that its calls use.
 use cf_base::Handle;
 use cf_io::number_of;
 use std::alloc::Global;
 
-/// The bytes of a line.
+/// The number of bytes of a line.
 pub(crate) const LINE: usize = 24;
 
-/// How many ids there are, and the handle of no object.
+/// The number of ids, and the number that stands for no object.
 const IDS: usize = 65_536;
 
 const NONE: u32 = 4_294_967_295;
@@ -14,7 +14,7 @@ const NONE: u32 = 4_294_967_295;
 /// The most bytes of a read or a write.
 const MOST: usize = 1_000_000;
 
-/// A line: a letter and three numbers.
+/// A line: a letter and three numbers. The module `main` says what they mean for each letter.
 #[derive(Clone, Copy)]
 pub(crate) struct Line {
     pub(crate) op: u8,
@@ -35,7 +35,7 @@ impl Line {
     }
 }
 
-/// The handle of each id, and the bytes that are written, or read into.
+/// The handle of each id, and the bytes that writes read from and reads fill.
 #[derive(Drop)]
 pub(crate) struct Table {
     handles: Vec<u32>,
@@ -43,14 +43,14 @@ pub(crate) struct Table {
 }
 
 impl Table {
-    /// Ids without objects; `None` if memory runs out.
+    /// Makes a table in which no id has an object; `None` if memory runs out.
     pub(crate) fn new(alloc: Global) -> Option<Table> {
         let handles = Vec::from_elem(alloc, NONE, IDS).ok()?;
         let bytes = Vec::from_elem(alloc, 7, MOST).ok()?;
         Some(Table { handles, bytes })
     }
 
-    /// The handle of an id.
+    /// The handle of an id; the number that stands for no object if the id has none.
     pub(crate) fn handle(&self, id: u32) -> Handle {
         match self.handles.get(id as usize) {
             Some(number) => Handle(*number),
@@ -58,14 +58,14 @@ impl Table {
         }
     }
 
-    /// Lets an id name an object.
+    /// Sets the handle of an id.
     pub(crate) fn name(&mut self, id: u32, h: Handle) {
         if let Some(number) = self.handles.get_mut(id as usize) {
             *number = h.0;
         }
     }
 
-    /// The first `count` bytes, or all if there are fewer.
+    /// Lends the first `count` of the table's bytes, or all if there are fewer.
     pub(crate) fn bytes(&mut self, count: u32) -> &mut [u8] {
         let most = self.bytes.len().min(count as usize);
         &mut self.bytes[..most]

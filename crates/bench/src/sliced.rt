@@ -1,4 +1,4 @@
-//! Calls on the sliced heap.
+//! Makes the calls of a script on the sliced heap.
 ghost use Rattle.std.specs.Prelude.{IsTrue};
 
 use crate::script::{LINE, Line, Table};
@@ -9,12 +9,12 @@ use sliced_heap::SlicedHeap;
 use std::alloc::Global;
 use step_ledger::Meter;
 
-/// How many objects drawn calls may make, and the handle of no object.
+/// The number of ids that drawn calls use, and the number that stands for no object.
 const ENTRIES: u32 = 256;
 
 const NONE: u32 = 4_294_967_295;
 
-/// A length: most objects are small, some take a large part of a page.
+/// The length in bytes of a drawn malloc: half are below 256, some take a large part of a page.
 fn length_of(word: u64) -> u32 {
     let size = ((word >> 8) % 65_536) as u32;
     match word % 8 {
@@ -25,7 +25,7 @@ fn length_of(word: u64) -> u32 {
     }
 }
 
-/// A malloc.
+/// Makes an object; none if refused.
 #[inline(never)]
 fn sliced_malloc(heap: &mut SlicedHeap, bytes: u32, meter: &mut Meter) -> Option<Handle>
     requires { IsTrue heap.old.is_open }
@@ -34,7 +34,7 @@ fn sliced_malloc(heap: &mut SlicedHeap, bytes: u32, meter: &mut Meter) -> Option
     heap.malloc(bytes, meter.steps()).ok()
 }
 
-/// A free.
+/// Frees an object, and returns whether it succeeded.
 #[inline(never)]
 fn sliced_free(heap: &mut SlicedHeap, h: Handle, meter: &mut Meter) -> bool
     requires { IsTrue heap.old.is_open }
@@ -43,7 +43,7 @@ fn sliced_free(heap: &mut SlicedHeap, h: Handle, meter: &mut Meter) -> bool
     heap.free(h, meter.steps()).is_ok()
 }
 
-/// A step.
+/// Does a slice of the pending job.
 #[inline(never)]
 fn sliced_step(heap: &mut SlicedHeap, meter: &mut Meter)
     requires { IsTrue heap.old.is_open }
@@ -52,7 +52,8 @@ fn sliced_step(heap: &mut SlicedHeap, meter: &mut Meter)
     heap.step(meter.steps());
 }
 
-/// A drawn call: one of three is a step; else a malloc if the entry has no object, and else its free.
+/// Makes the call that a random word determines: a step for one of three words; else, for a drawn entry
+/// of the table, a malloc if it has no object, or a free of its object.
 fn drawn(heap: &mut SlicedHeap, word: u64, table: &mut Table, meter: &mut Meter) {
     if !heap.is_open() {
         return;
@@ -99,8 +100,8 @@ fn apply(heap: &mut SlicedHeap, line: Line, table: &mut Table, meter: &mut Meter
     }
 }
 
-/// Opens the heap and makes the calls. Returns how many succeeded, or `None` for a bad script or out of
-/// memory.
+/// Opens the heap and makes the calls. Returns the number of calls that succeeded, or `None` for a bad
+/// script or out of memory.
 pub(crate) fn run(
     alloc: Global,
     first: Line,

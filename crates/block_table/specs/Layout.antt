@@ -2,6 +2,7 @@
 use Rattle.std.specs.Prelude.{ℕ, ◌^◌, ◌<◌, List, length}
 use Rattle.block_table.specs.Table.{Table, IsBlockTable}
 
+-- the table with these fields
 abbrev pub table_with : ℕ → ℕ → List ℕ → Table
 table_with pages page_blocks frames = record { pages = pages; page_blocks = page_blocks; frames = frames }
 

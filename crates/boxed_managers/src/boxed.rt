@@ -7,7 +7,7 @@ use cf_base::{
 use cf_model::{Manager, Usage};
 use step_ledger::Steps;
 
-/// A manager of any kind, behind a box: each call is handed on to it.
+/// A manager of any kind, behind a box. Each call of `Boxed` makes the same call of this manager.
 #[derive(Drop)]
 pub struct Boxed {
     pub inner: Box<dyn Manager>,

@@ -1,4 +1,4 @@
-//! A manager of any kind behind a box, so that one list can hold managers of several kinds.
+//! A manager of any kind behind a box, so that a list can hold managers of different kinds.
 #![tactic(auto)]
 
 mod boxed;

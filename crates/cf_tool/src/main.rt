@@ -17,7 +17,7 @@ use std::process::ExitCode;
 use tlsf_heap::TlsfHeap;
 use top_call::cf_main;
 
-/// The line on standard error that goes with a status; none at 0.
+/// The line on standard error for a status; none for `Done`.
 fn complaint(status: Status) -> Option<&'static str>
     ensures { option_map (λ text. text.now) result ≡ complaint_at status }
 {
@@ -33,7 +33,8 @@ fn complaint(status: Status) -> Option<&'static str>
     }
 }
 
-/// The words of the command line, the program's name first.
+/// The arguments of the command line, the program's name first. Fails with `OutOfMemory`, or with `Words` if
+/// they can't be read.
 fn command_words(rt: &HostRuntime) -> Result<Vec<String>, Status> {
     match env::args(rt) {
         Ok(args) => args.collect(rt.alloc()).map_err(|_| Status::OutOfMemory),
@@ -44,7 +45,8 @@ fn command_words(rt: &HostRuntime) -> Result<Vec<String>, Status> {
     }
 }
 
-/// Calls `cf_main` with standard input and output, and a closed manager of each kind.
+/// Calls `cf_main` with standard input and output, and a closed manager of each kind. Fails if an
+/// allocation fails.
 fn run_all(rt: &HostRuntime, words: &[String]) -> Result<Status, AllocError> {
     let alloc = rt.alloc();
     let mut managers = Vec::new(alloc);

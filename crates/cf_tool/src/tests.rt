@@ -24,10 +24,10 @@ use step_ledger::Meter;
 use tlsf_heap::TlsfHeap;
 use top_call::cf_main;
 
-/// The room of a sink in these tests, in bytes.
+/// How many bytes a sink of these tests can hold.
 const ROOM: usize = 65_536;
 
-/// The words of a command line, the program's name first.
+/// The arguments of a command line, the program's name first.
 fn command_line(rt: &HostRuntime, words: &[&str]) -> Result<Vec<String>, AllocError> {
     let alloc = rt.alloc();
     let mut line = Vec::new(alloc);
@@ -45,7 +45,7 @@ fn plain_sink(rt: &HostRuntime) -> Result<MemSink, Fail> {
     Ok(sink)
 }
 
-/// A sink that takes every chunk whole, but for this call, which fails.
+/// A sink whose call number `call` fails. Every other call takes its chunk whole.
 fn failing_sink(rt: &HostRuntime, call: u64) -> Result<MemSink, Fail> {
     let alloc = rt.alloc();
     let fails = vec![in alloc; call; 1]?;
@@ -77,7 +77,7 @@ fn closed_managers(rt: &HostRuntime, kinds: &[Kind]) -> Result<Vec<Boxed>, Alloc
     Ok(managers)
 }
 
-/// Answers a script as these words choose, on these managers.
+/// Runs `cf_main` with these arguments on these managers, and returns its status.
 fn answer_on<S: Source>(
     rt: &HostRuntime,
     words: &[&str],
@@ -89,7 +89,7 @@ fn answer_on<S: Source>(
     Ok(cf_main(rt, rt.alloc(), words.as_slice(), source, sink, managers))
 }
 
-/// Answers a script as these words choose, with closed managers of these kinds.
+/// Runs `cf_main` with these arguments on closed managers of these kinds.
 fn answer_with<S: Source>(
     rt: &HostRuntime,
     words: &[&str],
@@ -119,7 +119,7 @@ struct OutputOn {
 }
 
 impl OutputOn {
-    /// Whether the call ended so, wrote this, and left these.
+    /// Whether the call returned this status, wrote this text, and left these numbers of live objects.
     fn is(&self, status: Status, text: &[u8], live: &[Option<u32>]) -> bool {
         self.left.status == status
             && self.sink.written() == text
@@ -127,7 +127,7 @@ impl OutputOn {
     }
 }
 
-/// Answers a script as these words choose, with closed managers of these kinds.
+/// Runs `cf_main` with these arguments on this script and closed managers of these kinds.
 fn answered_on(
     rt: &HostRuntime,
     words: &[&str],
@@ -140,8 +140,7 @@ fn answered_on(
     Ok(OutputOn { left, sink })
 }
 
-/// Answers a script as these words choose, with the managers that the program has, and gives the
-/// status.
+/// Runs `cf_main` with these arguments on the managers that the program has, and returns the status.
 fn answer_by<S: Source>(
     rt: &HostRuntime,
     words: &[&str],
@@ -161,19 +160,19 @@ struct Output {
 }
 
 impl Output {
-    /// Whether the call ended so and wrote this.
+    /// Whether the call returned this status and wrote this text.
     fn is(&self, status: Status, text: &[u8]) -> bool {
         self.status == status && self.sink.written() == text
     }
 }
 
-/// Answers a script as these words choose, with the managers that the program has.
+/// Runs `cf_main` with these arguments on this script and the managers that the program has.
 fn answered(rt: &HostRuntime, words: &[&str], script: &[u8]) -> Result<Output, Fail> {
     let source = SureSource::new(script.to_vec(rt.alloc())?);
     answered_from(rt, words, source)
 }
 
-/// The same, from this source.
+/// Runs `cf_main` with these arguments on this source and the managers that the program has.
 fn answered_from<S: Source + Drop>(
     rt: &HostRuntime,
     words: &[&str],
@@ -277,7 +276,7 @@ fn a_line_has_at_most_8999_bytes(rt: HostRuntime) -> Result<(), Fail> {
     Ok(())
 }
 
-/// Whether a line of comment that comes again and again is too long, and nothing is printed.
+/// Whether a comment line that is repeated without end gets the status `TooLong`, and nothing is printed.
 fn is_too_long(rt: &HostRuntime) -> Result<bool, Fail> {
     let mut line = vec![in rt.alloc(); b'#'; 8_999]?;
     line.push(b'\n')?;
@@ -291,7 +290,7 @@ fn a_script_with_no_end_is_too_long(rt: HostRuntime) -> Result<(), Fail> {
     Ok(())
 }
 
-/// The line that asks for an object of 24 bytes.
+/// Appends the line that makes an object of 24 bytes.
 fn push_small(script: &mut Vec<u8>, id: u64) -> Result<(), Fail> {
     let mut line = Line::new();
     line.push(b"m ").map_err(|_| "full")?;

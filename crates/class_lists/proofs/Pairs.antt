@@ -1,4 +1,4 @@
--- Two lists of counts, interleaved.
+-- For `Counts`: two lists of counts in turn, as one list.
 use Rattle.std.proofs.Common.{◌≡◌, ℕ, zero, suc, ◌+◌, ◌*◌, ◌<◌, List, [], ◌∷◌, length, get_or, set, drop, replicate, arith, refl, ◌∙◌, ap}
 use Rattle.class_lists.specs.declared.Which.{Which}
 use Rattle.class_lists.specs.declared.Which.TheVariants.{Full, NotFull}

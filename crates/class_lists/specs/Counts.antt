@@ -1,7 +1,7 @@
 -- How the lengths of the lists are laid out in memory. No public clause cites this module.
 use Rattle.std.specs.Prelude.{ℕ, List, [], ◌∷◌, drop, slice_index}
 
--- the first of the one list, the first of the other, the second of the one, and so on
+-- the counts of two lists in turn: count 0 of each, then count 1 of each, and so on
 abbrev pub in_turn : List ℕ → List ℕ → List ℕ
 in_turn [] others = []
 in_turn (count ∷ counts) others = count ∷ slice_index others 0 ∷ in_turn counts (drop 1 others)

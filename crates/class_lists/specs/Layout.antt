@@ -13,6 +13,7 @@ abbrev pub chains : List ℕ → ℕ → List ℕ → List (List ℕ)
 chains next node [] = []
 chains next node (len ∷ lens) = chain next len (slice_index next node) ∷ chains next (node + 1) lens
 
+-- the lists that the links and the lengths represent, two for each class
 abbrev pub lists_of : List ℕ → List ℕ → ℕ → PageLists
 lists_of next lens pages = record { pages = pages; classes = length lens / 2; lists = chains next pages lens }
 
@@ -39,6 +40,7 @@ pub record HoldPagesOnce (pages : ℕ) (lists : List (List ℕ)) : Type 0 where
   pub distinct : (k : ℕ) → IsDistinct nat_eq (list_at lists k)
   pub once : (j k page : ℕ) → Contains (list_at lists j) page → Contains (list_at lists k) page → j ≡ k
 
+-- there is a node for each page and each list, and there are two lists for each class; the lists are rings, and no page is listed twice
 pub record IsValid (next previous lens : List ℕ) (pages : ℕ) : Type 0 where
   pub nodes : pages + length lens ≡ length next
   pub backed : length previous ≡ length next

@@ -49,7 +49,7 @@ pub record AreApart (v : PageLists) : Type 0 where
   pub once : (c d : ℕ) (which other : Which) (page : ℕ) → Contains (pages_in v c which) page → Contains (pages_in v d other) page
       → (c ≡ d) × (which ≡ other)
 
--- stored as the tuple of its fields
+-- the encoding of class lists, as a tuple, that their model needs
 abbrev pub lists_code : Coded PageLists
 lists_code =
     code_by (ℕ × (ℕ × List (List ℕ))) (coded× coded_ℕ (coded× coded_ℕ (coded_list (coded_list coded_ℕ))))

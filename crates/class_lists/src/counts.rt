@@ -26,7 +26,7 @@ impl Model for Counts {
 }
 
 impl Counts {
-    /// Zeros for the lists of `classes` classes.
+    /// Counts of 0 for the two lists of each of `classes` classes.
     pub(crate) fn new(alloc: Global, classes: u32) -> Result<Counts, AllocError>
         ensures { IfOk result (λ counts. counts ≡ replicate (2 * classes) 0) }
     {
@@ -47,7 +47,7 @@ impl Counts {
         }
     }
 
-    /// Changes the length of a list.
+    /// Sets the length of a list to `len`.
     pub(crate) fn put(&mut self, c: u32, which: Which, len: u32)
         requires { list_number c which < length self.old }
         ensures { self.new ≡ slice_set self.old (list_number c which) len }

@@ -17,7 +17,7 @@ use std::alloc::{AllocError, Global};
 use std::marker::Model;
 use step_ledger::Steps;
 
-/// The kind of a list.
+/// Which of the two lists of a class.
 #[derive(Clone, Copy, Debug, PartialEq, Eq)]
 pub enum Which {
     /// Pages without a free slot.
@@ -57,8 +57,9 @@ impl Model for ClassLists {
 }
 
 impl ClassLists {
-    /// The lists of `classes` classes for `pages` pages, all empty. Nodes have 32-bit numbers; if
-    /// there would be more, the call fails as out of memory.
+    /// The lists of `classes` classes for `pages` pages, all empty. Each page and each list has a
+    /// node with a number of 32 bits; if there would be more nodes, the call fails with
+    /// `OutOfMemory`.
     pub fn new(alloc: Global, classes: u32, pages: u32) -> Result<ClassLists, OutOfMemory>
         ensures lists { IfOk result (λ lists. lists ≡ empty_lists classes pages) }
         ensures empty { IfOk result AreEmpty }
@@ -76,7 +77,7 @@ impl ClassLists {
         Ok(ClassLists { links, lens, pages })
     }
 
-    /// The head of a list; none if the list is empty.
+    /// The first page of a list; none if the list is empty. Costs one step.
     pub fn front(&self, c: u32, which: Which, steps: &mut Steps) -> Option<u32>
         requires class { c < self.now.classes }
         ensures front { result ≡ slice_get (pages_in self.now c which) 0 }
@@ -103,7 +104,7 @@ impl ClassLists {
         self.lens.of(c, which)
     }
 
-    /// Makes a page that is in no list the head of this one.
+    /// Puts a page, which must be in no list, at the head of this list. Costs four steps.
     pub fn push(&mut self, c: u32, which: Which, page: u32, steps: &mut Steps)
         requires class { c < self.old.classes }
         requires page { page < self.old.pages }
@@ -128,7 +129,7 @@ impl ClassLists {
         self.lens.put(c, which, len + 1);
     }
 
-    /// Removes a page from its list.
+    /// Removes a page from its list. Costs four steps.
     pub fn unlink(&mut self, c: u32, which: Which, page: u32, steps: &mut Steps)
         requires class { c < self.old.classes }
         requires listed { Contains (pages_in self.old c which) page }

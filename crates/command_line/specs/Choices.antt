@@ -14,7 +14,7 @@ use Rattle.command_line.specs.declared.choice.Mode.TheVariants.{Run, Compare, Be
 use Rattle.command_line.specs.declared.choice.WordsFault.{WordsFault}
 use Rattle.command_line.specs.declared.choice.WordsFault.TheVariants.{Refused, OutOfMemory}
 
--- the mode of a name; the command accepts no other name
+-- the mode with this name; the command accepts no name but those of the modes
 abbrev pub mode_named : Option Text → Mode
 mode_named None = Run
 mode_named (Some name) = if bytes_eq name (mode_name Compare) then Compare
@@ -24,7 +24,7 @@ mode_named (Some name) = if bytes_eq name (mode_name Compare) then Compare
     else (if bytes_eq name (mode_name Load) then Load
     else (if bytes_eq name (mode_name Slice) then Slice else (if bytes_eq name (mode_name Quota) then Quota else Run))))))
 
--- the kind of a name; the command accepts no other name
+-- the kind with this name; the command accepts no name but those of the kinds
 abbrev pub kind_named : Option Text → Kind
 kind_named None = Moving
 kind_named (Some name) = if bytes_eq name (kind_name NonMoving) then NonMoving

@@ -1,15 +1,15 @@
-//! The choice that the arguments make.
+//! What the arguments of the command line choose.
 
 use cf_base::Kind;
 
-/// What the program does.
+/// What the program does: its mode.
 #[derive(Clone, Copy, Debug, PartialEq, Eq)]
 pub enum Mode {
     /// Runs a script on one manager.
     Run,
     /// Runs a script on several managers, side by side.
     Compare,
-    /// Runs a generated script on one manager, and counts.
+    /// Runs a generated script on one manager, and prints counts.
     Bench,
     /// Runs a script whose objects may be larger than a page.
     Large,
@@ -34,7 +34,7 @@ pub struct Choice {
     pub quantum: u32,
 }
 
-/// Why there is no choice.
+/// Why the arguments make no choice.
 #[derive(Clone, Copy, Debug, PartialEq, Eq)]
 pub enum WordsFault {
     /// `clap` refuses the arguments; a request for help is refused too.

@@ -7,24 +7,29 @@ ghost use Rattle.command_line.specs.Command.{manager_names, mode_names, texts_of
 use clap::{Arg, Command, value_parser};
 use std::alloc::{AllocError, Global};
 
+/// The names of the modes.
 static MODES: [&str; 8] = [
     "run", "compare", "bench", "large", "save", "load", "slice", "quota",
 ];
 
+/// The names of the kinds of managers.
 static MANAGERS: [&str; 4] = ["cf", "nm", "tlsf", "half"];
 
+/// The names of the modes, as a slice.
 fn modes<'a>() -> &'a [&'a str]
     ensures { texts_of result ≡ mode_names }
 {
     MODES.as_slice()
 }
 
+/// The names of the kinds of managers, as a slice.
 fn managers<'a>() -> &'a [&'a str]
     ensures { texts_of result ≡ manager_names }
 {
     MANAGERS.as_slice()
 }
 
+/// The argument MODE, by position: one of these names, by default `run`.
 fn mode_arg<'a>(alloc: Global, names: &'a [&'a str]) -> Arg<'a>
     ensures rule { rule_of result ≡ mode_rule names.entry }
     ensures local { result.global ≡ false }
@@ -34,6 +39,7 @@ fn mode_arg<'a>(alloc: Global, names: &'a [&'a str]) -> Arg<'a>
         .default_value("run")
 }
 
+/// The option `--manager`: one of these names, by default `cf`.
 fn manager_arg<'a>(alloc: Global, names: &'a [&'a str]) -> Arg<'a>
     ensures rule { rule_of result ≡ manager_rule names.entry }
     ensures local { result.global ≡ false }
@@ -44,6 +50,7 @@ fn manager_arg<'a>(alloc: Global, names: &'a [&'a str]) -> Arg<'a>
         .default_value("cf")
 }
 
+/// The option `--seed`: a u64, by default 0.
 fn seed_arg<'a>(alloc: Global) -> Arg<'a>
     ensures rule { rule_of result ≡ seed_rule }
     ensures local { result.global ≡ false }
@@ -54,6 +61,7 @@ fn seed_arg<'a>(alloc: Global) -> Arg<'a>
         .default_value("0")
 }
 
+/// The option `--count`: at most 1,000,000 commands, by default 1000.
 fn count_arg<'a>(alloc: Global) -> Arg<'a>
     ensures rule { rule_of result ≡ count_rule }
     ensures local { result.global ≡ false }
@@ -64,6 +72,7 @@ fn count_arg<'a>(alloc: Global) -> Arg<'a>
         .default_value("1000")
 }
 
+/// The option `--quantum`: 1 to 16,384 words, by default 16.
 fn quantum_arg<'a>(alloc: Global) -> Arg<'a>
     ensures rule { rule_of result ≡ quantum_rule }
     ensures local { result.global ≡ false }

@@ -11,7 +11,7 @@ use clap::ArgMatches;
 use clap::error::ErrorKind;
 use std::alloc::Global;
 
-/// The mode of a name; the command accepts no other.
+/// The mode with this name. The command accepts no name but those of the modes.
 fn mode_named(name: Option<&str>) -> Mode
     ensures { result ≡ mode_by (option_map (λ s. s.now) name.entry) }
 {
@@ -27,7 +27,7 @@ fn mode_named(name: Option<&str>) -> Mode
     }
 }
 
-/// The kind of a name; the command accepts no other.
+/// The kind with this name. The command accepts no name but those of the kinds.
 fn kind_named(name: Option<&str>) -> Kind
     ensures { result ≡ kind_by (option_map (λ s. s.now) name.entry) }
 {
@@ -39,13 +39,15 @@ fn kind_named(name: Option<&str>) -> Kind
     }
 }
 
+/// The number of this option in the matches; 0 if it is missing.
 fn u64_in(matches: &ArgMatches<'_>, id: &str) -> u64
     ensures { result ≡ number_by (one_text (found_of matches.now) id.now) }
 {
     matches.get_one::<u64>(id).unwrap_or(0)
 }
 
-/// The quantum of a text; the command accepts no other number.
+/// The quantum, in words, of the matches; 16 if it is missing or out of range, neither of which the
+/// command accepts.
 fn quantum_in(matches: &ArgMatches<'_>, id: &str) -> u32
     ensures value { result ≡ quantum_by (one_text (found_of matches.now) id.now) }
     ensures least { 1 ≤ result }

@@ -6,7 +6,7 @@ ghost use Rattle.cf_lemmas.specs.Bits.{WritesBit};
 use std::marker::Model;
 use step_ledger::Steps;
 
-/// `N` cells in an array, for structs that take no memory of their own.
+/// `N` cells in an array, for structs that allocate no memory.
 #[derive(Drop)]
 pub struct CellArray<T, const N: usize> {
     items: [T; N],
@@ -24,14 +24,14 @@ impl<T, const N: usize> Model for CellArray<T, N> {
 }
 
 impl<T: Copy, const N: usize> CellArray<T, N> {
-    /// Cells with the items of an array. Costs no step: no heap has them yet.
+    /// Makes cells of an array's items. Costs no step: the cells aren't part of a heap yet.
     pub fn new(items: [T; N]) -> CellArray<T, N>
         ensures { result ≡ items }
     {
         CellArray { items }
     }
 
-    /// Reads a cell.
+    /// Returns the value of cell `i`. Costs one step.
     pub fn get(&self, i: usize, steps: &mut Steps) -> T
         requires { i < N }
         ensures value { result ≡ slice_index_or self.now i result }
@@ -41,7 +41,7 @@ impl<T: Copy, const N: usize> CellArray<T, N> {
         self.items[i]
     }
 
-    /// Writes a cell.
+    /// Writes `value` to cell `i`. Costs one step.
     pub fn set(&mut self, i: usize, value: T, steps: &mut Steps)
         requires { i < N }
         ensures cells { self.new ≡ slice_set self.old i value }
@@ -53,7 +53,8 @@ impl<T: Copy, const N: usize> CellArray<T, N> {
 }
 
 impl<const N: usize> CellArray<u64, N> {
-    /// Writes one bit of a cell, which is read and written at once. Returns the cell's new word.
+    /// Sets or clears one bit of cell `i`. Costs one step: the word is read and written at once.
+    /// Returns the new word.
     pub fn write_bit(&mut self, i: usize, bit: u32, on: bool, steps: &mut Steps) -> u64
         requires cell { i < N }
         requires bit { bit < 64 }
@@ -68,8 +69,8 @@ impl<const N: usize> CellArray<u64, N> {
         word
     }
 
-    /// Sets the lowest clear bit of a cell, which is read and written at once. Returns the position
-    /// of that bit, and the cell's new word.
+    /// Sets the lowest clear bit of cell `i`, which must have one. Costs one step: the word is read
+    /// and written at once. Returns the position of the bit, and the new word.
     pub fn set_least_clear(&mut self, i: usize, steps: &mut Steps) -> (u32, u64)
         requires cell { i < N }
         requires clear { slice_index self.old i + 1 < 2 ^ 64 }
@@ -89,7 +90,7 @@ impl<const N: usize> CellArray<u64, N> {
     }
 }
 
-/// The word with one bit set or cleared.
+/// Returns the word with bit `bit` set if `on`, else cleared.
 pub fn with_bit(word: u64, bit: u32, on: bool) -> u64
     requires { bit < 64 }
     ensures written { WritesBit 64 word result bit on }

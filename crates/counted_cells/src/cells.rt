@@ -5,7 +5,7 @@ ghost use Rattle.cf_lemmas.specs.Exchanges.{exchanged};
 use std::marker::Model;
 use step_ledger::Steps;
 
-/// A list of cells. Its length is a plain number; reading it costs no step.
+/// A list of cells. Reading its length costs no step.
 #[derive(Drop)]
 pub struct Cells<T> {
     items: Vec<T>,
@@ -23,7 +23,7 @@ impl<T> Model for Cells<T> {
 }
 
 impl<T: Copy> Cells<T> {
-    /// Cells with the items of a list. Costs no step: no heap has them yet.
+    /// Makes cells of a list's items. Costs no step: the cells aren't part of a heap yet.
     pub fn new(items: Vec<T>) -> Cells<T>
         ensures { result ≡ items.items }
     {
@@ -37,7 +37,7 @@ impl<T: Copy> Cells<T> {
         self.items.len()
     }
 
-    /// Reads a cell.
+    /// Returns the value of cell `i`. Costs one step.
     pub fn get(&self, i: usize, steps: &mut Steps) -> T
         requires { i < length self.now }
         ensures value { result ≡ slice_index_or self.now i result }
@@ -47,7 +47,7 @@ impl<T: Copy> Cells<T> {
         self.items[i]
     }
 
-    /// Writes a cell.
+    /// Writes `value` to cell `i`. Costs one step.
     pub fn set(&mut self, i: usize, value: T, steps: &mut Steps)
         requires { i < length self.old }
         ensures cells { self.new ≡ slice_set self.old i value }
@@ -57,7 +57,7 @@ impl<T: Copy> Cells<T> {
         self.items[i] = value;
     }
 
-    /// Copies a cell to another one. Returns its value.
+    /// Copies cell `from` to cell `to`, and returns the copied value. Costs two steps.
     pub fn copy(&mut self, from: usize, to: usize, steps: &mut Steps) -> T
         requires from { from < length self.old }
         requires to { to < length self.old }
@@ -71,7 +71,8 @@ impl<T: Copy> Cells<T> {
         value
     }
 
-    /// Writes a cell, and its old value to another one. Returns that value.
+    /// Writes `value` to cell `from`, and that cell's old value to cell `to`. Returns the old
+    /// value. Costs two steps.
     pub fn pass(&mut self, from: usize, value: T, to: usize, steps: &mut Steps) -> T
         requires from { from < length self.old }
         requires to { to < length self.old }
@@ -87,7 +88,7 @@ impl<T: Copy> Cells<T> {
         old
     }
 
-    /// Writes two cells.
+    /// Writes `first` to cell `i`, then `second` to cell `j`. Costs two steps.
     pub fn set_both(&mut self, i: usize, first: T, j: usize, second: T, steps: &mut Steps)
         requires i_in_range { i < length self.old }
         requires j_in_range { j < length self.old }
@@ -100,7 +101,7 @@ impl<T: Copy> Cells<T> {
         items[j] = second;
     }
 
-    /// Reads the `n` cells from `from` on.
+    /// Returns the `n` cells from `from` on. Costs n steps.
     pub fn run(&self, from: usize, n: usize, steps: &mut Steps) -> &[T]
         requires { from + n ≤ length self.now }
         ensures value { result.now ≡ take n (drop from self.now) }
@@ -113,7 +114,8 @@ impl<T: Copy> Cells<T> {
 }
 
 impl Cells<u32> {
-    /// Exchanges the `n` cells from `a` on with those from `b` on, pair by pair.
+    /// Exchanges the `n` cells from `a` on with the `n` cells from `b` on, pair by pair. Costs n
+    /// steps: each pair is exchanged at once.
     pub fn exchange(&mut self, a: usize, b: usize, n: usize, steps: &mut Steps)
         requires a_in_range { a + n ≤ length self.old }
         requires b_in_range { b + n ≤ length self.old }
@@ -126,7 +128,7 @@ impl Cells<u32> {
     }
 }
 
-/// Exchanges the `n` items from `a` on with those from `b` on, pair by pair.
+/// Exchanges the `n` items from `a` on with the `n` items from `b` on, pair by pair.
 fn exchange_runs(items: &mut [u32], a: usize, b: usize, n: usize)
     requires a_in_range { a + n ≤ length items.old }
     requires b_in_range { b + n ≤ length items.old }

@@ -1,5 +1,6 @@
 //! Cells that count their accesses in the ledger: each cell that is read or written costs a step. A
-//! module that keeps its words in cells can't touch one without a step. Making cells is no access.
+//! module that keeps its words in cells can't touch one without a step. Making a cell costs no
+//! step.
 #![tactic(auto)]
 
 mod array;

@@ -23,14 +23,14 @@ impl Model for WordCell {
 }
 
 impl WordCell {
-    /// A cell with a word. Costs no step: no heap has it yet.
+    /// Makes a cell of a word. Costs no step: the cell isn't part of a heap yet.
     pub fn new(word: u64) -> WordCell
         ensures { result ≡ word }
     {
         WordCell { word }
     }
 
-    /// Reads the cell.
+    /// Returns the word. Costs one step.
     pub fn get(&self, steps: &mut Steps) -> u64
         ensures value { result ≡ self.now }
         ensures steps { RoseBy steps.old steps.new 1 }
@@ -39,7 +39,7 @@ impl WordCell {
         self.word
     }
 
-    /// Writes the cell.
+    /// Replaces the word. Costs one step.
     pub fn set(&mut self, word: u64, steps: &mut Steps)
         ensures value { self.new ≡ word }
         ensures steps { RoseBy steps.old steps.new 1 }
@@ -48,7 +48,7 @@ impl WordCell {
         self.word = word;
     }
 
-    /// Writes one bit of the cell, which is read and written at once.
+    /// Sets or clears one bit of the word. Costs one step: the word is read and written at once.
     pub fn write_bit(&mut self, bit: u32, on: bool, steps: &mut Steps)
         requires { bit < 64 }
         ensures written { WritesBit 64 self.old self.new bit on }
@@ -58,7 +58,7 @@ impl WordCell {
         self.word = with_bit(self.word, bit, on);
     }
 
-    /// Lends the cell for reading and writing at once.
+    /// Lends the word, to be read and written at once. Costs one step.
     pub fn lend(&mut self, steps: &mut Steps) -> &mut u64
         ensures* writes_back { sem 𝓛 (Lends the_row u64 self.entry result (λ w. w)) }
         ensures value { result.now ≡ self.old }

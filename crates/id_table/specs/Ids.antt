@@ -13,6 +13,6 @@ pub record AreWithin (ids : Ids) : Type 0 where
   pub below : (id number : ℕ) → map.get ids id ≡ Some number → id < 2 ^ 16
   pub few : map.len ids ≤ 2 ^ 16
 
--- stored as a finite map
+-- the encoding of `Ids` that the model of an id table needs
 abbrev pub ids_code : Coded Ids
 ids_code = map.code coded_ℕ coded_ℕ

@@ -1,4 +1,4 @@
-//! From ids to handles.
+//! The table from ids to handles.
 ghost use Rattle.std.specs.Prelude.{◌≡◌, ◌↔◌, IfOk, IsTrue, option_map};
 ghost use Rattle.std.specs.FinMap as map;
 ghost use Rattle.cf_base.specs.declared.answers.Handle.{Handle as AHandle};
@@ -35,7 +35,7 @@ impl Model for IdTable {
 }
 
 impl IdTable {
-    /// A table without live ids. Only this call takes memory.
+    /// A table without live ids. Only this call allocates.
     pub fn new(alloc: Global) -> Result<IdTable, OutOfMemory>
         ensures { IfOk result (λ ids. ids ≡ map.empty) }
     {
@@ -71,7 +71,7 @@ impl IdTable {
         }
     }
 
-    /// Binds an id to a handle, in place of the one that it had.
+    /// Binds an id to a handle, in place of its old one, if it had one.
     pub fn bind(&mut self, id: u16, h: Handle)
         ensures { self.new ≡ map.insert self.old id h.0 }
     {

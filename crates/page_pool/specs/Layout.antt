@@ -6,6 +6,7 @@ use Rattle.page_pool.specs.Pool.{Pool, IsPool}
 abbrev pub pool_of : List ℕ → ℕ → Pool
 pool_of stack first = record { pages = length stack; free = drop first stack }
 
+-- the length of the stack fits 32 bits, `first` is at most that length, and what they represent is a pool
 pub record IsValid (stack : List ℕ) (first : ℕ) : Type 0 where
   pub within : first ≤ length stack
   pub small : length stack < 2 ^ 32

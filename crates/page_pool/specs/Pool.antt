@@ -8,7 +8,7 @@ pub record Pool : Type 0 where
   pub pages : ℕ
   pub free : List ℕ
 
--- stored as the pair of its fields
+-- the encoding of a pool, as a pair, that its model needs
 abbrev pub pool_code : Coded Pool
 pool_code = code_by (ℕ × List ℕ) (coded× coded_ℕ (coded_list coded_ℕ)) (λ p. (p.pages, p.free)) (λ p. record { pages = p.0; free = p.1 }) (λ _. refl)
 
@@ -26,7 +26,7 @@ pub record IsPool (p : Pool) : Type 0 where
   pub distinct : HasNoRepeats p.free
   pub below : (page : ℕ) → is_in_pool p.free page ≡ true → page < p.pages
 
--- the first free page is taken, if there is one
+-- the first free page is returned and leaves the pool, if there is one
 abbrev pub TakesFront : Pool → Option ℕ → Pool → Type 0
 TakesFront old None new = (old.free ≡ []) × (new ≡ old)
 TakesFront old (Some page) new = (old.free ≡ page ∷ new.free) × (new.pages ≡ old.pages)

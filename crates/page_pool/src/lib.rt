@@ -1,4 +1,5 @@
-//! A pool of free pages, last in, first out. Taking a page costs one step, returning it too.
+//! A pool of free pages, last in, first out. Taking a page costs one step, and returning it costs
+//! one.
 #![tactic(auto)]
 
 mod pool;

@@ -30,7 +30,7 @@ impl Model for PagePool {
 }
 
 impl PagePool {
-    /// The pages 0 to n - 1, all free, with 0 first. Only this call takes memory.
+    /// The pages 0 to n - 1, all free, with 0 first. Only this call allocates.
     pub fn new(alloc: Global, n: u32) -> Result<PagePool, OutOfMemory>
         ensures pool { IfOk result (λ p. p ≡ record { pages = n; free = range_with_len 0 n }) }
         ensures kept { IfOk result (λ p. IsPool p) }
@@ -52,7 +52,8 @@ impl PagePool {
         (self.stack.len() - self.first) as u32
     }
 
-    /// Takes the first page; none if no page is free.
+    /// Removes the first free page from the pool and returns it; none if no page is free. Costs one
+    /// step.
     pub fn take(&mut self, steps: &mut Steps) -> Option<u32>
         ensures taken { TakesFront self.old result self.new }
         ensures steps { RoseBy steps.old steps.new 1 }
@@ -67,7 +68,8 @@ impl PagePool {
         Some(page)
     }
 
-    /// Returns a page that isn't free to the pool. It will be taken next.
+    /// Adds a page that isn't free to the pool, as the first one: the next `take` returns it. Costs
+    /// one step.
     pub fn give(&mut self, page: u32, steps: &mut Steps)
         requires within { page < self.old.pages }
         requires taken { is_in_pool self.old.free page ≡ false }

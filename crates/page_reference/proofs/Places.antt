@@ -36,7 +36,7 @@ pub no_first : (pages : List ℕ) → slice_get pages 0 ≡ None → pages ≡ [
 no_first [] is = refl
 no_first (x ∷ pages) is = absurd (cc)
 
--- the least free slot of the first partly full page is taken
+-- the lowest free slot of the first partly full page is taken
 pub takes_open : (p : Paging) (m : Held) (o new : Order) (c page slot : ℕ) → slice_get (not_full_in o c) 0 ≡ Some page → IsLeastFree p m c page slot
     → new ≡ (if nat_eq (objects_on p m c page + 1) (slots_of p c) then with_not_full o c (drop 1 (not_full_in o c)) else o)
     → TakesOnOpenPage p m o c (address_of p c page slot) new
@@ -50,17 +50,17 @@ takes_open p m o new c page slot first least left = record {
   left = left;
 }
 
--- if the first partly full page has no free slot, no slot is next
+-- if the first partly full page has no free slot, the class has no next slot
 pub none_open : (p : Paging) (m : Held) (o : Order) (c page : ℕ) → slice_get (not_full_in o c) 0 ≡ Some page
     → (page < p.pages → IsFullPage p m c page) → HasNoNext p m o c
 none_open p m o c page first full = subst (HasNoSlot p m o c) (sym (first_page (not_full_in o c) page first)) full
 
--- if no page is partly full, and the first free page is no page, no slot is next
+-- if no page is partly full, and the pool begins with no page, the class has no next slot
 pub none_free : (p : Paging) (m : Held) (o : Order) (c page : ℕ) → not_full_in o c ≡ [] → slice_get o.pool 0 ≡ Some page → p.pages ≤ page
     → HasNoNext p m o c
 none_free p m o c page none first past = subst (HasNoSlot p m o c) (sym none) (subst (BeginsWithNoPage p) (sym (first_page o.pool page first)) past)
 
--- if no page is partly full or free, no slot is next
+-- if no page is partly full or free, the class has no next slot
 pub none_left : (p : Paging) (m : Held) (o : Order) (c : ℕ) → not_full_in o c ≡ [] → slice_get o.pool 0 ≡ None → HasNoNext p m o c
 none_left p m o c none empty = subst (HasNoSlot p m o c) (sym none) (subst (BeginsWithNoPage p) (sym (no_first o.pool empty)) tt)
 

@@ -13,7 +13,7 @@ use Rattle.page_reference.specs.declared.object.Amount.TheVariants.{One, OfClass
 abbrev pub placed : Object → Placed
 placed o = record { place = o.place; bytes = resized o.bytes.items o.length }
 
--- the same object at another address
+-- the object at another address
 abbrev pub at_place : ℕ → Object → Object
 at_place a o = record o { place = a }
 

@@ -11,12 +11,12 @@ pub record Arranged : Type 0 where
   pub paging : Paging
   pub held : Held
 
--- pages are stored as nested pairs
+-- the encoding of pages and classes as nested pairs
 abbrev pub paging_code : Coded Paging
 paging_code = code_by (ℕ × (ℕ × (List ℕ × List ℕ))) (coded× coded_ℕ (coded× coded_ℕ (coded× (coded_list coded_ℕ) (coded_list coded_ℕ))))
     (λ p. (p.pages, (p.page_words, (p.sizes, p.bounds)))) (λ q. record { pages = q.0; page_words = q.1.0; sizes = q.1.1.0; bounds = q.1.1.1 }) (λ _. refl)
 
--- stored as the pair of its fields
+-- the encoding of pages and objects as a pair, which the model of `Plain` needs
 abbrev pub arranged_code : Coded Arranged
 arranged_code = code_by (Paging × Held) (coded× paging_code (map.code coded_ℕ placed_code)) (λ a. (a.paging, a.held)) (λ q. record { paging = q.0; held = q.1 })
     (λ _. refl)

@@ -9,7 +9,7 @@ use Rattle.page_model.specs.Steps.{Leaves, Request, resized_at}
 use Rattle.page_reference.specs.Amounts.{MovesOne}
 use Rattle.page_reference.specs.declared.order.PlainOrder.{PlainOrder}
 
--- the order that is stored
+-- the order that the fields represent
 abbrev pub order_of : PlainOrder → Order
 order_of o = record { pool = o.pool.items; not_full = map (λ pages. pages.items) o.not_full.items; spare = o.spare.items }
 
@@ -44,21 +44,21 @@ abbrev pub BeginsWithNoPage : Paging → List ℕ → Type 0
 BeginsWithNoPage p [] = ⊤
 BeginsWithNoPage p (page ∷ rest) = p.pages ≤ page
 
--- of these partly full pages, the first has no free slot, or there is none, and no page is free
+-- the first of these partly full pages has no free slot; or the list is empty, and the pool begins with no page
 abbrev pub HasNoSlot : Paging → Held → Order → ℕ → List ℕ → Type 0
 HasNoSlot p m o c [] = BeginsWithNoPage p o.pool
 HasNoSlot p m o c (page ∷ rest) = page < p.pages → IsFullPage p m c page
 
--- no slot of class c is next
+-- class c has no next slot
 abbrev pub HasNoNext : Paging → Held → Order → ℕ → Type 0
 HasNoNext p m o c = HasNoSlot p m o c (not_full_in o c)
 
--- there is no first page, or it has no object
+-- the list is empty, or its first page has no object
 abbrev pub HasNoObject : Paging → Held → ℕ → List ℕ → Type 0
 HasNoObject p m c [] = ⊤
 HasNoObject p m c (page ∷ rest) = page < p.pages → IsFreePage p m c page
 
--- no object of class c is next to move
+-- class c has no next object to move
 abbrev pub HasNoMover : Paging → Held → Order → ℕ → Type 0
 HasNoMover p m o c = HasNoObject p m c (not_full_in o c)
 
@@ -66,7 +66,7 @@ HasNoMover p m o c = HasNoObject p m c (not_full_in o c)
 abbrev pub CannotLeave : Paging → Held → Order → ℕ → Type 0
 CannotLeave p m o h = (x : Placed) → get m h ≡ Some x → class_at p x < classes p → MovesOne p m (get m h) × HasNoMover p m o (class_at p x)
 
--- object h leaves its slot, and the object that is given moves there
+-- object h leaves its slot, and object `moved`, if there is one, moves there; the order changes from `old` to `new`
 pub record LeavesSlot (p : Paging) (m : Held) (h : ℕ) (moved : Option ℕ) (old new : Order) : Type 0 where
   pub object : Placed
   pub found : get m h ≡ Some object
@@ -83,7 +83,7 @@ FollowsResize p m asked place moved old new = (after : Leaves) → after.moved �
     → ((x : Placed) → get m asked.number ≡ Some x → get after.held asked.number ≡ Some (resized_at place x asked.length))
     → ResizeFollows p m asked after old new
 
--- a resize has no address: there is no such object, no slot of the class is next, or the object can't leave its slot after the next one is taken
+-- a resize can't follow the order: there is no such object, its new class has no next slot, or the object can't leave its slot after the next one is taken
 abbrev pub CannotRefit : Paging → Held → Request → Order → Type 0
 CannotRefit p m asked o = (get m asked.number ≡ None) ⊎ (classes p ≤ class_for p asked.length) ⊎ HasNoNext p m o (class_for p asked.length)
     ⊎ ((place : ℕ) × (between : Order) × TakesNext p m o (class_for p asked.length) place between × CannotLeave p m between asked.number)

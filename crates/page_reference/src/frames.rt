@@ -1,5 +1,5 @@
-//! The block table of a manager that exchanges blocks, as a list: entry v is the physical block of
-//! virtual block v. A block is four words.
+//! The block table of the non-moving manager, as a list: entry v is the physical block of virtual
+//! block v. A block is four words.
 ghost use Rattle.std.specs.Prelude.{◌≡◌, ◌+◌, ◌/◌, ◌^◌, ◌<◌, ◌≤◌, IfOk, length};
 ghost use Rattle.std.specs.List.{range_with_len};
 ghost use Rattle.page_model.specs.Frames.{block_of as physical_block, first_frames};
@@ -42,7 +42,8 @@ pub fn exchange(
     Ok(all)
 }
 
-/// The number that v becomes if the `n` numbers from `a` on change places with those from `b` on.
+/// The number that v becomes if the `n` numbers from `a` on change places with those from `b` on;
+/// any other number stays.
 fn partner_of(a: u32, b: u32, n: u32, v: u32) -> u32
     requires a_fits { a + n < 2 ^ 32 }
     requires b_fits { b + n < 2 ^ 32 }

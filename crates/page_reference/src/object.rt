@@ -12,16 +12,16 @@ pub struct Object {
 /// An amount to sum over objects.
 #[derive(Clone, Copy)]
 pub enum Amount {
-    /// 1.
+    /// 1 for each object.
     One,
-    /// 1 if it is of the class.
+    /// 1 if the object is of this class, else 0.
     OfClass(u32),
-    /// 1 if it is on the page.
+    /// 1 if the object is on this page, else 0.
     OnPage(u32),
-    /// 1 if it is of the class and on the page.
+    /// 1 if the object is of this class and on this page, else 0.
     OfClassOnPage(u32, u32),
-    /// Its length in bytes.
+    /// The object's length in bytes.
     Length,
-    /// The words of its slot.
+    /// The words of the object's slot.
     SlotWords,
 }

@@ -49,7 +49,8 @@ impl PlainOrder {
         })
     }
 
-    /// A malloc: the next number, and the next slot of the class. None if there is none.
+    /// Follows a malloc: takes the next number and the next slot of the class, and returns them.
+    /// None if there is no such number or slot.
     pub fn malloc(
         &mut self,
         alloc: Global,
@@ -69,8 +70,9 @@ impl PlainOrder {
         }
     }
 
-    /// A free of the object of this number: the object that moves to its address, if one does. None if
-    /// there is no such object.
+    /// Follows a free of the object of this number, and returns the object that moves to its address,
+    /// if one does. The outer result is none if there is no such object, or if one must move and none
+    /// is next.
     pub fn free(
         &mut self,
         alloc: Global,
@@ -88,8 +90,9 @@ impl PlainOrder {
         Ok(left)
     }
 
-    /// A resize of the object of this number: the address that it gets, and the object that moves to its
-    /// old one, if one does. None if there is no such object, or no slot.
+    /// Follows a resize of the object of this number, and returns the address that it gets, and the
+    /// object that moves to its old one, if one does. None if there is no such object or no slot, or if
+    /// an object must move and none is next.
     pub fn resize(
         &mut self,
         alloc: Global,
@@ -117,7 +120,7 @@ impl PlainOrder {
     }
 }
 
-// What each call is made of.
+// The parts of each call.
 impl PlainOrder {
     /// The partly full pages of a class.
     pub(crate) fn not_full_in(&self, c: u32) -> &[u32]
@@ -156,7 +159,8 @@ impl PlainOrder {
         }
     }
 
-    /// Takes the least free slot of the first partly full page.
+    /// Takes the lowest free slot of the first partly full page of class c, and returns its
+    /// address.
     fn take_on_open(
         &mut self,
         alloc: Global,
@@ -176,7 +180,8 @@ impl PlainOrder {
         Ok(Some(plain.address_of(c, page, slot)))
     }
 
-    /// A slot of the first partly full page is taken: the page leaves its list if that fills it.
+    /// Updates the list after a slot of its first page, a partly full one, is taken: the page
+    /// leaves the list if that fills it.
     fn use_slot(
         &mut self,
         alloc: Global,
@@ -195,7 +200,7 @@ impl PlainOrder {
         Ok(())
     }
 
-    /// Takes slot 0 of the first free page.
+    /// Takes slot 0 of the first free page, and returns its address; none if no page is free.
     fn take_on_free(
         &mut self,
         alloc: Global,
@@ -220,7 +225,7 @@ impl PlainOrder {
         Ok(Some(plain.address_of(c, page, 0)))
     }
 
-    /// A slot of a class on the page becomes free.
+    /// Updates the order after a slot of class c on the page becomes free.
     fn free_slot(
         &mut self,
         alloc: Global,
@@ -261,8 +266,10 @@ impl PlainOrder {
         }
     }
 
-    /// The object of this number leaves its slot, which becomes free, or the next object to move moves
-    /// there. Returns that object. None if there is no object of this number.
+    /// Updates the order after the object of this number leaves its slot: the slot becomes free, or
+    /// the next object to move moves there and its own slot becomes free. Returns that object, if one
+    /// moves. The outer result is none if there is no object of this number, or if one must move and
+    /// none is next.
     fn leave(
         &mut self,
         alloc: Global,
@@ -303,7 +310,7 @@ fn behind_first(alloc: Global, list: &[u32]) -> Result<Vec<u32>, AllocError>
     Vec::from_slice(alloc, &list[1..])
 }
 
-/// The list after this entry.
+/// This entry, and then the list.
 fn with_first(alloc: Global, first: u32, list: &[u32]) -> Result<Vec<u32>, AllocError>
     ensures { IfOk result (λ all. all.items ≡ first ∷ list.now) }
 {

@@ -50,7 +50,7 @@ impl Pages {
         })
     }
 
-    /// Changes the bound of a class, if there is one.
+    /// Changes the bound of a class, if there is such a class.
     pub fn set_bound(&mut self, c: u32, k: u32)
         ensures { self.new ≡ record self.old { bounds = slice_set self.old.bounds c k } }
     {
@@ -132,7 +132,7 @@ impl Pages {
         place / self.page_words
     }
 
-    /// The amount of an object of `length` bytes at an address.
+    /// The amount for an object of `length` bytes at an address.
     pub fn amount(&self, which: Amount, place: u32, length: u32) -> u64
         ensures value { result ≡ amount_of self.now which place length }
         ensures within { result ≤ most_of which }
@@ -149,7 +149,7 @@ impl Pages {
         }
     }
 
-    /// The sum over the objects of a table.
+    /// The sum of an amount over the objects of a table.
     pub fn total(&self, which: Amount, objects: &[Option<Object>]) -> u64
         requires few { length objects.now ≤ 65536 }
         ensures value { result ≡ total_of (amount_of self.now which) objects.now }

@@ -288,7 +288,7 @@ impl Plain {
         }
     }
 
-    /// The same for the object of this entry, if there is one.
+    /// Whether a free of the object of this entry moves another one; false if the entry is empty.
     fn must_move_from(&self, entry: &Option<Object>) -> bool
         ensures { IsTrue result ↔ MovesOne self.now.paging self.now.held (option_map placed entry.now) }
     {
@@ -318,7 +318,7 @@ impl Plain {
         self.not_full_pages(c) == self.pages.bound(c)
     }
 
-    /// The number of the object at an address.
+    /// The number of the object at an address; none if no object is there.
     pub fn number_at(&self, place: u32) -> Option<u32>
         ensures found { IfSome result (λ q. IsAt self.now.held q place) }
         ensures none { IfNone result (¬ IsTaken self.now.held place) }
@@ -371,7 +371,7 @@ impl Plain {
         page * self.page_words() + slot * self.slot_words(c)
     }
 
-    /// The least free slot of the page, seen as one of class c; none if each slot is taken, or there is
+    /// The lowest free slot of the page, seen as one of class c; none if each slot is taken, or there is
     /// no such page.
     pub fn least_free(&self, c: u32, page: u32) -> Option<u32>
         requires { c < classes self.now.paging }
@@ -390,7 +390,7 @@ impl Plain {
         None
     }
 
-    /// The least taken slot of the page, seen as one of class c; none if each slot is free, or there is
+    /// The lowest taken slot of the page, seen as one of class c; none if each slot is free, or there is
     /// no such page.
     pub fn least_taken(&self, c: u32, page: u32) -> Option<u32>
         requires { c < classes self.now.paging }
@@ -430,7 +430,7 @@ impl Plain {
         true
     }
 
-    /// The words of the region.
+    /// The words of the region, as the objects determine them.
     pub fn image(&self, alloc: Global) -> Result<Vec<u64>, AllocError>
         ensures len { IfOk result (λ v. length v.items ≡ self.now.paging.pages * self.now.paging.page_words) }
         // Objects that share a word or go beyond the end of the region have no image.
@@ -445,7 +445,7 @@ impl Plain {
         Ok(words)
     }
 
-    /// Word w of the region.
+    /// Word w of the region, as the objects determine it.
     fn word_at(&self, w: u32) -> u64
         ensures { IsApart need self.now.held → IsWordAt self.now.held w result }
     {

@@ -1,4 +1,4 @@
-//! The steps of the parts of a call.
+//! The steps of the parts of a call, by slow code for tests.
 ghost use Rattle.std.specs.Prelude.{◌≡◌, ◌*◌, ◌<◌, ◌≤◌};
 ghost use Rattle.page_model.specs.Order.{open_steps as opening, steps_to_drop as dropping, steps_to_fill as filling, steps_to_take as taking, word_steps as word};
 ghost use Rattle.page_model.specs.Arrangement.{objects_on};
@@ -11,7 +11,7 @@ use crate::plain::Plain;
 use cf_base::Kind;
 
 impl PlainOrder {
-    /// Taking the next slot of a class.
+    /// The steps of taking the next slot of a class.
     pub fn steps_to_take(&self, plain: &Plain, c: u32) -> u64
         requires { c < classes plain.now.paging }
         ensures value { result ≡ taking plain.now.paging plain.now.held (order_of self.now) c }
@@ -23,7 +23,7 @@ impl PlainOrder {
         }
     }
 
-    /// Freeing the slot of the next object of a class to move.
+    /// The steps of freeing the slot of the next object of a class to move.
     pub fn steps_to_fill(&self, plain: &Plain, c: u32) -> u64
         requires { c < classes plain.now.paging }
         ensures value { result ≡ filling plain.now.paging plain.now.held (order_of self.now) c }
@@ -38,7 +38,7 @@ impl PlainOrder {
 }
 
 impl Plain {
-    /// Taking a slot of a class on the page.
+    /// The steps of taking a slot of a class on the page, which is partly full.
     fn steps_to_open(&self, c: u32, page: u32) -> u64
         requires { c < classes self.now.paging }
         ensures value { result ≡ opening (objects_on self.now.paging self.now.held c page) (slots_of self.now.paging c) }
@@ -51,7 +51,7 @@ impl Plain {
         }
     }
 
-    /// Freeing a slot of a class on the page.
+    /// The steps of freeing a slot of a class on the page.
     pub fn steps_to_drop(&self, c: u32, page: u32) -> u64
         requires { c < classes self.now.paging }
         ensures value { result ≡ dropping self.now.paging self.now.held c page }
@@ -68,7 +68,7 @@ impl Plain {
     }
 }
 
-/// Reading or writing a word.
+/// The steps of reading or writing a word.
 pub fn word_steps(kind: Kind) -> u64
     ensures value { result ≡ word kind }
     ensures few { result ≤ 2 }
@@ -88,7 +88,7 @@ fn blocks_of(i: u32, n: u32) -> u64
     n.min((i % 4 + n + 3) / 4)
 }
 
-/// Touching n words from i on.
+/// The steps of touching n words from i on.
 pub fn run_steps(kind: Kind, i: u32, n: u32) -> u64
     ensures value { result ≡ running kind i n }
     ensures few { result ≤ 2 * n }
@@ -99,7 +99,7 @@ pub fn run_steps(kind: Kind, i: u32, n: u32) -> u64
     }
 }
 
-/// Copying n words from i on.
+/// The steps of copying n words from i on.
 pub fn copy_steps(kind: Kind, i: u32, n: u32) -> u64
     ensures value { result ≡ copying kind i n }
     ensures few { result ≤ 3 * n }
@@ -110,7 +110,7 @@ pub fn copy_steps(kind: Kind, i: u32, n: u32) -> u64
     }
 }
 
-/// Clearing a slot of n words.
+/// The steps of clearing a slot of n words.
 pub fn wipe_steps(kind: Kind, n: u32) -> u64
     ensures value { result ≡ wiping kind n }
     ensures few { result ≤ 2 * n }
@@ -121,7 +121,7 @@ pub fn wipe_steps(kind: Kind, n: u32) -> u64
     }
 }
 
-/// Moving a slot of n words.
+/// The steps of moving a slot of n words.
 pub fn slot_steps(kind: Kind, n: u32) -> u64
     ensures value { result ≡ moving kind n }
     ensures few { result ≤ 2 * n }

@@ -1,4 +1,4 @@
-//! The words of objects.
+//! The words of the region, computed from the objects.
 ghost use Rattle.std.specs.Prelude.{◌≡◌, ◌*◌, ◌^◌, ◌<◌, ◌≤◌, IfNone, IfSome, Some, drop, length, option_map, slice_index, take};
 ghost use Rattle.cf_base.specs.Classes.{need};
 ghost use Rattle.page_model.specs.Image.{IsApart, object_word, word_of_bytes};
@@ -48,7 +48,7 @@ fn word_of_object(number: u32, object: &Object, i: u32) -> u64
     }
 }
 
-/// Word w of the region, if the object of this entry has it.
+/// Word w of the region, if it is one of the object of this entry; else none.
 fn word_in(number: u32, entry: &Option<Object>, w: u32) -> Option<u64>
     ensures found { IfSome result (λ word. HasWord number (option_map placed entry.now) w word) }
     ensures none { IfNone result (Misses (option_map placed entry.now) w) }
@@ -59,7 +59,7 @@ fn word_in(number: u32, entry: &Option<Object>, w: u32) -> Option<u64>
     }
 }
 
-/// Word w of the region, if the object has it.
+/// Word w of the region, if it is one of the object's words; else none.
 fn word_of(number: u32, object: &Object, w: u32) -> Option<u64>
     ensures found { IfSome result (λ word. HasWord number (Some (placed object.now)) w word) }
     ensures none { IfNone result (Misses (Some (placed object.now)) w) }

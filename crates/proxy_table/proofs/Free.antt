@@ -65,7 +65,7 @@ free_taken stack left h room =
     rw e (ap (λ x. x ∷ top_down (set stack left h) left) (get_or-set_same stack left h 0 room)
     ∙ ap (λ xs. h ∷ xs) (below_stay stack left left h (omega arith)))
 
--- a list of numbers that holds a number once, without it
+-- leaving out a number that isn't among the free numbers changes nothing
 pub without_stack : (stack : List ℕ) (h n : ℕ) → ((i : ℕ) → i < n → get_or stack i 0 ≢ h) → without_number h (top_down stack n) ≡ top_down stack n
 without_stack stack h zero off = refl
 without_stack stack h (suc n) off =

@@ -34,7 +34,7 @@ pub record AreBelowLimit (proxies : Proxies) : Type 0 where
   pub once : IsDistinct nat_eq proxies.free
   pub counted : length proxies.free + map.len proxies.places ≡ proxies.limit
 
--- stored as the tuple of its fields
+-- the encoding of a proxy table, as a tuple, that its model needs
 abbrev pub proxies_code : Coded Proxies
 proxies_code =
     code_by (ℕ × (map.FinMap nat_cmp ℕ × List ℕ)) (coded× coded_ℕ (coded× (map.code coded_ℕ coded_ℕ) (coded_list coded_ℕ)))

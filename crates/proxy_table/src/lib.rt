@@ -1,5 +1,5 @@
-//! From the numbers of objects to addresses. A move changes an object's address here and nowhere
-//! else.
+//! The table from the numbers of objects to their addresses. A move changes an object's address
+//! here and nowhere else.
 #![tactic(auto)]
 
 ghost use Rattle.std.specs.Prelude.{◌≡◌, ◌∷◌, ◌<◌, ◌↔◌, IfNone, IfOk, IfSome, IsNone, IsSome, None, Some, if◌then◌else◌, is_some};
@@ -15,8 +15,8 @@ use std::alloc::{AllocError, Global};
 use std::marker::Model;
 use step_ledger::Steps;
 
-/// A finite map from numbers below a limit to addresses in words. The free number that was released
-/// last is given out first; in a new table number 0 is.
+/// A finite map from numbers below a limit to addresses in words. `bind` uses the free number that
+/// was released last; in a new table it uses number 0 first.
 #[derive(Drop)]
 pub struct ProxyTable {
     places: Cells<Option<u32>>,
@@ -65,7 +65,7 @@ impl ProxyTable {
         self.places.len() as u32 - self.left
     }
 
-    /// The address of a number; none if it isn't live.
+    /// The address of a number; none if it isn't live. Costs one step.
     pub fn lookup(&self, h: Handle, steps: &mut Steps) -> Option<u32>
         ensures found { result ≡ map.get self.now.places h.0 }
         ensures kept { AreBelowLimit self.now }
@@ -80,7 +80,8 @@ impl ProxyTable {
         }
     }
 
-    /// Binds the first free number to the address; none if every number is live.
+    /// Binds the first free number to the address and returns the number; none if every number is
+    /// live. Costs two steps, or one if it returns none.
     pub fn bind(&mut self, addr: u32, steps: &mut Steps) -> Option<Handle>
         ensures none { IsNone result ↔ (map.len self.old.places ≡ self.old.limit) }
         ensures fresh { IfSome result (λ h. map.get self.old.places h.0 ≡ None) }
@@ -104,7 +105,7 @@ impl ProxyTable {
         Some(Handle(number))
     }
 
-    /// Changes the address of a live number.
+    /// Changes the address of a live number. Costs one step.
     pub fn rebind(&mut self, h: Handle, addr: u32, steps: &mut Steps)
         requires live { IsSome (map.get self.old.places h.0) }
         ensures places { self.new ≡ with_place self.old h.0 addr }
@@ -115,7 +116,7 @@ impl ProxyTable {
         self.places.set(h.0 as usize, Some(addr), steps);
     }
 
-    /// Releases a live number, which is the next to be given out.
+    /// Releases a live number; the next `bind` uses it. Costs two steps.
     pub fn release(&mut self, h: Handle, steps: &mut Steps)
         requires live { IsSome (map.get self.old.places h.0) }
         ensures places { self.new ≡ without_place self.old h.0 }

@@ -6,12 +6,12 @@ use Rattle.cf_lemmas.proofs.Ranges.{one}
 use Rattle.cf_lemmas.proofs.Tests.{eq_yes, eq_no}
 use Rattle.quota_model.proofs.Ceilings.{count-cons}
 
--- without the first n
+-- the list without its first n
 remove_first : ℕ → List ℕ → List ℕ
 remove_first n [] = []
 remove_first n (x ∷ xs) = cond (nat_eq x n) xs (x ∷ remove_first n xs)
 
--- how often n occurs
+-- the number of times that n occurs in a list
 abbrev pub times : ℕ → List ℕ → ℕ
 times n xs = count_by (λ m. nat_eq m n) xs
 

@@ -1,4 +1,4 @@
--- What is declared, and the list of the declared mallocs in order.
+-- The numbers of declared objects, and the list of the declared mallocs in order.
 use Rattle.std.proofs.Common.{◌≡◌, ℕ, zero, suc, Bool, true, false, cond, ◌*◌, ◌<◌, ◌≤◌, List, [], ◌∷◌, ◌++◌, Some, None, length, get_or, replicate}
 use Rattle.std.proofs.Common.{arith, ap, sym, ◌∙◌, inl, inr, refl}
 use Rattle.std.specs.Prelude.{⊤, nat_eq, nat_lt, position}
@@ -19,7 +19,7 @@ times_cond : (b : Bool) (k : ℕ) → k * cond b 1 0 ≡ cond b k 0
 times_cond true k = omega arith
 times_cond false k = omega arith
 
--- an entry counts as often as it is declared
+-- a length occurs in the list of declared mallocs as often as the entries declare it
 pub declared_is : (needs : List Need) (n : ℕ) → declared needs n ≡ times n (in_order needs)
 declared_is [] n = refl
 declared_is (e ∷ es) n =
@@ -48,7 +48,7 @@ fit_again : (P k n : ℕ) (ns : List ℕ) → need n ≤ P → AllFit P ns → A
 fit_again P zero n ns le rest = rest
 fit_again P (suc k) n ns le rest = (le, fit_again P k n ns le rest)
 
--- if no element passes, each fails
+-- if `position` finds no element that passes f, f is false for each
 pub all_fail : {X : Type 0} (f : X → Bool) (xs : List X) → position f xs ≡ None → (i : ℕ) (d : X) → i < length xs → f (get_or xs i d) ≡ false
 all_fail f xs none i d lt = elim (cases_lt (position_or_len f xs) (length xs)) [
   | inl found ↦ absurd (

@@ -57,7 +57,7 @@ live_of-inserted o h n m none =
     omega arith
 
 module _ (t : Share) (needs : List Need) where
-  -- no more objects of any bytes are live than are declared
+  -- of each length at most the declared number of objects are live
   abbrev IsBounded : Objects → Type 0
   IsBounded o = (n : ℕ) → live_of o n ≤ declared needs n
 
@@ -96,7 +96,7 @@ module _ (t : Share) (needs : List Need) where
       let d = count-map length f (values o) in
       omega arith))
 
-  -- a declared object is granted
+  -- a malloc of a declared object is not refused
   pub granted_within : CanBeAsked t.profile needs → pages_of (task_paging t.profile) (in_order needs) ≤ t.quota → (o : Objects) (n : ℕ) → IsBounded o
       → live_of o n + 1 ≤ declared needs n → malloc_refusal t.profile t.quota o n ≡ None
   granted_within asked enough o n bounded within =

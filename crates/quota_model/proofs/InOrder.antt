@@ -30,7 +30,7 @@ pub record FirstPast (p : Paging) (quota : ℕ) (pre rest : List ℕ) (i : ℕ) 
   pub enough : pages_of p (pre ++ take i rest) ≤ quota
   pub past : quota < pages_of p (pre ++ take (suc i) rest)
 
--- no malloc is the first refused, or the first has a number, from k + 1 on
+-- the meaning of `first_short`: None if `pre` and `rest` are within the quota; else the number of the first entry past it, from k + 1 on
 abbrev pub IsInOrderAt : Paging → ℕ → List ℕ → List ℕ → ℕ → Option ℕ → Type 0
 IsInOrderAt p quota pre rest k None = pages_of p (pre ++ rest) ≤ quota
 IsInOrderAt p quota pre rest k (Some nth) = (i : ℕ) × (nth ≡ k + suc i) × FirstPast p quota pre rest i
@@ -52,7 +52,7 @@ lifted p quota pre n ns k (Some nth) shown =
       },
     )
 
--- The objects are k, numbered from 0 on, and as many of each length as the list has.
+-- There are k objects, with no number from k on, and as many of each length as `pre` has.
 pub record Agrees (o : Objects) (k : ℕ) (pre : List ℕ) : Type 0 where
   pub fresh : (h : ℕ) → k ≤ h → get o h ≡ None
   pub count : len o ≡ k
@@ -124,7 +124,7 @@ module _ (t : Share) where
             (shown ns (insert o k (replicate n 0)) (k + 1) (pre ++ n ∷ []) fit.1 (omega arith) (agrees_more o k pre n a) fine)))
       ]
 
-  -- the declared mallocs are within what is declared
+  -- mallocs of the lengths in `rest` are within the needs
   pub are_within : (needs : List Need) (rest : List ℕ) (o : Objects) (k : ℕ) → ((h : ℕ) → k ≤ h → get o h ≡ None) → k + length rest ≤ t.profile.proxies
       → ((m : ℕ) → live_of o m + times m rest ≤ declared needs m) → AreWithin t needs o (mallocs k rest)
   are_within needs [] o k fresh few le = tt
@@ -149,7 +149,7 @@ module _ (t : Share) where
   short_or_not (Some refusal.Proxy) = inl refl
   short_or_not (Some refusal.Space) = inr refl
 
-  -- if there is one, the mallocs run short
+  -- if `first_short` finds a malloc, one of the mallocs is refused for space (`RunsShort`)
   pub runs_short : (rest : List ℕ) (o : Objects) (k nth : ℕ) → first_short t o k rest ≡ Some nth → RunsShort t o (mallocs k rest)
   runs_short [] o k nth e = absurd (let e' : None ≡ Some nth = e in cc)
   runs_short (n ∷ ns) o k nth e = elim (short_or_not (malloc_refusal t.profile t.quota o n)) [

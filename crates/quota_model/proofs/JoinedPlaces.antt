@@ -1,4 +1,4 @@
--- One map of the addresses of all tasks, by its keys.
+-- For `addresses_are_found_by_key`: the map of all tasks' addresses, by its keys.
 use Rattle.std.proofs.Common.{◌≡◌, ◌≢◌, ℕ, zero, suc, cond, ◌+◌, ◌<◌, ◌≤◌, List, [], ◌∷◌, ◌++◌, Option, Some, None, length, set, arith, ap}
 use Rattle.std.proofs.Common.{sym, ◌∙◌, refl, inl, inr}
 use Rattle.std.proofs.lemmas.Bool.{cases_eq, cases_lt}
@@ -16,7 +16,7 @@ use Rattle.quota_model.specs.Parts.{key_of, number_of, part_of, task_of}
 use Rattle.quota_model.proofs.TaskParts.{get_part, get_part_past}
 use Rattle.quota_model.specs.Joined.{AreNumbers, all_keyed, joined, keyed, places_at}
 
--- the first of two lists that has a key
+-- a key of two joined lists is looked up in the first and, if it isn't there, in the second
 found_first : (k v : ℕ) (xs ys : List (ℕ × ℕ)) → find nat_cmp k xs ≡ Some v → find nat_cmp k (xs ++ ys) ≡ Some v
 found_first k v [] ys f = absurd (let e : None ≡ Some v = f in cc)
 found_first k v (x ∷ xs) ys f = elim (cases_eq k x.0) [
@@ -41,7 +41,7 @@ found_rest k (x ∷ xs) ys f = elim (cases_eq k x.0) [
       ∙ found_rest k xs ys (sym (ap (λ b. cond b (Some x.1) (find nat_cmp k xs)) t) ∙ f))
 ]
 
--- the numbers in a list of entries
+-- each number in a list of entries is below 65,536
 abbrev AreSmall : List (ℕ × ℕ) → Type 0
 AreSmall es = (h a : ℕ) → find nat_cmp h es ≡ Some a → h < 65536
 
@@ -71,7 +71,7 @@ keyed_own task h (e ∷ es) s lt =
           ap (λ b. cond b (Some e.1) (find nat_cmp (key_of task h) (keyed task es))) t ∙ rest ∙ sym (ap (λ b. cond b (Some e.1) (find nat_cmp h es)) u))
     ]
 
--- another task's key isn't found there
+-- the key of another task isn't among the task's entries
 keyed_other : (task other h : ℕ) (es : List (ℕ × ℕ)) → AreSmall es → h < 65536 → other ≢ task → find nat_cmp (key_of other h) (keyed task es) ≡ None
 keyed_other task other h [] s lt ne = refl
 keyed_other task other h (e ∷ es) s lt ne =
@@ -82,7 +82,7 @@ keyed_other task other h (e ∷ es) s lt ne =
 entries_small : (m : FinMap nat_cmp ℕ) → ((h a : ℕ) → get m h ≡ Some a → h < 65536) → AreSmall (entries m)
 entries_small m small = λ h a f. small h a (get-entries m h ∙ f)
 
--- no earlier task is found
+-- a key of a task before `from` isn't among the entries of the tasks from `from` on
 earlier_none : (from t h : ℕ) (all : List (FinMap nat_cmp ℕ)) → AreNumbers all → h < 65536 → t < from → find nat_cmp (key_of t h) (all_keyed from all) ≡ None
 earlier_none from t h [] small lt before = refl
 earlier_none from t h (m ∷ ms) small lt before =
@@ -117,13 +117,13 @@ unfolding joined
 get_joined all small t h lt = get-from_entries nat_cmp_total (all_keyed 0 all) (key_of t h) ∙ ap (λ u. find nat_cmp (key_of u h) (all_keyed 0 all))
     (let e : t ≡ 0 + t = omega arith in e) ∙ find_joined 0 t h all small lt
 
--- the same by the key
+-- as above, for a key in place of a task and a number
 pub get_by_key : (all : List (FinMap nat_cmp ℕ)) → AreNumbers all → (key : ℕ) → get (joined all) key ≡ get (places_at all (task_of key)) (number_of key)
 get_by_key all small key =
     let is : key ≡ key_of (task_of key) (number_of key) = omega arith in
     ap (get (joined all)) is ∙ get_joined all small (task_of key) (number_of key) (omega arith)
 
--- one task's addresses are others
+-- the map of all tasks' addresses after those of task t are replaced
 module _ (all : List (FinMap nat_cmp ℕ)) (small : AreNumbers all) (t : ℕ) (lt : t < length all) where
   pub numbers_set : (m : FinMap nat_cmp ℕ) → ((h a : ℕ) → get m h ≡ Some a → h < 65536) → AreNumbers (set all t m)
   numbers_set m below = λ u h a f. elim (cases_eq u t) [

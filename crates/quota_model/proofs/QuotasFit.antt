@@ -1,4 +1,4 @@
--- Quotas at first, and after one is granted.
+-- For `quotas_fit`: the quotas of an empty heap, and after one is set.
 use Rattle.std.proofs.Common.{◌≡◌, ℕ, zero, suc, Bool, true, false, cond, ◌<◌, ◌≤◌, List, Some, None, length, get_or, replicate, set, arith, ap, sym, ◌∙◌, refl}
 use Rattle.std.proofs.Common.{inl, inr, subst}
 use Rattle.std.specs.Prelude.{count_by, nat_eq, nat_lt, sum}

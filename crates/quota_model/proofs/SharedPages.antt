@@ -1,4 +1,4 @@
--- While a task uses fewer pages than its quota, a page of the region holds nothing.
+-- For `a_page_is_there_for_each_quota`: while a task uses fewer pages than its quota, some page is free.
 use Rattle.std.proofs.Common.{◌≡◌, ℕ, zero, suc, Bool, ◌+◌, ◌<◌, ◌≤◌, List, [], ◌∷◌, length, get_or, arith, ap, sym, ◌∙◌, refl, inl, inr, subst}
 use Rattle.std.specs.Prelude.{IsTrue, count_by, nat_lt, sum, sum_by}
 use Rattle.std.specs.List.{range_with_len}

@@ -1,4 +1,4 @@
--- The words of the region after a call of one task.
+-- For the laws on the words after a malloc, a free and a write of a task.
 use Rattle.std.proofs.Common.{◌≡◌, ◌≢◌, ℕ, zero, suc, ◌+◌, ◌-◌, ◌*◌, ◌/◌, ◌%◌, ◌<◌, ◌≤◌, List, Some, None, length, get_or, set, replicate, arith, ap, sym}
 use Rattle.std.proofs.Common.{◌∙◌, inl, inr, subst}
 use Rattle.std.specs.Prelude.{IsTrue}
@@ -138,7 +138,7 @@ module _ (s : Profile) (m : Held) (shared : IsShared s m) (is_page : IsTrue (is_
         (image_after_bytes (wide s) (wide_paged s is_page) m (whole_sound s m shared) words (to_wide s m words im) (key_of t h) x there words' at bytes
         within rewrites)
 
-  -- the same by the step of a free
+  -- as above, from a free of a task (`RemovesForTask`)
   module _ (words' : List ℕ) (t h : ℕ) where
     pub removed_image : (new : Held) (step : RemovesForTask s m t h None new)
         → Clears words words' (record { from = (step.freed).place; count = slot_for (task_paging s) (length (step.freed).bytes) })

@@ -1,4 +1,4 @@
--- The part of a task of one map for all, by its keys.
+-- The objects of one task (`part_of`), as a part of the map of all tasks' objects. A key there holds the task and the object's number.
 use Rattle.std.proofs.Common.{◌≡◌, ◌≢◌, ℕ, true, false, cond, ◌<◌, ◌≤◌, List, [], ◌∷◌, Some, None, map, arith, ap, sym, ◌∙◌, refl, inl, inr}
 use Rattle.std.specs.Prelude.{filter, nat_eq}
 use Rattle.std.proofs.lemmas.Bool.{cases_eq, cases_lt}
@@ -56,7 +56,7 @@ module _ (m : Held) (task : ℕ) where
   unfolding part_of
   get_part_past h le = get-from_entries nat_cmp_total (renumbered (of_task task (entries m))) h ∙ find_past task h (of_task task (entries m)) le
 
-  -- what is found in a part has a small number, and is found under its key
+  -- an object of a task has a number below 65,536, and the map of all tasks has it under its key
   pub found_small : (h : ℕ) (x : Placed) → get (part_of m task) h ≡ Some x → h < 65536
   found_small h x found = elim (cases_lt h 65536) [
     | inl lt ↦ lt
@@ -66,7 +66,7 @@ module _ (m : Held) (task : ℕ) where
   pub found_whole : (h : ℕ) (x : Placed) → get (part_of m task) h ≡ Some x → get m (key_of task h) ≡ Some x
   found_whole h x found = sym (get_part h (found_small h x found)) ∙ found
 
--- what is found under a key is found in the part of its task
+-- an object under a key in the map of all tasks is one of its task, under its number
 pub found_part : (m : Held) (key : ℕ) (x : Placed) → get m key ≡ Some x → get (part_of m (task_of key)) (number_of key) ≡ Some x
 found_part m key x found =
     let key_is : key_of (task_of key) (number_of key) ≡ key = omega arith in

@@ -1,4 +1,4 @@
--- Other bytes of the same class in an object of a task.
+-- For `a_write_keeps_tasks_apart`: an object of a task gets other bytes of the same class.
 use Rattle.std.proofs.Common.{◌≡◌, ◌≢◌, ℕ, ◌<◌, List, Some, length, get_or, arith, ap, sym, ◌∙◌, refl, inl, inr, subst}
 use Rattle.std.specs.Prelude.{option_map}
 use Rattle.std.proofs.lemmas.Bool.{cases_eq}

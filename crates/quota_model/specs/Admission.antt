@@ -1,4 +1,4 @@
--- Admission: what a task declares before it runs, and whether a quota is enough for it.
+-- Admission: the objects that a task declares before it runs, and whether a quota is enough for them.
 use Rattle.std.specs.Prelude.{◌≡◌, ⊤, ℕ, Bool, true, false, ◌+◌, ◌<◌, ◌≤◌, ◌⊎◌, List, [], ◌∷◌, ◌++◌, Option, Some, None, IsSome, count_by, if◌then◌else◌}
 use Rattle.std.specs.Prelude.{length, nat_eq, nat_lt}
 use Rattle.std.specs.Prelude.{position, replicate, sum_by}
@@ -15,17 +15,17 @@ use Rattle.quota_model.specs.declared.answers.Admission.{Admission}
 use Rattle.quota_model.specs.declared.answers.Admission.TheVariants.{Yes, No, Size, Proxies}
 use Rattle.quota_model.specs.declared.answers.Need.{Need}
 
--- a task with this quota of pages, under these settings
+-- the settings of the region, and a task's quota in pages
 pub record Share : Type 0 where
   pub profile : Profile
   pub quota : ℕ
 
--- a call of a task: it asks for n bytes, which get number h if they are granted, or it frees object h
+-- a call of a task: a malloc of n bytes, whose object gets number h if it isn't refused, or a free of object h
 pub data Call : Type 0 where
   asks : (h n : ℕ) → Call
   frees : (h : ℕ) → Call
 
--- the objects after a malloc that was refused or granted
+-- the objects after a malloc of n bytes with this refusal, or with none
 abbrev pub granted : Option Refusal → Objects → ℕ → ℕ → Objects
 granted (Some e) o h n = o
 granted None o h n = insert o h (replicate n 0)
@@ -35,7 +35,7 @@ abbrev pub after : Share → Objects → Call → Objects
 after t o (asks h n) = granted (malloc_refusal t.profile t.quota o n) o h n
 after t o (frees h) = remove o h
 
--- the call is a malloc that is refused for space
+-- the call is a malloc that is refused for space (`Space`)
 abbrev pub IsShort : Share → Objects → Call → Type 0
 IsShort t o (asks h n) = malloc_refusal t.profile t.quota o n ≡ Some refusal.Space
 IsShort t o (frees h) = ⊥
@@ -45,16 +45,16 @@ abbrev pub RunsShort : Share → Objects → List Call → Type 0
 RunsShort t o [] = ⊥
 RunsShort t o (call ∷ rest) = IsShort t o call ⊎ RunsShort t (after t o call) rest
 
--- how many objects of n bytes are declared, by all entries
+-- the number of objects of n bytes that all entries declare together
 abbrev pub declared : List Need → ℕ → ℕ
 declared needs n = sum_by (λ (e : Need). if nat_eq e.bytes n then e.count else 0) needs
 
--- how many objects of n bytes are live
+-- the number of live objects of n bytes
 abbrev pub live_of : Objects → ℕ → ℕ
 live_of o n = count_by (λ v. nat_eq (length v) n) (values o)
 
--- A malloc asks for an object that is declared: with it there are no more of its bytes live than were declared. Its number isn't in use. A free is of a live
--- object.
+-- A call is within the needs: a malloc of n bytes uses a number that isn't live, and with its object at most the declared number of objects of n bytes are
+-- live; a free is of a live object.
 abbrev pub IsWithin : Share → List Need → Objects → Call → Type 0
 IsWithin t needs o (asks h n) = (get o h ≡ None) × (h < t.profile.proxies) × (live_of o n + 1 ≤ declared needs n)
 IsWithin t needs o (frees h) = IsSome (get o h)
@@ -68,7 +68,7 @@ AreWithin t needs o (call ∷ rest) = IsWithin t needs o call × AreWithin t nee
 abbrev pub IsEnough : Share → List Need → Type 0
 IsEnough t needs = (calls : List Call) → AreWithin t needs empty calls → ¬ RunsShort t empty calls
 
--- the bytes of the mallocs of all entries in order, each as often as its count
+-- the lengths of all declared objects: entry by entry, each length repeated by its count
 abbrev pub in_order : List Need → List ℕ
 in_order [] = []
 in_order (e ∷ es) = replicate e.count e.bytes ++ in_order es
@@ -85,35 +85,36 @@ is_short (Some refusal.Size) = false
 is_short (Some refusal.Proxy) = false
 is_short (Some refusal.Space) = true
 
--- which of these mallocs is the first that is refused for space, counted from k + 1 on
+-- the number of the first of these mallocs that is refused for space, if there is one; the first malloc has number k + 1
 abbrev pub first_short : Share → Objects → ℕ → List ℕ → Option ℕ
 first_short t o k [] = None
 first_short t o k (n ∷ ns) =
     if is_short (malloc_refusal t.profile t.quota o n) then Some (k + 1)
     else first_short t (granted (malloc_refusal t.profile t.quota o n) o k n) (k + 1) ns
 
--- how many of the mallocs are of class c
+-- the number of these lengths that are of class c
 abbrev pub count_of_class : Paging → List ℕ → ℕ → ℕ
 count_of_class p ns c = count_by (λ n. nat_eq (class_for p n) c) ns
 
--- the pages that objects of these lengths need by arithmetic: over the classes, the sum of the counts over the slots, rounded up
+-- the pages that objects of these lengths need by arithmetic: the sum over all classes of the count divided by the slots of a page, rounded up
 abbrev pub pages_of : Paging → List ℕ → ℕ
 pages_of p ns = pages_for p (count_of_class p ns)
 
--- the first entry whose objects are larger than a page
+-- the index, from 0 on, of the first entry whose objects are larger than a page, if there is one
 abbrev pub first_large : Profile → List Need → Option ℕ
 first_large s needs = position (λ (e : Need). nat_lt s.page_words (need e.bytes)) needs
 
--- the objects that are declared, of whatever size
+-- the number of objects that all entries declare together, of any length
 abbrev pub declared_in_all : List Need → ℕ
 declared_in_all needs = sum_by (λ (e : Need). e.count) needs
 
--- The declared objects fit a page each, and there are proxies for all of them.
+-- Each declared object fits a page, and the proxies are enough for all of them.
 pub record CanBeAsked (s : Profile) (needs : List Need) : Type 0 where
   pub none_large : first_large s needs ≡ None
   pub few : declared_in_all needs ≤ s.proxies
 
--- What each admission means: an entry is too large; the proxies are too few; the quota is enough; or this malloc, of all in order, is the first refused for space.
+-- The meaning of each admission: an entry's object is larger than a page; else the proxies are too few; else the quota is enough, or malloc `nth` of the
+-- declared ones in order is the first that is refused for space.
 abbrev pub IsAdmission : Share → List Need → Admission → Type 0
 IsAdmission t needs (Size entry) = first_large t.profile needs ≡ Some entry
 IsAdmission t needs Proxies = (first_large t.profile needs ≡ None) × (t.profile.proxies < declared_in_all needs)

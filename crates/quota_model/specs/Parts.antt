@@ -1,4 +1,4 @@
--- One map for the objects of all tasks: the key of an object is its task and its number there.
+-- One map of the objects of all tasks. The key of an object is made of its task and its number in that task.
 use Rattle.std.specs.Prelude.{ℕ, ◌+◌, ◌*◌, ◌/◌, ◌%◌, filter, map, nat_eq}
 use Rattle.std.specs.Ordering.{nat_cmp}
 use Rattle.std.specs.FinMap.{entries, from_entries}
@@ -8,14 +8,15 @@ use Rattle.page_model.specs.Held.{Held, Placed}
 abbrev pub key_of : ℕ → ℕ → ℕ
 key_of task h = task * 65536 + h
 
--- whose the object with this key is, and its number there
+-- the task of the object with this key
 abbrev pub task_of : ℕ → ℕ
 task_of key = key / 65536
 
+-- the number, in its task, of the object with this key
 abbrev pub number_of : ℕ → ℕ
 number_of key = key % 65536
 
--- the objects of a task, by their numbers there
+-- the objects of one task, by their numbers in that task
 unfoldable pub part_of : Held → ℕ → Held
 part_of m task = from_entries {R = nat_cmp} (map (λ (e : ℕ × Placed). (number_of e.0, e.1))
     (filter (λ (e : ℕ × Placed). nat_eq (task_of e.0) task) (entries m)))

@@ -1,4 +1,4 @@
--- Why a task's malloc, or a change of its quota, is refused.
+-- The refusals of a task's malloc, and of a change of its quota.
 use Rattle.std.specs.Prelude.{ℕ, List, Option, Some, None, if◌then◌else◌, nat_eq, nat_lt, slice_set, sum}
 use Rattle.std.specs.FinMap.{len}
 use Rattle.cf_base.specs.Classes.{need}
@@ -12,18 +12,20 @@ use Rattle.page_model.specs.Paging.{Paging, first_bounds, paging_of}
 use Rattle.quota_model.specs.declared.answers.QuotaFault.{QuotaFault}
 use Rattle.quota_model.specs.declared.answers.QuotaFault.TheVariants.{Sum, Used}
 
--- the pages and classes of tasks: each class of a task may have one partly full page, whatever bound the settings have
+-- the pages and classes for each task: every class has bound 1, whatever bound the settings have
 abbrev pub task_paging : Profile → Paging
 task_paging s = paging_of s Words (first_bounds (record s { k = 1 }) Words)
 
--- why a malloc of n bytes is refused to a task with this quota and these objects, if it is: the size; then the proxies; then the pages, which pass the quota
+-- the refusal, if there is one, of a malloc of n bytes of a task with these objects: the object is larger than a page; else all proxies are in use; else
+-- the task would need more pages than its quota
 abbrev pub malloc_refusal : Profile → ℕ → Objects → ℕ → Option Refusal
 malloc_refusal s quota o n =
     if nat_lt s.page_words (need n) then Some Size
     else (if nat_eq (len o) s.proxies then Some Proxy
     else (if nat_lt quota (pages_needed_with (task_paging s) o n) then Some Space else None))
 
--- why a task with these objects doesn't get n pages as its quota, if it doesn't: the quotas would pass the pages; then the task uses more
+-- the refusal, if there is one, of n pages as the quota of a task with these objects: the quotas would sum to more pages than the region has; else the
+-- task needs more than n pages
 abbrev pub quota_refusal : Profile → List ℕ → ℕ → ℕ → Objects → Option QuotaFault
 quota_refusal s quotas task n o =
     if nat_lt s.pages (sum (slice_set quotas task n)) then Some Sum

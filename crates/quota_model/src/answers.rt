@@ -1,11 +1,11 @@
-//! Arguments and results of the calls on quotas.
+//! Arguments and results of the calls that set or test a quota.
 
 /// Why a quota was refused, in the order in which the causes are tested.
 #[derive(Clone, Copy, Debug, PartialEq, Eq)]
 pub enum QuotaFault {
-    /// The quotas would add up to more pages than there are.
+    /// The quotas of all tasks would sum to more pages than the region has.
     Sum,
-    /// The task has more pages in use than the quota.
+    /// The task uses more pages than the quota asked for.
     Used,
 }
 
@@ -16,7 +16,7 @@ pub struct Need {
     pub count: u32,
 }
 
-/// Whether a quota is enough for whatever a task does within its needs.
+/// The result of the test whether a quota is enough for every history of a task within its needs.
 #[derive(Clone, Copy, Debug, PartialEq, Eq)]
 pub enum Admission {
     /// No malloc within the needs is refused for space.

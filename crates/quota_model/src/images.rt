@@ -1,4 +1,4 @@
-//! The words of a region that tasks share, after a call of one of them.
+//! Laws on the words of a region that tasks share, after a call of one of them.
 ghost use Rattle.std.specs.Prelude.{ℕ, ◌≡◌, ◌≢◌, ◌+◌, ◌*◌, ◌/◌, ◌%◌, ◌<◌, ◌≤◌, IsTrue, List, None, Option, Some, length, option_map, slice_set};
 ghost use Rattle.std.specs.Ordering.{nat_cmp};
 ghost use Rattle.std.specs.FinMap.{FinMap, get, insert};
@@ -15,8 +15,8 @@ ghost use Rattle.quota_model.specs.Parts.{key_of, part_of};
 ghost use Rattle.quota_model.specs.Refusals.{task_paging};
 ghost use Rattle.quota_model.specs.Shared.{AreQuotas, IsShared, PlacesForTask, RemovesForTask};
 
-/// Under the key of an object is its address. A task's part of all objects at their addresses is its
-/// own objects at theirs.
+/// The map of all tasks' addresses has each object's address under its key. Of the objects at these
+/// addresses, those of one task (`part_of`) are the objects at the task's own addresses.
 pub fn addresses_are_found_by_key()
     ensures found { (all : List (FinMap nat_cmp ℕ)) (task h : ℕ) → AreNumbers all → h < 65536
         → get (joined all) (key_of task h) ≡ get (places_at all task) h }
@@ -31,7 +31,8 @@ pub fn words_are_those_of_the_objects()
         → IsShared s m → IsSlotImage (task_paging s) m words → IsImage m words }
 {}
 
-/// A malloc of a task writes the header, with the task in it, into zeros, and no other word.
+/// If a malloc of a task writes just the header, whose number is the key (task and number), the words
+/// are an image of all tasks' objects afterwards.
 pub fn words_after_a_malloc_of_a_task()
     ensures { (s : Profile) (old : Held) (words : List ℕ) (task : ℕ) (asked : Request) (new : Held)
         (step : PlacesForTask s old task asked new)
@@ -42,8 +43,8 @@ pub fn words_after_a_malloc_of_a_task()
         (slice_set words step.place (header_word (key_of task asked.number) asked.length)) }
 {}
 
-/// A free of a task clears the object's slot; or it moves another object's slot into it, and clears
-/// the slot that the other object leaves.
+/// If a free of a task clears the object's slot, or moves another object's slot into it and clears that
+/// object's old slot, the words are an image of all tasks' objects afterwards.
 pub fn words_after_a_free_of_a_task()
     ensures still { (s : Profile) (old : Held) (words left : List ℕ) (task h : ℕ) (new : Held)
         (step : RemovesForTask s old task h None new)
@@ -66,7 +67,8 @@ pub fn words_after_a_free_of_a_task()
         → IsSlotImage (task_paging s) new left }
 {}
 
-/// A write of a task rewrites those words of the object that hold one of its bytes.
+/// If a write of a task rewrites just the words of the object that hold one of the written bytes, the
+/// words are an image of all tasks' objects afterwards.
 pub fn words_after_a_write_of_a_task()
     ensures { (s : Profile) (old : Held) (words left : List ℕ) (task h at : ℕ) (x : Placed)
         (bytes : List ℕ)
@@ -80,8 +82,8 @@ pub fn words_after_a_write_of_a_task()
         (record { place = x.place; bytes = written x.bytes at bytes })) left }
 {}
 
-/// Other bytes in an object of a task, of the same class, leave all tasks apart and within their
-/// quotas, and change no object of another task.
+/// A write that leaves an object in its class leaves the tasks on pages of their own and within their
+/// quotas, and changes no object of another task.
 pub fn a_write_keeps_tasks_apart()
     ensures shared { (s : Profile) (old : Held) (task h : ℕ) (x : Placed) (bytes : List ℕ)
         → IsShared s old → get (part_of old task) h ≡ Some x

@@ -1,6 +1,6 @@
-//! Tasks that share the pages of one region, each with a quota of its own: why a call is refused,
-//! whether a quota is enough for the needs that a task declares, which rules an arrangement of all tasks
-//! keeps, and the words of their region after a call. The public functions do nothing: each one's
+//! The model of tasks that share the pages of one region, each with a quota of pages: the causes of
+//! refusals, whether a quota is enough for the objects that a task declares, the rules of an arrangement
+//! of all tasks, and the words of the region after a call. The public functions do nothing: each one's
 //! contract is a law of these definitions.
 #![tactic(auto)]
 

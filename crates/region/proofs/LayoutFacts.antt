@@ -58,7 +58,7 @@ module _ {M : Type 1} {𝓤 : Ura M} {𝓛 : Logic 𝓤} {K : Type 0} {Γ : List
       k b o e (all ∙ (λ i. vstruct (of_list (e₀ i ++ (e₁ i ++ []))) ∷ [])
       ∙ ap (λ (p : Ptr). vstruct (vcons (ptr_val p) (vcons (vint w64 d.len) vnil)) ∷ []) e) fn))))))
 
-  -- the same for any block d with these fields
+  -- the words and the right to free them make any block d with these fields
   pub block_made : K → (d : C.the_row.Denot) (b o n : ℕ) (xs : List ℕ) → d.at ≡ block_ptr b o → d.len ≡ n → d.items ≡ xs → n < 2 ^ 64
       → Step K 𝓛 (‵ (C.the_row.own_val d (block_val b o n ∷ [])) ∷ Γ) G (‵ (words_at (block_ptr b o) n xs) ∷ ‵ (may_free (block_ptr b o) n) ∷ Γ) G
   block_made t d b o n xs e₀ e₁ e₂ fn = step (λ s.

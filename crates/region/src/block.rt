@@ -48,7 +48,7 @@ impl Block {
         unsafe { alloc.deallocate(at as *mut u8, len * 8, 8) }
     }
 
-    /// The words.
+    /// Borrows the words.
     pub(crate) fn words(&self) -> &[u64]
         ensures value { result.now ≡ self.now.items }
         ensures small { length result.now < 2 ^ 32 }
@@ -56,7 +56,7 @@ impl Block {
         unsafe { std::slice::from_raw_parts(self.at, self.len) }
     }
 
-    /// The words, for writing.
+    /// Borrows the words for writing.
     pub(crate) fn words_mut(&mut self) -> &mut [u64]
         ensures* writes_back { sem 𝓛 (LendsAll self.entry result) }
         ensures value { result.now ≡ self.old.items }
@@ -64,7 +64,7 @@ impl Block {
         unsafe { std::slice::from_raw_parts_mut(self.at, self.len) }
     }
 
-    /// The `n` words from `i` on, for writing.
+    /// Borrows the `n` words from `i` on for writing.
     pub(crate) fn run_mut(&mut self, i: usize, n: usize) -> &mut [u64]
         requires within { i + n ≤ length self.old.items }
         ensures* writes_back { sem 𝓛 (LendsPartOf self.entry i n result) }
@@ -74,8 +74,9 @@ impl Block {
     }
 }
 
-// The allocator has no call for zeroed memory. The compiler makes one `memset` of this loop. It
-// touches every page of the block, so that no later call meets a page fault.
+// Writes zeros to `len` words: the allocator has no call for zeroed memory. The compiler makes one
+// `memset` of this loop. It touches each page of virtual memory that the block is on, so that no
+// later call meets a page fault.
 unsafe fn zero(at: *mut u64, len: usize)
     requires small { len < 2 ^ 32 }
     requires* room { sem 𝓛 (room_of_words at len) }

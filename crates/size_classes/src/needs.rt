@@ -5,7 +5,8 @@ ghost use Rattle.size_classes.specs.Layout.{ShowsClasses};
 
 use std::alloc::{AllocError, Global};
 
-/// For each need of at most a page, the position of the least of these sizes that holds it.
+/// For each need from 0 to `page_words` words its class: the index of the least of these sizes that
+/// holds it.
 pub(crate) fn classes_by_need(
     alloc: Global,
     sizes: &[u32],

@@ -17,7 +17,7 @@ use step_ledger::Steps;
 #[derive(Drop)]
 pub struct Classes {
     sizes: Vec<u32>,
-    // The class of each need of at most a page.
+    // The class of each need, in words, of at most a page.
     by_need: Cells<u8>,
     page_words: u32,
     // A page has `2^page_shift` words.
@@ -37,7 +37,7 @@ impl Model for Classes {
 
 impl Classes {
     /// The classes of pages with `page_words` words, by one of the two sequences. Only this call
-    /// takes memory.
+    /// allocates.
     pub fn new(alloc: Global, page_words: u32, layout: Layout) -> Result<Classes, OutOfMemory>
         requires { IsTrue (is_page_size page_words) }
         ensures { IfOk result (λ t. t ≡ table_of page_words layout) }
@@ -104,7 +104,8 @@ impl Classes {
         address & (self.page_words - 1)
     }
 
-    /// The least class that holds an object of `bytes` bytes; none if it needs more than a page.
+    /// The class of an object of `bytes` bytes, that with the smallest slots that hold it; none if
+    /// it needs more than a page. Costs one step.
     pub fn class_of(&self, bytes: u32, steps: &mut Steps) -> Option<u32>
         ensures found { result ≡ class_of self.now.sizes bytes }
         ensures none { IsNone result ↔ (self.now.page_words < need bytes) }
@@ -113,7 +114,7 @@ impl Classes {
     {
         let words = need_of(bytes);
         if words > self.page_words {
-            // It reads an entry too, so that it costs the same step.
+            // A refused size reads an entry too, so that each call costs one step.
             let _class = self.by_need.get(0, steps);
             return None;
         }

@@ -7,7 +7,7 @@ use Rattle.std.specs.List.{range_with_len, count_by}
 abbrev pub is_used : List ℕ → ℕ → Bool
 is_used words i = bit_at (slice_index words (i / 64)) (i % 64) == 1
 
--- n slots, true for used
+-- the truth values of n slots, true for used
 unfoldable pub slots_in_words : List ℕ → ℕ → List Bool
 slots_in_words words n = map (is_used words) (range_with_len 0 n)
 

@@ -10,7 +10,7 @@ pub(crate) fn has_bit(word: u64, bit: u32) -> bool
     (word >> bit) & 1 == 1
 }
 
-/// The position of the lowest set bit.
+/// The position of the lowest set bit of a word that has one.
 pub(crate) fn lowest_set(word: u64) -> u32
     requires { word ≢ 0 }
     ensures within { result < 64 }
@@ -20,7 +20,7 @@ pub(crate) fn lowest_set(word: u64) -> u32
     word.trailing_zeros()
 }
 
-/// The position of the lowest clear bit.
+/// The position of the lowest clear bit of a word that has one.
 pub(crate) fn lowest_clear(word: u64) -> u32
     requires { word + 1 < 2 ^ 64 }
     ensures within { result < 64 }
@@ -30,7 +30,7 @@ pub(crate) fn lowest_clear(word: u64) -> u32
     word.trailing_ones()
 }
 
-/// The word with its lowest `count` bits set.
+/// The word with its lowest `count` bits set and all others cleared.
 pub(crate) fn ones(count: u32) -> u64
     requires some { 1 ≤ count }
     requires few { count ≤ 64 }

@@ -6,7 +6,7 @@ use cf_base::OutOfMemory;
 use std::alloc::{AllocError, Global};
 
 /// One map for each page, with one free slot each, as a page has that no class uses yet. Only this
-/// call takes memory.
+/// call allocates.
 pub fn free_maps(alloc: Global, pages: u32) -> Result<Vec<SlotMap>, OutOfMemory>
     ensures { IfOk result (λ maps. maps.items ≡ replicate pages (replicate 1 false)) }
 {
@@ -16,6 +16,7 @@ pub fn free_maps(alloc: Global, pages: u32) -> Result<Vec<SlotMap>, OutOfMemory>
     }
 }
 
+/// n maps, with one free slot each.
 fn maps_of_one(alloc: Global, n: u32) -> Result<Vec<SlotMap>, AllocError>
     ensures { IfOk result (λ maps. maps.items ≡ replicate n (replicate 1 false)) }
 {

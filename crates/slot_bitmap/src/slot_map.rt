@@ -1,4 +1,4 @@
-//! Which slots of a page are used.
+//! The map of the used slots of a page.
 ghost use Rattle.std.specs.Prelude.{◌≡◌, ◌<◌, ◌≤◌, length, replicate, slice_get, slice_set, not, true, false, IfSome, IsNone, is_some, if◌then◌else◌};
 ghost use Rattle.std.specs.List.{position, count_by};
 ghost use Rattle.step_ledger.specs.Counting.{RoseBy};
@@ -8,10 +8,11 @@ use counted_cells::{CellArray, WordCell, with_bit};
 use std::marker::Model;
 use step_ledger::Steps;
 
-/// Which slots of a page are used: a list of truth values, true for used.
+/// The map of the used slots of a page. Contracts see a list with a truth value for each slot: true
+/// if it is used.
 ///
-/// A bit for each slot in words of 64 bits, and two summary words: which words have a free slot,
-/// and which have a used one. It takes no memory besides its own 536 bytes.
+/// It holds a bit for each slot in words of 64 bits, and two summary words, which show the words
+/// with a free slot and those with a used one. It allocates no memory: it has 536 bytes.
 #[derive(Drop)]
 pub struct SlotMap {
     words: CellArray<u64, 64>,
@@ -49,7 +50,8 @@ impl SlotMap {
         }
     }
 
-    /// Makes it a map of `slots` slots, all free. None of its old slots may be used.
+    /// Makes it a map of `slots` slots, all free. None of its old slots may be used. Costs two
+    /// steps.
     pub fn renew(&mut self, slots: u32, steps: &mut Steps)
         requires some { 1 ≤ slots }
         requires few { slots ≤ 4096 }
@@ -69,7 +71,7 @@ impl SlotMap {
         self.slots
     }
 
-    /// The number of used slots.
+    /// The number of used slots. Costs one step.
     pub fn count(&self, steps: &mut Steps) -> u32
         ensures value { result ≡ count_by (λ used. used) self.now }
         ensures steps { RoseBy steps.old steps.new 1 }
@@ -78,7 +80,7 @@ impl SlotMap {
         self.used
     }
 
-    /// Whether a slot is used.
+    /// Returns whether a slot is used. Costs one step.
     pub fn is_used(&self, i: u32, steps: &mut Steps) -> bool
         requires { i < length self.now }
         ensures value { slice_get self.now i ≡ Some result }
@@ -87,7 +89,7 @@ impl SlotMap {
         bits::has_bit(self.words.get((i / 64) as usize, steps), i % 64)
     }
 
-    /// The least free slot; none if all are used.
+    /// The lowest free slot; none if all are used. Costs two steps, or one if it returns none.
     pub fn first_free(&self, steps: &mut Steps) -> Option<u32>
         ensures found { result ≡ position (λ used. not used) self.now }
         ensures free { IfSome result (λ i. slice_get self.now i ≡ Some false) }
@@ -102,7 +104,7 @@ impl SlotMap {
         Some(64 * at + bits::lowest_clear(word))
     }
 
-    /// The least used slot; none if all are free.
+    /// The lowest used slot; none if all are free. Costs two steps, or one if it returns none.
     pub fn first_used(&self, steps: &mut Steps) -> Option<u32>
         ensures found { result ≡ position (λ used. used) self.now }
         ensures used { IfSome result (λ i. slice_get self.now i ≡ Some true) }
@@ -117,7 +119,7 @@ impl SlotMap {
         Some(64 * at + bits::lowest_set(word))
     }
 
-    /// Marks a free slot as used.
+    /// Marks a free slot as used. Costs three steps.
     pub fn set(&mut self, i: u32, steps: &mut Steps)
         requires { slice_get self.old i ≡ Some false }
         ensures value { self.new ≡ slice_set self.old i true }
@@ -132,8 +134,9 @@ impl SlotMap {
         self.used += 1;
     }
 
-    /// Marks the least free slot as used; none if all are used. The summary of the free slots, one
-    /// word and the summary of the used slots are touched once each.
+    /// Marks the lowest free slot as used and returns it; none if all are used. Costs three steps,
+    /// or one if it returns none: it touches the summary of the free slots, one word, and the
+    /// summary of the used slots once each.
     pub fn take_first(&mut self, steps: &mut Steps) -> Option<u32>
         ensures found { result ≡ position (λ used. not used) self.old }
         ensures free { IfSome result (λ i. slice_get self.old i ≡ Some false) }
@@ -154,7 +157,7 @@ impl SlotMap {
         Some(64 * at + bit)
     }
 
-    /// Marks a used slot as free.
+    /// Marks a used slot as free. Costs three steps.
     pub fn unset(&mut self, i: u32, steps: &mut Steps)
         requires { slice_get self.old i ≡ Some true }
         ensures value { self.new ≡ slice_set self.old i false }

@@ -96,7 +96,7 @@ none_overwritten f at bytes k = elim (cases_lt k at) [
   | inr from ↦ overwritten_behind f at (take 0 bytes) k (let e = length-take 0 bytes in omega arith)
 ]
 
--- the same with the word, the byte in it and the part given by equations
+-- `cell_written`, with the word, the byte in it and the part given by equations
 pub cell_put : (old words : List ℕ) (at done n more cell from word : ℕ) (part bytes : List ℕ) → more ≡ done + n → cell ≡ (at + done) / 8
     → from ≡ (at + done) % 8 → part ≡ take n (drop done bytes) → more ≤ length bytes → from + n ≤ 8 → cell < length words
     → ((k : ℕ) → byte_in words k ≡ overwritten (byte_in old) at (take done bytes) k)

@@ -80,7 +80,7 @@ overwritten_shift f g d at part k le same = elim (cases_lt (k - d) at) [
   ]
 ]
 
--- the same within a longer run; its other words stay
+-- bytes written into a run are bytes written into a longer run that contains it
 pub overwrites_wider : (old new : List ℕ) (first d n m at : ℕ) (bytes : List ℕ) → d + n ≤ m → at + length bytes ≤ 8 * n
     → ((i : ℕ) → i < m → get_or old (first + i) 0 < 2 ^ 64)
     → Overwrites old new (record { from = first + d; count = n }) at bytes → Overwrites old new (record { from = first; count = m }) (8 * d + at) bytes

@@ -6,7 +6,7 @@ ghost use Rattle.word_bytes.specs.Cells.{byte_in, overwritten};
 /// The bytes in a word.
 const CELL: usize = 8;
 
-/// Overwrites the bytes of a cell from byte `from` on.
+/// Overwrites bytes of a cell with `part`, from byte `from` on.
 fn overwrite(cell: &mut [u8], from: usize, part: &[u8])
     requires { from + length part.now ≤ length cell.old }
     ensures { cell.new ≡ written cell.old from part.now }
@@ -19,7 +19,7 @@ fn overwrite(cell: &mut [u8], from: usize, part: &[u8])
     }
 }
 
-/// The word with `part` over its bytes, from byte `from` on.
+/// The word after `part` overwrote its bytes from byte `from` on.
 pub(crate) fn patched(word: u64, from: usize, part: &[u8]) -> u64
     requires { from + length part.now ≤ 8 }
     ensures { (j : ℕ) → j < 8 → byte_of j result ≡ overwritten (λ k. byte_of k word) from part.now j }
@@ -29,7 +29,7 @@ pub(crate) fn patched(word: u64, from: usize, part: &[u8]) -> u64
     u64::from_le_bytes(cell)
 }
 
-/// The word that eight bytes make.
+/// The word with these eight bytes, the least significant first.
 fn word_of(part: &[u8]) -> u64
     requires { length part.now ≡ 8 }
     ensures { (j : ℕ) → j < 8 → byte_of j result ≡ slice_index part.now j }
@@ -40,13 +40,13 @@ fn word_of(part: &[u8]) -> u64
     ])
 }
 
-/// Copies the bytes of a word, from byte `from` on.
+/// Fills `out` with bytes of a word, from byte `from` on.
 pub(crate) fn copy_cell(word: u64, from: usize, out: &mut [u8])
     requires { from + length out.old ≤ 8 }
     ensures { (j : ℕ) → j < length out.new → slice_index out.new j ≡ byte_of (from + j) word }
 {
     let cell = word.to_le_bytes();
-    // As above: one load and one store.
+    // A copy of a constant length compiles to one load and one store.
     if out.len() == CELL {
         out.copy_from_slice(&cell[from..from + CELL]);
     } else {
@@ -54,7 +54,7 @@ pub(crate) fn copy_cell(word: u64, from: usize, out: &mut [u8])
     }
 }
 
-/// Copies the bytes of the words, from byte `at` on.
+/// Fills `out` with bytes of the words, from byte `at` on.
 #[inline(always)]
 pub fn read_bytes(words: &[u64], at: usize, out: &mut [u8])
     requires { at + length out.old ≤ 8 * length words.now }
@@ -74,7 +74,7 @@ pub fn read_bytes(words: &[u64], at: usize, out: &mut [u8])
     }
 }
 
-/// Overwrites the bytes of the words, from byte `at` on.
+/// Overwrites bytes of the words with `bytes`, from byte `at` on.
 #[inline(always)]
 pub fn write_bytes(words: &mut [u64], at: usize, bytes: &[u8])
     requires { at + length bytes.now ≤ 8 * length words.old }

@@ -15,8 +15,8 @@ pub fn words_with(at: usize, count: usize) -> u32
     (at + count).div_ceil(8) as u32
 }
 
-/// Copies bytes of the `n` words from `first` on, starting at their byte `at`. The words are
-/// borrowed as one slice. Costs n steps.
+/// Fills `out` with bytes of the `n` words from `first` on, starting at their byte `at`. The words
+/// are borrowed as one slice. Costs n steps.
 pub fn read_run(region: &Region, first: u32, n: u32, at: usize, out: &mut [u8], steps: &mut Steps)
     requires within { first + n ≤ length region.now }
     requires fits { at + length out.old ≤ 8 * n }
@@ -27,8 +27,8 @@ pub fn read_run(region: &Region, first: u32, n: u32, at: usize, out: &mut [u8], 
     read_bytes(words, at, out);
 }
 
-/// Overwrites bytes of the `n` words from `first` on, starting at their byte `at`. The words are
-/// borrowed as one slice. Costs n steps.
+/// Overwrites bytes of the `n` words from `first` on with `bytes`, starting at their byte `at`. The
+/// words are borrowed as one slice. Costs n steps.
 pub fn write_run(
     region: &mut Region,
     first: u32,
@@ -47,7 +47,8 @@ pub fn write_run(
     write_bytes(words, at, bytes);
 }
 
-/// Does what `read_run` does. For all bytes of four words, constants compile to eight moves.
+/// Does what `read_run` does. If all 32 bytes of four words are read, length and offset are constants,
+/// and the copy compiles to eight moves.
 pub fn read_in_block(
     region: &Region,
     first: u32,
@@ -69,7 +70,7 @@ pub fn read_in_block(
     }
 }
 
-/// Does what `write_run` does, as `read_in_block` reads.
+/// Does what `write_run` does, and writes all 32 bytes of four words as `read_in_block` reads them.
 pub fn write_in_block(
     region: &mut Region,
     first: u32,
@@ -92,7 +93,7 @@ pub fn write_in_block(
     }
 }
 
-/// Copies bytes of word `i`, from its byte `at` on. Costs one step.
+/// Fills `out` with bytes of word `i`, from its byte `at` on. Costs one step.
 pub fn read_word(region: &Region, i: u32, at: usize, out: &mut [u8], steps: &mut Steps)
     requires within { i < length region.now }
     requires fits { at + length out.old ≤ 8 }
@@ -102,7 +103,7 @@ pub fn read_word(region: &Region, i: u32, at: usize, out: &mut [u8], steps: &mut
     copy_cell(region.read(i, steps), at, out);
 }
 
-/// Overwrites bytes of word `i`, from its byte `at` on. Costs one step.
+/// Overwrites bytes of word `i` with `bytes`, from its byte `at` on. Costs one step.
 pub fn write_word(region: &mut Region, i: u32, at: usize, bytes: &[u8], steps: &mut Steps)
     requires within { i < length region.old }
     requires fits { at + length bytes.now ≤ 8 }

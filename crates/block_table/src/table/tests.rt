@@ -4,7 +4,7 @@ use counted_cells::Cells;
 use std::test::Fail;
 use step_ledger::Meter;
 
-/// The entries. The pattern names all three fields; the other two are numbers.
+/// Returns the table's entries. The pattern names all three fields; the other two are numbers.
 fn entries_of(table: &BlockTable) -> &Cells<u32> {
     let BlockTable {
         pages,

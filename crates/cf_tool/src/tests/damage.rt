@@ -77,7 +77,7 @@ struct Draws {
 }
 
 impl Draws {
-    /// The next number below the count.
+    /// The next number drawn, below `count`.
     fn below(&mut self, count: usize) -> usize
         requires { 0 < count }
         ensures { result < count }
@@ -90,7 +90,7 @@ impl Draws {
     }
 }
 
-/// A `heap` line, or nothing, and then bytes.
+/// A script of a `heap` line, or none, and then random bytes.
 fn random_bytes(rt: &HostRuntime, draws: &mut Draws) -> Result<Vec<u8>, Fail> {
     let mut bytes = Vec::new(rt.alloc());
     if draws.below(2) == 0 {
@@ -136,7 +136,7 @@ fn damaged_lines(rt: &HostRuntime, draws: &mut Draws) -> Result<Vec<u8>, Fail> {
     Ok(bytes)
 }
 
-/// One bit of up to two bytes is the other one.
+/// Flips one bit each of up to two bytes.
 fn flip_bits(bytes: &mut Vec<u8>, draws: &mut Draws) {
     for _i in 0..draws.below(3) {
         if bytes.len() > 0 {
@@ -161,8 +161,8 @@ fn first_lines(script: &[u8], count: usize) -> usize {
     script.len()
 }
 
-/// What became of a script: the status, what was printed, and whether each manager that is left keeps
-/// its rules.
+/// The outcome of a script: the status, what was printed, and whether each open manager keeps its rules
+/// afterwards.
 #[derive(Drop)]
 struct Played {
     status: Status,
@@ -170,7 +170,7 @@ struct Played {
     keeps: bool,
 }
 
-/// Plays a script in one of the ways, from a source that cuts it.
+/// Runs a script with the arguments and kinds of one row of `WAYS`, from a source with these chunks.
 fn play(rt: &HostRuntime, way: usize, script: &[u8], cuts: Vec<usize>) -> Result<Played, Fail> {
     let (words, kinds) = WAYS[way % 5];
     let mut managers = closed_managers(rt, kinds)?;

@@ -54,7 +54,7 @@ const NON_MOVING: Stands = [
     Some((3, Some(64))),
 ];
 
-/// The managers of blocks, which have room for five blocks of 24 words, and none for a page at the end.
+/// The managers with blocks: five blocks of 24 words fit the region, and at the end no object of a whole page does.
 const BLOCKS: Stands = [
     None,
     Some((0, None)),
@@ -123,7 +123,7 @@ const ANSWERS: [Answers; 5] = [
     },
 ];
 
-/// Of a source that gives 7 bytes a call, the whole lines that were taken before each call.
+/// How many whole lines a source that returns 7 bytes a call has returned before each call.
 const LINES: [usize; 16] = [0, 0, 0, 1, 2, 3, 4, 5, 6, 6, 8, 9, 11, 12, 13, 14];
 
 /// The state of an open manager; `None` if it is closed.
@@ -150,7 +150,7 @@ struct Fault {
     cut: usize,
 }
 
-/// The calls that fail.
+/// The numbers of the calls that fail: this one, or none.
 fn failing(alloc: Global, call: Option<u64>) -> Result<Vec<u64>, AllocError> {
     let mut fails = Vec::new(alloc);
     if let Some(call) = call {
@@ -159,7 +159,7 @@ fn failing(alloc: Global, call: Option<u64>) -> Result<Vec<u64>, AllocError> {
     Ok(fails)
 }
 
-/// Whether each manager has the state that the lines before the fault leave. The `heap` line opens all
+/// Whether each manager has the state that the lines before the fault lead to. The `heap` line opens all
 /// managers before the first reply.
 fn stand_so(rt: &HostRuntime, answers: &Answers, managers: &Vec<Boxed>, fault: &Fault) -> bool {
     for (i, manager) in managers.iter().enumerate() {
@@ -175,7 +175,7 @@ fn stand_so(rt: &HostRuntime, answers: &Answers, managers: &Vec<Boxed>, fault: &
     true
 }
 
-/// Answers the script while a call fails, and says whether just what should be left is left.
+/// Runs the script while a call fails. Whether status, output and managers are afterwards as the fault has them.
 fn leaves_so(rt: &HostRuntime, answers: &Answers, fault: &Fault) -> Result<bool, Fail> {
     let alloc = rt.alloc();
     let (chunks, parts) = (vec![in alloc; 7; 16]?, vec![in alloc; 5; 128]?);

@@ -170,7 +170,7 @@ static CASES: [Case; 16] = [
     },
 ];
 
-/// Whether a case ends, prints and leaves what it should.
+/// Whether a case has the status, the output and the live objects that it should have.
 fn is_answered_so(rt: &HostRuntime, case: &Case) -> Result<bool, Fail> {
     let got = answered_on(rt, case.words, case.managers, case.script)?;
     Ok(got.is(case.status, case.text, case.live))
@@ -219,8 +219,8 @@ fn what_is_saved_is_loaded_as_its_script(rt: HostRuntime) -> Result<(), Fail> {
     Ok(())
 }
 
-/// Of two managers side by side: the call of the sink that fails, what was written by then, and the
-/// live objects of each.
+/// For two managers side by side: the number of the sink's call that fails, what was written by then, and
+/// how many live objects each manager has.
 const CUTS: [(u64, &'static [u8], [Option<u32>; 2]); 5] = [
     (0, b"", [Some(0), Some(0)]),
     (1, b"cf ok\n", [Some(0), Some(0)]),
@@ -229,7 +229,7 @@ const CUTS: [(u64, &'static [u8], [Option<u32>; 2]); 5] = [
     (4, b"cf ok\nnm ok\ncf ok\nnm ok\n", [Some(1), Some(1)]),
 ];
 
-/// Answers two commands on two managers side by side, while this call of the sink fails.
+/// Runs a script of two commands on two managers side by side, while this call of the sink fails.
 fn answered_until(rt: &HostRuntime, call: u64) -> Result<OutputOn, Fail> {
     let mut sink = failing_sink(rt, call)?;
     let mut source = SureSource::new(b"heap 1 512 1 4\nm 1 8\nx\n".to_vec(rt.alloc())?);
@@ -238,7 +238,7 @@ fn answered_until(rt: &HostRuntime, call: u64) -> Result<OutputOn, Fail> {
     Ok(OutputOn { left, sink })
 }
 
-/// Whether a call of the sink that fails leaves this text and these objects.
+/// Whether after this call of the sink failed, this text is written and the managers have these live objects.
 fn is_cut_so(rt: &HostRuntime, call: u64, text: &[u8], live: &[Option<u32>]) -> Result<bool, Fail> {
     let got = answered_until(rt, call)?;
     Ok(got.is(Status::WriteFault, text, live))
@@ -266,7 +266,7 @@ fn generated_script(rt: &HostRuntime, seed: u64, count: u32) -> Result<Vec<u8>, 
     Ok(script)
 }
 
-/// What leads the lines of each of the four.
+/// The lead of each line of the four managers.
 const NAMES: [&[u8]; 4] = [b"cf ", b"nm ", b"tlsf ", b"half "];
 
 /// How many lines four managers printed, if all of them printed the same and none is `refused space`.
@@ -286,14 +286,14 @@ fn lines_alike(text: &[u8]) -> Option<u32> {
     Some(count)
 }
 
-/// A sink that takes every chunk whole, and has room for a long text.
+/// A sink that takes every chunk whole, and can hold a long text.
 fn wide_sink(rt: &HostRuntime) -> Result<MemSink, Fail> {
     let alloc = rt.alloc();
     let sink = MemSink::new(alloc, 1 << 20, Vec::new(alloc), Vec::new(alloc)).map_err(|_| "room")?;
     Ok(sink)
 }
 
-/// Answers a script on four managers side by side.
+/// Runs a script on four managers side by side.
 fn compared(rt: &HostRuntime, script: Vec<u8>) -> Result<OutputOn, Fail> {
     let mut source = SureSource::new(script);
     let mut sink = wide_sink(rt)?;
