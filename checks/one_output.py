@@ -417,8 +417,8 @@ def wanted(kind, lines):
     return replies
 
 
-def in_pieces(program, kind, lines, replies, draw):
-    """What is printed if the script comes in drawn pieces, each once the commands before it are answered."""
+def in_chunks(program, kind, lines, replies, draw):
+    """What is printed if the script comes in drawn chunks, each once the commands before it are answered."""
     text = "".join(f"{line}\n" for line in lines).encode()
     with subprocess.Popen([program, "--manager", kind], stdin=subprocess.PIPE, stdout=subprocess.PIPE) as child:
         printed, at, whole = b"", 0, 0
@@ -461,8 +461,8 @@ def differs(program, seed):
         return f"seed {seed}, {kind}: {first_difference(right, from_file)}"
     if subprocess.run([program, "--manager", kind], input=text, capture_output=True).stdout != right:
         return f"seed {seed}, {kind}: the output differs if the script comes through a pipe"
-    if in_pieces(program, kind, lines, replies, draw) != right:
-        return f"seed {seed}, {kind}: the output differs if the script comes in pieces"
+    if in_chunks(program, kind, lines, replies, draw) != right:
+        return f"seed {seed}, {kind}: the output differs if the script comes in chunks"
     return None
 
 

@@ -222,9 +222,9 @@ def alone(program):
 def long_objects(program):
     for call in ('w', 'r'):
         for page_bytes, pages in ((16384, 128), (131072, 16)):
-            piece = page_bytes - 8
-            parts = [piece] * (1000000 // piece) + [1000000 % piece]
-            one = [line('c', pages, page_bytes, 1), line('m', 0, piece)] + [line(call, 0, 0, n) for n in parts]
+            part = page_bytes - 8
+            parts = [part] * (1000000 // part) + [1000000 % part]
+            one = [line('c', pages, page_bytes, 1), line('m', 0, part)] + [line(call, 0, 0, n) for n in parts]
             each = sum(n for n, _ in calls(program, one, {'w': 'write_call', 'r': 'read_call'}[call], True))
             whole = calls(program, [line('l', pages, page_bytes, 1), line('m', 0, 1000000), line(call, 0, 0, 1000000)],
                           {'w': 'long_write', 'r': 'long_read'}[call])[0][0]
