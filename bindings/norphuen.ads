@@ -7,13 +7,14 @@ with System;
 
 package Norphuen is
 
-   --  A heap, open or not. Its parts are the library's own. A limited record is never copied.
+   --  A heap, open or not. Its fields are the library's own. A limited record is never copied.
    type Heap is limited record
       At_Address : System.Address := System.Null_Address;
       Is_Open    : Unsigned_8     := 0;
    end record
    with Convention => C;
 
+   --  What a call returns: Ok, or why it fails.
    subtype Code is Integer_32;
 
    Ok         : constant Code := 0;
@@ -32,14 +33,19 @@ package Norphuen is
    Proxies    : constant Code := 14;
    Region     : constant Code := 15;
 
+   --  In place of a handle in Freed and Resized: no object moved.
    None : constant Unsigned_32 := Unsigned_32'Last;
 
+   --  The words of the freed slot or block, and the object that moved to its
+   --  address.
    type Freed is record
       Slot_Words : Unsigned_32 := 0;
       Moved      : Unsigned_32 := None;
    end record
    with Convention => C;
 
+   --  The words of the slot before and after, and the other object that moved
+   --  to the old address.
    type Resized is record
       Old_Slot_Words : Unsigned_32 := 0;
       Slot_Words     : Unsigned_32 := 0;
@@ -47,6 +53,7 @@ package Norphuen is
    end record
    with Convention => C;
 
+   --  The figures of a size class.
    type Class is record
       Slot_Words : Unsigned_32 := 0;
       Slots      : Unsigned_32 := 0;
@@ -56,6 +63,7 @@ package Norphuen is
    end record
    with Convention => C;
 
+   --  The figures of the whole heap.
    type Heap_Totals is record
       Asked   : Unsigned_64 := 0;
       Taken   : Unsigned_64 := 0;
@@ -67,6 +75,7 @@ package Norphuen is
    end record
    with Convention => C;
 
+   --  A buffer for the bytes that a call writes or reads.
    type Bytes is array (size_t range <>) of aliased Unsigned_8
    with Convention => C;
 

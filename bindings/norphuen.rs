@@ -7,16 +7,18 @@
 #[derive(Clone, Copy, Debug, PartialEq, Eq)]
 pub struct Handle(pub u32);
 
-/// What a call returns other than success; the header explains each.
+/// Why a call fails; the header explains each, as NPH_SIZE.
 #[derive(Clone, Copy, Debug, PartialEq, Eq)]
 #[rustfmt::skip]
 pub enum Error { Size, Proxy, Space, Unknown, Range, Kind, Closed, Open, Memory, Pages, PageBytes, Bound, Proxies, Region }
 
+/// The header's nph_freed.
 #[repr(C)]
 #[derive(Clone, Copy, Debug, Default, PartialEq, Eq)]
 #[rustfmt::skip]
 struct RawFreed { slot_words: u32, moved: u32 }
 
+/// The header's nph_resized.
 #[repr(C)]
 #[derive(Clone, Copy, Debug, Default, PartialEq, Eq)]
 #[rustfmt::skip]
@@ -32,13 +34,13 @@ pub struct Freed { pub slot_words: u32, pub moved: Option<Handle> }
 #[rustfmt::skip]
 pub struct Resized { pub old_slot_words: u32, pub slot_words: u32, pub moved: Option<Handle> }
 
-/// A size class.
+/// The figures of a size class: the words of a slot, slots of a page, live objects, pages, and partly full pages.
 #[repr(C)]
 #[derive(Clone, Copy, Debug, Default, PartialEq, Eq)]
 #[rustfmt::skip]
 pub struct Class { pub slot_words: u32, pub slots: u32, pub live: u32, pub pages: u32, pub not_full: u32 }
 
-/// The whole heap.
+/// The figures of the whole heap; the header's nph_heap_totals explains each.
 #[repr(C)]
 #[derive(Clone, Copy, Debug, Default, PartialEq, Eq)]
 #[rustfmt::skip]
@@ -67,6 +69,7 @@ unsafe extern "C" {
     fn nph_last_steps(heap: *mut Heap, steps: *mut u64) -> i32;
 }
 
+/// The value if the code is that of success, else the error of the code.
 fn result_of<T>(code: i32, value: T) -> Result<T, Error> {
     use Error::*;
     Err(match code {
@@ -88,30 +91,35 @@ fn result_of<T>(code: i32, value: T) -> Result<T, Error> {
     })
 }
 
+/// The handle of the object that moved, none if none did.
 fn handle_of(number: u32) -> Option<Handle> {
     (number != u32::MAX).then_some(Handle(number))
 }
 
-// Each call gets a heap that is open, references that do not overlap, and slices with their lengths.
+// Why the calls are safe: each gets an open heap, references that do not overlap, and slices with their lengths.
 impl Heap {
+    /// Opens a heap without objects; `page_bytes` are the bytes of a page, `k` bounds the partly full pages of a class.
     pub fn open(pages: u32, page_bytes: u32, k: u32, proxies: u32) -> Result<Heap, Error> {
         let mut heap = Heap { at: core::ptr::null_mut(), is_open: false };
         let code = unsafe { nph_open(&mut heap, pages, page_bytes, k, proxies) };
         result_of(code, heap)
     }
 
+    /// Makes an object of `bytes` zeros.
     pub fn malloc(&mut self, bytes: u32) -> Result<Handle, Error> {
         let mut handle = 0;
         let code = unsafe { nph_malloc(self, bytes, &mut handle) };
         result_of(code, Handle(handle))
     }
 
+    /// Frees an object.
     pub fn free(&mut self, object: Handle) -> Result<Freed, Error> {
         let mut raw = RawFreed::default();
         let code = unsafe { nph_free(self, object.0, &mut raw) };
         result_of(code, Freed { slot_words: raw.slot_words, moved: handle_of(raw.moved) })
     }
 
+    /// Changes an object's length to `bytes` bytes: its first bytes stay, and added bytes are zero.
     pub fn resize(&mut self, object: Handle, bytes: u32) -> Result<Resized, Error> {
         let mut raw = RawResized::default();
         let code = unsafe { nph_resize(self, object.0, bytes, &mut raw) };
@@ -119,14 +127,17 @@ impl Heap {
         result_of(code, Resized { old_slot_words, slot_words, moved: handle_of(moved) })
     }
 
+    /// Writes the bytes into an object, from its byte `at` on.
     pub fn write(&mut self, object: Handle, at: u32, bytes: &[u8]) -> Result<(), Error> {
         result_of(unsafe { nph_write(self, object.0, at, bytes.as_ptr(), bytes.len()) }, ())
     }
 
+    /// Fills `bytes` with the bytes of an object, from its byte `at` on.
     pub fn read(&mut self, object: Handle, at: u32, bytes: &mut [u8]) -> Result<(), Error> {
         result_of(unsafe { nph_read(self, object.0, at, bytes.as_mut_ptr(), bytes.len()) }, ())
     }
 
+    /// The length of an object in bytes.
     pub fn length(&mut self, object: Handle) -> Result<u32, Error> {
         let mut bytes = 0;
         let code = unsafe { nph_length(self, object.0, &mut bytes) };
@@ -138,13 +149,14 @@ impl Heap {
         result_of(unsafe { nph_has_room(self, bytes) }, ())
     }
 
-    /// The figures of a size class, numbered from 0.
+    /// The figures of a size class, numbered from 0; none if there is no such class.
     pub fn figures(&mut self, size_class: u32) -> Option<Class> {
         let mut figures = Class::default();
         let code = unsafe { nph_figures(self, size_class, &mut figures) };
         result_of(code, figures).ok()
     }
 
+    /// The figures of the whole heap.
     pub fn totals(&mut self) -> HeapTotals {
         let mut totals = HeapTotals::default();
         unsafe { nph_totals(self, &mut totals) };

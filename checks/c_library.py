@@ -16,10 +16,12 @@ ADA = {'u8': 'Unsigned_8', 'u32': 'Unsigned_32', 'u64': 'Unsigned_64', 'bool': '
        'NphHeap': 'Heap', 'NphFreed': 'Freed', 'NphResized': 'Resized', 'NphClass': 'Class', 'NphHeapTotals': 'Heap_Totals'}
 
 
+# Ends the check with this text.
 def fail(text):
     sys.exit('checks/c_library: ' + text)
 
 
+# The name in C of a struct in Rattle: NphFreed is nph_freed.
 def snake(name):
     return re.sub(r'(?<!^)([A-Z])', r'_\1', name).lower()
 
@@ -48,6 +50,7 @@ def exports(crate):
     return found
 
 
+# The C types of the parameters of an export; a slice is a pointer and a count.
 def c_parameters(parameters):
     for _, reference, rust in parameters:
         const = 'const ' if reference == '&' else ''
@@ -72,6 +75,7 @@ def structs():
     return found
 
 
+# A field of a struct that repeats in C what the struct in Rattle has.
 def twin_field(name, rust):
     return f'    void *{name};' if rust.startswith('*mut ') else f'    {"struct twin_" + rust if rust[0].isupper() else c_type(rust)} {name};'
 

@@ -6,9 +6,12 @@
 #include <stdio.h>
 #include <stdlib.h>
 
+/* The state of SplitMix64. */
 static uint64_t state;
+/* The handle of each id, NPH_NONE if the id is not live. */
 static uint32_t handles[4096];
 
+/* The next word of SplitMix64. */
 static uint64_t next_word(void) {
     uint64_t z = state += 0x9e3779b97f4a7c15u;
     z = (z ^ (z >> 30)) * 0xbf58476d1ce4e5b9u;
@@ -16,6 +19,7 @@ static uint64_t next_word(void) {
     return z ^ (z >> 31);
 }
 
+/* Applies the command that the word g makes. Returns the library's code, NPH_UNKNOWN if the id allows no call. */
 static int32_t apply(nph_heap *heap, uint64_t g, uint64_t *moves) {
     uint32_t *handle = &handles[g % 4096];
     uint8_t bytes[8];

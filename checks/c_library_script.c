@@ -7,10 +7,13 @@
 #include <stdlib.h>
 #include <string.h>
 
+/* The handle of each id, NPH_NONE if the id is not live. */
 static uint32_t handles[65536];
 static nph_heap heap = NPH_HEAP;
+/* What `steps` prints: of the last call its steps and their bound, and the objects and words moved so far. */
 static struct { uint64_t steps, bound, moves, words; } last;
 
+/* The reply of cf_tool for a code. */
 static const char *text_of(int32_t code) {
     switch (code) {
     case NPH_OK: return "ok";
@@ -24,12 +27,14 @@ static const char *text_of(int32_t code) {
     }
 }
 
+/* Notes the steps of the call just made, its bound, and the object that moved, if one did, with the words of its slot. */
 static void count(uint64_t bound, uint32_t moved, uint32_t words) {
     if (nph_last_steps(&heap, &last.steps) != NPH_OK) exit(1);
     last.bound = bound;
     if (moved != NPH_NONE) last.moves++, last.words += words;
 }
 
+/* The reply to `m`. */
 static const char *make(uint32_t id, uint32_t bytes) {
     if (handles[id] != NPH_NONE) return "live";
     int32_t code = nph_malloc(&heap, bytes, &handles[id]);
@@ -37,6 +42,7 @@ static const char *make(uint32_t id, uint32_t bytes) {
     return text_of(code);
 }
 
+/* The reply to `f`. */
 static const char *release(uint32_t id) {
     nph_freed freed = {0, NPH_NONE};
     if (handles[id] == NPH_NONE) return "unknown";
@@ -46,6 +52,7 @@ static const char *release(uint32_t id) {
     return text_of(code);
 }
 
+/* The reply to `z`. */
 static const char *resize(uint32_t id, uint32_t bytes) {
     nph_resized done = {0, 0, NPH_NONE};
     if (handles[id] == NPH_NONE) return "unknown";
@@ -55,6 +62,7 @@ static const char *resize(uint32_t id, uint32_t bytes) {
     return text_of(code);
 }
 
+/* The reply to `w` on a live id. */
 static const char *write_hex(uint32_t id, uint32_t at, const char *hex) {
     uint8_t bytes[4096];
     size_t n = strlen(hex) / 2;
@@ -66,6 +74,7 @@ static const char *write_hex(uint32_t id, uint32_t at, const char *hex) {
     return text_of(nph_write(&heap, handles[id], at, bytes, n));
 }
 
+/* Prints the reply to `r` on a live id. */
 static void read_hex(uint32_t id, uint32_t at, uint32_t n) {
     uint8_t bytes[4096];
     int32_t code = nph_read(&heap, handles[id], at, bytes, n);
@@ -75,12 +84,13 @@ static void read_hex(uint32_t id, uint32_t at, uint32_t n) {
     putchar('\n');
 }
 
-/* TLSF has no size classes. */
+/* Whether the library has size classes: TLSF has none. */
 static bool has_classes(void) {
     nph_class c;
     return nph_figures(&heap, 0, &c) == NPH_OK;
 }
 
+/* Prints the reply to `walk`. */
 static void walk(void) {
     nph_class c;
     nph_heap_totals t;

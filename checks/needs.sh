@@ -1,5 +1,5 @@
 # shellcheck shell=bash
-# Sourced by each check. needs TOOL..: ends the check as failed if a tool is missing, as skipped if CF_SKIP is 1 as well.
+# Sourced by each check. `needs TOOL..` ends the check if a tool is missing: as failed, or if CF_SKIP is 1 as skipped.
 needs() {
   local tool
   for tool in "$@"; do

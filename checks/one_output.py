@@ -14,6 +14,7 @@ from concurrent.futures import ThreadPoolExecutor
 NONE = 2**32 - 1
 
 
+# The words of an object of n bytes: its header and its bytes.
 def need(n):
     return 1 + (n + 7) // 8
 
@@ -30,7 +31,7 @@ class Heap:
 
 
 class Pages(Heap):
-    """The managers with pages."""
+    """The managers with pages: moving, and with a block table non-moving."""
 
     def __init__(self, moving, *settings):
         super().__init__(*settings)
@@ -49,27 +50,32 @@ class Pages(Heap):
         self.step_bound = self.moves = self.moved_words = 0
         self.touch = 1 if moving else 2
 
+    # The class of an object of n bytes.
     def class_for(self, n):
         return next(c for c, size in enumerate(self.sizes) if need(n) <= size)
 
+    # How many slots of class c a page has.
     def slots(self, c):
         return self.page_words // self.sizes[c]
 
+    # The address of a slot of class c.
     def place(self, c, page, slot):
         return page * self.page_words + slot * self.sizes[c]
 
+    # How many blocks of four words the n words from word i of a slot on are in.
     def blocks(self, i, n):
         return min(n, (i % 4 + n + 3) // 4)
 
     def run(self, i, n, each):
-        """The steps of n words from word i of a slot on; with a block table `each` more for each block."""
+        """The steps of touching n words from word i of a slot on; with a block table `each` more for each block."""
         return n if self.moving else n + each * self.blocks(i, n)
 
+    # Whether class c has a free slot, or a page is free.
     def has_slot(self, c):
         return bool(self.not_full[c] or self.pool)
 
     def take(self, c, number):
-        """The next slot of class c, and the steps."""
+        """The slot that the next object of class c gets, and the steps of finding it."""
         if self.not_full[c]:
             page = self.not_full[c][0]
             slot = next(s for s in range(self.slots(c)) if s not in self.used[page])
@@ -85,7 +91,7 @@ class Pages(Heap):
         return self.place(c, page, slot), steps
 
     def drop(self, c, page, slot):
-        """A slot becomes free; returns how many were used before."""
+        """Frees a slot of a page; returns how many slots of the page were used before."""
         many = len(self.used[page])
         if many == 1:
             self.not_full[c] = [other for other in self.not_full[c] if other != page]
@@ -96,7 +102,7 @@ class Pages(Heap):
         return many
 
     def leave(self, place, c):
-        """An object of class c leaves its slot: another one moves there, or the slot becomes free. Returns the steps."""
+        """Removes an object of class c from its slot: another one moves there, or the slot becomes free. Returns the steps."""
         size, page = self.sizes[c], place // self.page_words
         slot = place % self.page_words // size
         if len(self.used[page]) == self.slots(c) > 1 and len(self.not_full[c]) == self.bounds[c]:
@@ -119,6 +125,7 @@ class Pages(Heap):
         self.drop(c, page, slot)
         return (size if self.moving else size + size // 4) + (10 if many == 1 else 13 if many == full else 5)
 
+    # The new object's number, or the refusal.
     def malloc(self, n):
         self.step_bound, self.cost = 64, 1
         if need(n) > self.page_words:
@@ -134,6 +141,7 @@ class Pages(Heap):
         self.cost = 3 + self.touch + steps
         return number
 
+    # Frees the object of a live number.
     def free(self, number):
         place, bytes_ = self.held.pop(number)
         c = self.class_for(len(bytes_))
@@ -142,9 +150,10 @@ class Pages(Heap):
         self.spare.insert(0, number)
 
     def tail(self, n, m):
-        """The steps of cutting m bytes to n."""
+        """The steps of a resize that cuts an object of m bytes to n bytes, in its slot."""
         return self.touch + self.run(2 + n // 8, (m + 7) // 8 - n // 8 - 1, 1) if n < m else 0
 
+    # The reply to a resize of a live object to n bytes.
     def resize(self, number, n):
         self.step_bound, self.cost = 160, 2
         if need(n) > self.page_words:
@@ -167,12 +176,14 @@ class Pages(Heap):
         self.cost = 4 + self.touch + steps + carry + self.leave(place, old)
         return "ok"
 
+    # The reply to `k`, for the class whose slots have `size` words.
     def set_bound(self, size, bound):
         if size not in self.sizes:
             return "none"
         self.bounds[self.sizes.index(size)] = bound
         return "ok"
 
+    # The reply to `b`, for block i of a live object.
     def block(self, number, i):
         if self.moving:
             return "none"
@@ -181,6 +192,7 @@ class Pages(Heap):
             return "range"
         return f"block {self.frames[place // 4 + i]}"
 
+    # Word w of the region, as objects see it.
     def word(self, w):
         for number, (place, bytes_) in self.held.items():
             if place <= w < place + need(len(bytes_)):
@@ -189,6 +201,7 @@ class Pages(Heap):
                 return int.from_bytes(bytes_[8 * (w - place - 1):][:8], "little")
         return 0
 
+    # The reply to `walk`, as lines.
     def walk(self):
         lines = []
         for c, size in enumerate(self.sizes):
@@ -198,11 +211,13 @@ class Pages(Heap):
                 lines.append(f"class {size} slots {self.slots(c)} live {live} pages {len(pages)} notfull {len(self.not_full[c])}")
         return [*lines, f"total live {len(self.held)} pages {self.pages - len(self.pool)} free {len(self.pool)}"]
 
+    # The reply to `frag`.
     def frag(self):
         asked = sum(len(bytes_) for _, bytes_ in self.held.values())
         taken = sum(8 * self.sizes[self.class_for(len(bytes_))] for _, bytes_ in self.held.values())
         return f"frag asked {asked} taken {taken} held {8 * self.page_words * (self.pages - len(self.pool))}"
 
+    # The reply to `steps`.
     def steps(self):
         return f"steps last {self.cost} bound {self.step_bound} moves {self.moves} words {self.moved_words}"
 
@@ -218,31 +233,36 @@ class Blocks(Heap):
         self.blocks = {0: [self.words, None]}
         self.lists = {self.bucket(self.words): [0]}
 
+    # The number of the list that TLSF has for blocks of this size in words.
     @staticmethod
     def tlsf_bucket(size):
         f = size.bit_length() - 1
         return size if size < 16 else 16 + 16 * (f - 4) + (size - 2**f) // 2 ** (f - 4)
 
+    # The first list in which TLSF searches for a block of this size.
     @classmethod
     def tlsf_search(cls, size):
         return size if size < 16 else cls.tlsf_bucket(size + 2 ** (size.bit_length() - 5) - 1)
 
     def unlink(self, at, size):
-        """A free block leaves its list; returns the steps."""
+        """Removes a free block from its list; returns the steps."""
         members = self.lists[self.bucket(size)]
         i = members.index(at)
         steps = 1 + (2 if i else 3) + (2 if i + 1 < len(members) else 0)
         members.remove(at)
         return steps
 
+    # Puts a free block at the head of its list; returns the steps.
     def push(self, at, size):
         members = self.lists.setdefault(self.bucket(size), [])
         members.insert(0, at)
         return 5 if len(members) == 1 else 7
 
+    # The steps of writing a block's new size into the header of the next block: none if the region ends there.
     def behind(self, end):
         return 2 if end < self.words else 0
 
+    # The new object's number, or the refusal.
     def malloc(self, n):
         self.cost = 0
         if need(n) > self.page_words:
@@ -270,6 +290,7 @@ class Blocks(Heap):
         self.cost = look + steps + 2
         return number
 
+    # Frees the object of a live number, and joins its block with free neighbours.
     def free(self, number):
         at, _ = self.held.pop(number)
         size = self.blocks[at][0]
@@ -289,15 +310,19 @@ class Blocks(Heap):
         self.cost = steps + 2 + self.push(start, end - start)
         self.spare.insert(0, number)
 
+    # Blocks have no resize.
     def resize(self, number, n):
         return "none"
 
+    # Blocks have no classes.
     def set_bound(self, size, bound):
         return "none"
 
+    # Only the non-moving manager has physical blocks.
     def block(self, number, i):
         return "none"
 
+    # Word w of the region, with the headers of blocks and the links of free ones.
     def word(self, w):
         at = max(a for a in self.blocks if a <= w)
         size, number = self.blocks[at]
@@ -312,15 +337,18 @@ class Blocks(Heap):
         bytes_ = self.held[number][1]
         return number + 2**32 * len(bytes_) if w == at + 1 else int.from_bytes(bytes_[8 * (w - at - 2):][:8], "little")
 
+    # The reply to `walk`, as lines.
     def walk(self):
         free = [size for size, number in self.blocks.values() if number is None]
         return [f"blocks used {len(self.held)} free {len(free)} largest {max(free, default=0)}"]
 
+    # The reply to `frag`.
     def frag(self):
         asked = sum(len(bytes_) for _, bytes_ in self.held.values())
         taken = sum(8 * size for size, number in self.blocks.values() if number is not None)
         return f"frag asked {asked} taken {taken} held {8 * self.words}"
 
+    # The reply to `steps`.
     def steps(self):
         return f"steps last {self.cost}"
 
@@ -377,7 +405,7 @@ def answer(heap, ids, words):
 
 
 def drawn_lines(draw):
-    """A script: after each call that changes the heap, an address, a block, a word and the steps of that call."""
+    """Draws a script, line by line: after each call that changes the heap, it asks for an address, a block, a word and steps."""
     page_bytes = draw.choice((512, 512, 1024))
     pages, bound, proxies = draw.randint(2, 9), draw.randint(1, 3), draw.choice((5, 60, 60, 60))
     yield f"heap {pages} {page_bytes} {bound} {proxies}"
@@ -405,7 +433,7 @@ def drawn_lines(draw):
 
 
 def wanted(kind, lines):
-    """What the script prints, line by line."""
+    """What the tool must print for the script, by its lines."""
     heap, ids, replies = None, {}, []
     for line in lines:
         words = line.split()
@@ -418,7 +446,7 @@ def wanted(kind, lines):
 
 
 def in_chunks(program, kind, lines, replies, draw):
-    """What is printed if the script comes in drawn chunks, each once the commands before it are answered."""
+    """What the tool prints if the script comes in drawn chunks, each written when the whole lines before it are answered."""
     text = "".join(f"{line}\n" for line in lines).encode()
     with subprocess.Popen([program, "--manager", kind], stdin=subprocess.PIPE, stdout=subprocess.PIPE) as child:
         printed, at, whole = b"", 0, 0
@@ -440,6 +468,7 @@ def in_chunks(program, kind, lines, replies, draw):
         return printed + child.stdout.read()
 
 
+# A text that names the first line in which two outputs differ.
 def first_difference(right, printed):
     right, printed = right.decode().split("\n"), printed.decode().split("\n")
     line = next((i for i, (a, b) in enumerate(zip(right, printed)) if a != b), min(len(right), len(printed)) - 1)
@@ -447,7 +476,7 @@ def first_difference(right, printed):
 
 
 def differs(program, seed):
-    """How the seed's script is printed otherwise than it should be; none if it isn't."""
+    """The first difference between what the tool prints for the seed's script and what it must print; None if there is none."""
     draw = random.Random(seed)
     kind, lines = list(KINDS)[seed % 4], list(drawn_lines(draw))
     replies = wanted(kind, lines)
@@ -466,6 +495,7 @@ def differs(program, seed):
     return None
 
 
+# Tries this many seeds, and prints the first five differences.
 def main(program, count):
     with ThreadPoolExecutor(os.cpu_count()) as pool:
         wrong = [it for it in pool.map(lambda seed: differs(program, seed), range(count)) if it]

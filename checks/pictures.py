@@ -15,7 +15,7 @@ room = tempfile.TemporaryDirectory()
 
 
 def case(name, good, found=""):
-    """One thing that has to be so."""
+    """Counts a case; if it is not good, notes that it failed, and prints its name and what was found."""
     global cases
     cases += 1
     if not good:

@@ -1,5 +1,5 @@
-/* Loaded before the C library: refuses one allocation, the one whose number stands in REFUSE, and where that was
-   reached says so by making the file that REFUSED names. */
+/* Loaded before the C library: refuses one allocation, that with the number in the variable REFUSE. If the program makes
+   so many, the file that the variable REFUSED names is made, to show that one was refused. */
 #define _GNU_SOURCE
 #include <dlfcn.h>
 #include <errno.h>
@@ -7,8 +7,10 @@
 #include <stdlib.h>
 #include <unistd.h>
 
+/* How many allocations are left up to the refused one; -1 before the first, 0 if none is left to refuse. */
 static long left = -1;
 
+/* Counts an allocation, and returns whether it is refused. */
 static int refuses(void)
 {
     if (left < 0) {
@@ -22,6 +24,7 @@ static int refuses(void)
     return 1;
 }
 
+/* The function of this name in the C library. */
 #define REAL(name) ((__typeof__(&name))dlsym(RTLD_NEXT, #name))
 
 void *malloc(size_t n) { return refuses() ? NULL : REAL(malloc)(n); }

@@ -21,13 +21,16 @@ class Pages:
             size = -(-9 * size // 8)
         self.sizes.append(page_words)
 
+    # How many objects have a slot of so many words, for each slot size in use; `extra` are counted too.
     def counts(self, extra=()):
         of = [slot for _, slot in [*self.live.values(), *extra]]
         return {slot: of.count(slot) for slot in sorted(set(of))}
 
+    # How many pages these counts of objects need.
     def used(self, counts):
         return sum(-(-n // (self.page_words // slot)) for slot, n in counts.items())
 
+    # The reply to `m`.
     def malloc(self, number, length):
         need = 1 + -(-length // 8)
         if need > self.page_words:
@@ -40,12 +43,15 @@ class Pages:
         self.live[number] = one
         return "ok"
 
+    # Frees an object.
     def free(self, number):
         del self.live[number]
 
+    # The bytes asked for, taken and held.
     def figures(self):
         return sum(length for length, _ in self.live.values()), 8 * sum(slot for _, slot in self.live.values()), 8 * self.page_words * self.used(self.counts())
 
+    # The lines of the reply to `walk`.
     def walk(self):
         counts = self.counts()
         for slot, n in counts.items():
@@ -62,6 +68,7 @@ class Blocks:
         self.words, self.page_words, self.proxies = pages * page_words, page_words, proxies
         self.list_of, self.search, self.blocks, self.live = list_of, search, [[pages * page_words, None, 0]], set()
 
+    # The reply to `m`.
     def malloc(self, number, length):
         need = 2 + -(-length // 8)
         if need - 1 > self.page_words:
@@ -78,6 +85,7 @@ class Blocks:
         self.live.add(number)
         return "ok"
 
+    # Frees an object, and joins its block with free neighbours.
     def free(self, number):
         at = next(at for at, block in enumerate(self.blocks) if block[1] == number)
         self.blocks[at][1:] = [None, 0]
@@ -86,27 +94,33 @@ class Blocks:
                 self.blocks[left : left + 2] = [[self.blocks[left][0] + self.blocks[left + 1][0], None, 0]]
         self.live.remove(number)
 
+    # The bytes asked for, taken and held.
     def figures(self):
         used = [block for block in self.blocks if block[1] is not None]
         return sum(block[2] for block in used), 8 * sum(block[0] for block in used), 8 * self.words
 
+    # The lines of the reply to `walk`.
     def walk(self):
         free = [words for words, owner, _ in self.blocks if owner is None]
         yield f"blocks used {len(self.live)} free {len(free)} largest {max(free, default=0)}"
 
 
+# The exponent of the largest power of two that is at most n.
 def log(n):
     return n.bit_length() - 1
 
 
+# The number of the list that TLSF has for blocks of so many words.
 def tlsf_list(words):
     return words if words < 16 else 16 * (log(words) - 3) + (words >> (log(words) - 4)) - 16
 
 
+# The first list in which TLSF searches for a need of so many words.
 def tlsf_search(need):
     return tlsf_list(need if need < 16 else need + (1 << (log(need) - 4)) - 1)
 
 
+# Prints the replies of the four managers to each line of the script.
 def main():
     heaps = {}
     for line in sys.stdin:

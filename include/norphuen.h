@@ -58,7 +58,7 @@ enum {
     NPH_REGION = 15      /* nph_open: pages * page_bytes is at most 67108864 */
 };
 
-/* No handle. */
+/* In place of a handle in nph_freed and nph_resized: no object moved. */
 #define NPH_NONE UINT32_MAX
 
 /* A free: the words of the freed slot or block, and the object that moved to its address, or NPH_NONE. */
@@ -95,35 +95,36 @@ typedef struct nph_heap_totals {
     uint32_t largest;
 } nph_heap_totals;
 
-/* Opens an empty heap of `pages` pages of `page_bytes` bytes. At most `proxies` objects are live at a time, and each
+/* Opens a heap without objects, of `pages` pages of `page_bytes` bytes. At most `proxies` objects are live at a time, and each
  * size class has at most `k` partly full pages. With TLSF the pages are one region without classes, and k means nothing. */
 int32_t nph_open(nph_heap *heap, uint32_t pages, uint32_t page_bytes, uint32_t k, uint32_t proxies);
 
 /* Returns the memory. The heap is not open afterwards, and may be opened again. May be called twice. */
 void nph_close(nph_heap *heap);
 
-/* Adds an object of `bytes` bytes, all zero, and writes its handle. */
+/* Makes an object of `bytes` bytes, all zero, and writes its handle. Fails with NPH_SIZE, NPH_PROXY or NPH_SPACE. */
 int32_t nph_malloc(nph_heap *heap, uint32_t bytes, uint32_t *handle);
 
-/* Removes an object. */
+/* Frees an object, and writes into `freed` what was freed and moved. Fails with NPH_UNKNOWN. */
 int32_t nph_free(nph_heap *heap, uint32_t handle, nph_freed *freed);
 
-/* Changes the length of an object: its first bytes stay, and zeros are added. */
+/* Changes the length of an object to `bytes` bytes: its first bytes stay, and added bytes are zero. Writes its slots into
+ * `resized`. Fails with NPH_UNKNOWN, NPH_KIND, NPH_SIZE or NPH_SPACE; the object then stays as it was. */
 int32_t nph_resize(nph_heap *heap, uint32_t handle, uint32_t bytes, nph_resized *resized);
 
-/* Writes `count` bytes into an object, from byte `at` on. */
+/* Writes `count` bytes into an object, from its byte `at` on. Fails with NPH_UNKNOWN or NPH_RANGE. */
 int32_t nph_write(nph_heap *heap, uint32_t handle, uint32_t at, const uint8_t *bytes, size_t count);
 
-/* Reads `count` bytes of an object, from byte `at` on. */
+/* Reads `count` bytes of an object, from its byte `at` on, into `bytes`. Fails with NPH_UNKNOWN or NPH_RANGE. */
 int32_t nph_read(nph_heap *heap, uint32_t handle, uint32_t at, uint8_t *bytes, size_t count);
 
-/* Writes the length of an object in bytes. */
+/* Writes the length of an object in bytes. Fails with NPH_UNKNOWN. */
 int32_t nph_length(nph_heap *heap, uint32_t handle, uint32_t *bytes);
 
-/* Whether nph_malloc of `bytes` bytes would return NPH_OK now, else what it would return. Changes no object. */
+/* Returns what nph_malloc of `bytes` bytes would return now. Makes no object. */
 int32_t nph_has_room(nph_heap *heap, uint32_t bytes);
 
-/* Writes the figures of a size class; the classes are numbered from 0. */
+/* Writes the figures of a size class; the classes are numbered from 0. Fails with NPH_UNKNOWN if there is no such class. */
 int32_t nph_figures(nph_heap *heap, uint32_t size_class, nph_class *figures);
 
 /* Writes the figures of the whole heap. With TLSF this visits each free block. */
@@ -132,7 +133,7 @@ int32_t nph_totals(nph_heap *heap, nph_heap_totals *totals);
 /* Writes the steps of the last call on the heap. nph_figures and this call take none, and leave the count as it was. */
 int32_t nph_last_steps(nph_heap *heap, uint64_t *steps);
 
-/* A block of memory. If out of memory, `ok` is false and `at` is any address but null. */
+/* A block of memory at the address `at`. If out of memory, `ok` is false and `at` is any address but null. */
 typedef struct nph_block {
     bool ok;
     void *at;
@@ -141,9 +142,11 @@ typedef struct nph_block {
 /* The program defines these three. A block is aligned to `align`, a power of two up to 16, and no two overlap. */
 nph_block rattle_alloc(size_t bytes, size_t align);
 
-/* Gives a block another length. Its first `kept` bytes stay. It may move; if out of memory it stays as it is. */
+/* Changes the length of a block to `bytes` bytes. Its first `kept` bytes stay. It may move; if out of memory it stays as
+ * it is. */
 nph_block rattle_realloc(void *at, size_t kept, size_t bytes, size_t align);
 
+/* Takes back a block. */
 void rattle_dealloc(void *at);
 
 #ifdef __cplusplus

@@ -1,5 +1,5 @@
-/* A program without malloc: all memory comes from a static array. The library takes it at nph_open and returns it at
- * nph_close, so an array of which only the end grows is enough; it is used anew when no block is left. */
+/* A program without malloc: all memory comes from a static array. The library takes blocks at nph_open and returns them
+ * at nph_close. So blocks can be taken one behind the other, and from the start again when all are returned. */
 #include "norphuen.h"
 #include <stdalign.h>
 #include <stdio.h>
@@ -19,7 +19,8 @@ nph_block rattle_alloc(size_t bytes, size_t align) {
     return block;
 }
 
-/* The first `kept` bytes stay. The old block is left behind. */
+/* Takes a new block and copies the first `kept` bytes. The memory of the old block is not used again until all blocks are
+ * returned. */
 nph_block rattle_realloc(void *at, size_t kept, size_t bytes, size_t align) {
     nph_block block = rattle_alloc(bytes, align);
     if (!block.ok) return block;

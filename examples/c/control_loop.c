@@ -6,6 +6,7 @@
 
 enum { FRAMES = 8, BUDGET = 150, MALLOC_MOST = 17, FREE_MOST = 20, QUEUE = 16 };
 
+/* The most steps of a free of this object, by the words of its slot. 0 if the handle is not live. */
 static uint32_t bound_of_free(nph_heap *heap, uint32_t handle) {
     uint32_t bytes, words;
     nph_class figures;

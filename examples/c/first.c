@@ -1,4 +1,4 @@
-/* A heap is opened, and an object is made, written, read and freed. */
+/* The shortest program: it opens a heap, makes an object, writes, reads and frees it, and prints what it read. */
 #include "norphuen.h"
 #include <stdio.h>
 

@@ -2,6 +2,7 @@
 #include "norphuen.h"
 #include <stdlib.h>
 
+/* The address of a block that could not be taken: it must not be null. */
 static max_align_t none;
 
 static nph_block block_at(void *at) {

@@ -5,12 +5,14 @@
 
 static nph_heap heap = NPH_HEAP;
 
+/* Makes an object, prints the code, and returns the handle. */
 static uint32_t make(uint32_t bytes) {
     uint32_t handle = NPH_NONE;
     printf("malloc %u: %d\n", bytes, (int)nph_malloc(&heap, bytes, &handle));
     return handle;
 }
 
+/* Frees an object, and prints the code, what moved and the steps. */
 static void release(const char *name, uint32_t handle) {
     nph_freed freed = {0, NPH_NONE};
     uint64_t steps = 0;
@@ -19,6 +21,7 @@ static void release(const char *name, uint32_t handle) {
     printf("free %s: %d, %u words, moved %d, %u steps\n", name, code, freed.slot_words, (int)freed.moved, (unsigned)steps);
 }
 
+/* Prints the first two bytes of an object. */
 static void read_two(uint32_t handle) {
     uint8_t bytes[2] = {0, 0};
     int code = nph_read(&heap, handle, 0, bytes, 2);

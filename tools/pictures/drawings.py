@@ -9,7 +9,7 @@ FONT = 'font-family="DejaVu Sans, Verdana, sans-serif"'
 INK, SOFT, GRID, ALARM = "#222", "#555", "#ddd", "#b3131b"
 ASKED, ROUNDING, FREE = "#1f6fb4", "#f2c14e", "#d5d5d5"
 BLOCK, NEXT, GAP, LARGEST = "#1d4e79", "#4f94cd", "#eef1f4", "#f7dcdc"
-# The colour and the dashes of each manager's line; one that holds the same as another is seen between its dashes.
+# The colour and the dashes of each manager's line: of two lines at the same place, one shows between the dashes of the other.
 LINES = {"cf": ("#1f6fb4", "none"), "nm": ("#d9730d", "9 3"), "tlsf": ("#2e8b57", "3 3"), "half": ("#b03a6b", "6 6")}
 VERBS = {"m": "malloc", "f": "free", "z": "resize"}
 
@@ -214,7 +214,7 @@ def draw_held(series, left_out, least, title):
         said = f"{name} {points[-1][1]:.2f}".strip() + (f", least region {size(least[name])}" if name in least else "")
         ends.append((down(points[-1][1]), said, colour))
         what.append(f"{name or 'the manager'} from {points[0][1]:.2f} to {points[-1][1]:.2f}")
-    # the label of each line stands at its end, one below the other
+    # the label of each line is at its end, one below the other
     for y, said, colour in sorted(ends):
         lowest = max(y + 4, lowest + 15)
         parts.append(text(left + wide + 10, lowest, said, 12, fill=colour))
@@ -228,7 +228,7 @@ def draw_held(series, left_out, least, title):
 
 # Pages
 
-# By the number of pages: how many stand in a row, the width and the height of one, and whether it has its number above.
+# By the number of pages: how many are in a row, the width and the height of one, and whether its number is above it.
 LAYOUTS = ((64, 4, 167, 24, True), (256, 8, 82, 18, True), (1024, 20, 31, 13, False), (4096, 50, 12, 8, False))
 CELLS, BESIDE = 700, 290
 
@@ -247,7 +247,7 @@ def shades(place):
 
 
 def has_share(of, wide, high):
-    """Whether a page has too many slots to draw each: then it shows the share of them that is used."""
+    """Whether a page has too many slots to draw each: then the share of used slots is drawn."""
     return -(-of.slots // (wide // 4)) * 4 > high
 
 

@@ -102,7 +102,7 @@ class Heap:
         self.forget()
 
     def forget(self):
-        """After a change no walk and no place is valid any more."""
+        """Drops the walk and the addresses, which a change of the heap makes invalid."""
         self.places, self.classes, self.totals, self.blocks = {}, [], None, None
 
     def take(self, line, words, reply):
@@ -150,7 +150,7 @@ def heap_after(script, output, until=None):
 
 
 def pages_of(heap):
-    """The class and the used slots of each page in use, held against the walk."""
+    """The class and the used slots of each page in use, compared with the walk."""
     pages = {}
     for number, length in heap.lengths.items():
         need = 1 + -(-length // 8)
@@ -176,8 +176,8 @@ def pages_of(heap):
 
 def blocks_of(heap):
     """
-    The blocks of the region by address, held against the walk. A word that a split left over belongs to the object
-    before it; where a free block follows, nothing shows that word, so the gap may be one word longer than the block.
+    The blocks of the region by address, compared with the walk. A word that a split left over belongs to the object
+    before it; if a free block follows, nothing shows that word, so the gap may be one word longer than the block.
     """
     blocks, end = [], 0
     region = heap.pages * heap.page_words

@@ -9,14 +9,14 @@ TENTHS = ".123456789#"
 
 
 def tenth(used, whole):
-    """How full, in one character: `.` nothing, `1` to `9` so many tenths at least, `#` all."""
+    """How much of the whole is used, in one character: `.` nothing, `1` to `9` at least that many tenths, `#` all."""
     if used == whole:
         return "#"
     return TENTHS[max(1, 10 * used // whole)] if used else "."
 
 
 def wrapped(lead, cells, between=""):
-    """Cells in lines of at most 78 columns, each line after the lead or as many spaces."""
+    """The cells in lines of at most 78 columns; the lead begins the first line, and spaces of its width the others."""
     lines, line = [], lead
     for cell in cells:
         if len(line) + len(cell) + len(between) > 78:

@@ -1,4 +1,4 @@
--- The class of a request in a table of slot sizes.
+-- For `class_at` and `slots_at`: the class of a request, and the slots of a class, by a table of slot sizes.
 use Rattle.std.proofs.Common.{◌≡◌, ℕ, ◌<◌, ◌≤◌, ◌/◌, List, Some, length, get_or, arith, ap, sym, ◌∙◌, subst}
 use Rattle.std.specs.Prelude.{IsTrue}
 use Rattle.cf_base.specs.Classes.{class_of, need, sizes, slots}

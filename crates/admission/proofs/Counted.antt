@@ -1,4 +1,4 @@
--- The sums over the entries so far, and after one more.
+-- For `count_pages`, `admit` and `least_quota`: the counts and pages of the entries so far, after one more entry, and after all.
 use Rattle.std.proofs.Common.{◌≡◌, ◌≢◌, ℕ, false, ◌+◌, ◌-◌, ◌<◌, ◌≤◌, List, [], ◌++◌, Some, None, length, get_or, set, replicate, take}
 use Rattle.std.proofs.Common.{arith, ap, sym, ◌∙◌, inl, inr, refl, subst}
 use Rattle.std.specs.Prelude.{IsTrue, nat_eq, nat_lt}

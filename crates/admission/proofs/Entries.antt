@@ -1,4 +1,4 @@
--- An entry of the needs: the pages with its objects, and which of them is the first past the quota.
+-- For `count_pages`: one entry of the needs, the pages that its objects add, and which of them is the first past the quota.
 use Rattle.std.proofs.Common.{◌≡◌, ◌≢◌, ℕ, suc, ◌+◌, ◌-◌, ◌*◌, ◌<◌, ◌≤◌, List, [], ◌∷◌, ◌++◌, length, get_or, replicate, take, drop}
 use Rattle.std.proofs.Common.{arith, ap, sym, ◌∙◌, inl, inr, refl}
 use Rattle.std.specs.Prelude.{nat_eq}

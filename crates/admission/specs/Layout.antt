@@ -1,4 +1,4 @@
--- The invariants of the loops. No public clause cites this module.
+-- The invariants of the loops of `fill_sizes` and `count_pages`, and what the failure of `pages_with` means. No public clause cites this module.
 use Rattle.std.specs.Prelude.{◌≡◌, ℕ, ◌+◌, ◌≤◌, ◌<◌, List, ◌++◌, length, slice_index, take}
 use Rattle.cf_base.specs.Classes.{sizes, sizes_from}
 use Rattle.cf_base.specs.declared.kind.Layout.TheVariants.{Words}
@@ -6,20 +6,22 @@ use Rattle.page_model.specs.Counts.{ceil_div}
 use Rattle.page_model.specs.Paging.{Paging, classes}
 use Rattle.quota_model.specs.Admission.{count_of_class, pages_of}
 
--- the table begins with the slot sizes up to `size`, which is the next one, or is past the page
+-- The first `count` entries of the table are the slot sizes of a page below `size`, which is the next one, or is past the page and ends the loop.
 pub record IsFilled (page_words : ℕ) (table : List ℕ) (count size : ℕ) : Type 0 where
   pub left : ℕ
   pub some : 1 ≤ size
   pub enough : page_words ≤ size + left
   pub made : take count table ++ sizes_from left size page_words ≡ sizes page_words Words
 
--- with the first `fit` of `more` added objects, the pages of the class and of the others are within the quota; with one object more they exceed it
+-- Of `more` objects that are added to the `had` objects of a class, `fit` still fit: with these, the pages of the class and the `others` pages of all other
+-- classes are within the quota. With one object more they exceed it.
 pub record IsPast (quota others had more slots fit : ℕ) : Type 0 where
   pub fewer : fit < more
   pub within : others + ceil_div (had + fit) slots ≤ quota
   pub past : quota < others + ceil_div (had + (fit + 1)) slots
 
--- the mallocs of these bytes so far: how many there are of each class, and the pages that they need, which are within the quota
+-- The loop has counted mallocs of these lengths (`asked`), `before` in number: `counts` has how many there are of each class, and `pages` is how many pages
+-- they need, which are within the quota.
 pub record AreCounted (p : Paging) (quota : ℕ) (asked counts : List ℕ) (pages before : ℕ) : Type 0 where
   pub counts_are : (c : ℕ) → c < classes p → slice_index counts c ≡ count_of_class p asked c
   pub pages_are : pages ≡ pages_of p asked

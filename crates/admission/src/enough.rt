@@ -1,4 +1,5 @@
-//! Whether a quota is enough for the needs of a task.
+//! The test whether a quota of pages is enough for the objects that a task declares, and the least
+//! quota that is.
 ghost use Rattle.std.specs.Prelude.{◌≡◌, ℕ, ◌+◌, ◌-◌, ◌^◌, ◌≤◌, ◌<◌, IfErr, IfNone, IfOk, IfSome, Some, length, nat_lt, position};
 ghost use Rattle.std.specs.FinMap.{empty};
 ghost use Rattle.cf_base.specs.Classes.{need, sizes};
@@ -14,12 +15,14 @@ use crate::sizes::{CLASSES, class_at, fill_sizes, slots_at};
 use cf_base::{Settings, need_of};
 use quota_model::{Admission, Need};
 
-/// Returns whether `quota` pages are enough for a task under these settings that never has more
-/// objects than it declares, live or asked for. For each length it declares the sum of the counts of
-/// the entries with that length. A quota that is enough is so after every history of the task. Else
-/// the result has the number, from 1 on, of the first malloc that is refused for space if the
-/// declared objects are all asked for in order. Before that it tests whether an entry's object is
-/// larger than a page, and then whether the counts sum to more than the proxies.
+/// Tests whether `quota` pages are enough for a task with the settings `s` that declares `needs`:
+/// for each length, how many objects of that length it has at most at one time. Entries of the same
+/// length add up.
+///
+/// The result is `Size` if an entry's object is larger than a page, else `Proxies` if the counts
+/// sum to more than the proxies. Else it is `Yes` if no malloc is refused for space as long as the
+/// task keeps to its needs. If one may be, it is `No`: if the declared objects are allocated in
+/// order, malloc number `nth`, counted from 1, is the first that is refused for space.
 pub fn admit(s: &Settings, quota: u32, needs: &[Need]) -> Admission
     requires few { length needs.now ≤ 64 }
     ensures { IsAdmission (record { profile = profile_of s.now; quota = quota }) needs.now result }
@@ -38,8 +41,8 @@ pub fn admit(s: &Settings, quota: u32, needs: &[Need]) -> Admission
     }
 }
 
-/// The least quota in pages that is enough for a task under these settings, as `admit` has it. It may
-/// be more pages than the settings have. There is none if an entry's object is larger than a page, or
+/// The least quota, in pages, for which `admit` returns `Yes` with these settings and needs. It may
+/// exceed the pages of the settings. There is none if an entry's object is larger than a page, or
 /// if the counts sum to more than the proxies.
 pub fn least_quota(s: &Settings, needs: &[Need]) -> Option<u32>
     requires few { length needs.now ≤ 64 }
@@ -58,7 +61,8 @@ pub fn least_quota(s: &Settings, needs: &[Need]) -> Option<u32>
     }
 }
 
-/// The index of the first entry whose object is larger than a page, if there is one.
+/// The index of the first entry whose object is larger than a page of `page_words` words, if there
+/// is one.
 fn first_large(page_words: u32, needs: &[Need]) -> Option<usize>
     ensures { result ≡ position (λ e. nat_lt page_words (need e.bytes)) needs.now }
 {
@@ -67,7 +71,7 @@ fn first_large(page_words: u32, needs: &[Need]) -> Option<usize>
         .position(|entry| page_words < need_of(entry.bytes))
 }
 
-/// The number of objects that all entries declare together.
+/// The number of objects, of any length, that all entries declare together.
 fn count_in_all(needs: &[Need]) -> u64
     requires few { length needs.now ≤ 64 }
     ensures { result ≡ declared_in_all needs.now }
@@ -75,7 +79,7 @@ fn count_in_all(needs: &[Need]) -> u64
     needs.iter().map(|entry| entry.count as u64).sum()
 }
 
-/// The least number of pages of `slots` slots that hold `count` objects.
+/// How many pages, with `slots` slots each, `count` objects need: the quotient, rounded up.
 fn pages_for(count: u64, slots: u64) -> u64
     requires some { 1 ≤ slots }
     requires few { count + slots < 2 ^ 63 }
@@ -84,9 +88,9 @@ fn pages_for(count: u64, slots: u64) -> u64
     (count + (slots - 1)) / slots
 }
 
-/// Adds `more` objects of a class, `slots` to a page, to `pages` pages, on which the class has
-/// `had` objects. Returns the number of pages that are then needed. If it exceeds the quota, fails
-/// with the number of the added objects that fit.
+/// The objects of all classes so far need `pages` pages; one class, with `slots` slots to a page,
+/// has `had` of them. Returns how many pages all need after `more` objects of that class are added.
+/// If that exceeds `quota` pages, fails with the number of the added objects that still fit.
 fn pages_with(quota: u64, pages: u64, had: u64, more: u64, slots: u64) -> Result<u64, u64>
     requires some { 1 ≤ slots }
     requires low { slots ≤ 4096 }
@@ -107,8 +111,8 @@ fn pages_with(quota: u64, pages: u64, had: u64, more: u64, slots: u64) -> Result
     Ok(others + pages_for(had + more, slots))
 }
 
-/// Returns the number of pages that the declared objects need. If it exceeds the quota, fails with
-/// the number, from 1 on, of the first of their mallocs, in order, that is refused for space.
+/// Returns the number of pages that all declared objects need. If it exceeds `quota`, fails with
+/// the number, counted from 1, of the first of their mallocs, in order, that is refused for space.
 fn pages_within(s: &Settings, quota: u32, needs: &[Need]) -> Result<u32, u32>
     requires asked { CanBeAsked (profile_of s.now) needs.now }
     ensures pages { IfOk result (λ pages. pages ≡ pages_of (task_paging (profile_of s.now)) (in_order needs.now)) }
@@ -120,7 +124,7 @@ fn pages_within(s: &Settings, quota: u32, needs: &[Need]) -> Result<u32, u32>
     count_pages(s, quota, &table[..classes], needs)
 }
 
-/// Does what `pages_within` does, with the slot sizes of a page.
+/// Does what `pages_within` does. `slot_sizes` has the words of a slot of each class.
 fn count_pages(s: &Settings, quota: u32, slot_sizes: &[u32], needs: &[Need]) -> Result<u32, u32>
     requires sized { slot_sizes.now ≡ sizes s.now.page_words Words }
     requires asked { CanBeAsked (profile_of s.now) needs.now }

@@ -1,6 +1,6 @@
-//! Admission: whether a quota of pages is enough for a task, whatever the task does within the
-//! objects that it declares. The test is done before the task runs, allocates nothing, and needs no
-//! heap.
+//! Admission: whether a quota of pages is enough for a task, whatever the task allocates and frees
+//! within the numbers of objects that it declares. The test is done before the task runs, allocates
+//! nothing, and needs no heap.
 #![tactic(auto)]
 
 mod enough;

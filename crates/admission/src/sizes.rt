@@ -1,4 +1,5 @@
-//! The slot sizes of a page in a table of fixed size, and the class of a request.
+//! The slot sizes of a page, in a table of fixed size that needs no allocation, and the class of a
+//! request by such a table.
 ghost use Rattle.std.specs.Prelude.{◌≡◌, ◌≤◌, ◌<◌, IsTrue, length, take};
 ghost use Rattle.cf_base.specs.Classes.{need, sizes};
 ghost use Rattle.cf_base.specs.Limits.{is_page_size};
@@ -9,11 +10,11 @@ ghost use Rattle.quota_model.specs.Refusals.{task_paging};
 
 use cf_base::{Settings, class_in};
 
-/// The most classes that a page may have.
+/// How many classes a page may have at most.
 pub(crate) const CLASSES: usize = 67;
 
-/// Writes the slot sizes of pages with `page_words` words into the table, in rising order, and returns
-/// their number.
+/// Writes into `table` the slot sizes, in words, of pages with `page_words` words, in rising order.
+/// Returns how many there are.
 pub(crate) fn fill_sizes(page_words: u32, table: &mut [u32]) -> usize
     requires page { IsTrue (is_page_size page_words) }
     requires room { length table.old ≡ 67 }
@@ -31,7 +32,8 @@ pub(crate) fn fill_sizes(page_words: u32, table: &mut [u32]) -> usize
     count + 1
 }
 
-/// The class of an object of `bytes` bytes, which fits a page.
+/// The class of an object of `bytes` bytes, which must fit a page. `slot_sizes` has the words of a
+/// slot of each class.
 pub(crate) fn class_at(s: &Settings, slot_sizes: &[u32], bytes: u32) -> usize
     requires sized { slot_sizes.now ≡ sizes s.now.page_words Words }
     requires fits { need bytes ≤ s.now.page_words }
@@ -46,7 +48,7 @@ pub(crate) fn class_at(s: &Settings, slot_sizes: &[u32], bytes: u32) -> usize
     }
 }
 
-/// The slots of a class on a page.
+/// How many slots of the class a page has.
 pub(crate) fn slots_at(s: &Settings, slot_sizes: &[u32], class: usize) -> u32
     requires sized { slot_sizes.now ≡ sizes s.now.page_words Words }
     requires within { class < length slot_sizes.now }

@@ -1,4 +1,5 @@
-//! Makes the calls of a script on a heap of long objects.
+//! Makes the calls of a script on a heap of long objects over the moving manager, the heap `l` of a script:
+//! it has the calls `m`, `w` and `r`.
 ghost use Rattle.std.specs.Prelude.{◌≡◌, IsTrue};
 
 use crate::script::{LINE, Line, Table};
@@ -9,7 +10,8 @@ use moving_heap::MovingHeap;
 use std::alloc::Global;
 use step_ledger::Meter;
 
-/// Writes into a long object, and returns whether it succeeded.
+/// Writes these bytes into the object h from byte `at` on, and returns whether that succeeded. Not inlined, so
+/// that a profile shows it.
 #[inline(never)]
 fn long_write<H: Manager>(
     heap: &mut LargeHeap<H>,
@@ -23,7 +25,8 @@ fn long_write<H: Manager>(
     heap.write(h, at, bytes, meter).is_ok()
 }
 
-/// Reads from a long object, and returns whether it succeeded.
+/// Fills `out` from the object h from byte `at` on, and returns whether that succeeded. Not inlined, so that a
+/// profile shows it.
 #[inline(never)]
 fn long_read<H: Manager>(
     heap: &LargeHeap<H>,
@@ -37,7 +40,8 @@ fn long_read<H: Manager>(
     heap.read(h, at, out, meter).is_ok()
 }
 
-/// Makes the call of a line, and returns whether it succeeded.
+/// Makes the call of a line, and returns whether it succeeded: false for a letter that is no call of this
+/// heap. `table` has the handle of each ID, and the bytes that are written or read.
 fn apply<H: Manager>(
     heap: &mut LargeHeap<H>,
     line: Line,
@@ -62,8 +66,9 @@ fn apply<H: Manager>(
     }
 }
 
-/// Opens the heap and makes the calls. Returns the number of calls that succeeded, or `None` for a bad
-/// script or out of memory.
+/// Opens a heap of long objects with the settings, but the bound 1, and makes the calls, the script's lines
+/// after the first. Returns the number of calls that succeeded, or `None` if a line is bad or memory runs
+/// out.
 pub(crate) fn run(
     alloc: Global,
     settings: &Settings,

@@ -1,21 +1,25 @@
-//! Makes calls on heaps without sessions, to count the instructions of each call; docs/SPEED.md has the
-//! commands. Standard input is a script. Each line has 24 bytes: a letter, three numbers of 5, 7 and 7
-//! digits with a space before each, and a line feed. Each kind of call has a function of its own, which
-//! is not inlined, so that a profile shows it.
+//! A program that makes calls on heaps without sessions, so that a profiler can count the instructions of each
+//! call; docs/SPEED.md has the commands. Each kind of call has a function of its own, which is not inlined, so
+//! that a profile shows it.
+//!
+//! Standard input is a script. Each line has 24 bytes: a letter, three numbers of 5, 7 and 7 digits with a
+//! space before each, and a line feed. A number that isn't named below is read and not used.
 //!
 //! The first line opens a heap. Its letter is the kind of heap; its numbers are the pages, the bytes of
-//! a page, and the bound k (for `s` the quantum in words).
+//! a page, and the bound k (for `s` the quantum in words). The heap has 65,536 proxies (for `s` 256).
 //!
 //! - `c`, `n`, `t`, `h`: the moving, the non-moving, the TLSF and the Half-Fit manager.
 //! - `l`: long objects over the moving manager.
 //! - `s`: the sliced heap.
 //!
-//! The other lines are calls. ID is the script's number for an object, below 65,536.
+//! The other lines are calls; a call that the heap doesn't have fails. ID is the script's number for an
+//! object, below 65,536.
 //!
 //! - `m ID BYTES`, `f ID`, `z ID BYTES`: makes, frees, resizes an object.
 //! - `w ID AT BYTES`, `r ID AT BYTES`: writes, reads BYTES bytes, 1,000,000 at most.
 //! - `g 0 COUNT`: the first COUNT commands of the generator with seed 1.
-//! - `s`, `d 0 COUNT`: one step of the sliced heap; COUNT mallocs, frees and steps on it, drawn at random.
+//! - `s`: one step of the sliced heap, a slice of its pending job.
+//! - `d 0 COUNT`: COUNT mallocs, frees and steps of the sliced heap, drawn at random.
 #![tactic(auto)]
 
 mod generated;
@@ -50,8 +54,9 @@ fn all_input(rt: &HostRuntime) -> Option<Vec<u8>> {
     None
 }
 
-/// Opens a manager and makes the calls. Returns the number of calls that succeeded, or `None` for a bad
-/// script or out of memory.
+/// Opens a closed manager with the settings and makes the calls, the script's lines after the first.
+/// `table` has the handle of each ID. Returns the number of calls that succeeded, or `None` if a line is
+/// bad or memory runs out.
 fn on_manager<H: Manager>(
     mut heap: H,
     settings: &Settings,
@@ -70,8 +75,8 @@ fn on_manager<H: Manager>(
     Some(served)
 }
 
-/// Opens the heap of a script's first line and makes its calls. Returns the number of calls that
-/// succeeded, or `None` for a bad script or out of memory.
+/// Opens the heap that the first line of the script `text` names, and makes the calls of the other lines.
+/// Returns the number of calls that succeeded, or `None` if the script is bad or memory runs out.
 fn on_heap(rt: &HostRuntime, text: &[u8]) -> Option<u64> {
     let first = Line::read(text.get(..script::LINE)?)?;
     let calls = text.get(script::LINE..)?;
@@ -116,8 +121,8 @@ fn on_heap(rt: &HostRuntime, text: &[u8]) -> Option<u64> {
     }
 }
 
-/// Prints `served N`, the number of calls that succeeded. Exits with 3 if the script is bad or can't be
-/// read or memory runs out, and with 5 if printing fails.
+/// Runs the script of standard input and prints `served N`, where N is the number of calls that succeeded.
+/// Exits with 3 if the script is bad or can't be read or memory runs out, and with 5 if printing fails.
 fn main(rt: HostRuntime) -> ExitCode {
     let served = match all_input(&rt) {
         Some(text) => on_heap(&rt, text.as_slice()),

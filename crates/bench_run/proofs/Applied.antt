@@ -1,4 +1,4 @@
--- The loop of a bench applies the commands of a seed, one more in each turn.
+-- For the loop of `apply_commands`: each turn applies one more command of the seed, and counts its reply.
 use Rattle.std.proofs.Common.{◌≡◌, ◌∙◌, ◌+◌, ◌-◌, ◌<◌, ◌≤◌, ◌++◌, ℕ, suc, cond, List, [], ◌∷◌, map, Option, Some, refl, sym, ap, ap₂, subst, arith}
 use Rattle.std.proofs.Common.{append_assoc, append-nil}
 use Rattle.std.proofs.lemmas.List.{map-append}

@@ -1,4 +1,4 @@
--- How a bench ends.
+-- For `run_bench`: the opening and the applied commands are the run of a bench (`BenchRun`), and what is printed are the numbers of that run.
 use Rattle.std.proofs.Common.{◌≡◌, ◌∙◌, ◌++◌, ℕ, List, [], ◌∷◌, map, Option, Some, None, refl, sym, ap, subst, append_assoc}
 use Rattle.std.specs.Prelude.{codes}
 use Rattle.bench_run.specs.Bench.{BenchRun, EndsBench, IsAppliedTo, IsWritten, bench_items, bench_line, bench_settings, bench_text, figures_of}
@@ -22,18 +22,18 @@ use Rattle.run_model.specs.Sessions.{RunState, SessionState, fresh_session}
 use Rattle.run_model.specs.Steps.{Step}
 use Rattle.script_reader.specs.Items.{asks}
 
--- six texts on a line
+-- six texts that are pushed on a line one by one are the line of all of them
 pub six : (l m n o p q r a b c d e f : List ℕ) → l ≡ [] → m ≡ l ++ a → n ≡ m ++ b → o ≡ n ++ c → p ≡ o ++ d → q ≡ p ++ e → r ≡ q ++ f
     → r ≡ [] ++ (a ++ (b ++ (c ++ (d ++ (e ++ f)))))
 six l m n o p q r a b c d e f h1 h2 h3 h4 h5 h6 h7 = rw (h7, h6, h5, h4, h3, h2, h1) (simp append_assoc)
 
--- a manager that was opened with the settings of a bench, and a session that was just begun
+-- the state of a run after its `heap` line: a manager that was opened with the settings of a bench, and a fresh session
 pub opened : (kind : Kind) (session : SessionState) (heap : HeapState) (settings : Settings) → session ≡ fresh_session → IsEmptyHeap kind settings heap
     → KeepsRules heap → profile_of settings ≡ bench_settings → Begins kind bench_settings (run_at session heap)
 opened kind session heap settings fresh empty rules is = subst (λ (p : Profile). Begins kind p (run_at session heap)) is
     (record { session = fresh; words = empty.words; order = empty.order; heap = empty.whole; rules = rules })
 
--- the opening, and then the commands
+-- the opening, and then the commands, make the run of a bench
 pub run_of_bench : (kind : Kind) (seed count ok refused : ℕ) (mid to : RunState) → Begins kind bench_settings mid → mid.heap.kind ≡ kind
     → (a : IsAppliedTo mid (generated seed count) to ok refused) → Run kind None (bench_items seed count) (said (codes "ok") ∷ a.replies) (Some to)
 run_of_bench kind seed count ok refused mid to begins same a =
@@ -41,6 +41,7 @@ run_of_bench kind seed count ok refused mid to begins same a =
     subst (λ (k : Kind). Run k (Some mid) (map (λ c. asks c) (generated seed count)) a.replies (Some to)) same a.run in
     (Some mid, said (codes "ok"), a.replies, (mid, (begins, refl), refl), refl, rest)
 
+-- a bench that ran and wrote its text, or a prefix of it, ended as `EndsBench` says
 pub ends_bench : (status : Status) (seed count : ℕ) (from to : RunState) (before after : Option (List ℕ)) (run : BenchRun from.heap.kind seed count to)
     → IsWritten status before (bench_text count run.replies to) after → EndsBench status seed count from to before after
 ends_bench Done seed count from to before after run written = record { run = run; written = written }

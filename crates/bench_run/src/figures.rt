@@ -1,4 +1,4 @@
-//! The numbers of a bench.
+//! The numbers that a bench prints, and the line of them.
 ghost use Rattle.std.specs.Prelude.{◌≡◌, ◌≤◌, [], ◌≢◌};
 ghost use Rattle.bench_run.specs.Bench.{IsWritten, bench_line};
 ghost use Rattle.cf_io.specs.Feeds.{FailsLast};
@@ -7,8 +7,8 @@ ghost use Rattle.cf_io.specs.Texts.{led, said};
 use cf_base::Status;
 use cf_io::{Line, Sink, push_field, put_line};
 
-/// The numbers of a bench: the commands applied, how many of their replies were good and how many were
-/// refusals, and at the end the live objects, the pages (or blocks) in use, and the objects that moved.
+/// The numbers of a bench: the commands applied, how many of their replies were good (`ok`) and how many
+/// were refusals, and at the end the live objects, the pages (or blocks) in use, and how many objects moved.
 #[derive(Clone, Copy, Debug, PartialEq, Eq)]
 pub struct BenchFigures {
     pub commands: u64,
@@ -20,7 +20,8 @@ pub struct BenchFigures {
 }
 
 impl BenchFigures {
-    /// Writes the line of the numbers in one call of the sink: `Done`, or `WriteFault` if the sink failed.
+    /// Writes the line of the numbers in one call of the sink. Returns `Done`, or `WriteFault` if the sink
+    /// failed.
     pub(crate) fn put<K: Sink>(&self, sink: &mut K) -> Status
         ensures written { IsWritten result (K.written sink.old) (led [] (said (bench_line self.now))) (K.written sink.new) }
         ensures grows { K.faults sink.old ≤ K.faults sink.new }

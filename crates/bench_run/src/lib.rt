@@ -1,4 +1,4 @@
-//! A generated script on one manager; it prints only numbers.
+//! Mode `bench`: applies a generated script to one manager, and prints only numbers of the run.
 #![tactic(auto)]
 
 mod bench;

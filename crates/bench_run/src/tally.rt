@@ -1,10 +1,10 @@
-//! Counts of outcomes.
+//! How many commands of a bench succeeded, and how many were refused.
 ghost use Rattle.std.specs.Prelude.{◌≡◌, ◌+◌, ◌<◌, ◌^◌, cond};
 ghost use Rattle.bench_run.specs.Bench.{is_good, is_refusal};
 
 use cf_session::Outcome;
 
-/// How many replies were good, and how many were refusals.
+/// How many replies were good (`ok` or bytes of a read), and how many were refusals.
 #[derive(Clone, Copy)]
 pub(crate) struct Tally {
     pub ok: u64,
@@ -12,7 +12,7 @@ pub(crate) struct Tally {
 }
 
 impl Tally {
-    /// Counts one more reply.
+    /// Counts one more reply, by its outcome; `Other` is counted in neither.
     pub(crate) fn add(&mut self, outcome: Outcome)
         requires { self.old.ok + self.old.refused + 1 < 2 ^ 64 }
         ensures ok { self.new.ok ≡ self.old.ok + cond (is_good outcome) 1 0 }

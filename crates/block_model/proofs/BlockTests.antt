@@ -1,4 +1,4 @@
--- What a test of all blocks of a list shows of each.
+-- For the worked examples (`worked.rt`): if all blocks of a list pass a test, no free block serves a need, or none is of an earlier list.
 use Rattle.std.proofs.Common.{◌≡◌, ℕ, Bool, true, ◌≤◌, List, [], ◌∷◌, Some, None, arith, inl, inr}
 use Rattle.std.specs.Prelude.{◌&&◌, ◌||◌, nat_le, nat_lt, is_some}
 use Rattle.std.proofs.lemmas.Bool.{cases_eq, and_parts as both_pass}
@@ -22,7 +22,7 @@ found_passes f (x ∷ xs) a b all there = elim (cases_eq x.address a) [
 ]
 
 module _ (rule : FreeLists) (need : ℕ) where
-  -- whether a block is used, or in a list before those that are searched
+  -- whether a block is used, or in a list before the first one that is searched
   abbrev pub is_passed : Block → Bool
   is_passed b = is_some b.owner || nat_lt (rule.bucket b.size) (rule.search need)
 

@@ -1,4 +1,4 @@
--- The free lists of TLSF and of Half-Fit are lawful.
+-- For the law `free_lists_are_lawful`: the free-list rules of TLSF and of Half-Fit are lawful.
 use Rattle.std.proofs.Common.{◌≡◌, ℕ, true, false, ◌+◌, ◌-◌, ◌*◌, ◌/◌, ◌^◌, ◌<◌, ◌≤◌, arith, sym, ◌∙◌, inl, inr, ap, refl, subst}
 use Rattle.std.specs.Prelude.{nat_le, nat_lt}
 use Rattle.std.proofs.lemmas.Bool.{cases_lt}

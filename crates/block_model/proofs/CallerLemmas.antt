@@ -1,4 +1,4 @@
--- What other crates' proofs may cite, re-exported. Declares nothing.
+-- What other crates' proofs may cite of this crate, re-exported: free lists, bounds on steps, the words and the tiling after a call. Declares nothing.
 pub use Rattle.block_model.proofs.BucketLaws.{half_fit_lawful, tlsf_lawful}
 pub use Rattle.block_model.proofs.StepBounds.{carve_at_most, next_at_most, none_at_most, previous_at_most, release_at_most}
 pub use Rattle.block_model.proofs.FreeOrderLemmas.{carve_follows, carve_is_malloc, carve_keeps_lists, first_is, led_other, led_same, length-led, length-without}

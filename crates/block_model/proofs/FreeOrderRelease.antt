@@ -1,4 +1,4 @@
--- The lists after a release are lists of the blocks.
+-- For the law `lists_stay_lists_of_the_blocks`: the lists after a release are lists of the blocks that it leaves.
 use Rattle.std.proofs.Common.{◌≡◌, ◌≢◌, ℕ, Bool, true, false, ◌+◌, ◌-◌, ◌^◌, ◌<◌, ◌≤◌, List, [], ◌∷◌, Some, None, cond, arith, refl, sym, ap, ◌∙◌, inl, inr, subst}
 use Rattle.std.specs.Prelude.{◌&&◌, is_none, nat_eq}
 use Rattle.std.proofs.lemmas.Bool.{cases_Bool, cases_eq}

@@ -1,4 +1,4 @@
--- What mallocs and frees do to the block at an address.
+-- For the laws `other_blocks_stay` and `malloc_gives_what_is_needed`: what a malloc and a free do to the block at each address.
 use Rattle.std.proofs.Common.{◌≡◌, ◌≢◌, ℕ, Bool, true, false, ◌+◌, ◌-◌, ◌^◌, ◌≤◌, List, [], ◌∷◌, ◌++◌, Some, None, arith, sym, ◌∙◌, inl, inr, ap, refl, subst}
 use Rattle.std.specs.Prelude.{◌&&◌, is_none}
 use Rattle.std.proofs.lemmas.Bool.{cases_lt, cases_eq}

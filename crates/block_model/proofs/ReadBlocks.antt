@@ -1,4 +1,4 @@
--- The words of a tiling determine its blocks.
+-- For the law `the_words_show_the_blocks`: the words of a tiling determine its blocks.
 use Rattle.std.proofs.Common.{◌≡◌, ◌≢◌, ℕ, zero, suc, true, false, ◌+◌, ◌-◌, ◌*◌, ◌/◌, ◌%◌, ◌^◌, ◌<◌, ◌≤◌, List, [], ◌∷◌, Option, Some, None, get_or, arith}
 use Rattle.std.proofs.Common.{◌∙◌, subst, ap, refl}
 use Rattle.std.specs.Prelude.{nat_lt, nat_eq}

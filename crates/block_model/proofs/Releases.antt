@@ -1,4 +1,4 @@
--- A free keeps a tiling.
+-- For the law `free_keeps_tiling`: the blocks after a free are a tiling.
 use Rattle.std.proofs.Common.{◌≡◌, ℕ, Bool, true, false, ◌+◌, List, [], ◌∷◌, arith, inl, inr, refl, subst}
 use Rattle.std.specs.Prelude.{◌&&◌}
 use Rattle.std.proofs.lemmas.Bool.{cases_eq, and_parts}

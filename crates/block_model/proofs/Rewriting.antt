@@ -1,4 +1,4 @@
--- The words of a tiling after one block gets other contents and every other word stays.
+-- For the law `a_block_gets_other_contents`: the words of a tiling after one block gets other contents and every other word stays.
 use Rattle.std.proofs.Common.{◌≡◌, ◌≢◌, ℕ, ◌+◌, ◌-◌, ◌<◌, ◌≤◌, List, [], ◌∷◌, Some, None, length, get_or, map, arith, sym, ◌∙◌, inl, inr, ap, refl}
 use Rattle.std.specs.Prelude.{◌⊎◌, ◌&&◌, cond, nat_le, nat_lt}
 use Rattle.std.specs.List.{range_with_len}

@@ -1,4 +1,4 @@
--- A malloc of the model has a result, or no free block may serve the need.
+-- For the law `a_malloc_is_done_or_lacks_a_block`: a malloc has a result in the model, or no free block may serve the need.
 use Rattle.std.proofs.Common.{◌≡◌, ℕ, ◌+◌, ◌≤◌, List, [], ◌∷◌, Option, Some, None, arith, sym, ◌∙◌, inl, inr, ap, refl}
 use Rattle.std.specs.Prelude.{◌⊎◌}
 use Rattle.std.proofs.lemmas.Bool.{cases_eq, cases_lt}

@@ -1,4 +1,4 @@
--- The most steps of calls on blocks.
+-- For the laws of `costs.rt`: bounds on the steps of a carve and of a release.
 use Rattle.std.proofs.Common.{ℕ, Bool, true, false, ◌+◌, ◌-◌, ◌/◌, ◌%◌, ◌^◌, ◌≤◌, ◌==◌, List, Option, Some, None, cond, length, get_or, arith}
 use Rattle.std.specs.Prelude.{nat_le, nat_lt}
 use Rattle.block_model.specs.Buckets.{FreeLists}

@@ -1,4 +1,4 @@
--- Mallocs and frees keep a tiling and the other used blocks.
+-- For the law `malloc_keeps_tiling`: a malloc splits a block, and the blocks afterwards are a tiling.
 use Rattle.std.proofs.Common.{◌≡◌, ℕ, Bool, true, false, ◌+◌, ◌≤◌, List, [], ◌∷◌, ◌++◌, Some, None, arith, ◌∙◌, inl, inr, ap, refl, subst}
 use Rattle.std.specs.Prelude.{◌&&◌, is_none}
 use Rattle.std.proofs.lemmas.Bool.{cases_lt, cases_eq}

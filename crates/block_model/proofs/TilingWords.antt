@@ -1,4 +1,4 @@
--- Each tiling has words.
+-- For the law `a_tiling_has_words`: each tiling has words that represent it.
 use Rattle.std.proofs.Common.{◌≡◌, ℕ, suc, ◌+◌, ◌-◌, ◌<◌, ◌≤◌, List, [], ◌∷◌, ◌++◌, Some, length, get_or, map, arith, sym, ◌∙◌, subst, inl, inr, ap, refl}
 use Rattle.std.specs.List.{range_with_len}
 use Rattle.std.proofs.lemmas.Bool.{cases_eq}

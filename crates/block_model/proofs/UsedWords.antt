@@ -1,4 +1,4 @@
--- How a malloc and a free change the words of all used blocks.
+-- For the heaps with blocks, which count them: how a malloc and a free change the sum of the words of all used blocks.
 use Rattle.std.proofs.Common.{◌≡◌, ◌≢◌, ℕ, Bool, true, false, ◌+◌, ◌-◌, ◌≤◌, List, [], ◌∷◌, ◌++◌, Some, None, arith, ◌∙◌, inl, inr, ap, refl, subst}
 use Rattle.std.specs.Prelude.{◌&&◌, cond, is_none}
 use Rattle.std.proofs.lemmas.Bool.{cases_lt, cases_eq}

@@ -1,21 +1,21 @@
--- The words of a region that is divided into blocks.
+-- The words of a region that is divided into blocks, as the blocks and the contents of their owners determine them.
 use Rattle.std.specs.Prelude.{◌≡◌, ℕ, ◌+◌, ◌*◌, ◌^◌, ◌<◌, ◌≤◌, List, [], ◌∷◌, Some, None, cond, slice_index}
 use Rattle.block_model.specs.Tiling.{Block, is_free, block_at}
 
--- word 0 of a block: its size, a bit that is set if it is used, and the size of the block before it
+-- word 0 of block b: its size, a bit that is set if it is used, and in the upper half the size of the block before it
 abbrev pub block_header : ℕ → Block → ℕ
 block_header before b = b.size + 2 ^ 31 * cond (is_free b) 0 1 + 2 ^ 32 * before
 
--- each block has its header; before the first there is a block of `before` words
+-- each block has its header; the block before the first one has `before` words
 abbrev pub HaveHeaders : List ℕ → List Block → ℕ → Type 0
 HaveHeaders words [] before = Unit {0}
 HaveHeaders words (b ∷ bs) before = (slice_index words b.address ≡ block_header before b) × HaveHeaders words bs b.size
 
--- from word 2 on, a free block is zeros; its word 1 may be any word
+-- each free block is zeros from its word 2 on; its word 1 may be any word
 abbrev pub AreCleared : List ℕ → List Block → Type 0
 AreCleared words blocks = (a : ℕ) (b : Block) → block_at blocks a ≡ Some b → b.owner ≡ None → (i : ℕ) → 2 ≤ i → i < b.size → slice_index words (a + i) ≡ 0
 
--- from word 1 on, a used block has the contents of its owner
+-- each used block has the contents of its owner from its word 1 on: `content h i` is word i of the contents of owner h
 abbrev pub HaveContents : (ℕ → ℕ → ℕ) → List ℕ → List Block → Type 0
 HaveContents content words blocks = (a : ℕ) (b : Block) (h : ℕ) → block_at blocks a ≡ Some b → b.owner ≡ Some h → (i : ℕ) → 1 + i < b.size
     → slice_index words (a + 1 + i) ≡ content h i

@@ -1,11 +1,11 @@
--- Blocks of a region of 64 words, after calls worked out by hand.
+-- Short names for the blocks of the worked examples, in words.
 use Rattle.std.specs.Prelude.{ℕ, Some, None}
 use Rattle.block_model.specs.Tiling.{Block}
 
--- a used block
+-- a used block of `size` words at `address`, of this owner
 abbrev pub used : ℕ → ℕ → ℕ → Block
 used address size owner = record { address = address; size = size; owner = Some owner }
 
--- a free block
+-- a free block of `size` words at `address`
 abbrev pub free : ℕ → ℕ → Block
 free address size = record { address = address; size = size; owner = None }

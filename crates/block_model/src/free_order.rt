@@ -1,31 +1,35 @@
-//! Laws of the order of the free blocks. The functions do nothing; each contract is a law.
+//! Laws of the order in which free blocks are used. A `Listed` is the blocks of a region with the
+//! free list of each bucket. The functions do nothing; each contract is a law.
 ghost use Rattle.std.specs.Prelude.{◌≡◌, ℕ, ◌^◌, ◌≤◌, Some};
 ghost use Rattle.block_model.specs.Buckets.{FreeLists, AreLawful};
 ghost use Rattle.block_model.specs.FreeOrder.{AreListsOf, CarvesNext, Listed, first_lists, lists_released};
 ghost use Rattle.block_model.specs.Tiling.{Block, Carves, Demand, IsTiling, Serves, block_at, one_free_block, released};
 
-/// Two mallocs of the same demand that follow the same order take the same block, and leave the
-/// same blocks and lists.
+/// Two mallocs of the same demand `d` that follow the lists of `s` take the same block, and leave
+/// the same blocks and lists.
 pub fn an_order_leaves_one_malloc()
     ensures { (rule : FreeLists) (s : Listed) (d : Demand) (a b : ℕ) (one two : Listed)
         → CarvesNext rule s d a one → CarvesNext rule s d b two → (a ≡ b) × (one ≡ two) }
 {}
 
-/// A malloc can follow the order if some free block may serve the need (`Serves`).
+/// A malloc of the demand `d` can follow the lists of `s` if some free block `b` may serve its need
+/// (`Serves`).
 pub fn a_malloc_can_follow_the_order()
     ensures { (rule : FreeLists) (count : ℕ) (s : Listed) (d : Demand) (a : ℕ) (b : Block)
         → AreListsOf rule count s → block_at s.blocks a ≡ Some b → Serves rule d.need b → (place : ℕ) × (new : Listed) × CarvesNext rule s d place new }
 {}
 
-/// A malloc that follows the order is a malloc of the model (`Carves`): of the free blocks that serve
-/// the need, it splits one of the lowest bucket.
+/// A malloc of the demand `d` that follows the lists of `s` is a malloc of the model (`Carves`): of
+/// the free blocks that may serve the need, it splits one of the lowest bucket, the one at `place`.
 pub fn a_malloc_in_order_is_a_malloc()
     ensures { (rule : FreeLists) (count : ℕ) (s new : Listed) (d : Demand) (place : ℕ)
         → AreListsOf rule count s → CarvesNext rule s d place new → Carves rule s.blocks d place new.blocks }
 {}
 
 /// The lists contain exactly the free blocks, each in the list of its bucket (`AreListsOf`). This
-/// holds of a region that is one free block, and after a malloc and a free that follow the order.
+/// is so in a region of one free block. It still is after a malloc of the demand `d`, and after a
+/// free of the block at `place`, that follow the lists. `count` is the number of lists, `words` the
+/// words of the region.
 pub fn lists_stay_lists_of_the_blocks()
     ensures opening { (rule : FreeLists) (count words : ℕ) → AreLawful rule count → 2 ≤ words → words ≤ 2 ^ 23
         → AreListsOf rule count (record { blocks = one_free_block words; lists = first_lists rule count words }) }

@@ -1,11 +1,12 @@
-//! The free lists of Half-Fit (1995), one for each power of two.
+//! The free-list rule of Half-Fit (1995), with one list for each power of two: which list a block
+//! is in, and which is searched first.
 ghost use Rattle.std.specs.Prelude.{◌≡◌, ◌^◌, ◌<◌, ◌≤◌};
 ghost use Rattle.block_model.specs.Buckets.{half_fit_bucket, half_fit_search};
 
-/// The number of free lists for sizes up to `2^23` words.
+/// How many free lists there are, for blocks of up to `2^23` words.
 pub const COUNT: u32 = 24;
 
-/// The number of the free list for blocks of `size` words.
+/// The number of the free list that holds the free blocks of `size` words.
 pub fn bucket_of(size: u32) -> u32
     requires { 1 ≤ size }
     ensures { result ≡ half_fit_bucket size }
@@ -13,7 +14,8 @@ pub fn bucket_of(size: u32) -> u32
     size.ilog2()
 }
 
-/// The number of the first free list in which every block has at least `need` words.
+/// The number of the list that a search for `need` words begins with: the first one in which every
+/// block has at least `need` words.
 pub fn search_for(need: u32) -> u32
     ensures { result ≡ half_fit_search need }
 {

@@ -1,5 +1,6 @@
-//! A region divided into blocks without a gap (a tiling), as in TLSF (2004) and Half-Fit (1995):
-//! what a malloc and a free do to the blocks, what they cost in steps, and the free lists of both.
+//! The model of a region that is divided into blocks without a gap (a tiling), as in TLSF (2004)
+//! and Half-Fit (1995): what a malloc and a free do to the blocks, what they cost in steps, and the
+//! free lists of both.
 #![tactic(auto)]
 
 pub mod costs;

@@ -1,11 +1,12 @@
-//! The free lists of TLSF (2004), 16 for each power of two.
+//! The free-list rule of TLSF (2004), with 16 lists for each power of two: which list a block is
+//! in, and which is searched first.
 ghost use Rattle.std.specs.Prelude.{◌≡◌, ◌^◌, ◌<◌, ◌≤◌};
 ghost use Rattle.block_model.specs.Buckets.{tlsf_bucket, tlsf_rounded, tlsf_search};
 
-/// The number of free lists for sizes up to `2^23` words.
+/// How many free lists there are, for blocks of up to `2^23` words.
 pub const COUNT: u32 = 336;
 
-/// The number of the free list for blocks of `size` words.
+/// The number of the free list that holds the free blocks of `size` words.
 pub fn bucket_of(size: u32) -> u32
     requires { size ≤ 2 ^ 24 }
     ensures { result ≡ tlsf_bucket size }
@@ -17,7 +18,8 @@ pub fn bucket_of(size: u32) -> u32
     16 + 16 * (power - 4) + ((size - (1 << power)) >> (power - 4))
 }
 
-/// The number of the first free list in which every block has at least `need` words.
+/// The number of the list that a search for `need` words begins with: the first one in which every
+/// block has at least `need` words.
 pub fn search_for(need: u32) -> u32
     requires { need ≤ 2 ^ 23 }
     ensures { result ≡ tlsf_search need }
@@ -25,7 +27,8 @@ pub fn search_for(need: u32) -> u32
     bucket_of(rounded_up(need))
 }
 
-/// The need in words, rounded up so that every block of the result's list is large enough.
+/// The size whose list a search for `need` words begins with: `need`, raised so far that every
+/// block in the list of the result has at least `need` words.
 fn rounded_up(need: u32) -> u32
     requires { need ≤ 2 ^ 23 }
     ensures value { result ≡ tlsf_rounded need }

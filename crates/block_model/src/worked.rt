@@ -1,13 +1,14 @@
-//! Regions of 64 words, worked out by hand: the result of each step by the definitions. The
-//! functions do nothing; each contract is a step.
+//! Worked examples, in regions of 64 words: the result of each malloc and free by the definitions,
+//! worked out by hand. The functions do nothing; each contract is a step of an example.
 ghost use Rattle.std.specs.Prelude.{◌≡◌, ◌∷◌, []};
 ghost use Rattle.block_model.specs.Buckets.{half_fit, tlsf};
 ghost use Rattle.block_model.specs.Tiling.{Carves, LacksBlock, block_need, free_blocks, largest_free, one_free_block, released, used_blocks, used_words};
 ghost use Rattle.block_model.specs.Worked.{free, used};
 
-/// 232 bytes need 31 words, and 33 remain. 248 bytes need 33, but TLSF searches only lists in which
-/// every block is large enough, and the list of the block of 33 words is also that of 32. 240 bytes
-/// need 32; they are served, and the word that remains stays with the block.
+/// A malloc of 232 bytes takes 31 of 64 words, and 33 are left. One of 248 bytes needs 33 and is
+/// refused: TLSF searches only lists in which every block is large enough, and the list of the
+/// block of 33 words is also that of 32. One of 240 bytes needs 32 and is served; the word that is
+/// left stays with its block.
 pub fn a_search_is_rounded_up()
     ensures needs { (block_need 232 ≡ 31) × (block_need 248 ≡ 33) × (block_need 240 ≡ 32) }
     ensures first { Carves tlsf (one_free_block 64) (record { need = 31; owner = 1 }) 0 (used 0 31 1 ∷ free 31 33 ∷ []) }
@@ -15,8 +16,8 @@ pub fn a_search_is_rounded_up()
     ensures second { Carves tlsf (used 0 31 1 ∷ free 31 33 ∷ []) (record { need = 32; owner = 2 }) 31 (used 0 31 1 ∷ used 31 33 2 ∷ []) }
 {}
 
-/// 504 bytes need 65 words, more than the region has. 488 bytes need 63, and the block of 64 isn't
-/// split.
+/// A malloc of 504 bytes needs 65 words, more than the region has. One of 488 bytes needs 63. One
+/// word would be left, too little for a block, so the object gets all 64.
 pub fn a_remainder_of_a_word_stays()
     ensures needs { (block_need 504 ≡ 65) × (block_need 488 ≡ 63) }
     ensures refused { LacksBlock tlsf (one_free_block 64) 65 }
@@ -24,8 +25,9 @@ pub fn a_remainder_of_a_word_stays()
     ensures taken { used_words (used 0 64 1 ∷ []) ≡ 64 }
 {}
 
-/// 256 bytes need 34 words, and 30 remain with TLSF and with Half-Fit. 176 bytes need 24: TLSF
-/// splits the block of 30 for them, Half-Fit refuses them.
+/// A malloc of 256 bytes takes 34 of 64 words, and 30 are left, with TLSF and with Half-Fit. One of
+/// 176 bytes needs 24: TLSF splits the block of 30 for it. Half-Fit refuses it, since it searches
+/// only lists of blocks from 32 words on.
 pub fn half_fit_refuses_what_tlsf_serves()
     ensures needs { (block_need 256 ≡ 34) × (block_need 176 ≡ 24) }
     ensures tlsf_first { Carves tlsf (one_free_block 64) (record { need = 34; owner = 1 }) 0 (used 0 34 1 ∷ free 34 30 ∷ []) }
@@ -34,7 +36,9 @@ pub fn half_fit_refuses_what_tlsf_serves()
     ensures half_fit_second { LacksBlock half_fit (used 0 34 1 ∷ free 34 30 ∷ []) 24 }
 {}
 
-/// A freed block is coalesced with its free neighbours, and not with a used one.
+/// A freed block is coalesced with its free neighbours, and not with a used one: without free
+/// neighbours, with one before it, with one behind it, and between two. Last, the counts and the
+/// largest free block of such regions.
 pub fn free_neighbours_are_joined()
     ensures alone { released (used 0 31 1 ∷ used 31 33 2 ∷ []) 0 ≡ free 0 31 ∷ used 31 33 2 ∷ [] }
     ensures before { released (free 0 31 ∷ used 31 33 2 ∷ []) 31 ≡ one_free_block 64 }

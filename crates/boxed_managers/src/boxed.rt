@@ -1,4 +1,4 @@
-//! A manager behind a box.
+//! `Boxed`: a manager behind a box, and its implementation of `Manager`.
 
 use cf_base::{
     AccessFault, Figures, Freed, Handle, Kind, NotLive, OutOfMemory, Refusal, ResizeFault, Resized,
@@ -7,12 +7,14 @@ use cf_base::{
 use cf_model::{Manager, Usage};
 use step_ledger::Steps;
 
-/// A manager of any kind, behind a box. Each call of `Boxed` makes the same call of this manager.
+/// A manager of any kind, behind a box. Each call of `Boxed` makes the same call of `inner`, and its state is
+/// that of `inner`.
 #[derive(Drop)]
 pub struct Boxed {
     pub inner: Box<dyn Manager>,
 }
 
+// Each call has the contract of `Manager`, which is that of the manager in the box.
 impl Manager for Boxed {
     ghost state = { λ b. (Manager-box b.inner).state b.inner.value };
 

@@ -1,10 +1,10 @@
-//! Lists of numbers.
+//! The list of the numbers below a number.
 ghost use Rattle.std.specs.Prelude.{◌≡◌, IfOk};
 ghost use Rattle.std.specs.List.{range_with_len};
 
 use std::alloc::{AllocError, Global};
 
-/// The numbers below n, in rising order.
+/// The numbers from 0 to n - 1, in rising order. Fails only if memory runs out.
 pub fn numbers_below(alloc: Global, n: u32) -> Result<Vec<u32>, AllocError>
     ensures { IfOk result (λ v. v.items ≡ range_with_len 0 n) }
 {

@@ -1,4 +1,4 @@
--- For the layers above: numbers in text, and how long the texts on a line are.
+-- What other crates' proofs may cite: numbers that are written and read again, and how long the texts on a line are.
 use Rattle.std.proofs.Common.{◌≡◌, ◌∙◌, ◌<◌, ◌≤◌, ◌*◌, ◌&&◌, List, [], ◌∷◌, ℕ, Some, true, refl, ap, sym, length, arith}
 use Rattle.std.specs.List.{list_all}
 use Rattle.std.specs.Fmt.{decimal}

@@ -1,4 +1,4 @@
--- For the layers above: the bytes of a line, and lines that are written in parts.
+-- For the layers above, which write replies: the bytes of a line, and lines that are written in parts.
 use Rattle.std.proofs.Common.{◌≡◌, ◌∙◌, ℕ, ◌+◌, ◌<◌, ◌≤◌, ◌^◌, ◌++◌, List, [], ◌∷◌, Option, refl, ap, sym, append_assoc, append-nil, subst, arith, length, lit<}
 use Rattle.std.specs.Prelude.{Result, Ok, Err, decimal}
 use Rattle.std.specs.Result.{IsOk}

@@ -1,4 +1,4 @@
--- The bytes of a line, and what a push does to them.
+-- The bytes of a line that is being built, and what a push does to them.
 use Rattle.std.specs.Prelude.{◌≡◌, ◌<◌, ◌≤◌, ◌+◌, ◌++◌, ℕ, List, length, Result, Ok, Err}
 use Rattle.std.specs.Int.{w64, to_be_bytes}
 use Rattle.hex.specs.Hex.{encode_lower}
@@ -8,11 +8,11 @@ use Rattle.cf_io.specs.declared.line.Full.{Full}
 abbrev pub line_room : ℕ
 line_room = 9000
 
--- a word of 8 bytes in hex: 16 digits in lower case, the most significant first
+-- the word v of 8 bytes in hex: 16 digits in lower case, the most significant first
 abbrev pub word_text : ℕ → List ℕ
 word_text v = encode_lower (to_be_bytes w64 v)
 
--- the text was appended to the line; or, at an error, it did not fit, and the line is unchanged
+-- a push turned the line `old` into `new`: the text was appended; or, at an error, the line would pass 9,000 bytes with it, and stays
 abbrev pub Pushes : {T : Type 0} → List ℕ → List ℕ → Result T Full → List ℕ → Type 0
 Pushes old text (Ok u) new = (new ≡ old ++ text) × (length old + length text ≤ line_room)
 Pushes old text (Err e) new = (new ≡ old) × (line_room < length old + length text)

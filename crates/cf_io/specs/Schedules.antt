@@ -3,7 +3,8 @@ use Rattle.std.specs.Prelude.{ℕ, Bool, true, false, ◌==◌, List, length, mi
 use Rattle.std.specs.List.{list_any}
 use Rattle.cf_io.specs.Feeds.{one_more}
 
--- the most bytes of each call, the numbers of the calls that fail, the number of the next call, how many calls failed, and whether the last one failed
+-- which calls of a source or sink fail, by number (`fails`), and the most bytes that each of the first calls moves (`cuts`); the number of the next call, how
+-- many calls failed, and whether the last one did
 pub record Schedule : Type 0 where
   pub cuts : List ℕ
   pub fails : List ℕ
@@ -11,22 +12,22 @@ pub record Schedule : Type 0 where
   pub faults : ℕ
   pub failed : Bool
 
--- a schedule before its first call
+-- the schedule with these cuts and these failing calls, before its first call
 abbrev pub planned : List ℕ → List ℕ → Schedule
 planned cuts fails = record { cuts = cuts; fails = fails; call = 0; faults = 0; failed = false }
 
--- whether the schedule lists the next call as one that fails
+-- whether the next call of a source or sink with the schedule s is one of those that fail
 abbrev pub is_due : Schedule → Bool
 is_due s = list_any (λ j. j == s.call) s.fails
 
--- how many bytes the next call moves if n could be moved: at most its cut, or at most 1 if the cut is 0
+-- how many bytes the next call moves by the schedule s if n could be moved: at most its entry in `cuts`, where 0 counts as 1; without an entry all n
 abbrev pub count_moved : Schedule → ℕ → ℕ
 count_moved s n = if nat_lt s.call (length s.cuts) then min n (max 1 (slice_index s.cuts s.call)) else n
 
--- the schedule after a call that failed
+-- the schedule s after a call that failed
 abbrev pub gone_wrong : Schedule → Schedule
 gone_wrong s = record s { call = one_more s.call; faults = one_more s.faults; failed = true }
 
--- the schedule after a call that did not fail
+-- the schedule s after a call that did not fail
 abbrev pub gone_well : Schedule → Schedule
 gone_well s = record s { call = one_more s.call; failed = false }

@@ -1,4 +1,5 @@
-//! Sources and sinks over std's readers and writers.
+//! The source over a reader of std, for instance standard input, and the sink over a writer of std,
+//! for instance standard output.
 ghost use Rattle.std.specs.Prelude.{◌≡◌, ◌<◌, ◌≤◌, false, None, length, take, IfOk, IfSome, OnOk, OnErr};
 ghost use Rattle.std.specs.Result.{is_err};
 ghost use Rattle.std.specs.Io.KnownBytes.{Appends};
@@ -12,8 +13,8 @@ use crate::source::Source;
 use cf_base::Failed;
 use std::io::{Read, Write};
 
-/// A source that reads from a reader of std. Its bytes left are not observable. Each error of the
-/// reader is a fault.
+/// A source that reads from a reader of std. It counts the bytes that it returned, its calls and
+/// its faults. The bytes left are not observable. Each error of the reader is a fault.
 #[derive(Drop)]
 pub struct StdSource<T> {
     reader: T,
@@ -24,7 +25,7 @@ pub struct StdSource<T> {
 }
 
 impl<T> StdSource<T> {
-    /// A source over this reader.
+    /// A source over this reader, before its first call.
     pub fn new(reader: T) -> StdSource<T>
         ensures reader { reader_of result ≡ reader }
         ensures given { given_by result ≡ 0 }
@@ -53,6 +54,8 @@ impl<T: Read> Source for StdSource<T> {
 
     ghost last_failed = { source_failed };
 
+    /// One read of the reader into `buf`. Returns how many bytes it read, or `Failed` if the reader
+    /// fails.
     fn take(&mut self, buf: &mut [u8]) -> Result<usize, Failed>
         ensures bytes { ReadsFrom T.remaining self.old result self.new buf.new }
         ensures within { IfOk result (λ n. n ≤ length buf.new) }
@@ -91,7 +94,7 @@ pub struct StdSink<T> {
 }
 
 impl<T> StdSink<T> {
-    /// A sink over this writer.
+    /// A sink over this writer, before its first call.
     pub fn new(writer: T) -> StdSink<T>
         ensures writer { writer_of result ≡ writer }
         ensures faults { sink_faults result ≡ 0 }
@@ -105,8 +108,8 @@ impl<T> StdSink<T> {
     }
 }
 
-/// Writes once, then flushes. Returns how many bytes the writer took; none if the write or the
-/// flush fails, or if the writer takes none of one or more bytes.
+/// Makes one write of the bytes, then flushes. Returns how many bytes the writer took. Returns none
+/// if the write or the flush fails, or if the writer takes none of one or more bytes.
 fn write_and_flush<T: Write>(writer: &mut T, bytes: &[u8]) -> Option<usize>
     ensures within { IfSome result (λ n. n ≤ length bytes.now) }
     ensures some { 0 < length bytes.now → IfSome result (λ n. 0 < n) }
@@ -128,6 +131,8 @@ impl<T: Write> Sink for StdSink<T> {
 
     ghost last_failed = { sink_failed };
 
+    /// One write of the bytes and a flush (`write_and_flush`). Returns how many bytes the writer
+    /// took, or `Failed`.
     fn put(&mut self, bytes: &[u8]) -> Result<usize, Failed>
         ensures bytes { IfOk result (λ n. WritesTo T.contents self.old (take n bytes.now) self.new) }
         ensures within { IfOk result (λ n. n ≤ length bytes.now) }

@@ -1,4 +1,5 @@
-//! Sources and sinks of bytes, the buffer of a line, and numbers in text.
+//! Sources and sinks of bytes, over devices of std and in memory; the buffer in which a line of a
+//! reply is built; and decimal numbers in text.
 #![tactic(auto)]
 
 mod devices;

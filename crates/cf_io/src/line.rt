@@ -1,4 +1,5 @@
-//! The buffer of a line.
+//! The buffer in which one line of a reply is built: bytes, numbers and hex digits are appended to
+//! it.
 ghost use Rattle.std.specs.Prelude.{◌≡◌, ◌≤◌, [], length, decimal};
 ghost use Rattle.hex.specs.Hex.{encode_lower};
 ghost use Rattle.cf_io.specs.Lines.{Pushes, line_room, word_text};
@@ -10,7 +11,7 @@ use std::marker::Model;
 /// The most bytes that a line holds.
 pub const LINE_ROOM: usize = 9_000;
 
-/// The error of a push: the line has no room for the text.
+/// The error of a push: the text doesn't fit the line, and the line stays as it was.
 #[derive(Clone, Copy, Debug, PartialEq, Eq)]
 pub struct Full;
 
@@ -56,7 +57,8 @@ impl Line {
         }
     }
 
-    /// Appends the number in decimal. Fails with `Full` if and only if the line would pass 9,000 bytes.
+    /// Appends the number `n` in decimal. Fails with `Full` if and only if the line would pass
+    /// 9,000 bytes.
     pub fn push_number(&mut self, n: u64) -> Result<(), Full>
         ensures { Pushes self.old (decimal n) result self.new }
     {
@@ -84,8 +86,8 @@ impl Line {
         Ok(())
     }
 
-    /// Appends the word in hex, as 16 lower-case digits, the most significant first. Fails with `Full`
-    /// if and only if the line would pass 9,000 bytes.
+    /// Appends the word `v` of eight bytes in hex, as 16 lower-case digits, the most significant
+    /// first. Fails with `Full` if and only if the line would pass 9,000 bytes.
     pub fn push_word(&mut self, v: u64) -> Result<(), Full>
         ensures { Pushes self.old (word_text v) result self.new }
     {

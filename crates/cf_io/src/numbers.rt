@@ -1,12 +1,12 @@
-//! Numbers in text.
+//! Reads decimal numbers of at most 32 bits in a text of bytes.
 ghost use Rattle.std.specs.Prelude.{◌≡◌, ◌≤◌, IfSome, length};
 ghost use Rattle.cf_io.specs.Numbers.{leading_number as digits_before, number_in};
 
-/// The last value of a u32.
+/// The greatest number that a text may spell: the last value of a u32.
 const LARGEST: u64 = 4_294_967_295;
 
-/// The number that the digits at the start of a text spell, leading zeros accepted, and the number
-/// of digits. None if there are none, or their value passes `2^32 - 1`.
+/// The number that the digits at the start of a text spell, leading zeros accepted, and how many
+/// digits these are. None if the text begins with no digit, or if the value passes `2^32 - 1`.
 #[inline(always)]
 pub fn leading_number(text: &[u8]) -> Option<(u32, usize)>
     ensures value { result ≡ digits_before text.now }

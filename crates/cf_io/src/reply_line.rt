@@ -9,7 +9,7 @@ use crate::sink::Sink;
 use crate::writing::put_all;
 use cf_base::Failed;
 
-/// The most bytes of a line's lead.
+/// The most bytes of a line's lead, which mode `compare` puts before each line.
 pub const MOST_LEAD: usize = 8;
 
 /// Empties the line, then appends its lead.
@@ -29,8 +29,8 @@ pub fn push_text(line: &mut Line, text: &[u8])
     line.push(text).unwrap();
 }
 
-/// Appends a text and a number in decimal. The line must have room for the text and 20 digits, the
-/// most that a number has.
+/// Appends a text and the number `n` in decimal. The line must have room for the text and 20
+/// digits, the most that a number has.
 pub fn push_field(line: &mut Line, text: &[u8], n: u64)
     requires { length line.old + (length text.now + 20) ≤ line_room }
     ensures text { line.new ≡ line.old ++ with_number text.now n }
@@ -40,8 +40,8 @@ pub fn push_field(line: &mut Line, text: &[u8], n: u64)
     line.push_number(n).unwrap();
 }
 
-/// Appends a line feed to the line, and writes the line to the sink. If the sink fails, it returns
-/// `Failed`, and a prefix of the line was written.
+/// Appends a line feed to the line, and writes the line to the sink `out`. If a call of the sink
+/// fails, it returns `Failed`, and a prefix of the line was written.
 pub fn put_line<K: Sink>(line: &mut Line, out: &mut K) -> Result<(), Failed>
     requires { length line.old < line_room }
     ensures puts { Puts (K.written out.old) (line.old ++ 10 ∷ []) result (K.written out.new) }

@@ -1,11 +1,13 @@
-//! Which calls of a source or sink in memory fail, and how many bytes the others move at most.
+//! The schedule by which a source or sink in memory fails and moves fewer bytes than it could, so
+//! that tests can choose both.
 ghost use Rattle.std.specs.Prelude.{◌≡◌, ◌≤◌};
 ghost use Rattle.cf_io.specs.Schedules.{gone_well, gone_wrong, is_due, count_moved, planned};
 
 use std::marker::Model;
 
-/// Which calls of a source or sink fail, by number (`fails`), and the most bytes that each other
-/// call moves (`cuts`). It also counts the calls and the faults.
+/// Which calls of a source or sink fail, by number from 0 (`fails`), and the most bytes that each
+/// of the first calls moves (`cuts`). `call` is the number of the next call, `faults` how many
+/// calls failed, and `failed` whether the last one did.
 #[derive(Drop)]
 pub struct Schedule {
     cuts: Vec<usize>,
@@ -24,7 +26,8 @@ impl Model for Schedule {
 }
 
 impl Schedule {
-    /// A schedule before its first call.
+    /// A schedule before its first call: the calls in `fails` fail, and `cuts` limits the bytes of
+    /// the first calls.
     pub fn new(cuts: Vec<usize>, fails: Vec<u64>) -> Schedule
         ensures { result ≡ planned cuts.items fails.items }
     {
@@ -37,14 +40,15 @@ impl Schedule {
         }
     }
 
-    /// Returns whether the schedule lists the next call as one that fails.
+    /// Whether the next call is one of those that fail.
     pub fn is_due(&self) -> bool
         ensures { result ≡ is_due self.now }
     {
         self.fails.contains(&self.call)
     }
 
-    /// How many bytes the next call moves if n could be moved.
+    /// How many bytes the next call moves if n could be moved: at most its entry in `cuts`, where 0
+    /// counts as 1. Without an entry it moves all n.
     pub fn count_moved(&self, n: usize) -> usize
         ensures { result ≡ count_moved self.now n }
     {

@@ -1,24 +1,24 @@
-//! Sinks of bytes.
+//! The trait of sinks: a sink is what bytes are written to.
 ghost use Rattle.std.specs.Prelude.{◌≡◌, ◌<◌, ◌≤◌, ◌+◌, ℕ, Bool, List, Option, length, take, IfOk, OnErr, OnOk};
 ghost use Rattle.std.specs.Result.{is_err};
 ghost use Rattle.cf_io.specs.Feeds.{appended, one_more};
 
 use cf_base::Failed;
 
-/// A sink of bytes, written chunk by chunk.
+/// What bytes are written to, some at a time. A call may write only the first of its bytes.
 pub trait Sink {
-    /// The bytes written, if they are observable.
+    /// The bytes written so far; none if they are not observable.
     ghost written: { Self → Option (List ℕ) };
 
-    /// How many of its calls failed; this never falls.
+    /// How many of its calls failed; this never falls, and saturates.
     ghost faults: { Self → ℕ };
 
     /// Whether its last call failed.
     ghost last_failed: { Self → Bool };
 
-    /// Writes a prefix of the bytes and returns its length: at least one byte, if there are any. A call
-    /// that fails leaves `written` unchanged and adds one to `faults`, which saturates. A call that
-    /// does not fail leaves `faults` unchanged.
+    /// Writes a prefix of the bytes and returns its length: at least one byte, if there are any. A
+    /// call that fails leaves `written` unchanged and adds one to `faults`, which saturates. A call
+    /// that does not fail leaves `faults` unchanged.
     fn put(&mut self, bytes: &[u8]) -> Result<usize, Failed>
         ensures grows { faults self.old ≤ faults self.new }
         ensures within { IfOk result (λ n. n ≤ length bytes.now) }

@@ -1,4 +1,5 @@
-//! Sinks in memory.
+//! The sinks that are not devices: one that keeps the bytes in memory and fails by a schedule, and
+//! one that drops them.
 ghost use Rattle.std.specs.Prelude.{◌≡◌, ◌≤◌, false, None, Ok, Some, length, IfOk};
 ghost use Rattle.std.specs.Result.{result_ok};
 ghost use Rattle.cf_io.specs.Sinks.{mem_sink, put_after, put_answer};
@@ -20,6 +21,7 @@ impl Sink for NullSink {
 
     ghost last_failed = { λ _. false };
 
+    /// Drops the bytes, and returns how many there were.
     fn put(&mut self, bytes: &[u8]) -> Result<usize, Failed>
         ensures { result ≡ Ok (length bytes.now) }
     {
@@ -28,6 +30,7 @@ impl Sink for NullSink {
 }
 
 /// A sink that keeps the bytes in memory while it has room for them, and fails by a schedule.
+/// `room` is how many more bytes fit.
 ///
 /// Its calls are numbered from 0; the number, and the count of the calls that failed, stay at
 /// `2^64 - 1` once they reach it. Call j fails if and only if j is in `fails`, or it has bytes to
@@ -52,7 +55,8 @@ impl Model for MemSink {
 }
 
 impl MemSink {
-    /// An empty sink with room for `room` bytes. All its memory is allocated here.
+    /// An empty sink with room for `room` bytes, whose calls fail and are cut by `fails` and
+    /// `cuts`. All its memory is allocated here; fails only if memory runs out.
     pub fn new(
         alloc: Global,
         room: usize,
@@ -86,6 +90,9 @@ impl Sink for MemSink {
 
     ghost last_failed = { λ s. s.schedule.failed };
 
+    /// Fails if the schedule says so, or if there are bytes and no room is left. Else keeps the
+    /// first bytes, at most those that fit and that the schedule lets through, and returns how
+    /// many.
     fn put(&mut self, bytes: &[u8]) -> Result<usize, Failed>
         ensures grows { self.old.schedule.faults ≤ self.new.schedule.faults }
         ensures answer { result_ok result ≡ put_answer self.old bytes.now }

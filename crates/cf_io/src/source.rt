@@ -1,30 +1,30 @@
-//! Sources of bytes.
+//! The trait of sources: a source is what bytes are read from.
 ghost use Rattle.std.specs.Prelude.{◌≡◌, ◌<◌, ◌≤◌, ◌+◌, ℕ, Bool, List, Option, length, take, min, IfOk, OnErr, OnOk};
 ghost use Rattle.std.specs.Result.{is_err};
 ghost use Rattle.cf_io.specs.Feeds.{preceded, IsSpent, last_count, one_more};
 
 use cf_base::Failed;
 
-/// A source of bytes, read chunk by chunk.
+/// What bytes are read from, chunk by chunk.
 pub trait Source {
-    /// The bytes left, if they are observable.
+    /// The bytes left to read; none if they are not observable.
     ghost rest: { Self → Option (List ℕ) };
 
-    /// How many bytes it has returned; this saturates at the last value of a u64.
+    /// How many bytes its calls have returned; this saturates at the last value of a u64.
     ghost given: { Self → ℕ };
 
-    /// How many calls of `take` it had; this saturates at the last value of a u64.
+    /// How many calls of `take` were made; this saturates at the last value of a u64.
     ghost calls: { Self → ℕ };
 
-    /// How many of its calls failed; this never falls.
+    /// How many of its calls failed; this never falls, and saturates.
     ghost faults: { Self → ℕ };
 
     /// Whether its last call failed.
     ghost last_failed: { Self → Bool };
 
-    /// Reads bytes into the start of the buffer and returns how many. If the buffer isn't empty, 0
-    /// means the end of the input. A call that fails leaves `rest` and `given` unchanged and adds
-    /// one to `faults`, which saturates. A call that does not fail leaves `faults` unchanged.
+    /// Reads bytes into the start of `buf` and returns how many. If `buf` isn't empty, 0 means the
+    /// end of the input. A call that fails leaves `rest` and `given` unchanged and adds one to
+    /// `faults`, which saturates. A call that does not fail leaves `faults` unchanged.
     fn take(&mut self, buf: &mut [u8]) -> Result<usize, Failed>
         ensures once { calls self.new ≡ one_more (calls self.old) }
         ensures grows { faults self.old ≤ faults self.new }

@@ -1,4 +1,5 @@
-//! Sources in memory.
+//! The sources in memory: one that never fails, one that fails by a schedule, and one that never
+//! ends.
 ghost use Rattle.std.specs.Prelude.{◌≡◌, ◌<◌, ◌≤◌, ◌+◌, ◌%◌, ◌++◌, false, Some, None, length, take, drop, IfOk};
 ghost use Rattle.std.specs.Result.{result_ok};
 ghost use Rattle.cf_io.specs.Sources.{Loops, filled, loop_after, loop_source};
@@ -10,7 +11,7 @@ use crate::source::Source;
 use cf_base::Failed;
 use std::marker::Model;
 
-/// A source in memory that never fails. Its bytes left are observable.
+/// A source in memory that never fails. The bytes from index `at` on are left. They are observable.
 #[derive(Drop)]
 pub struct SureSource {
     bytes: Vec<u8>,
@@ -31,7 +32,7 @@ impl Model for SureSource {
 }
 
 impl SureSource {
-    /// A source of these bytes.
+    /// A source of these bytes, before its first call.
     pub fn new(bytes: Vec<u8>) -> SureSource
         ensures { result ≡ sure_source bytes.items }
     {
@@ -55,6 +56,7 @@ impl Source for SureSource {
 
     ghost last_failed = { λ _. false };
 
+    /// Copies the bytes left that fit to the start of `buf`, and returns how many.
     fn take(&mut self, buf: &mut [u8]) -> Result<usize, Failed>
         // It returns the bytes that are left, or the first of them if not all fit the buffer. The
         // rest of the buffer stays.
@@ -96,7 +98,8 @@ impl Model for MemSource {
 }
 
 impl MemSource {
-    /// A source of these bytes, before its first call.
+    /// A source of these bytes, before its first call, whose calls fail and are cut by `fails` and
+    /// `cuts`.
     pub fn new(bytes: Vec<u8>, cuts: Vec<usize>, fails: Vec<u64>) -> MemSource
         ensures { result ≡ mem_source bytes.items cuts.items fails.items }
     {
@@ -120,6 +123,8 @@ impl Source for MemSource {
 
     ghost last_failed = { λ s. s.schedule.failed };
 
+    /// Fails if the schedule says so. Else copies the bytes left to the start of `buf`, at most
+    /// those that fit and that the schedule lets through, and returns how many.
     fn take(&mut self, buf: &mut [u8]) -> Result<usize, Failed>
         ensures grows { self.old.schedule.faults ≤ self.new.schedule.faults }
         ensures answer { result_ok result ≡ mem_answer self.old (length buf.old) }
@@ -141,8 +146,9 @@ impl Source for MemSource {
     }
 }
 
-/// A source that fills each buffer with its pattern, over and over, and never fails. Its input never
-/// ends, so no list is its bytes left, and they are not observable.
+/// A source that fills each buffer with its pattern, over and over, and never fails. `at` is the
+/// index of the pattern's byte that is next. Its input never ends, so no list is its bytes left,
+/// and they are not observable.
 #[derive(Drop)]
 pub struct LoopSource {
     pattern: Vec<u8>,
@@ -163,7 +169,7 @@ impl Model for LoopSource {
 }
 
 impl LoopSource {
-    /// A source of this pattern, which must not be empty.
+    /// A source of this pattern, which must not be empty, before its first call.
     pub fn new(pattern: Vec<u8>) -> LoopSource
         requires { 0 < length pattern.items }
         ensures { result ≡ loop_source pattern.items }
@@ -188,6 +194,7 @@ impl Source for LoopSource {
 
     ghost last_failed = { λ _. false };
 
+    /// Fills `buf` with the next bytes of the endless pattern, and returns its length.
     fn take(&mut self, buf: &mut [u8]) -> Result<usize, Failed>
         ensures full { result ≡ Ok (length buf.old) }
         ensures source { self.new ≡ loop_after self.old (length buf.old) }
@@ -201,7 +208,7 @@ impl Source for LoopSource {
     }
 }
 
-/// Copies the first n of these bytes to the start of the buffer.
+/// Copies the first n of these bytes to the start of `buf`; the rest of the buffer stays.
 fn hand(bytes: &[u8], n: usize, buf: &mut [u8])
     requires some { n ≤ length bytes.now }
     requires room { n ≤ length buf.old }
@@ -210,8 +217,8 @@ fn hand(bytes: &[u8], n: usize, buf: &mut [u8])
     buf[..n].copy_from_slice(&bytes[..n]);
 }
 
-/// Fills the buffer with the pattern over and over, from its byte `at` on, and returns the index in the
-/// pattern of the byte that is next.
+/// Fills `buf` with the pattern over and over, beginning with the pattern's byte `at`. Returns the
+/// index in the pattern of the byte that is next.
 fn fill_over(pattern: &[u8], at: usize, buf: &mut [u8]) -> usize
     requires { at < length pattern.now }
     ensures next { result ≡ (at + length buf.old) % length pattern.now }
@@ -231,7 +238,8 @@ fn fill_over(pattern: &[u8], at: usize, buf: &mut [u8]) -> usize
     next
 }
 
-/// Copies n bytes of the pattern, from its byte `from` on, over those of the buffer from `to` on.
+/// Copies the n bytes of the pattern from its index `from` on to `buf`, from its index `to` on. The
+/// rest of the buffer stays.
 fn copy_part(pattern: &[u8], from: usize, n: usize, buf: &mut [u8], to: usize)
     requires some { from + n ≤ length pattern.now }
     requires room { to + n ≤ length buf.old }

@@ -1,4 +1,4 @@
-//! Writes all of some bytes to a sink, by one call or more.
+//! Writes all bytes of a list to a sink, by one call or more.
 ghost use Rattle.std.specs.Prelude.{◌≡◌, ◌≤◌, OnErr, OnOk};
 ghost use Rattle.cf_io.specs.Feeds.{FailsLast, Puts};
 

@@ -1,4 +1,4 @@
--- Induction on finite maps: the empty map, then one more key.
+-- Induction on finite maps whose keys are numbers: what holds of the empty map, and of each map with one more key, holds of every map.
 use Rattle.std.proofs.Common.{◌≡◌, ℕ, Bool, true, false, cond, List, [], ◌∷◌, Some, None, sym, ◌∙◌, ap, subst, refl}
 use Rattle.std.specs.Prelude.{T, ◌&&◌}
 use Rattle.std.specs.declared.cmp.Ordering.{Ordering}

@@ -1,4 +1,4 @@
--- Maps with a function applied to each value.
+-- For proofs about `map_values`: lookups, insertions and removals in a map with a function applied to each value.
 use Rattle.std.proofs.Common.{◌≡◌, ℕ, true, false, cond, List, [], ◌∷◌, Some, map, sym, ◌∙◌, subst, ap, refl, inl, inr}
 use Rattle.std.specs.Prelude.{T, ◌&&◌, option_map}
 use Rattle.std.proofs.lemmas.Bool.{cases_eq}

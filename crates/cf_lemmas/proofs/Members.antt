@@ -1,4 +1,4 @@
--- Which numbers are in a list, that none is in it twice, and the list without one number.
+-- For proofs about lists of pages or numbers: which numbers are in a list, that none is in it twice, and the list without one number.
 use Rattle.std.proofs.Common.{◌≡◌, ◌≢◌, ℕ, zero, suc, true, false, ◌+◌, ◌<◌, ◌≤◌, List, [], ◌∷◌, length, get_or, cond, eqb, arith, refl, sym, ◌∙◌, ap, inl, inr}
 use Rattle.std.specs.Prelude.{◌⊎◌, not, nat_eq, ◌||◌}
 use Rattle.std.specs.List.{Contains, IsDistinct, AllByRecursion, list_any, range_with_len}

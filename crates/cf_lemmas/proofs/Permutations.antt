@@ -1,4 +1,4 @@
--- Lists that contain each number below their length once.
+-- For proofs about block tables: lists that contain each number below their length once.
 use Rattle.std.proofs.Common.{◌≡◌, ◌≢◌, ℕ, ◌+◌, ◌<◌, ◌≤◌, ◌⊎◌, inl, inr, List, length, slice_index, get_or, min, max}
 use Rattle.std.proofs.Common.{arith, sym, subst, ◌∙◌, eqb, eq-eqb}
 use Rattle.std.proofs.lemmas.Bool.{eqb-false, ne_eqb, cases_eq, cases_order}

@@ -1,4 +1,4 @@
--- The first position at which a test passes, as `position` returns it.
+-- For searches of lists: the first position at which a test passes, as `position` returns it.
 use Rattle.std.proofs.Common.{◌≡◌, ℕ, ◌<◌, Bool, true, false, List, length, get_or, Some, None, arith}
 use Rattle.std.specs.Prelude.{nat_lt}
 use Rattle.std.specs.List.{position, position_or_len}

@@ -1,4 +1,4 @@
--- Two maps with the same values, one by number and one by id.
+-- For sessions, whose objects have a number and an id: two maps with the same values, one by number and one by id.
 use Rattle.std.proofs.Common.{◌≡◌, ℕ, ◌+◌, Some, None, arith, sym, ◌∙◌, ap, refl, inl, inr, subst}
 use Rattle.std.specs.Prelude.{sum_by, Option}
 use Rattle.std.proofs.lemmas.Bool.{cases_eq}

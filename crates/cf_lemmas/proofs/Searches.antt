@@ -1,4 +1,4 @@
--- Searches below a bound, and maps whose keys are below a bound.
+-- A search among the numbers below a bound finds one with a property, or shows that none has it; and maps whose keys are below a bound.
 use Rattle.std.proofs.Common.{◌≡◌, ◌≢◌, ℕ, zero, suc, true, false, Bool, ◌+◌, ◌<◌, ◌≤◌, Option, Some, None, arith, sym, ◌∙◌, ap, refl, inl, inr}
 use Rattle.std.specs.Prelude.{◌⊎◌, count_by}
 use Rattle.std.specs.List.{range_with_len}

@@ -1,4 +1,4 @@
--- A list of counts; one count rises or falls by one.
+-- For the counts of live objects by class: each entry of a list of counts after one of them rose or fell by one.
 use Rattle.std.proofs.Common.{◌≡◌, ℕ, ◌+◌, ◌-◌, ◌<◌, ◌≤◌, List, length, get_or, set, arith, sym, ap, inl, inr}
 use Rattle.std.specs.Prelude.{nat_eq}
 use Rattle.std.proofs.lemmas.Bool.{cases_eq}

@@ -1,4 +1,4 @@
--- How many values a finite map has, and bounds on sums over them.
+-- How many values a finite map has, and a bound on a sum over them.
 use Rattle.std.proofs.Common.{◌≡◌, ◌≢◌, ℕ, ◌+◌, ◌*◌, ◌≤◌, [], Some, None, map, arith, sym, ◌∙◌, ap}
 use Rattle.std.specs.Prelude.{sum_by, option_map}
 use Rattle.std.proofs.lemmas.List.{nil_from_length}

@@ -1,4 +1,4 @@
--- Lists in which two runs of entries change places.
+-- Lists in which two runs of n entries change places, one from a on, the other from b on.
 use Rattle.std.specs.Prelude.{ℕ, Bool, ◌+◌, ◌-◌, List, length, map, slice_index, if◌then◌else◌, nat_le, nat_lt, ◌&&◌}
 use Rattle.std.specs.List.{range_with_len}
 
@@ -10,6 +10,6 @@ is_among a n v = nat_le a v && nat_lt v (a + n)
 abbrev pub partner : ℕ → ℕ → ℕ → ℕ → ℕ
 partner a b n v = if is_among a n v then b + (v - a) else (if is_among b n v then a + (v - b) else v)
 
--- the list after the n entries from a on changed places with those from b on, pair by pair
+-- the list xs after its n entries from a on changed places with those from b on, pair by pair
 unfoldable pub exchanged : List ℕ → ℕ → ℕ → ℕ → List ℕ
 exchanged xs a b n = map (λ v. slice_index xs (partner a b n v)) (range_with_len 0 (length xs))

@@ -1,4 +1,4 @@
--- The needs and the free lists of the kinds with blocks.
+-- For the managers with blocks: the free lists of each kind are lawful, and an object that fits a page needs at most 2 ^ 23 words of a block.
 use Rattle.std.proofs.Common.{◌≡◌, ℕ, ◌^◌, ◌≤◌, arith}
 use Rattle.cf_base.specs.Classes.{need}
 use Rattle.cf_base.specs.Settings.{Profile}

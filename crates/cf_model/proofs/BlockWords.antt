@@ -1,4 +1,4 @@
--- With blocks, the blocks, the objects in them and the free lists determine the words of the region.
+-- For `an_order_leaves_one_outcome`, with blocks: the blocks, the objects in them and the free lists determine the words of the region.
 use Rattle.std.proofs.Common.{◌≡◌, ◌≢◌, ℕ, false, true, ◌+◌, ◌-◌, ◌<◌, ◌≤◌, List, [], ◌∷◌, Option, Some, None, length, get_or, arith, refl, sym, ◌∙◌, ap, subst}
 use Rattle.std.proofs.Common.{inl, inr}
 use Rattle.std.specs.Prelude.{◌⊎◌, IsSome}

@@ -1,4 +1,4 @@
--- The blocks of the other objects after a free or a resize.
+-- For `blocks_of_others_stay`: with a block table, the physical blocks of the other objects stay in a free or a resize, refused or not.
 use Rattle.std.proofs.Common.{◌≡◌, ◌≢◌, ℕ, ◌+◌, ◌*◌, ◌/◌, ◌%◌, ◌<◌, List, Some, length, get_or, arith, sym, ◌∙◌, subst, ap, refl}
 use Rattle.std.proofs.lemmas.Option.{same_Some as some_equal, same_Some as placed_equal}
 use Rattle.std.specs.FinMap.{get}

@@ -1,4 +1,4 @@
--- The state after opening a manager keeps the rules.
+-- For `an_empty_heap_keeps_the_rules`: the state after opening a manager of each kind keeps the rules.
 use Rattle.std.proofs.Common.{◌≡◌, ℕ, zero, suc, true, false, ◌+◌, ◌*◌, ◌/◌, ◌-◌, ◌≤◌, List, [], ◌∷◌, Option, Some, None, length, get_or, replicate, arith, sym}
 use Rattle.std.proofs.Common.{◌∙◌, inl, inr, ap, refl}
 use Rattle.std.specs.Prelude.{IfSome, nat_eq}

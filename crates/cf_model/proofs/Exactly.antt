@@ -1,4 +1,4 @@
--- Each result of a call excludes every other one.
+-- For `refusals_come_exactly_by_their_causes`: a call that succeeds has no cause for a refusal, and a malloc has at most one.
 use Rattle.std.proofs.Common.{◌≡◌, ℕ, ◌+◌, ◌<◌, ◌≤◌, Some, None, length, arith, sym, ◌∙◌, subst, inl, inr, ap, refl}
 use Rattle.std.specs.FinMap.{get}
 use Rattle.cf_lemmas.proofs.Maps.{found_once}

@@ -1,4 +1,4 @@
--- A manager that has an order has one outcome of each call.
+-- For `an_order_leaves_one_outcome`: two outcomes of the same call of a manager that has an order are equal.
 use Rattle.std.proofs.Common.{◌≡◌, ℕ, ◌+◌, true, false, List, ◌∷◌, Option, Some, None, Result, Ok, Err, arith, length, refl, sym, ◌∙◌, ap, subst}
 use Rattle.std.specs.Prelude.{IfSome, IsSome, is_some, option_map, slice_index}
 use Rattle.std.specs.FinMap.{get, insert}

@@ -1,4 +1,4 @@
--- With blocks, mallocs and frees keep each object in a block of its own.
+-- For `blocks_stay_owned`: with blocks, a malloc and a free keep each object in a block of its own.
 use Rattle.std.proofs.Common.{◌≡◌, ◌≢◌, ℕ, List, Option, Some, None, length, replicate, sym, ◌∙◌, subst, inl, inr, ap}
 use Rattle.std.proofs.lemmas.List.{length-replicate}
 use Rattle.std.proofs.lemmas.Bool.{cases_eq}

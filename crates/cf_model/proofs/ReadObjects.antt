@@ -1,4 +1,5 @@
--- The words of a heap with blocks determine its objects; and after a carve the words are those of the objects after a malloc.
+-- For `the_words_show_blocks_and_objects` and `a_carve_keeps_the_words`: the words of a heap with blocks determine its objects, and after a carve they are
+-- those of the objects after the malloc.
 use Rattle.std.proofs.Common.{◌≡◌, ◌≢◌, ℕ, zero, suc, ◌+◌, ◌<◌, List, Option, Some, None, length, get_or, replicate, arith, sym, ◌∙◌, subst}
 use Rattle.std.proofs.Common.{inl, inr, ap, refl}
 use Rattle.std.specs.Prelude.{option_map}

@@ -1,4 +1,4 @@
--- What the contracts of `Manager` imply about the objects.
+-- For `what_is_written_is_read` and `what_is_freed_is_gone`: what a read returns after a write, and which objects a write and a free leave.
 use Rattle.std.proofs.Common.{◌≡◌, ◌≢◌, ℕ, ◌+◌, ◌≤◌, List, ◌++◌, Option, Some, None, length, take, drop, arith, sym, ◌∙◌, subst, ap, refl}
 use Rattle.std.specs.Prelude.{option_map}
 use Rattle.std.proofs.Math.Seq.{drop-append_seam, take-append_seam}

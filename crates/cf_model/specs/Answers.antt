@@ -1,4 +1,5 @@
--- What the calls that change nothing return, and the bounds of the classes.
+-- What the calls of a manager that change nothing (`place`, `block`, `classes`, `figures`, `totals`, `usage`) return in the state `s`; and what `set_bound`
+-- does.
 use Rattle.std.specs.Prelude.{ℕ, ◌*◌, ◌/◌, Option, Some, None, if◌then◌else◌, length, nat_eq, nat_lt, position, option_map, slice_set}
 use Rattle.std.specs.FinMap.{get, len}
 use Rattle.cf_base.specs.declared.answers.Figures.{Figures}
@@ -15,31 +16,32 @@ use Rattle.cf_model.specs.declared.usage.Usage.{Usage}
 use Rattle.cf_model.specs.Families.{paged, tiled, family_of}
 use Rattle.cf_model.specs.State.{HeapState, paging_in, region_words}
 
--- the address of an object: the first word of its slot or block
+-- the address of object h: the first word of its slot or block; none if h is not live
 abbrev pub place_of : HeapState → ℕ → Option ℕ
 place_of s h = option_map (λ (x : Placed). x.place) (get s.held h)
 
--- the physical block of block i of an object, if the object is live and has that block
+-- the physical block of block i of an object's slot, in which blocks of four words are counted from 0; none if there is no object, or its slot has no block i
 abbrev pub block_of_object : HeapState → Option Placed → ℕ → Option ℕ
 block_of_object s None i = None
 block_of_object s (Some x) i = if nat_lt i (slot_for (paging_in s) (length x.bytes) / 4) then Some (block_of s.frames x.place i) else None
 
--- the physical block of block i of object h, if there is one; only the non-moving kind has physical blocks
+-- the physical block of block i of the slot of object h, if h is live and its slot has that block; always none for the kinds without a block table
 abbrev pub block_in : Kind → HeapState → ℕ → ℕ → Option ℕ
 block_in Moving s h i = None
 block_in NonMoving s h i = block_of_object s (get s.held h) i
 block_in Tlsf s h i = None
 block_in HalfFit s h i = None
 
--- the number of classes; 0 with blocks
+-- the number of size classes; 0 with blocks
 abbrev pub classes_in : Kind → HeapState → ℕ
 classes_in kind s = elim (family_of kind) [ paged ↦ classes (paging_in s) | tiled ↦ 0 ]
 
--- the figures of a class, if there is such a class
+-- the figures of class c; none if there is no such class
 abbrev pub figures_in : HeapState → ℕ → Option Figures
 figures_in s c = if nat_lt c (classes_in s.kind s) then Some (figures_of (paging_in s) s.held c) else None
 
--- the figures of a heap with blocks
+-- The figures of a heap with blocks: `live` objects; their bytes as `asked`, those of their blocks as `taken`, and those of the region as `held`; how many
+-- blocks are `used` and `free`; and the words of the `largest` free one.
 abbrev pub block_totals : HeapState → Totals
 block_totals s = record {
   live = len s.held;
@@ -51,23 +53,23 @@ block_totals s = record {
   largest = largest_free s.tiling;
 }
 
--- the figures of the whole heap
+-- the figures of a whole heap of this kind
 abbrev pub totals_in : Kind → HeapState → Totals
 totals_in kind s = elim (family_of kind) [ paged ↦ totals_of (paging_in s) s.held | tiled ↦ block_totals s ]
 
--- the bytes that a heap uses, from its figures
+-- the bytes asked, taken and held, from the figures of a whole heap
 abbrev pub usage_of : Totals → Usage
 usage_of t = record { asked = t.asked; taken = t.taken; held = t.held }
 
--- the bytes that a heap of this kind uses
+-- the bytes asked, taken and held of a heap of this kind
 abbrev pub usage_in : Kind → HeapState → Usage
 usage_in kind s = usage_of (totals_in kind s)
 
--- the class whose slots have `words` words
+-- the class whose slots have `words` words; none if there is none, as always with blocks
 abbrev pub class_with : Kind → HeapState → ℕ → Option ℕ
 class_with kind s words = elim (family_of kind) [ paged ↦ position (λ w. nat_eq w words) (paging_in s).sizes | tiled ↦ None ]
 
--- the heap after the class, if there is one, gets the bound k
+-- the state s after the class gets the bound k; unchanged if there is no class
 abbrev pub bound_put : HeapState → Option ℕ → ℕ → HeapState
 bound_put s None k = s
 bound_put s (Some c) k = record s { bounds = slice_set s.bounds c k }

@@ -1,4 +1,5 @@
--- What a manager with an order promises of a call: it uses what is next in the order, and its cost is computed from the state before and the answer.
+-- What a manager with an order promises of each call: it uses what the order lists next, and its cost is computed from the states and the result. In each
+-- definition `old` is the state before the call, `new` the state after it, `answer` the result, `was` the order before, and `now` the order after.
 use Rattle.std.specs.Prelude.{◌≡◌, ℕ, ⊤, IfOk, IfSome, List, ◌∷◌, Option, None, Some, Result, is_some}
 use Rattle.cf_base.specs.declared.answers.Freed.{Freed}
 use Rattle.cf_base.specs.declared.answers.Handle.{Handle}
@@ -17,46 +18,50 @@ use Rattle.cf_model.specs.Rules.{listed_by}
 use Rattle.cf_model.specs.State.{HeapState, paging_in}
 use Rattle.cf_model.specs.Steps.{number_of}
 
--- a manager with an order follows it; one without an order may choose
+-- If a manager has an order before a call, it has one afterwards, and `step` relates the two. If it has none before, it has none afterwards, and nothing else
+-- is claimed.
 abbrev pub Follows : (Order → Order → Type 0) → Option Order → Option Order → Type 0
 Follows step None None = ⊤
 Follows step None (Some new) = ⊥
 Follows step (Some old) None = ⊥
 Follows step (Some old) (Some new) = step old new
 
--- a manager, open or closed, promises an order afterwards if and only if it did before
+-- a call that leads from the state `old` to `new` of a manager, open or closed, neither adds nor removes its promise of an order
 abbrev pub KeepsPromise : HeapState → HeapState → Type 0
 KeepsPromise old new = is_some new.order ≡ is_some old.order
 
--- with pages, a malloc follows the order `was`, leaves the order `now`, and has the exact cost
+-- With pages, a malloc of `bytes` bytes: if it succeeds, it uses the number and the slot that the order lists next. Refused or not, its cost is `malloc_cost`.
 pub record MallocInOrder (old : HeapState) (bytes : ℕ) (answer : Result Handle Refusal) (new : HeapState) (was now : Order) : Type 0 where
   pub choice : IfOk answer (λ h. IfSome (place_of new h.0) (λ a. MallocFollows (paging_in old) old.held (record { number = h.0; length = bytes }) a was now))
   pub cost : new.cost ≡ malloc_cost old was bytes answer
 
--- with pages, a free follows the order `was`, leaves the order `now`, and has the exact cost
+-- With pages, a free of object h: if it succeeds and moves an object, that is the next one of the order, and the freed number becomes the next one. Refused or
+-- not, its cost is `free_cost`.
 pub record FreeInOrder (old : HeapState) (h : ℕ) (answer : Result Freed NotLive) (new : HeapState) (was now : Order) : Type 0 where
   pub choice : IfOk answer (λ freed. FreeFollows (paging_in old) old.held h (number_of freed.moved) was now)
   pub cost : new.cost ≡ free_cost old was h answer
 
--- with pages, a resize follows the order `was`, leaves the order `now`, and has the exact cost
+-- With pages, a resize: if it succeeds and changes the class, it uses the next slot and moves the next object of the order, if it moves one. Refused or not,
+-- its cost is `resize_cost`.
 pub record ResizeInOrder (old : HeapState) (asked : Request) (answer : Result Resized ResizeFault) (new : HeapState) (was now : Order) : Type 0 where
   pub choice : IfOk answer (λ done. ResizeFollows (paging_in old) old.held asked (record { held = new.held; moved = number_of done.moved }) was now)
   pub cost : new.cost ≡ resize_cost old was asked answer
 
--- with blocks, an object gets the first spare number, and its block is carved from the next one
+-- With blocks, the object `asked` gets the first spare number, and its block is carved at `place`, from the free block that the lists of the order have next.
+-- The order `now` has the lists after the carve, and the other spare numbers.
 pub record CarvesInOrder (old : HeapState) (asked : Request) (place : ℕ) (new : HeapState) (was now : Order) : Type 0 where
   pub rest : List ℕ
   pub number : was.spare ≡ asked.number ∷ rest
   pub carves : CarvesNext (free_lists_of old.kind) (listed_by old was) (record { need = block_need asked.length; owner = asked.number }) place (listed_by new now)
   pub left : now ≡ record was { not_full = now.not_full; spare = rest }
 
--- with blocks, a malloc follows the order `was`, leaves the order `now`, and has the exact cost
+-- With blocks, a malloc of `bytes` bytes: if it succeeds, its number and block are those of `CarvesInOrder`. Refused or not, its cost is `block_malloc_cost`.
 pub record BlockMallocInOrder (old : HeapState) (bytes : ℕ) (answer : Result Handle Refusal) (new : HeapState) (was now : Order) : Type 0 where
   pub choice : IfOk answer (λ h. IfSome (place_of new h.0) (λ a. CarvesInOrder old (record { number = h.0; length = bytes }) a new was now))
   pub cost : new.cost ≡ block_malloc_cost old bytes answer new
 
--- with blocks, a free leaves the order `now`, and has the exact cost: the block that it leaves is the first of its list, and the freed number is the first
--- spare one
+-- With blocks, a free of object h: if it succeeds, the free block that results becomes the first of its list, and the freed number the first spare one.
+-- Refused or not, its cost is `block_free_cost`.
 pub record BlockFreeInOrder (old : HeapState) (h : ℕ) (answer : Result Freed NotLive) (new : HeapState) (was now : Order) : Type 0 where
   pub choice : IfOk answer (λ freed. IfSome (place_of old h) (λ a. now ≡ record was {
     not_full = lists_released (free_lists_of old.kind) (listed_by old was) a;
@@ -64,35 +69,35 @@ pub record BlockFreeInOrder (old : HeapState) (h : ℕ) (answer : Result Freed N
   }))
   pub cost : new.cost ≡ block_free_cost old h answer new
 
--- a malloc in an order, by the kind
+-- a malloc of `bytes` bytes keeps to the orders `was` and `now` as `MallocInOrder` says with pages, and `BlockMallocInOrder` with blocks
 abbrev pub MallocByOrder : HeapState → ℕ → Result Handle Refusal → HeapState → Order → Order → Type 0
 MallocByOrder old bytes answer new was now = elim (family_of old.kind) [
   | paged ↦ MallocInOrder old bytes answer new was now
   | tiled ↦ BlockMallocInOrder old bytes answer new was now
 ]
 
--- a free in an order, by the kind
+-- a free of object h keeps to the orders `was` and `now` as `FreeInOrder` says with pages, and `BlockFreeInOrder` with blocks
 abbrev pub FreeByOrder : HeapState → ℕ → Result Freed NotLive → HeapState → Order → Order → Type 0
 FreeByOrder old h answer new was now = elim (family_of old.kind) [
   | paged ↦ FreeInOrder old h answer new was now
   | tiled ↦ BlockFreeInOrder old h answer new was now
 ]
 
--- a resize in an order, by the kind; with blocks it is always refused, and keeps the order
+-- a resize keeps to the orders `was` and `now` as `ResizeInOrder` says with pages; with blocks it is always refused, and leaves the order unchanged
 abbrev pub ResizeByOrder : HeapState → Request → Result Resized ResizeFault → HeapState → Order → Order → Type 0
 ResizeByOrder old asked answer new was now = elim (family_of old.kind) [
   | paged ↦ ResizeInOrder old asked answer new was now
   | tiled ↦ now ≡ was
 ]
 
--- a malloc in the order of the manager, if it has one
+-- clause `ordered` of `Manager::malloc`: if the manager has an order, a malloc of `bytes` bytes follows it; if it has none, it has none afterwards
 abbrev pub IsOrderedMalloc : HeapState → ℕ → Result Handle Refusal → HeapState → Type 0
 IsOrderedMalloc old bytes answer new = Follows (MallocByOrder old bytes answer new) old.order new.order
 
--- a free in the order of the manager, if it has one
+-- clause `ordered` of `Manager::free`: if the manager has an order, a free of object h follows it; if it has none, it has none afterwards
 abbrev pub IsOrderedFree : HeapState → ℕ → Result Freed NotLive → HeapState → Type 0
 IsOrderedFree old h answer new = Follows (FreeByOrder old h answer new) old.order new.order
 
--- a resize in the order of the manager, if it has one
+-- clause `ordered` of `Manager::resize`: if the manager has an order, a resize follows it; if it has none, it has none afterwards
 abbrev pub IsOrderedResize : HeapState → Request → Result Resized ResizeFault → HeapState → Type 0
 IsOrderedResize old asked answer new = Follows (ResizeByOrder old asked answer new) old.order new.order

@@ -1,4 +1,4 @@
--- The rules that every open manager keeps.
+-- The rules that every open manager keeps: `KeepsRules`, at the end, and the definitions that it uses.
 use Rattle.std.specs.Prelude.{◌≡◌, ℕ, IfSome, IsTrue, ◌+◌, ◌*◌, ◌^◌, ◌≤◌, ◌<◌, List, [], Option, Some, None, length, nat_eq, slice_index}
 use Rattle.std.specs.List.{Contains, IsDistinct}
 use Rattle.std.specs.FinMap.{get, len}
@@ -20,7 +20,7 @@ use Rattle.cf_model.specs.Families.{paged, tiled, family_of, free_lists_of, list
 pub use Rattle.cf_model.specs.Families.{IsPaged, IsTiled}
 use Rattle.cf_model.specs.State.{HeapState, paging_in, region_words}
 
--- the settings are in their ranges
+-- the settings p are in their ranges: 1 to 4,096 pages of an allowed size, k from 1 to 64, 1 to 65,536 proxies, and at most 2 ^ 23 words (64 MiB) in all
 pub record AreInRange (p : Profile) : Type 0 where
   pub some_pages : 1 ≤ p.pages
   pub few_pages : p.pages ≤ 4096
@@ -37,7 +37,7 @@ pub record AreObjects (s : HeapState) : Type 0 where
   pub bytes : (h : ℕ) (x : Placed) → get s.held h ≡ Some x → AreBytes x.bytes
   pub few : len s.held ≤ s.profile.proxies
 
--- the rules of a manager with pages; by them no class has more partly full pages than its bound, and no page of a class is empty
+-- The rules of a manager with pages. They imply that no class has more partly full pages than its bound, and that each page of a class holds an object.
 pub record KeepsPages (s : HeapState) : Type 0 where
   -- the sizes of the classes rise to the page, and each class has a bound of at least 1
   pub paging : IsPaging (paging_in s)
@@ -47,10 +47,10 @@ pub record KeepsPages (s : HeapState) : Type 0 where
   pub sound : IsSound (paging_in s) s.held
   -- the words are those of the objects, and zeros
   pub image : IsImage s.held s.words
-  -- and zeros fill the rest of each slot
+  -- zeros fill the rest of each object's slot
   pub slots : IsSlotImage (paging_in s) s.held s.words
   pub no_tiling : s.tiling ≡ []
-  -- the order, if it has one, is one of its arrangement
+  -- the order, if there is one, lists its free and partly full pages and its free numbers
   pub order : IfSome s.order (IsOrderOf (paging_in s) s.held s.profile.proxies)
 
 -- there is no block table
@@ -62,18 +62,18 @@ pub record KeepsFrames (s : HeapState) : Type 0 where
   pub count : 4 * length s.frames ≡ region_words s.profile
   pub permuted : IsPermuted s.frames
 
--- the block of an object has the words that it needs, or one more
+-- the block b belongs to the object x of number h, and has as many words as x needs, or one more
 pub record IsBlockOf (b : Block) (h : ℕ) (x : Placed) : Type 0 where
   pub owner : b.owner ≡ Some h
   pub least : block_need (length x.bytes) ≤ b.size
   pub most : b.size ≤ block_need (length x.bytes) + 1
 
--- each object owns the block at its address, and each used block has its object
+-- m maps numbers to objects: each owns the block at its address, and each used block has its object in m
 pub record AreOwned (m : Held) (blocks : List Block) : Type 0 where
   pub placed : (h : ℕ) (x : Placed) → get m h ≡ Some x → (b : Block) × (block_at blocks x.place ≡ Some b) × IsBlockOf b h x
   pub live : (a : ℕ) (b : Block) (h : ℕ) → block_at blocks a ≡ Some b → b.owner ≡ Some h → (x : Placed) × (get m h ≡ Some x) × (x.place ≡ a)
 
--- word i of the object under number h: its header, its bytes, then zeros
+-- word i of the object that m has under number h: word 0 is its header, then its bytes follow, then zeros; 0 if m has none
 abbrev pub content_word : Held → ℕ → ℕ → ℕ
 content_word m h i = content (get m h) h i
   where
@@ -81,11 +81,12 @@ content_word m h i = content (get m h) h i
     content None h i = 0
     content (Some x) h i = object_word h x.bytes i
 
--- the blocks, and their free lists by an order
+-- the blocks of the state s, with the free lists of the order o
 abbrev pub listed_by : HeapState → Order → Listed
 listed_by s o = record { blocks = s.tiling; lists = o.not_full }
 
--- with blocks, an order: the free lists of the kind, which word 1 of each free block links, and the numbers without an object, each once
+-- With blocks, o is an order of the state s: its lists are the free lists of the kind, which word 1 of each free block links, and its spare numbers are those
+-- without an object, each once.
 pub record IsBlockOrder (s : HeapState) (o : Order) : Type 0 where
   pub no_pool : o.pool ≡ []
   pub lists : AreListsOf (free_lists_of s.kind) (list_count_of s.kind) (listed_by s o)
@@ -104,17 +105,17 @@ pub record KeepsTiling (s : HeapState) : Type 0 where
   pub words : AreTilingWords (content_word s.held) s.tiling s.words
   pub no_frames : s.frames ≡ []
   pub no_bounds : s.bounds ≡ []
-  -- the order, if it has one, is one of its blocks and numbers
+  -- the order, if there is one, lists its free blocks and its free numbers
   pub order : IfSome s.order (IsBlockOrder s)
 
--- the rule of each kind for the block table; only the non-moving kind has one
+-- what each kind requires of its block table: the non-moving kind has one, which is a permutation; the others have none
 abbrev pub KeepsTable : Kind → HeapState → Type 0
 KeepsTable Moving s = HasNoFrames s
 KeepsTable NonMoving s = KeepsFrames s
 KeepsTable Tlsf s = HasNoFrames s
 KeepsTable HalfFit s = HasNoFrames s
 
--- the rules of each kind for its memory
+-- the rules for the memory of a heap of this kind
 abbrev pub KeepsRulesOf : Kind → HeapState → Type 0
 KeepsRulesOf kind s = elim (family_of kind) [ paged ↦ KeepsPages s × KeepsTable kind s | tiled ↦ KeepsTiling s ]
 

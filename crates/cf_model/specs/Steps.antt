@@ -1,4 +1,5 @@
--- What each call of a manager does, from the state before to the state after.
+-- What each call of a manager does, as a relation between the state `old` before it and the state `new` after it. `IsMallocStep`, `IsFreeStep`, `IsWriteStep`,
+-- `IsReadAnswer` and `IsResizeStep` are the whole calls, with their refusals.
 use Rattle.std.specs.Prelude.{◌≡◌, ◌≢◌, ℕ, ◌+◌, ◌*◌, ◌/◌, ◌≤◌, ◌<◌, List, [], Option, Some, None, Result, Ok, Err, ⊤, true, false, length, take, drop}
 use Rattle.std.specs.Prelude.{replicate, slice_index, option_map}
 use Rattle.std.specs.FinMap.{get, insert, remove, len, empty}
@@ -32,48 +33,49 @@ use Rattle.cf_model.specs.Families.{paged, tiled, family_of, free_lists_of, list
 use Rattle.cf_model.specs.State.{HeapState, paging_in, layout_of, region_words}
 use Rattle.cf_model.specs.Rules.{IsPaged, IsTiled}
 
--- the same manager, open under the same settings
+-- `new` is the manager `old`, with the same kind and settings, and it is open
 pub record StaysOpen (old new : HeapState) : Type 0 where
   pub kind : new.kind ≡ old.kind
   pub open_now : new.is_open ≡ true
   pub profile : new.profile ≡ old.profile
 
--- the same manager with the same settings and bounds
+-- `new` is the manager `old`, with the same kind, settings and bounds, and open if it was open
 pub record KeepsSettings (old new : HeapState) : Type 0 where
   pub kind : new.kind ≡ old.kind
   pub opened : new.is_open ≡ old.is_open
   pub profile : new.profile ≡ old.profile
   pub bounds : new.bounds ≡ old.bounds
 
--- only the cost changes
+-- `new` differs from `old` in the cost alone
 abbrev pub ChangesCost : HeapState → HeapState → Type 0
 ChangesCost old new = new ≡ record old { cost = new.cost }
 
--- the same manager, closed
+-- `new` is the manager `old`, with the same kind, and it is closed
 pub record IsClosed (old new : HeapState) : Type 0 where
   pub kind : new.kind ≡ old.kind
   pub closed : new.is_open ≡ false
 
--- the bounds of the classes at the start
+-- the bounds when a heap opens: k of the settings for each class; with blocks there are none
 abbrev pub opening_bounds : Kind → Profile → List ℕ
 opening_bounds kind p = elim (family_of kind) [ paged ↦ first_bounds p (layout_of kind) | tiled ↦ [] ]
 
--- the block table at the start, if the kind has one: each block at its own number
+-- the block table when a heap opens: each virtual block is the physical block of the same number; empty for the kinds without a table
 abbrev pub opening_frames : Kind → Profile → List ℕ
 opening_frames Moving p = []
 opening_frames NonMoving p = first_frames (region_words p / 4)
 opening_frames Tlsf p = []
 opening_frames HalfFit p = []
 
--- the tiling at the start, if the kind has one: one free block
+-- the blocks when a heap opens: with blocks, one free block of the whole region; with pages there are none
 abbrev pub opening_tiling : Kind → Profile → List Block
 opening_tiling kind p = elim (family_of kind) [ paged ↦ [] | tiled ↦ one_free_block (region_words p) ]
 
--- the words of an empty heap: zeros with pages; with blocks the rules determine all but word 1
+-- The words may be those of a heap when it opens. With pages they are zeros. With blocks nothing is claimed here: the rules (`KeepsRules`) determine all of
+-- them but word 1.
 abbrev pub IsOpeningWords : Kind → Profile → List ℕ → Type 0
 IsOpeningWords kind p words = elim (family_of kind) [ paged ↦ words ≡ replicate (region_words p) 0 | tiled ↦ ⊤ ]
 
--- an open heap without objects, with these settings
+-- the state of an open heap without objects, with the settings p, these words, and no order
 abbrev pub empty_heap : Kind → Profile → List ℕ → HeapState
 empty_heap kind p words = record {
   kind = kind;
@@ -89,11 +91,11 @@ empty_heap kind p words = record {
   cost = 0;
 }
 
--- an open heap without objects, with these settings and this order
+-- the state of an open heap without objects, with the settings p, these words, and this order or none
 abbrev pub ordered_heap : Kind → Profile → List ℕ → Option Order → HeapState
 ordered_heap kind p words order = record (empty_heap kind p words) { order = order }
 
--- the order at the start: pages and numbers in rising order; with blocks, the free block in its list, and the numbers in rising order
+-- the order when a heap opens: with pages, all pages and numbers in rising order; with blocks, the one free block in its list, and all numbers in rising order
 abbrev pub opening_order : Kind → Profile → Order
 opening_order kind p = elim (family_of kind) [
   | paged ↦ first_order (paging_in (empty_heap kind p [])) p.proxies
@@ -104,36 +106,38 @@ opening_order kind p = elim (family_of kind) [
   }
 ]
 
--- the order, if there is one, is the order at the start
+-- a heap that opens has no order, or the opening order
 abbrev pub IsOpeningOrder : Kind → Profile → Option Order → Type 0
 IsOpeningOrder kind p None = ⊤
 IsOpeningOrder kind p (Some order) = order ≡ opening_order kind p
 
--- an open heap without objects; each class has the bound of the settings
+-- `new` is a heap that was just opened with the settings s: it has no objects, and each class has the bound k of the settings
 pub record IsEmptyHeap (kind : Kind) (s : Settings) (new : HeapState) : Type 0 where
   pub words : IsOpeningWords kind (profile_of s) new.words
   pub order : IsOpeningOrder kind (profile_of s) new.order
   pub whole : new ≡ ordered_heap kind (profile_of s) new.words new.order
 
--- no space for an object of `bytes` bytes: its class has no slot left, or no free block may serve its need
+-- the heap s has no space for an object of `bytes` bytes: with pages, its class has no slot left; with blocks, no free block may serve its need
 abbrev pub LacksRoomIn : Kind → HeapState → ℕ → Type 0
 LacksRoomIn kind s bytes = elim (family_of kind) [
   | paged ↦ LacksRoom (paging_in s) s.held (class_for (paging_in s) bytes)
   | tiled ↦ LacksBlock (free_lists_of kind) s.tiling (block_need bytes)
 ]
 
--- no space for an object of `bytes` bytes, by the kind of the heap
+-- the heap s, of whatever kind, has no space for an object of `bytes` bytes
 abbrev pub lacks_room : HeapState → ℕ → Type 0
 lacks_room s bytes = LacksRoomIn s.kind s bytes
 
--- the requested object may be placed at the address: in a free slot, or in the block that is carved
+-- The object `asked` may be placed at the address `place`: with pages, a slot that its class may use is free there; with blocks, a free block there is carved
+-- for it, which leaves the blocks of `new`.
 abbrev pub IsPlacedBy : Kind → HeapState → Request → ℕ → HeapState → Type 0
 IsPlacedBy kind old asked place new = elim (family_of kind) [
   | paged ↦ IsFreePlace (paging_in old) old.held asked.length place
   | tiled ↦ Carves (free_lists_of kind) old.tiling (record { need = block_need asked.length; owner = asked.number }) place new.tiling
 ]
 
--- an object of zeros is added under a number that wasn't live
+-- A malloc succeeds: the object `asked`, of zeros alone, is added at the address `place`, under a number that wasn't live. It fits a page, and a proxy was
+-- free. Besides the objects only words, blocks, order and cost may change.
 pub record GivesObject (old : HeapState) (asked : Request) (new : HeapState) : Type 0 where
   pub fits : need asked.length ≤ old.profile.page_words
   pub few : len old.held < old.profile.proxies
@@ -149,56 +153,58 @@ pub record GivesObject (old : HeapState) (asked : Request) (new : HeapState) : T
     cost = new.cost;
   }
 
--- the object would fit a page, but all proxies are in use
+-- an object of `bytes` bytes would fit a page, but all proxies are in use
 pub record WantsProxy (s : HeapState) (bytes : ℕ) : Type 0 where
   pub fits : need bytes ≤ s.profile.page_words
   pub all : len s.held ≡ s.profile.proxies
 
--- the object would fit a page, and a proxy is free, but there is no space
+-- an object of `bytes` bytes would fit a page, and a proxy is free, but there is no space
 pub record WantsSpace (s : HeapState) (bytes : ℕ) : Type 0 where
   pub fits : need bytes ≤ s.profile.page_words
   pub few : len s.held < s.profile.proxies
   pub lacking : lacks_room s bytes
 
--- the cause of each refusal of a malloc
+-- the cause of each refusal of a malloc of `bytes` bytes in the state s
 abbrev pub IsRefusedBy : HeapState → ℕ → Refusal → Type 0
 IsRefusedBy s bytes refusal.Size = s.profile.page_words < need bytes
 IsRefusedBy s bytes refusal.Proxy = WantsProxy s bytes
 IsRefusedBy s bytes refusal.Space = WantsSpace s bytes
 
--- a malloc adds an object, or is refused and changes only the cost
+-- a malloc of `bytes` bytes: with `Ok` it adds an object under this handle; with `Err` it is refused for this cause, and changes only the cost
 abbrev pub IsMallocStep : HeapState → ℕ → Result Handle Refusal → HeapState → Type 0
 IsMallocStep old bytes (Ok h) new = GivesObject old (record { number = h.0; length = bytes }) new
 IsMallocStep old bytes (Err e) new = IsRefusedBy old bytes e × ChangesCost old new
 
--- the words of an object's slot or block
+-- the number of words of the slot or block of the object x
 abbrev pub slot_in : Kind → HeapState → Placed → ℕ
 slot_in kind s x = elim (family_of kind) [ paged ↦ slot_for (paging_in s) (length x.bytes) | tiled ↦ size_at s.tiling x.place ]
 
--- the object that a free of x moves: with pages one if it must, with blocks none
+-- a free of the object x moves the object `moved`, or none: with pages one if and only if it must, with blocks never one
 abbrev pub MovesIn : Kind → HeapState → Placed → Option ℕ → Type 0
 MovesIn kind s x moved = elim (family_of kind) [ paged ↦ Moves (paging_in s) s.held x moved | tiled ↦ moved ≡ None ]
 
--- the block table after a free or a resize; it changes only if an object moved
+-- the block table after a free or a resize that left these objects and moved this one (`after`); only that of the non-moving kind changes, and only if an
+-- object moved
 abbrev pub frames_left : Kind → HeapState → Leaves → List ℕ
 frames_left Moving s after = s.frames
 frames_left NonMoving s after = frames_after (paging_in s) s.held after s.frames
 frames_left Tlsf s after = s.frames
 frames_left HalfFit s after = s.frames
 
--- the tiling after the block at the address is released
+-- the blocks after the one at address `place` is released; with pages there are none
 abbrev pub tiling_left : Kind → HeapState → ℕ → List Block
 tiling_left kind s place = elim (family_of kind) [ paged ↦ s.tiling | tiled ↦ released s.tiling place ]
 
--- the number of a handle, if there is one
+-- the number of the handle, if there is one
 abbrev pub number_of : Option Handle → Option ℕ
 number_of moved = option_map (λ (h : Handle). h.0) moved
 
--- the objects after a free, and the object that moved
+-- the objects after a free of object h, which is x, with the number of the object that moved to its address, if one did
 abbrev pub leaves_of : HeapState → ℕ → Placed → Option ℕ → Leaves
 leaves_of old h x moved = record { held = without old.held h x.place moved; moved = moved }
 
--- object h is removed, and the object that moved, if one did, gets its address; all others keep their bytes
+-- A free of object h succeeds with the result `freed`: the object is removed, and the object that moved, if one did, gets the address of the removed one. All
+-- objects but h keep their bytes, and all that did not move their address. The words, the order and the cost may change too.
 pub record FreesObject (old : HeapState) (h : ℕ) (freed : Freed) (new : HeapState) : Type 0 where
   pub object : Placed
   pub found : get old.held h ≡ Some object
@@ -210,35 +216,35 @@ pub record FreesObject (old : HeapState) (h : ℕ) (freed : Freed) (new : HeapSt
   pub tiling : new.tiling ≡ tiling_left old.kind old object.place
   pub rest : KeepsSettings old new
 
--- a free removes an object, or is refused and changes only the cost
+-- a free of object h: with `Ok` it removes the object; with `Err` the object wasn't live, and only the cost changes
 abbrev pub IsFreeStep : HeapState → ℕ → Result Freed NotLive → HeapState → Type 0
 IsFreeStep old h (Ok freed) new = FreesObject old h freed new
 IsFreeStep old h (Err e) new = (get old.held h ≡ None) × ChangesCost old new
 
--- a part of an object to read or write: the object's number, and the first byte
+-- a part of an object to read or write: the object's number, and the part's first byte, counted from 0
 pub record Part : Type 0 where
   pub number : ℕ
   pub from : ℕ
 
--- the `count` bytes of the part go beyond the end of the object
+-- the object of the part is live, but the part, of `count` bytes, goes beyond its end
 pub record PassesEnd (s : HeapState) (part : Part) (count : ℕ) : Type 0 where
   pub object : Placed
   pub found : get s.held part.number ≡ Some object
   pub past : length object.bytes < part.from + count
 
--- the cause of each refusal of a read or a write of `count` bytes
+-- the cause of each refusal of a read or a write of `count` bytes in the state s
 abbrev pub IsFault : HeapState → Part → ℕ → AccessFault → Type 0
 IsFault s part count access.Unknown = get s.held part.number ≡ None
 IsFault s part count access.Range = PassesEnd s part count
 
--- with blocks, no word outside the object's block changes
+-- with blocks, a write to the object x changes no word outside its block; with pages nothing is claimed here
 abbrev pub StaysOutside : Kind → HeapState → Placed → HeapState → Type 0
 StaysOutside kind old x new = elim (family_of kind) [
   | paged ↦ ⊤
   | tiled ↦ (w : ℕ) → IsOutside x.place (size_at old.tiling x.place) w → slice_index new.words w ≡ slice_index old.words w
 ]
 
--- the object has these bytes from byte `from` on; nothing else changes
+-- A write succeeds: the object of the part gets these bytes from byte `part.from` on. Besides this object only words may change.
 pub record WritesBytes (old : HeapState) (part : Part) (bytes : List ℕ) (new : HeapState) : Type 0 where
   pub object : Placed
   pub found : get old.held part.number ≡ Some object
@@ -246,24 +252,26 @@ pub record WritesBytes (old : HeapState) (part : Part) (bytes : List ℕ) (new :
   pub outside : StaysOutside old.kind old object new
   pub whole : new ≡ record old { held = insert old.held part.number (record object { bytes = written object.bytes part.from bytes }); words = new.words }
 
--- a write replaces bytes, or is refused and changes nothing
+-- a write of `bytes` to the part: with `Ok` it replaces bytes of the object; with `Err` it is refused for this cause, and changes nothing
 abbrev pub IsWriteStep : HeapState → Part → List ℕ → Result Unit AccessFault → HeapState → Type 0
 IsWriteStep old part bytes (Ok u) new = WritesBytes old part bytes new
 IsWriteStep old part bytes (Err e) new = IsFault old part (length bytes) e × (new ≡ old)
 
--- `bytes` are the `count` bytes of the part
+-- a read succeeds: the object of the part is live, and `bytes` are its `count` bytes from byte `part.from` on
 pub record ReadsBytes (s : HeapState) (part : Part) (count : ℕ) (bytes : List ℕ) : Type 0 where
   pub object : Placed
   pub found : get s.held part.number ≡ Some object
   pub within : part.from + count ≤ length object.bytes
   pub value : bytes ≡ take count (drop part.from object.bytes)
 
--- a read fills the buffer with the bytes, or is refused and leaves the buffer unchanged
+-- a read into a buffer that holds `room` before and `out` after it: with `Ok` it fills the buffer with the part's bytes; with `Err` it is refused for this
+-- cause, and leaves the buffer unchanged
 abbrev pub IsReadAnswer : HeapState → Part → List ℕ → Result Unit AccessFault → List ℕ → Type 0
 IsReadAnswer s part room (Ok u) out = ReadsBytes s part (length room) out
 IsReadAnswer s part room (Err e) out = IsFault s part (length room) e × (out ≡ room)
 
--- the object gets another length: its first bytes stay, and added bytes are zeros; in another class it gets a new address, as by a malloc and a free
+-- A resize succeeds with the result `done`: the object gets the length that is asked for. Its first bytes stay, and added bytes are zeros. If its class
+-- changes, it gets a new address as by a malloc, and its old slot is freed as by a free.
 pub record ResizesObject (old : HeapState) (asked : Request) (done : Resized) (new : HeapState) : Type 0 where
   pub pages : IsPaged old.kind
   pub fits : need asked.length ≤ old.profile.page_words
@@ -282,20 +290,20 @@ pub record ResizesObject (old : HeapState) (asked : Request) (done : Resized) (n
     cost = new.cost;
   }
 
--- the number is live, and the kind has no resize
+-- object h is live, and the kind has blocks, for which there is no resize
 pub record HasNoResize (s : HeapState) (h : ℕ) : Type 0 where
   pub object : Placed
   pub found : get s.held h ≡ Some object
   pub blocks : IsTiled s.kind
 
--- the number is live, and its object would need more than a page
+-- the object is live, and with the length that is asked for it would need more than a page
 pub record PassesPage (s : HeapState) (asked : Request) : Type 0 where
   pub object : Placed
   pub found : get s.held asked.number ≡ Some object
   pub pages : IsPaged s.kind
   pub large : s.profile.page_words < need asked.length
 
--- the number is live, and the object's new class, another one, has no slot left
+-- the object is live, and the length that is asked for has another class, which has no slot left
 pub record WantsSlot (s : HeapState) (asked : Request) : Type 0 where
   pub object : Placed
   pub found : get s.held asked.number ≡ Some object
@@ -304,23 +312,24 @@ pub record WantsSlot (s : HeapState) (asked : Request) : Type 0 where
   pub other : class_for (paging_in s) asked.length ≢ class_at (paging_in s) object
   pub lacking : LacksRoom (paging_in s) s.held (class_for (paging_in s) asked.length)
 
--- the cause of each refusal of a resize
+-- the cause of each refusal of a resize in the state s
 abbrev pub IsResizeFault : HeapState → Request → ResizeFault → Type 0
 IsResizeFault s asked resize.Unknown = get s.held asked.number ≡ None
 IsResizeFault s asked resize.Kind = HasNoResize s asked.number
 IsResizeFault s asked resize.Size = PassesPage s asked
 IsResizeFault s asked resize.Space = WantsSlot s asked
 
--- a refused resize changes only the cost, and with blocks nothing
+-- a refused resize leads from the state `old` to `new`: with pages only the cost changes, with blocks nothing
 abbrev pub IsUnmoved : Kind → HeapState → HeapState → Type 0
 IsUnmoved kind old new = elim (family_of kind) [ paged ↦ ChangesCost old new | tiled ↦ new ≡ old ]
 
--- a resize changes an object's length, or is refused
+-- a resize: with `Ok` it changes the object's length; with `Err` it is refused for this cause, and changes only the cost, with blocks nothing
 abbrev pub IsResizeStep : HeapState → Request → Result Resized ResizeFault → HeapState → Type 0
 IsResizeStep old asked (Ok done) new = ResizesObject old asked done new
 IsResizeStep old asked (Err e) new = IsResizeFault old asked e × IsUnmoved old.kind old new
 
--- the blocks of each object but h stay, and so do the physical words of its slot
+-- In the non-moving manager, each object but h that is live before and after a call keeps the physical blocks of its slot, and their words stay. `before` and
+-- `after` are the physical words of the region before and after the call.
 pub record BlocksStay (old : HeapState) (h : ℕ) (new : HeapState) : Type 0 where
   pub blocks : (q : ℕ) (x y : Placed) → q ≢ h → get old.held q ≡ Some x → get new.held q ≡ Some y → (i : ℕ) → i < slot_for (paging_in old) (length x.bytes) / 4
       → block_of new.frames y.place i ≡ block_of old.frames x.place i
@@ -329,7 +338,7 @@ pub record BlocksStay (old : HeapState) (h : ℕ) (new : HeapState) : Type 0 whe
       → j < 4
       → slice_index after (4 * block_of old.frames x.place i + j) ≡ slice_index before (4 * block_of old.frames x.place i + j)
 
--- a free or a resize of h keeps the blocks of the other objects; nothing is claimed of kinds without a block table
+-- a free or a resize of object h keeps the physical blocks of the other objects; nothing is claimed of the kinds without a block table
 abbrev pub BlocksStayIn : Kind → HeapState → ℕ → HeapState → Type 0
 BlocksStayIn Moving old h new = Unit {0}
 BlocksStayIn NonMoving old h new = BlocksStay old h new

@@ -31,10 +31,11 @@ ghost use Rattle.cf_model.specs.Steps.{ReadsBytes, ResizesObject, WritesBytes, e
 
 use block_model::free_order::lists_stay_lists_of_the_blocks;
 
-/// An empty heap of each kind keeps the rules, without an order and with the opening order. With
-/// blocks, its words are the header of the one free block, word 1, and zeros. Without an order,
-/// word 1 is any word; with one it links the block with no other. So each kind has words with which
-/// its empty heap keeps the rules, without an order and with it.
+/// The state of a heap that was just opened keeps the rules (`KeepsRules`). With pages its words
+/// are zeros, and it has no order or the opening one (clause `pages`). With blocks word 0 is the
+/// header of the one free block, and the words from 2 on are zeros; word 1 is any word without an
+/// order (`blocks`), and with the opening order links the block with no other (`linked`). So each
+/// kind has such words, without an order (`there`) and with the opening one (`ordered`).
 pub fn an_empty_heap_keeps_the_rules()
     ensures pages { (kind : Kind) (p : Profile) (order : Option Order) → IsPaged kind → AreInRange p → IsOpeningOrder kind p order
         → KeepsRules (ordered_heap kind p (replicate (region_words p) 0) order) }
@@ -54,14 +55,15 @@ pub fn an_empty_heap_keeps_the_rules()
     lists_stay_lists_of_the_blocks();
 }
 
-/// A manager that promises an order, as every closed one does, has the opening order when it opens.
+/// A manager that was never open promises an order (clause `closed`). A manager that promises one,
+/// and is then opened, has the opening order (`opens`).
 pub fn a_promise_is_an_opening_order()
     ensures closed { (kind : Kind) → IsSome (closed_state kind).order }
     ensures opens { (s : Settings) (old new : HeapState) → IsSome old.order → IsEmptyHeap old.kind s new → KeepsPromise old new
         → new ≡ ordered_heap old.kind (profile_of s) new.words (Some (opening_order old.kind (profile_of s))) }
 {}
 
-/// A read after a write returns the written bytes, and a write changes no other object.
+/// A read of the bytes that were just written returns them, and a write changes no other object.
 pub fn what_is_written_is_read()
     ensures same { (old new : HeapState) (part : Part) (bytes out : List ℕ)
         → WritesBytes old part bytes new → ReadsBytes new part (length bytes) out → out ≡ bytes }
@@ -70,14 +72,14 @@ pub fn what_is_written_is_read()
         → (q : ℕ) → q ≢ part.number → get new.held q ≡ get old.held q }
 {}
 
-/// A freed object isn't live.
+/// After a free that succeeds, the freed handle isn't live.
 pub fn what_is_freed_is_gone()
     ensures { (old new : HeapState) (h : ℕ) (freed : Freed)
         → FreesObject old h freed new → get new.held h ≡ None }
 {}
 
-/// In the non-moving manager, a free and a resize keep each block of every other object, and its
-/// physical words. This follows from their other clauses.
+/// In the non-moving manager, a free and a resize, refused or not, leave each other object in its
+/// physical blocks, and leave the words there unchanged. This follows from their other clauses.
 pub fn blocks_of_others_stay()
     ensures free { (old new : HeapState) (h : ℕ) (freed : Freed) → old.kind ≡ NonMoving
         → KeepsRules old → KeepsRules new → FreesObject old h freed new → BlocksStay old h new }
@@ -105,7 +107,9 @@ pub fn refusals_come_exactly_by_their_causes()
 {}
 
 /// With blocks, a malloc and a free keep each object in a block of its own, and each used block has
-/// an object.
+/// an object. `m` are the objects before the call, `old` and `new` the blocks before and after it.
+/// The malloc adds an object of n bytes under the number h at the address `place`; the free removes
+/// object h, which is x.
 pub fn blocks_stay_owned()
     ensures malloc { (rule : FreeLists) (words : ℕ) (m : Held) (old new : List Block) (h n place : ℕ)
         → IsTiling words old → AreOwned m old → get m h ≡ None
@@ -117,8 +121,8 @@ pub fn blocks_stay_owned()
         → AreOwned (remove m h) (released old x.place) }
 {}
 
-/// With blocks, the words determine the blocks, without word 1 of the free ones. The words and the
-/// objects' addresses determine the objects.
+/// With blocks, the words of the region determine the blocks (clause `blocks`). The words and the
+/// objects' addresses determine the objects (`objects`).
 pub fn the_words_show_blocks_and_objects()
     ensures blocks { (s : HeapState) → AreInRange s.profile → AreObjects s → KeepsTiling s
         → read_blocks (region_words s.profile) s.words 0 (region_words s.profile) ≡ s.tiling }
@@ -126,9 +130,11 @@ pub fn the_words_show_blocks_and_objects()
         → read_objects s.words (places s.held) ≡ s.held }
 {}
 
-/// After a malloc, let the headers be in place, free blocks cleared, the contents of the other used
-/// blocks unchanged, and the new block with its object's header in word 1, then zeros. Then the
-/// words are those of the objects.
+/// With blocks, a malloc adds an object of n bytes under the number h at the address `place`: `m`
+/// are the objects before it, `old` and `new` the blocks, `was` and `now` the words before and
+/// after it. Let the headers be in place afterwards, the free blocks cleared, the contents of the
+/// other used blocks unchanged, and the new block with its object's header in word 1, then zeros.
+/// Then the words are those of the blocks and of the objects with the new one.
 pub fn a_carve_keeps_the_words()
     ensures { (rule : FreeLists) (count : ℕ) (m : Held) (old new : List Block) (h n place : ℕ) (was now : List ℕ)
         → IsTiling count old → AreOwned m old → get m h ≡ None
@@ -143,8 +149,8 @@ pub fn a_carve_keeps_the_words()
         → AreTilingWords (content_word (insert m h (zeros_at place n))) new now }
 {}
 
-/// With pages, a malloc, a free and a resize of a manager are steps of objects on pages:
-/// `PlacesObject`, `RemovesObject` and `RefitsObject`.
+/// With pages, a malloc, a free and a resize of a manager that succeed are steps of the model of
+/// objects on pages: `PlacesObject`, `RemovesObject` and `RefitsObject`.
 pub fn calls_are_the_steps_of_pages()
     ensures malloc { (old new : HeapState) (asked : Request) → IsPaged old.kind → GivesObject old asked new
         → PlacesObject (paging_in old) old.held asked new.held }
@@ -154,8 +160,10 @@ pub fn calls_are_the_steps_of_pages()
         → RefitsObject (paging_in old) old.held asked (record { held = new.held; moved = number_of done.moved }) }
 {}
 
-/// If a manager has an order, each malloc, free and resize has one answer and leaves one state, with
-/// its addresses, blocks, words, order and cost. A write does so without an order too.
+/// If a manager has an order, each malloc, free and resize has one outcome: two results r and s of
+/// the same call in the state `old`, which leave the states `new` and `next`, are equal, and so are
+/// these states, with addresses, blocks, words, order and cost. A write has one outcome without an
+/// order too.
 pub fn an_order_leaves_one_outcome()
     ensures malloc { (old new next : HeapState) (bytes : ℕ) (r s : Result Handle Refusal) → IsSome old.order
         → KeepsRules old → KeepsRules new → KeepsRules next

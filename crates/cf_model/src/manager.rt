@@ -1,4 +1,4 @@
-//! The trait of all memory managers.
+//! The trait `Manager`, which every memory manager implements, with the contract of each call.
 ghost use Rattle.std.specs.Prelude.{◌≡◌, ◌+◌, ◌^◌, ◌≤◌, IsTrue, OnOk, OnErr, is_some, length, slice_get};
 ghost use Rattle.std.specs.FinMap as map;
 ghost use Rattle.step_ledger.specs.Counting.{RoseAtMost};
@@ -134,8 +134,9 @@ pub trait Manager: Drop {
         ensures cost { RoseByCost (state self.old).kind steps.old steps.new (state self.new).cost }
         ensures blocks { BlocksStayIn (state self.old).kind (state self.old) h.0 (state self.new) };
 
-    /// Sets the bound of the class whose slots have `slot_words` words: how many of its pages may
-    /// be partly full, 1 to 64. No object may be live. Returns false if there is no such class.
+    /// Sets the bound of the class whose slots have `slot_words` words to `k`: how many of its
+    /// pages may be partly full, 1 to 64. No object may be live. Returns false, and changes
+    /// nothing, if there is no such class.
     fn set_bound(&mut self, slot_words: u32, k: u32) -> bool
         requires open { IsTrue (state self.old).is_open }
         requires empty { (state self.old).held ≡ map.empty }
@@ -145,22 +146,24 @@ pub trait Manager: Drop {
         ensures bound { state self.new ≡ bound_put (state self.old) (class_with (state self.old).kind (state self.old) slot_words) k }
         ensures rules { KeepsRules (state self.new) };
 
-    /// The address of the object, the first word of its slot or block; none if the handle isn't
-    /// live.
+    /// The address of the object: the index in the region of the first word of its slot or block,
+    /// with a block table of the virtual word; none if the handle isn't live.
     fn place(&self, h: Handle, steps: &mut Steps) -> Option<u32>
         requires { IsTrue (state self.now).is_open }
         ensures value { result ≡ place_of (state self.now) h.0 }
         ensures rises { steps.old ≤ steps.new };
 
-    /// A word of the region; none beyond its end. With a block table it is the virtual word.
+    /// The word of the region at the index `word`, with a block table the virtual word; none beyond
+    /// its end.
     fn peek(&self, word: u32, steps: &mut Steps) -> Option<u64>
         requires { IsTrue (state self.now).is_open }
         ensures value { result ≡ slice_get (state self.now).words word }
         ensures rules { KeepsRules (state self.now) }
         ensures rises { steps.old ≤ steps.new };
 
-    /// The physical block of block i of the object's slot; none if the kind isn't `NonMoving`, the
-    /// handle isn't live, or the slot has no block i.
+    /// The number of the physical block that holds block i of the object's slot. Blocks have four
+    /// words, and i counts from 0. None if the kind isn't `NonMoving`, the handle isn't live, or
+    /// the slot has no block i.
     fn block(&self, h: Handle, i: u32, steps: &mut Steps) -> Option<u32>
         requires { IsTrue (state self.now).is_open }
         ensures value { result ≡ block_in (state self.now).kind (state self.now) h.0 i }
@@ -183,7 +186,8 @@ pub trait Manager: Drop {
         ensures value { result ≡ totals_in (state self.now).kind (state self.now) }
         ensures rises { steps.old ≤ steps.new };
 
-    /// The bytes that the heap uses: three of its figures. Each manager of this repository keeps
+    /// The bytes that live objects asked for, those of their slots or blocks, and those that the
+    /// heap holds for them: three of the figures of `totals`. Each manager of this repository keeps
     /// them as counts, so its own body of this call costs no step.
     fn usage(&self, steps: &mut Steps) -> Usage
         requires { IsTrue (state self.now).is_open }

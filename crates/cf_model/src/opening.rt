@@ -1,4 +1,4 @@
-//! Opening many managers.
+//! Opening every manager of a list with the same settings, for mode `compare`.
 ghost use Rattle.std.specs.Prelude.{OnOk, OnErr};
 ghost use Rattle.cf_model.specs.Loops.{Opens, Pairwise, Stops};
 ghost use Rattle.cf_model.specs.Ordered.{KeepsPromise};
@@ -7,9 +7,9 @@ ghost use Rattle.cf_model.specs.Steps.{IsClosed};
 use crate::manager::Manager;
 use cf_base::{OutOfMemory, Settings};
 
-/// Opens each manager, in order, with these settings. At `OutOfMemory` one manager is closed, those
-/// before it are open and empty, and those after it are unchanged. Each keeps its promise of an
-/// order, open or closed.
+/// Opens each manager, in order, with these settings. At `OutOfMemory` the manager that could not
+/// open is closed, those before it are open and empty, and those after it are unchanged. A manager
+/// that promised an order promises one afterwards, open or closed.
 pub fn open_all<H: Manager>(managers: &mut Vec<H>, s: &Settings) -> Result<(), OutOfMemory>
     ensures ok { OnOk result (Pairwise (λ old new. Opens s.now (H.state old) (H.state new)) managers.old.items managers.new.items) }
     ensures err { OnErr result (Stops (λ old new. Opens s.now (H.state old) (H.state new))
@@ -22,7 +22,8 @@ pub fn open_all<H: Manager>(managers: &mut Vec<H>, s: &Settings) -> Result<(), O
     Ok(())
 }
 
-/// Opens one manager.
+/// Opens one manager with these settings. At `OutOfMemory` it is closed. If it promised an order,
+/// it promises one afterwards, open or closed.
 fn open_one<H: Manager>(manager: &mut H, s: &Settings) -> Result<(), OutOfMemory>
     ensures ok { OnOk result (Opens s.now (H.state manager.old) (H.state manager.new)) }
     ensures err { OnErr result (IsClosed (H.state manager.old) (H.state manager.new)) }

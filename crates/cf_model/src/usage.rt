@@ -1,11 +1,12 @@
-//! The bytes that a heap uses.
+//! The bytes that a heap uses, as three of its figures.
 ghost use Rattle.std.specs.Prelude.{◌≡◌};
 ghost use Rattle.cf_model.specs.Answers.{usage_of};
 
 use cf_base::Totals;
 
-/// The bytes that live objects asked for, those of their slots or blocks, and those that the heap
-/// holds: `asked`, `taken` and `held` of its `Totals`.
+/// The bytes that a heap uses: those requested for its live objects (`asked`), those of their slots
+/// or blocks (`taken`), and those of its pages in use, or with blocks of its whole region (`held`).
+/// Each is the figure of this name in `Totals`.
 #[derive(Clone, Copy, Debug, PartialEq, Eq)]
 pub struct Usage {
     pub asked: u64,
@@ -14,7 +15,7 @@ pub struct Usage {
 }
 
 impl Usage {
-    /// The bytes that a heap with these totals uses.
+    /// The three of these totals that count used bytes.
     pub fn of(totals: &Totals) -> Usage
         ensures { result ≡ usage_of totals.now }
     {

@@ -1,4 +1,5 @@
--- The steps of commands, from what the calls of a manager do.
+-- For `set_bound`: the step of command `k`, from what the manager's call did; so also that no id is live if and only if no object is. For `push_steps`: its
+-- text.
 use Rattle.std.proofs.Common.{Bool, ◌≡◌, ◌∙◌, ◌++◌, ℕ, true, false, List, Option, Some, None, refl, ap, sym, inl, inr, append_assoc}
 use Rattle.std.specs.Prelude.{◌⊎◌, codes, if◌then◌else◌, nat_eq, is_some}
 use Rattle.std.specs.Ordering.{nat_cmp}
@@ -52,7 +53,7 @@ pub bound_none : (o : Option ℕ) → is_some o ≡ false → codes "none" ≡ b
 bound_none None is = refl
 bound_none (Some c) is = absurd (let e : true ≡ false = is in cc)
 
--- a class gets a bound
+-- `Step` of command `k` if no object is live
 module _ (session : SessionState) (old : HeapState) where
   pub bound_step : (slot_words k : ℕ) (text : List ℕ) (new : HeapState) → old.held ≡ empty
       → new ≡ bound_put old (class_with old.kind old slot_words) k → KeepsRules new → text ≡ bound_text (class_with old.kind old slot_words)
@@ -68,7 +69,7 @@ module _ (session : SessionState) (old : HeapState) where
         reply_is = ap said (shown ∙ ap bound_text (sym here));
       }
 
--- an id is live, so no class gets a bound
+-- `Step` of command `k` if an id is live: no class gets a bound
 pub bound_refused : (session : SessionState) (heap : HeapState) (slot_words k : ℕ) → IsGoing (run_at session heap) → (session.ids ≡ empty → ⊥)
     → Step (run_at session heap) (Bound slot_words k) (said (codes "none")) (run_at session heap)
 bound_refused session heap slot_words k going some =
@@ -81,7 +82,7 @@ bound_refused session heap slot_words k going some =
       reply_is = ap (λ (o : Option ℕ). said (bound_text o)) (sym here);
     }
 
--- the line on the steps of a heap with pages
+-- the line that `push_steps` appends field by field, with pages, is the text of the reply
 pub steps_line : (k : Kind) (s : SessionState) (cost seen b m w : ℕ) (line after_cost after_bound after_moves after_words : List ℕ)
     → (k ≡ Moving) ⊎ (k ≡ NonMoving) → seen ≡ cost → b ≡ s.bound → m ≡ s.moves → w ≡ s.words
     → after_cost ≡ line ++ with_number (codes "steps last ") seen → after_bound ≡ after_cost ++ with_number (codes " bound ") b

@@ -1,4 +1,4 @@
--- The commands that `answer` has no branch for.
+-- For `answer`: the commands of other modes, which it has no branch for, get `none`.
 use Rattle.std.proofs.Common.{◌≡◌, ℕ, List, Bor, refl}
 use Rattle.std.specs.Prelude.{codes}
 use Rattle.script_reader.specs.Owned.{owned_command}

@@ -1,4 +1,4 @@
--- What a command that changes nothing writes on its line.
+-- For the functions of `looks`: the line that each builds holds the lead and the text of the reply, and the outcome that it returns is that of the text.
 use Rattle.std.proofs.Common.{◌≡◌, ◌∙◌, ◌+◌, ◌<◌, ◌≤◌, ◌/◌, ◌%◌, ◌^◌, ◌++◌, ℕ, List, ◌∷◌, Option, Some, None, Err, option_map}
 use Rattle.std.proofs.Common.{length, take, drop, nat_eq, false, refl, sym, ap, arith, lit<}
 use Rattle.std.specs.Prelude.{codes, slice_index}
@@ -26,7 +26,7 @@ use Rattle.cf_session.specs.declared.outcome.Outcome.{Outcome}
 use Rattle.cf_session.specs.declared.outcome.Outcome.TheVariants.{Other}
 use Rattle.cf_session.specs.declared.short.OneLine.TheVariants as reply
 
--- a text that was written after the lead of its line
+-- `SaidOn` for a text that was appended to a line with the lead
 pub written : (lead begun line text : List ℕ) (outcome : Outcome) → begun ≡ lead → line ≡ begun ++ text → length line < 9000 → outcome ≡ outcome_in text
     → SaidOn (lines_at lead line) text (reply.Written outcome)
 written lead begun line text outcome begins is short shows = (is ∙ ap (λ (l : List ℕ). l ++ text) begins, short, shows)

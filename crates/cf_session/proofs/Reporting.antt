@@ -1,4 +1,4 @@
--- What a command did and what was written of its reply, together.
+-- For `answer` and `apply_ref`: from the step of a command, and from what was written of its reply, to `Applies`; and a command keeps a run in progress.
 use Rattle.std.proofs.Common.{◌≡◌, ◌∙◌, ℕ, ◌++◌, List, [], ◌∷◌, Option, Some, None, Result, Ok, Err, length, map, refl, ap}
 use Rattle.std.proofs.Common.{ap₂, sym, subst, append_assoc}
 use Rattle.std.specs.Prelude.{IsTrue, codes}

@@ -1,4 +1,4 @@
--- The reply to a read, part by part.
+-- For `spell_bytes`: a buffer whose parts are filled in turn with lead, `=`, digits and a line feed begins with the reply to the read.
 use Rattle.std.proofs.Common.{◌≡◌, ◌∙◌, ◌+◌, ◌≤◌, ◌++◌, ℕ, List, [], ◌∷◌, length, take, drop, slice_set, refl, sym, ap, ap₂, arith}
 use Rattle.std.proofs.Common.{append_assoc, append-nil, length-append}
 use Rattle.std.proofs.Math.Seq.{take-append_seam}

@@ -1,4 +1,4 @@
--- What applying a command does.
+-- What `Session::apply` does: the command takes effect, and its reply, or a prefix of it, is written.
 use Rattle.std.specs.Prelude.{◌≡◌, ℕ, ◌||◌, List, [], ◌∷◌, Option, Result, Ok, Err, codes, nat_eq, if◌then◌else◌}
 use Rattle.std.specs.List.{starts_with}
 use Rattle.std.specs.Str.{bytes_eq}
@@ -10,30 +10,31 @@ use Rattle.run_model.specs.Answering.{Asked, IsAnswered, IsCutShort, Moment}
 use Rattle.run_model.specs.Sessions.{RunState, SessionState}
 use Rattle.run_model.specs.Texts.{Reply}
 
--- the run of a session and its manager
+-- the state of a run: the state of its session and that of its manager
 abbrev pub run_at : SessionState → HeapState → RunState
 run_at session heap = record { session = session; heap = heap }
 
--- the run of a session and its manager, and the bytes written by then
+-- the state of a run at one moment, and the bytes written by then; `None` if the sink isn't observable
 abbrev pub moment_at : SessionState → HeapState → Option (List ℕ) → Moment
 moment_at session heap written = record { run = run_at session heap; written = written }
 
--- Good if the line is `ok` or begins with `=`, Refused if it begins with `refused`, else Other
+-- the outcome of a reply of one line: `Good` if the line is `ok` or begins with `=`, `Refused` if it begins with `refused`, else `Other`
 abbrev pub outcome_in : List ℕ → Outcome
 outcome_in text = if bytes_eq text (codes "ok") || starts_with nat_eq text (codes "=") then Good
     else (if starts_with nat_eq text (codes "refused") then Refused else Other)
 
--- the outcome of a command, by the first line of its reply
+-- the outcome of a whole reply, which is that of its first line; `Other` if it has no line
 abbrev pub outcome_of : Reply → Outcome
 outcome_of [] = Other
 outcome_of (text ∷ rest) = outcome_in text
 
--- The command took effect, and its reply was written: all of it, with its outcome; or a prefix of it.
+-- Between the moments `old` and `new` the command took effect. If the result is `Ok`, its whole reply was written, and the result is the outcome of that reply;
+-- if it is `Err`, a prefix was written.
 abbrev pub Applies : Moment → Asked → Result Outcome Failed → Moment → Type 0
 Applies old asked (Ok outcome) new = (a : IsAnswered old asked new) × (outcome ≡ outcome_of a.reply)
 Applies old asked (Err failed) new = IsCutShort old asked new
 
--- the result of writing a reply: the outcome, or `Failed` if the sink failed
+-- from the result of writing a reply and from its outcome, the result of the command: the outcome, or `Failed` if the sink failed
 abbrev pub IsEnded : {T : Type 0} → Result T Failed → Outcome → Result Outcome Failed → Type 0
 IsEnded (Ok u) outcome answer = answer ≡ Ok outcome
 IsEnded (Err failed) outcome answer = answer ≡ Err failed

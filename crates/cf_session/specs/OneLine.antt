@@ -1,4 +1,4 @@
--- A command whose reply is one line. No public clause cites this module.
+-- Replies of one line while they are built and written, for the functions inside this crate. No public clause cites this module.
 use Rattle.std.specs.Prelude.{◌≡◌, ◌<◌, ℕ, ◌++◌, List, length, Option, Result}
 use Rattle.cf_io.specs.Feeds.{Puts}
 use Rattle.cf_io.specs.Lines.{line_room}
@@ -10,25 +10,28 @@ use Rattle.cf_session.specs.declared.short.OneLine.{OneLine}
 use Rattle.cf_session.specs.declared.short.OneLine.TheVariants as reply
 use Rattle.run_model.specs.Texts.{led, said}
 
--- the lead of a line, and the whole line
+-- `text` is all that a line holds so far, and `lead` the bytes with which it must begin
 pub record Lines : Type 0 where
   pub lead : List ℕ
   pub text : List ℕ
 
+-- the record `Lines` of a lead and of the text of a line that should begin with it
 abbrev pub lines_at : List ℕ → List ℕ → Lines
 lines_at lead text = record { lead = lead; text = text }
 
--- the text is that of a short reply; or the line holds it after the lead, with room for the line feed, and this is its outcome
+-- A function that has built a reply returned this `OneLine`, and the reply is `text`: a short reply with that text; or the line holds the lead and then `text`,
+-- with room for the line feed, and the outcome is that of `text`.
 abbrev pub SaidOn : Lines → List ℕ → OneLine → Type 0
 SaidOn line text (reply.Short short) = short_text short ≡ text
 SaidOn line text (reply.Written outcome) = (line.text ≡ line.lead ++ text) × (length line.text < line_room) × (outcome ≡ outcome_in text)
 
--- the line has room for the line feed
+-- if the reply is on the line already, the line has room for the line feed
 abbrev pub HasRoom : List ℕ → OneLine → Type 0
 HasRoom line (reply.Short short) = Unit {0}
 HasRoom line (reply.Written outcome) = length line < line_room
 
--- the text was put after its lead, and the result is its outcome; or the sink failed, and a prefix was put
+-- The lead, `text` and a line feed were written, and the result is the outcome of `text`; or the sink failed, the result is an error, and a prefix of these was
+-- written. `before` and `after` are the bytes written before and after, if the sink is observable.
 pub record IsPut (text lead : List ℕ) (before : Option (List ℕ)) (answer : Result Outcome Failed) (after : Option (List ℕ)) : Type 0 where
   pub written : Result Unit Failed
   pub puts : Puts before (led lead (said text)) written after

@@ -1,5 +1,5 @@
-//! The commands that change objects: each calls the heap and returns the reply to print. A malloc, free or
-//! resize sets `counters.bound` to its step bound, which command `steps` prints.
+//! The commands that change objects or bounds: each calls the heap and returns the reply to print. Each malloc,
+//! free or resize that calls the heap sets `counters.bound` to its step bound, which command `steps` prints.
 ghost use Rattle.std.specs.Prelude.{◌≡◌, ◌^◌, ◌≤◌, IsTrue, Err};
 ghost use Rattle.cf_session.specs.Records.{run_with, session_of};
 ghost use Rattle.cf_session.specs.Short.{short_text};
@@ -15,8 +15,8 @@ use cf_base::ResizeFault;
 use cf_model::Manager;
 use step_ledger::Steps;
 
-/// `m`: makes an object of `bytes` bytes for an id that isn't live. Else, or if the heap refuses it, the
-/// reply shows why.
+/// `m`: makes an object of `bytes` bytes, which `id` then names. If the id is live already, the reply is `live`;
+/// if the heap refuses the malloc, it is `refused` and the cause. Then no id and no object changes.
 pub(crate) fn malloc<H: Manager>(
     records: &mut Records,
     heap: &mut H,
@@ -121,7 +121,7 @@ pub(crate) fn resize<H: Manager>(
     }
 }
 
-/// The reply to a resize that the heap refused.
+/// The reply to a resize that the heap refused with this cause.
 fn resize_fault_reply(fault: ResizeFault) -> Short
     ensures { short_text result ≡ resize_text (Err fault) }
 {
@@ -133,8 +133,8 @@ fn resize_fault_reply(fault: ResizeFault) -> Short
     }
 }
 
-/// `k`: sets the bound of the class with slots of `slot_words` words; `none` if an id is live or no class has
-/// such slots.
+/// `k`: sets to `k` the bound (how many pages may be partly full) of the class with slots of `slot_words` words;
+/// `none` if an id is live or no class has such slots.
 pub(crate) fn set_bound<H: Manager>(
     records: &Records,
     heap: &mut H,

@@ -1,4 +1,4 @@
-//! Does one command and writes its reply.
+//! `answer`, the one match over all commands: does a command on the heap and writes its reply.
 ghost use Rattle.std.specs.Prelude.{◌≡◌, ◌^◌, ◌≤◌, OnErr, length, OnOk};
 ghost use Rattle.cf_io.specs.Feeds.{FailsLast};
 ghost use Rattle.cf_session.specs.Apply.{Applies, moment_at};
@@ -20,9 +20,10 @@ use frag_report::{frag_line, walk_lines};
 use script_reader::CommandRef;
 use step_ledger::Steps;
 
-/// Does the command and writes its reply. Each line follows `lead`, and is written in one call of the
-/// sink. If the sink fails, the result is `Failed`: the command has taken effect, and a prefix of its reply
-/// was written. Only `r` uses `buffer`, for the bytes read, and `text`, for the line of its reply.
+/// Does command `c` and writes its reply to `out`. Each line begins with `lead` and is written in one call of
+/// the sink. If the sink fails, the result is `Failed`: the command has taken effect, and a prefix of its reply
+/// was written. `line`, `buffer` and `text` are scratch: `line` for replies of one line, and, for `r` alone,
+/// `buffer` for the bytes read and `text` for the line of the reply.
 // All commands are in one match: where a caller's command is known, the compiler inlines its branch alone.
 pub(crate) fn answer<H: Manager, K: Sink>(
     records: &mut Records,

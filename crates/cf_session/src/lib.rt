@@ -1,4 +1,5 @@
-//! A session: the ids of one manager's objects, and the replies to the commands of a script.
+//! A session: it maps a script's ids to the objects of one manager, does the script's commands on that manager,
+//! and writes their replies. The sessions of other modes use its short replies too.
 #![tactic(auto)]
 
 mod changes;

@@ -1,5 +1,6 @@
-//! The commands that only read: each writes its reply on the line after the lead, or returns a short
-//! reply. `r` puts its reply itself.
+//! The commands that change nothing but the count of steps: `r`, `q`, `b`, `p` and `steps`. Each but `r` builds
+//! its reply in `line`, after the lead, or returns a short reply, and the caller writes it to the sink. `r`
+//! writes its reply itself.
 ghost use Rattle.std.specs.Prelude.{◌≡◌, ◌^◌, ◌<◌, ◌≤◌, ◌++◌, IsTrue, OnErr, codes, length, slice_get, take, OnOk};
 ghost use Rattle.std.specs.FinMap as map;
 ghost use Rattle.cf_io.specs.Feeds.{FailsLast};
@@ -20,8 +21,9 @@ use cf_io::{Line, Sink, begin_line, push_field, put_all};
 use cf_model::Manager;
 use step_ledger::Steps;
 
-/// `r`: puts `len` bytes of an id's object from byte `at` on, in hexadecimal; `unknown` if the id isn't live,
-/// `range` if they would pass the end of the object.
+/// `r`: writes to the sink `len` bytes of an id's object from byte `at` on, in hexadecimal; `unknown` if the id
+/// isn't live, `range` if they would pass the end of the object. `buffer` and `text` are scratch, for the bytes
+/// and for the line.
 pub(crate) fn read<H: Manager, K: Sink>(
     records: &Records,
     heap: &H,
@@ -63,8 +65,8 @@ pub(crate) fn read<H: Manager, K: Sink>(
     )
 }
 
-/// Puts the bytes of an object from byte `at` on, as many as `buffer` has, in hexadecimal; `range` if they
-/// would pass the end of the object.
+/// Reads bytes of object `h` from byte `at` on until `buffer` is full, and writes them to the sink in
+/// hexadecimal, as a line built in `text`; writes `range` if they would pass the end of the object.
 fn read_part<H: Manager, K: Sink>(
     heap: &H,
     h: Handle,
@@ -96,8 +98,8 @@ fn read_part<H: Manager, K: Sink>(
     }
 }
 
-/// Writes the lead, `=`, the bytes in hexadecimal and a line feed at the start of `text`, and returns
-/// their length.
+/// Fills the start of `text` with the lead, `=`, the bytes in hexadecimal and a line feed, and returns how many
+/// bytes of `text` these take.
 fn spell_bytes(text: &mut [u8], lead: &[u8], bytes: &[u8]) -> usize
     requires text { length text.old ≡ 8202 }
     requires few { length bytes.now ≤ 4096 }
@@ -116,7 +118,7 @@ fn spell_bytes(text: &mut [u8], lead: &[u8], bytes: &[u8]) -> usize
     lead.len() + count + 2
 }
 
-/// `q`: writes the address of an id's object, in words; `unknown` if the id isn't live.
+/// `q`: the address of an id's object, in words from the start of the region; `unknown` if the id isn't live.
 pub(crate) fn place<H: Manager>(
     records: &Records,
     heap: &H,
@@ -143,8 +145,8 @@ pub(crate) fn place<H: Manager>(
     }
 }
 
-/// `b`: writes the physical block of block i of an id's object. `unknown` if the id isn't live; else `none`
-/// unless the kind is non-moving; else `range` if the object has no block i.
+/// `b`: the number of the physical block that holds block `i` (four words) of an id's object. `unknown` if the
+/// id isn't live; else `none` if the kind isn't non-moving; else `range` if the object has no block `i`.
 pub(crate) fn block<H: Manager>(
     records: &Records,
     heap: &H,
@@ -176,7 +178,8 @@ pub(crate) fn block<H: Manager>(
     }
 }
 
-/// `p`: writes a word of the region in hexadecimal; `range` past the region.
+/// `p`: the value of word `word` of the region, in hexadecimal; `range` if the region has no such word. With a
+/// block table, the number counts virtual words.
 pub(crate) fn peek<H: Manager>(
     heap: &H,
     word: u32,
@@ -198,8 +201,8 @@ pub(crate) fn peek<H: Manager>(
     }
 }
 
-/// `steps`: writes the steps of the last malloc, free or resize; with pages also their bound, how many
-/// objects moved, and the words of their slots.
+/// `steps`: the steps of the last malloc, free or resize; with pages also the bound on them, how many objects
+/// have moved since the start, and the words of their slots.
 pub(crate) fn put_steps_line<H: Manager>(
     records: &Records,
     heap: &H,
@@ -216,7 +219,7 @@ pub(crate) fn put_steps_line<H: Manager>(
     OneLine::Written(Outcome::Other)
 }
 
-/// Appends the reply to `steps`.
+/// Appends the text of the reply to `steps` to the line, which holds the lead.
 fn push_steps<H: Manager>(records: &Records, heap: &H, line: &mut Line)
     requires open { IsTrue (H.state heap.now).is_open }
     requires begun { length line.old ≤ 8 }

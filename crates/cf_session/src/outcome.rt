@@ -1,4 +1,4 @@
-//! How a command ended.
+//! The outcome of a command, for callers that count replies and don't read their texts.
 /// How a command ended, by the first bytes of its reply.
 #[derive(Clone, Copy, Debug, PartialEq, Eq)]
 pub enum Outcome {

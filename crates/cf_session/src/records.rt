@@ -1,4 +1,4 @@
-//! The records of a session.
+//! What a session knows of its script so far: the live ids, and the counters that command `steps` prints.
 ghost use Rattle.std.specs.Prelude.{◌≡◌, IfOk};
 ghost use Rattle.cf_session.specs.Records.{session_of};
 ghost use Rattle.run_model.specs.Sessions.{fresh_session};
@@ -7,7 +7,8 @@ use cf_base::OutOfMemory;
 use id_table::{Counters, IdTable};
 use std::alloc::Global;
 
-/// The handles of the live ids, and the counters of the calls.
+/// `ids` maps each live id to its handle. `counters` has the step bound of the last malloc, free or resize, the
+/// number of moves, and the words of the slots moved.
 #[derive(Drop)]
 pub(crate) struct Records {
     pub(crate) ids: IdTable,

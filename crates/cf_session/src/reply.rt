@@ -1,4 +1,5 @@
-//! Putting a reply of one line, and its outcome.
+//! Writing a reply of one line to the sink. Every result is the outcome of the reply, or `Failed` if the sink
+//! failed.
 ghost use Rattle.std.specs.Prelude.{◌≤◌, List, ℕ, OnErr, length, OnOk, ◌≡◌};
 ghost use Rattle.cf_io.specs.Feeds.{Puts, FailsLast};
 ghost use Rattle.cf_session.specs.Apply.{IsEnded};
@@ -11,7 +12,7 @@ use crate::short::{OneLine, Short};
 use cf_base::Failed;
 use cf_io::{Line, Sink, begin_line, push_text, put_all, put_line};
 
-/// The outcome if the reply was written, else `Failed`.
+/// The result of a command: `outcome` if `written`, the result of writing its reply, is `Ok`, else `Failed`.
 pub fn ended(written: Result<(), Failed>, outcome: Outcome) -> Result<Outcome, Failed>
     ensures { IsEnded written outcome result }
 {
@@ -21,8 +22,8 @@ pub fn ended(written: Result<(), Failed>, outcome: Outcome) -> Result<Outcome, F
     }
 }
 
-/// Puts a reply of one line: a short one after the lead, or `line`, which has the lead and the text. `Failed`
-/// if the sink failed; a prefix was put.
+/// Writes a reply of one line to the sink: a short reply after the lead, or what `line` holds, which is the lead
+/// and the text. Returns its outcome, or `Failed` if the sink failed; then a prefix was written.
 pub(crate) fn put_reply<K: Sink>(
     reply: OneLine,
     lead: &[u8],
@@ -43,7 +44,8 @@ pub(crate) fn put_reply<K: Sink>(
     }
 }
 
-/// Puts a short reply after the lead, and returns its outcome. `Failed` if the sink failed; a prefix was put.
+/// Writes the lead and a short reply to the sink, and returns the outcome of the reply, or `Failed` if the sink
+/// failed; then a prefix was written. `line` is scratch.
 pub(crate) fn put_short_line<K: Sink>(
     short: Short,
     lead: &[u8],
@@ -59,7 +61,7 @@ pub(crate) fn put_short_line<K: Sink>(
     ended(put_short(short, lead, line, out), short.outcome())
 }
 
-/// Puts a short reply after the lead. Without a lead it is put without a copy.
+/// Writes the lead and a short reply to the sink. If the lead is empty, the text is not copied into `line`.
 fn put_short<K: Sink>(short: Short, lead: &[u8], line: &mut Line, out: &mut K) -> Result<(), Failed>
     requires { length lead.now ≤ 8 }
     ensures puts { Puts (K.written out.old) (led lead.now (said (short_text short))) result (K.written out.new) }
@@ -73,7 +75,7 @@ fn put_short<K: Sink>(short: Short, lead: &[u8], line: &mut Line, out: &mut K) -
     put_all(out, short.text_line())
 }
 
-/// Puts a short reply after the lead in one chunk, built in `line`.
+/// Writes the lead and a short reply to the sink in one chunk, which is built in `line`.
 fn put_led<K: Sink>(short: Short, lead: &[u8], line: &mut Line, out: &mut K) -> Result<(), Failed>
     requires { length lead.now ≤ 8 }
     ensures puts { Puts (K.written out.old) (led lead.now (said (short_text short))) result (K.written out.new) }

@@ -1,4 +1,4 @@
-//! A session over one manager.
+//! `Session`: does the commands of a script on one manager and writes their replies.
 ghost use Rattle.std.specs.Prelude.{◌≡◌, ◌≤◌, IsTrue, OnErr, IfOk, length, OnOk};
 ghost use Rattle.std.specs.FinMap as map;
 ghost use Rattle.cf_io.specs.Feeds.{FailsLast};
@@ -27,8 +27,8 @@ const MOST: usize = 4_096;
 /// The most bytes of the reply to a read: a lead, `=`, two digits for each byte, and a line feed.
 const MOST_TEXT: usize = 8_202;
 
-/// The ids of one manager's objects, the counters of its calls, and buffers for replies. It answers the
-/// commands of a script.
+/// The live ids of a script with their handles, the counters that command `steps` prints, the meter that owns
+/// the count of steps, and buffers for replies. The manager itself is an argument of each call.
 #[derive(Drop)]
 pub struct Session {
     meter: Meter,
@@ -65,9 +65,9 @@ impl Session {
         })
     }
 
-    /// Does the command on the heap and writes its reply, each line after the lead, in one call. If the
-    /// sink fails, the result is `Failed`: the command has taken effect, and a prefix of its reply was
-    /// written.
+    /// Does command `c` on the heap and writes its reply to `out`; each line begins with `lead` and is written
+    /// in one call of the sink. If the sink fails, the result is `Failed`: the command has taken effect, and a
+    /// prefix of its reply was written.
     pub fn apply<H: Manager, K: Sink>(
         &mut self,
         heap: &mut H,
@@ -92,7 +92,7 @@ impl Session {
         self.apply_ref(heap, c.as_ref(), lead, out)
     }
 
-    /// `apply` for a command with borrowed bytes.
+    /// `apply` for a command whose bytes (those of a write) are borrowed from the caller's buffer.
     pub fn apply_ref<H: Manager, K: Sink>(
         &mut self,
         heap: &mut H,
@@ -130,21 +130,21 @@ impl Session {
         )
     }
 
-    /// The number of objects that changed their address since the start; at most `2^64 - 1`.
+    /// How many times a call moved an object to another's slot since the start; it stays at `2^64 - 1`.
     pub fn moves(&self) -> u64
         ensures { result ≡ self.now.moves }
     {
         self.records.counters.moves
     }
 
-    /// The words of the slots of the objects that changed their address; at most `2^64 - 1`.
+    /// The words of the slots of these moves; the sum stays at `2^64 - 1`.
     pub fn words(&self) -> u64
         ensures { result ≡ self.now.words }
     {
         self.records.counters.words
     }
 
-    /// The handle of an id; none if the id isn't live.
+    /// The handle of the object that an id names; none if the id isn't live.
     pub fn handle(&self, id: u16) -> Option<Handle>
         ensures found { number_of result ≡ map.get self.now.ids id }
         ensures within { AreWithin self.now.ids }

@@ -1,4 +1,5 @@
-//! Replies of one line.
+//! Replies of one line: the fixed texts that sessions of all modes use (`Short`), which results of a heap get
+//! which of them, and how a reply is put on a line.
 ghost use Rattle.std.specs.Prelude.{◌≡◌, ◌<◌, ◌≤◌, ◌++◌, ◌∷◌, [], Err, codes, length};
 ghost use Rattle.cf_io.specs.Lines.{line_room};
 ghost use Rattle.cf_session.specs.Apply.{outcome_in};
@@ -10,14 +11,15 @@ use crate::outcome::Outcome;
 use cf_base::{AccessFault, Refusal};
 use cf_io::{Line, push_text};
 
-/// A reply of one line: a short reply, or the outcome of a reply that is on the line already.
+/// A reply of one line: `Short`, a fixed text, which isn't on the line yet; or `Written`, the outcome of a reply
+/// that is on the line already.
 #[derive(Clone, Copy)]
 pub(crate) enum OneLine {
     Short(Short),
     Written(Outcome),
 }
 
-/// A reply that is one fixed text, in a session of any kind.
+/// A reply that is one fixed text; `text_line` has the text of each. Sessions of every mode use them.
 #[derive(Clone, Copy)]
 pub enum Short {
     Done,
@@ -35,7 +37,7 @@ pub enum Short {
 }
 
 impl Short {
-    /// The text, with its line feed.
+    /// The text of the reply, with a line feed at its end.
     pub(crate) fn text_line(self) -> &'static [u8]
         ensures text { result.now ≡ short_text self ++ 10 ∷ [] }
         ensures short { length result.now ≤ 20 }
@@ -56,7 +58,7 @@ impl Short {
         }
     }
 
-    /// The outcome that the first bytes of the text show.
+    /// The outcome of the reply: `Good` for `ok`, `Refused` for a text that begins with `refused`, else `Other`.
     pub(crate) fn outcome(self) -> Outcome
         ensures { result ≡ outcome_in (short_text self) }
     {
@@ -98,7 +100,7 @@ pub fn fault_reply(fault: AccessFault) -> Short
     }
 }
 
-/// Writes a short reply on an empty line, without a line feed, and returns its outcome.
+/// Appends the text of a short reply to an empty line, without a line feed, and returns its outcome.
 pub fn push_short(line: &mut Line, short: Short) -> Outcome
     requires { line.old ≡ [] }
     ensures text { line.new ≡ short_text short }
@@ -110,8 +112,8 @@ pub fn push_short(line: &mut Line, short: Short) -> Outcome
     short.outcome()
 }
 
-/// Writes the reply to a read on an empty line, `=` and the bytes in hexadecimal without a line feed,
-/// and returns its outcome.
+/// Appends the reply to a read to an empty line: `=` and the bytes in hexadecimal, without a line feed. Returns
+/// its outcome.
 pub fn push_bytes(line: &mut Line, bytes: &[u8]) -> Outcome
     requires empty { line.old ≡ [] }
     requires few { length bytes.now ≤ 4096 }

@@ -1,9 +1,9 @@
--- What the program prints on standard error.
+-- For `complaint` of `main.rt`: what the program prints on standard error.
 use Rattle.std.specs.Prelude.{ℕ, List, Option, Some, None, codes}
 use Rattle.cf_base.specs.declared.status.Status.{Status}
 use Rattle.cf_base.specs.declared.status.Status.TheVariants.{Done, Words, BadScript, ReadFault, WriteFault, OutOfMemory, TooLong, BadImage}
 
--- the line on standard error for a status; `None` for success
+-- the line at this status, without its line feed; `None` at `Done`, for which nothing is printed
 abbrev pub complaint_at : Status → Option (List ℕ)
 complaint_at Done = None
 complaint_at Words = Some (codes "cf_tool: bad words")

@@ -1,4 +1,5 @@
-//! The program: passes standard input and output and one closed manager of each kind to `cf_main`.
+//! The program: calls `cf_main` with the arguments, standard input and output, and one closed manager of each
+//! kind, and exits with the status that it returns.
 #![tactic(auto)]
 
 ghost use Rattle.std.specs.Prelude.{◌≡◌, option_map};
@@ -17,7 +18,7 @@ use std::process::ExitCode;
 use tlsf_heap::TlsfHeap;
 use top_call::cf_main;
 
-/// The line on standard error for a status; none for `Done`.
+/// Returns the line that the program prints on standard error at this status, `None` at `Done`.
 fn complaint(status: Status) -> Option<&'static str>
     ensures { option_map (λ text. text.now) result ≡ complaint_at status }
 {
@@ -33,8 +34,8 @@ fn complaint(status: Status) -> Option<&'static str>
     }
 }
 
-/// The arguments of the command line, the program's name first. Fails with `OutOfMemory`, or with `Words` if
-/// they can't be read.
+/// Returns the arguments of the command line, the program's name first. Fails with `OutOfMemory`, or with
+/// `Words` if they can't be read.
 fn command_words(rt: &HostRuntime) -> Result<Vec<String>, Status> {
     match env::args(rt) {
         Ok(args) => args.collect(rt.alloc()).map_err(|_| Status::OutOfMemory),
@@ -45,8 +46,8 @@ fn command_words(rt: &HostRuntime) -> Result<Vec<String>, Status> {
     }
 }
 
-/// Calls `cf_main` with standard input and output, and a closed manager of each kind. Fails if an
-/// allocation fails.
+/// Calls `cf_main` with these arguments, standard input and output, and a closed manager of each kind.
+/// Returns its status. Fails if the boxes of the managers can't be allocated.
 fn run_all(rt: &HostRuntime, words: &[String]) -> Result<Status, AllocError> {
     let alloc = rt.alloc();
     let mut managers = Vec::new(alloc);
@@ -67,6 +68,7 @@ fn run_all(rt: &HostRuntime, words: &[String]) -> Result<Status, AllocError> {
     Ok(cf_main(rt, alloc, words, &mut source, &mut sink, &mut managers))
 }
 
+/// Runs the tool, prints the line of the status on standard error, and exits with the status.
 fn main(rt: HostRuntime) -> ExitCode {
     let status = match command_words(&rt) {
         Ok(words) => run_all(&rt, words.as_slice()).unwrap_or(Status::OutOfMemory),

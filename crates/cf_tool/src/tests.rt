@@ -1,3 +1,5 @@
+//! Tests of the whole program: `cf_main` on sources and sinks in memory, in every mode. Here are the helpers
+//! that its modules share, and the tests of mode `run` with worked scripts.
 mod damage;
 mod faults;
 mod keeping;
@@ -27,7 +29,7 @@ use top_call::cf_main;
 /// How many bytes a sink of these tests can hold.
 const ROOM: usize = 65_536;
 
-/// The arguments of a command line, the program's name first.
+/// Returns the arguments of a command line: the program's name, then these words.
 fn command_line(rt: &HostRuntime, words: &[&str]) -> Result<Vec<String>, AllocError> {
     let alloc = rt.alloc();
     let mut line = Vec::new(alloc);
@@ -38,14 +40,14 @@ fn command_line(rt: &HostRuntime, words: &[&str]) -> Result<Vec<String>, AllocEr
     Ok(line)
 }
 
-/// A sink that takes every chunk whole.
+/// Returns a sink that takes every chunk whole.
 fn plain_sink(rt: &HostRuntime) -> Result<MemSink, Fail> {
     let alloc = rt.alloc();
     let sink = MemSink::new(alloc, ROOM, Vec::new(alloc), Vec::new(alloc)).map_err(|_| "room")?;
     Ok(sink)
 }
 
-/// A sink whose call number `call` fails. Every other call takes its chunk whole.
+/// Returns a sink whose call number `call`, from 0, fails. Every other call takes its chunk whole.
 fn failing_sink(rt: &HostRuntime, call: u64) -> Result<MemSink, Fail> {
     let alloc = rt.alloc();
     let fails = vec![in alloc; call; 1]?;
@@ -53,15 +55,15 @@ fn failing_sink(rt: &HostRuntime, call: u64) -> Result<MemSink, Fail> {
     Ok(sink)
 }
 
-/// What a call leaves: its status, and the number of live objects of each given manager, `None` if it is
-/// closed.
+/// What a call of `cf_main` leaves: its status, and for each manager passed in the number of live objects,
+/// `None` if it is closed.
 #[derive(Drop)]
 struct Left {
     status: Status,
     live: Vec<Option<u32>>,
 }
 
-/// Closed managers of these kinds, each in a box.
+/// Returns closed managers of these kinds, each in a box.
 fn closed_managers(rt: &HostRuntime, kinds: &[Kind]) -> Result<Vec<Boxed>, AllocError> {
     let alloc = rt.alloc();
     let mut managers = Vec::new(alloc);
@@ -89,7 +91,7 @@ fn answer_on<S: Source>(
     Ok(cf_main(rt, rt.alloc(), words.as_slice(), source, sink, managers))
 }
 
-/// Runs `cf_main` with these arguments on closed managers of these kinds.
+/// Runs `cf_main` with these arguments on closed managers of these kinds, and returns what it leaves.
 fn answer_with<S: Source>(
     rt: &HostRuntime,
     words: &[&str],
@@ -111,7 +113,7 @@ fn answer_with<S: Source>(
     Ok(Left { status, live })
 }
 
-/// What a call on closed managers leaves, and what was written.
+/// What a call of `cf_main` on closed managers leaves, and its sink with what was written.
 #[derive(Drop)]
 struct OutputOn {
     left: Left,
@@ -119,7 +121,8 @@ struct OutputOn {
 }
 
 impl OutputOn {
-    /// Whether the call returned this status, wrote this text, and left these numbers of live objects.
+    /// Returns whether the call returned this status, wrote this text, and left these numbers of live
+    /// objects.
     fn is(&self, status: Status, text: &[u8], live: &[Option<u32>]) -> bool {
         self.left.status == status
             && self.sink.written() == text
@@ -140,7 +143,8 @@ fn answered_on(
     Ok(OutputOn { left, sink })
 }
 
-/// Runs `cf_main` with these arguments on the managers that the program has, and returns the status.
+/// Runs `cf_main` with these arguments on a closed manager of each kind, as the program does. Returns the
+/// status.
 fn answer_by<S: Source>(
     rt: &HostRuntime,
     words: &[&str],
@@ -152,7 +156,7 @@ fn answer_by<S: Source>(
     Ok(left.status)
 }
 
-/// The outcome of a script: the status, and what was written.
+/// The outcome of a script: the status, and the sink with what was written.
 #[derive(Drop)]
 struct Output {
     status: Status,
@@ -160,19 +164,19 @@ struct Output {
 }
 
 impl Output {
-    /// Whether the call returned this status and wrote this text.
+    /// Returns whether the call returned this status and wrote this text.
     fn is(&self, status: Status, text: &[u8]) -> bool {
         self.status == status && self.sink.written() == text
     }
 }
 
-/// Runs `cf_main` with these arguments on this script and the managers that the program has.
+/// Runs `cf_main` with these arguments on this script and a closed manager of each kind.
 fn answered(rt: &HostRuntime, words: &[&str], script: &[u8]) -> Result<Output, Fail> {
     let source = SureSource::new(script.to_vec(rt.alloc())?);
     answered_from(rt, words, source)
 }
 
-/// Runs `cf_main` with these arguments on this source and the managers that the program has.
+/// Runs `cf_main` with these arguments on this source and a closed manager of each kind.
 fn answered_from<S: Source + Drop>(
     rt: &HostRuntime,
     words: &[&str],
@@ -184,7 +188,7 @@ fn answered_from<S: Source + Drop>(
     Ok(Output { status, sink })
 }
 
-/// Whether a script ends with this status and output.
+/// Returns whether a script ends with this status and this output.
 fn is_answered_so(
     rt: &HostRuntime,
     words: &[&str],
@@ -196,7 +200,8 @@ fn is_answered_so(
     Ok(got.is(status, text))
 }
 
-/// The name of the first row whose script has another outcome; empty if there is none.
+/// Returns the name of the first row whose script has another outcome than the row says; empty if there is
+/// none.
 fn first_other(rt: &HostRuntime, rows: &[Row]) -> Result<&'static str, Fail> {
     for row in rows {
         let (shows, script, status, text) = *row;
@@ -207,18 +212,20 @@ fn first_other(rt: &HostRuntime, rows: &[Row]) -> Result<&'static str, Fail> {
     Ok("")
 }
 
+/// Each script of `ROWS` ends with its status and prints its replies.
 #[test]
 fn each_script_prints_its_replies(rt: HostRuntime) -> Result<(), Fail> {
     assert_eq!(rt; first_other(&rt, ROWS.as_slice())?, "");
     Ok(())
 }
 
-/// The number between these two texts.
+/// Returns the number that is all of `text` between these two texts; `None` if there is something else.
 fn number_between(text: &[u8], before: &[u8], after: &[u8]) -> Option<u32> {
     number_of(text.strip_prefix(before)?.strip_suffix(after)?)
 }
 
-/// The number that a script prints between these two texts; `None` if it prints something else.
+/// Returns the number that a script prints between these two texts; `None` if it prints something else or
+/// does not end with `Done`.
 fn number_shown(
     rt: &HostRuntime,
     words: &[&str],
@@ -233,6 +240,7 @@ fn number_shown(
     Ok(number_between(got.sink.written(), before, after))
 }
 
+/// The count of steps that each script of `STEPS` prints is between its least and its greatest value.
 #[test]
 fn the_steps_of_a_call_are_within_its_bound(rt: HostRuntime) -> Result<(), Fail> {
     for (words, script, before, least, most, after) in STEPS {
@@ -242,7 +250,7 @@ fn the_steps_of_a_call_are_within_its_bound(rt: HostRuntime) -> Result<(), Fail>
     Ok(())
 }
 
-/// Whether a script has the same outcome from a source that returns one byte a call.
+/// Returns whether the script `MOVE` prints `MOVED` also from a source that returns one byte a call.
 fn moves_byte_by_byte(rt: &HostRuntime) -> Result<bool, Fail> {
     let alloc = rt.alloc();
     let cuts = vec![in alloc; 1; MOVE.len()]?;
@@ -251,19 +259,21 @@ fn moves_byte_by_byte(rt: &HostRuntime) -> Result<bool, Fail> {
     Ok(got.is(Status::Done, MOVED))
 }
 
+/// A source that returns one byte a call leads to the same output as one that returns all at once.
 #[test]
 fn the_same_bytes_are_answered_alike_however_they_are_cut(rt: HostRuntime) -> Result<(), Fail> {
     assert!(rt; moves_byte_by_byte(&rt)?);
     Ok(())
 }
 
-/// A comment line of `length` bytes, without its line feed.
+/// Returns a comment line of `length` bytes and its line feed.
 fn comment(rt: &HostRuntime, length: usize) -> Result<Vec<u8>, AllocError> {
     let mut line = vec![in rt.alloc(); b'#'; length]?;
     line.push(b'\n')?;
     Ok(line)
 }
 
+/// A comment line of 8,999 bytes is accepted, one of 9,000 is bad.
 #[test]
 fn a_line_has_at_most_8999_bytes(rt: HostRuntime) -> Result<(), Fail> {
     for (length, status, text) in [
@@ -276,7 +286,8 @@ fn a_line_has_at_most_8999_bytes(rt: HostRuntime) -> Result<(), Fail> {
     Ok(())
 }
 
-/// Whether a comment line that is repeated without end gets the status `TooLong`, and nothing is printed.
+/// Returns whether a source that repeats a comment line without end gets the status `TooLong`, and nothing is
+/// printed.
 fn is_too_long(rt: &HostRuntime) -> Result<bool, Fail> {
     let mut line = vec![in rt.alloc(); b'#'; 8_999]?;
     line.push(b'\n')?;
@@ -290,7 +301,7 @@ fn a_script_with_no_end_is_too_long(rt: HostRuntime) -> Result<(), Fail> {
     Ok(())
 }
 
-/// Appends the line that makes an object of 24 bytes.
+/// Appends the line `m ID 24`, which makes an object of 24 bytes with this id.
 fn push_small(script: &mut Vec<u8>, id: u64) -> Result<(), Fail> {
     let mut line = Line::new();
     line.push(b"m ").map_err(|_| "full")?;
@@ -300,6 +311,7 @@ fn push_small(script: &mut Vec<u8>, id: u64) -> Result<(), Fail> {
     Ok(())
 }
 
+/// In a heap of one page of the largest size, 4,096 objects in slots of 4 words are made, and one more is refused.
 #[test]
 fn a_page_of_131072_bytes_has_4096_slots(rt: HostRuntime) -> Result<(), Fail> {
     let mut script = b"heap 1 131072 1 8192\n".to_vec(rt.alloc())?;
@@ -322,6 +334,7 @@ fn a_page_of_131072_bytes_has_4096_slots(rt: HostRuntime) -> Result<(), Fail> {
     Ok(())
 }
 
+/// Arguments that are rejected end with `Words`, and nothing is printed.
 #[test]
 fn words_that_are_not_taken_read_nothing(rt: HostRuntime) -> Result<(), Fail> {
     let refused: [&[&str]; 6] = [

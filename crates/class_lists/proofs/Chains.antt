@@ -1,4 +1,4 @@
--- One ring, after a write to other nodes, a push and an unlinking.
+-- For `push` and `unlink`: one ring after a write to other nodes, after a node joins it, and after one leaves it.
 use Rattle.std.proofs.Common.{◌≡◌, ◌≢◌, ℕ, ◌<◌, List, [], ◌∷◌, length, get_or, set, arith, refl, sym, ◌∙◌, ap, inl, inr}
 use Rattle.std.specs.Prelude.{nat_eq}
 use Rattle.std.specs.List.{Contains, IsDistinct}

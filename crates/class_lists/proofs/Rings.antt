@@ -1,4 +1,4 @@
--- All rings together, after a push to one and an unlinking from one.
+-- For `push` and `unlink`: all rings together, after a page joins one or leaves one.
 use Rattle.std.proofs.Common.{◌≡◌, ◌≢◌, ℕ, zero, suc, ◌+◌, ◌-◌, ◌<◌, List, [], ◌∷◌, length, get_or, set, arith, refl, sym, ◌∙◌, ap, inl, inr}
 use Rattle.std.specs.Prelude.{nat_eq}
 use Rattle.std.specs.List.{Contains, IsDistinct}

@@ -1,4 +1,4 @@
--- The value that the fields represent, and what the calls do to it.
+-- For the calls of `ClassLists`: the lists that its fields represent, and what each call does to them.
 use Rattle.std.proofs.Common.{◌≡◌, ◌≢◌, ℕ, zero, suc, ◌+◌, ◌-◌, ◌*◌, ◌/◌, ◌%◌, ◌<◌, ◌≤◌, List, [], ◌∷◌, Some, None, length, get_or, set, replicate, arith, refl}
 use Rattle.std.proofs.Common.{sym, ◌∙◌, ap, subst, inl, inr, zero-add}
 use Rattle.std.specs.Prelude.{◌^◌, slice_get}

@@ -1,9 +1,10 @@
--- How the lists are linked: as rings of nodes, each through a node of its own after the nodes of the pages. No public clause cites this module.
+-- How the lists are linked: as rings of nodes. Each page is a node; after the pages each list has a node of its own, through which its ring goes. No public
+-- clause cites this module.
 use Rattle.std.specs.Prelude.{◌≡◌, ℕ, zero, suc, ◌+◌, ◌*◌, ◌/◌, ◌^◌, ◌<◌, List, [], ◌∷◌, length, slice_index, slice_index_or, nat_eq}
 use Rattle.std.specs.List.{Contains, IsDistinct}
 use Rattle.class_lists.specs.PageLists.{PageLists}
 
--- the first `count` nodes from `node` on, following `next`
+-- the first `count` nodes from `node` on, each the `next` of the one before
 abbrev pub chain : List ℕ → ℕ → ℕ → List ℕ
 chain next zero node = []
 chain next (suc count) node = node ∷ chain next count (slice_index next node)
@@ -17,30 +18,31 @@ chains next node (len ∷ lens) = chain next len (slice_index next node) ∷ cha
 abbrev pub lists_of : List ℕ → List ℕ → ℕ → PageLists
 lists_of next lens pages = record { pages = pages; classes = length lens / 2; lists = chains next pages lens }
 
--- from `start` the links lead through the list to `end` by `next`, and back by `previous`
+-- From node `start` the links `next` lead through the nodes of the list to node `end`, and the links `previous` lead back.
 abbrev pub IsLinked : List ℕ → List ℕ → ℕ → List ℕ → ℕ → Type 0
 IsLinked next previous start [] end =
     (slice_index next start ≡ end) × (slice_index previous end ≡ start)
 IsLinked next previous start (node ∷ nodes) end =
     (slice_index next start ≡ node) × (slice_index previous node ≡ start) × IsLinked next previous node nodes end
 
--- list k of all lists
+-- list number k of all lists; empty if there is no such list
 abbrev pub list_at : List (List ℕ) → ℕ → List ℕ
 list_at lists k = slice_index_or lists k []
 
--- each list's ring starts and ends at the list's own node
+-- The links represent these lists: the ring of each begins and ends at the list's own node, and `lens` has its length.
 pub record AreRings (next previous lens : List ℕ) (pages : ℕ) (lists : List (List ℕ)) : Type 0 where
   pub as_many : length lists ≡ length lens
   pub linked : (k : ℕ) → k < length lens → IsLinked next previous (pages + k) (list_at lists k) (pages + k)
   pub counted : (k : ℕ) → k < length lens → slice_index lens k ≡ length (list_at lists k)
 
--- the lists' pages are in range, and no page is in two lists, or twice in one
+-- each page of a list is one of the `pages` pages, and no page is in two lists, or twice in one
 pub record HoldPagesOnce (pages : ℕ) (lists : List (List ℕ)) : Type 0 where
   pub within : (k page : ℕ) → Contains (list_at lists k) page → page < pages
   pub distinct : (k : ℕ) → IsDistinct nat_eq (list_at lists k)
   pub once : (j k page : ℕ) → Contains (list_at lists j) page → Contains (list_at lists k) page → j ≡ k
 
--- there is a node for each page and each list, and there are two lists for each class; the lists are rings, and no page is listed twice
+-- The invariant of `ClassLists`: there is a node for each page and each list, and there are two lists for each class; the links are rings, and no page is
+-- listed twice.
 pub record IsValid (next previous lens : List ℕ) (pages : ℕ) : Type 0 where
   pub nodes : pages + length lens ≡ length next
   pub backed : length previous ≡ length next

@@ -1,4 +1,4 @@
-//! The number of pages in each list, as plain counts, two for each class.
+//! How many pages each list has, as plain counts, two for each class.
 ghost use Rattle.std.specs.Prelude.{◌≡◌, ◌+◌, ◌-◌, ◌*◌, ◌^◌, ◌<◌, IfOk, length, replicate, slice_index, slice_set};
 ghost use Rattle.class_lists.specs.PageLists.{list_number};
 
@@ -6,11 +6,13 @@ use crate::Which;
 use std::alloc::{AllocError, Global};
 use std::marker::Model;
 
-/// The lengths of the lists, by the number of a list: one array for the lists of full pages, one
-/// for the others.
+/// The lengths of the lists: for each class that of its list of full pages, and that of its list of
+/// partly full ones. Contracts see one list of counts, by the number of a list.
 #[derive(Drop)]
 pub(crate) struct Counts {
+    /// By class, the number of full pages.
     full: Vec<u32>,
+    /// By class, the number of partly full pages.
     not_full: Vec<u32>,
 }
 
@@ -26,7 +28,7 @@ impl Model for Counts {
 }
 
 impl Counts {
-    /// Counts of 0 for the two lists of each of `classes` classes.
+    /// Makes counts of 0 for the two lists of each of `classes` classes.
     pub(crate) fn new(alloc: Global, classes: u32) -> Result<Counts, AllocError>
         ensures { IfOk result (λ counts. counts ≡ replicate (2 * classes) 0) }
     {
@@ -36,7 +38,7 @@ impl Counts {
         })
     }
 
-    /// The number of pages in a list.
+    /// How many pages are in the list `which` of class `c`.
     pub(crate) fn of(&self, c: u32, which: Which) -> u32
         requires { list_number c which < length self.now }
         ensures { result ≡ slice_index self.now (list_number c which) }
@@ -47,7 +49,7 @@ impl Counts {
         }
     }
 
-    /// Sets the length of a list to `len`.
+    /// Sets the count of the list `which` of class `c` to `len` pages.
     pub(crate) fn put(&mut self, c: u32, which: Which, len: u32)
         requires { list_number c which < length self.old }
         ensures { self.new ≡ slice_set self.old (list_number c which) len }

@@ -1,5 +1,5 @@
-//! The full pages and the partly full pages of each class, in linked lists. Adding a page costs
-//! four steps, and so does removing one.
+//! The full pages and the partly full pages of each class, in linked lists (`ClassLists`). Adding a
+//! page to a list costs four steps, and so does removing one.
 #![tactic(auto)]
 
 ghost use Rattle.std.specs.Prelude.{◌≡◌, ◌+◌, ◌*◌, ◌<◌, ◌^◌, ◌↔◌, [], ◌∷◌, IfOk, IfSome, IsNone, length, slice_get, slice_set};
@@ -17,28 +17,34 @@ use std::alloc::{AllocError, Global};
 use std::marker::Model;
 use step_ledger::Steps;
 
-/// Which of the two lists of a class.
+/// Says which of the two lists of a class is meant.
 #[derive(Clone, Copy, Debug, PartialEq, Eq)]
 pub enum Which {
-    /// Pages without a free slot.
+    /// The pages without a free slot.
     Full,
-    /// Partly full pages.
+    /// The partly full pages.
     NotFull,
 }
 
-/// One list of pages for each class and `Which`. No page is in two lists, or twice in one.
+/// Two lists of pages for each class, one for each `Which`. No page is in two lists, or twice in
+/// one.
 #[derive(Drop)]
 pub struct ClassLists {
     // Each list is a ring through a node of its own, after the nodes of the pages.
     links: Links,
+    /// How many pages each list has.
     lens: Counts,
+    /// How many pages there are, in lists or not.
     pages: u32,
 }
 
-/// For each node the next and the previous one in its ring.
+/// For each node the next and the previous one in its ring. Each page has a node, and after these
+/// each list has one.
 #[derive(Drop)]
 struct Links {
+    /// By node, the next node of its ring.
     next: Cells<u32>,
+    /// By node, the previous node of its ring.
     previous: Cells<u32>,
 }
 
@@ -57,9 +63,9 @@ impl Model for ClassLists {
 }
 
 impl ClassLists {
-    /// The lists of `classes` classes for `pages` pages, all empty. Each page and each list has a
-    /// node with a number of 32 bits; if there would be more nodes, the call fails with
-    /// `OutOfMemory`.
+    /// Makes the lists of `classes` classes for `pages` pages, all empty. Fails with `OutOfMemory`
+    /// if an allocation fails, or if pages and lists together are `2^32` or more, since each has a
+    /// number of 32 bits as a node.
     pub fn new(alloc: Global, classes: u32, pages: u32) -> Result<ClassLists, OutOfMemory>
         ensures lists { IfOk result (λ lists. lists ≡ empty_lists classes pages) }
         ensures empty { IfOk result AreEmpty }
@@ -77,7 +83,8 @@ impl ClassLists {
         Ok(ClassLists { links, lens, pages })
     }
 
-    /// The first page of a list; none if the list is empty. Costs one step.
+    /// Returns the first page of the list `which` of class `c`; none if the list is empty. Costs
+    /// one step.
     pub fn front(&self, c: u32, which: Which, steps: &mut Steps) -> Option<u32>
         requires class { c < self.now.classes }
         ensures front { result ≡ slice_get (pages_in self.now c which) 0 }
@@ -95,7 +102,7 @@ impl ClassLists {
         }
     }
 
-    /// The number of pages in a list.
+    /// How many pages are in the list `which` of class `c`.
     pub fn len(&self, c: u32, which: Which) -> u32
         requires class { c < self.now.classes }
         ensures len { result ≡ length (pages_in self.now c which) }
@@ -104,7 +111,8 @@ impl ClassLists {
         self.lens.of(c, which)
     }
 
-    /// Puts a page, which must be in no list, at the head of this list. Costs four steps.
+    /// Puts `page`, which must be in no list, at the head of the list `which` of class `c`. Costs
+    /// four steps.
     pub fn push(&mut self, c: u32, which: Which, page: u32, steps: &mut Steps)
         requires class { c < self.old.classes }
         requires page { page < self.old.pages }
@@ -129,7 +137,7 @@ impl ClassLists {
         self.lens.put(c, which, len + 1);
     }
 
-    /// Removes a page from its list. Costs four steps.
+    /// Removes `page` from the list `which` of class `c`, in which it must be. Costs four steps.
     pub fn unlink(&mut self, c: u32, which: Which, page: u32, steps: &mut Steps)
         requires class { c < self.old.classes }
         requires listed { Contains (pages_in self.old c which) page }
@@ -151,7 +159,7 @@ impl ClassLists {
 }
 
 impl Links {
-    /// `nodes` nodes, each a ring by itself.
+    /// Makes `nodes` nodes, each a ring by itself.
     fn new(alloc: Global, nodes: u32) -> Result<Links, AllocError>
         ensures next { IfOk result (λ links. links.next ≡ range_with_len 0 nodes) }
         ensures previous { IfOk result (λ links. links.previous ≡ range_with_len 0 nodes) }
@@ -163,7 +171,7 @@ impl Links {
     }
 }
 
-/// The number of a class's list among all lists.
+/// The number of the list `which` of class `c` among all lists.
 fn number_of(c: u32, which: Which) -> u32
     requires { 2 * c + 1 < 2 ^ 32 }
     ensures { result ≡ list_number c which }

@@ -1,4 +1,4 @@
-//! The fields of the lists.
+//! A test of the fields of `ClassLists`.
 use super::{ClassLists, Counts, Links, Which};
 use counted_cells::Cells;
 use std::test::Fail;

@@ -1,4 +1,4 @@
--- Facts about `clap`'s matches that the reading of arguments uses.
+-- For `u64_in`, `quantum_in` and `read_words`: the values and the errors that `clap` returns are those of the definitions.
 use Rattle.std.proofs.Common.{◌≡◌, ◌≤◌, ◌<◌, ◌^◌, ℕ, Bool, true, false, List, refl, arith, Option, Some, None, ◌≢◌, [], ◌∷◌, inl, inr}
 use Rattle.std.specs.Prelude.{Result, Ok, Err, unwrap_or}
 use Rattle.std.specs.Str.Parse.{ParsesUnsigned, digits_value, without_leading_plus}
@@ -28,7 +28,7 @@ text_number G only t None read = go (accepts false any_u64 t) refl
         absurd (only t (Err read.0) read.1 (passes.0, passes.1))
     go false e = rw e refl
 
--- `u64_in` is the number of a text that `clap` accepted
+-- the number that `clap` returns for an option with this text, or for one without, is that of `u64_in`
 pub number_of_text : {E : Type 0} (G : List ℕ → Result ℕ E → Type 0) → ((u : List ℕ) (x : Result ℕ E) → G u x → ParsesUnsigned 64 10 u x)
     → (o : Option Text) (r : Option ℕ) → (o ≡ None → r ≡ None) → ((t : Text) → o ≡ Some t → ReadsOne G t r) → unwrap_or r 0 ≡ u64_in o
 number_of_text G only None r none some = rw (none refl) refl
@@ -72,7 +72,7 @@ cf_is_simple app h = rw h.app_is (simple_shape h.modes h.managers)
 pub cf_is_free : (app : _) → IsCfApp app → is_simple_and_free app ≡ true
 cf_is_free app h = rw h.app_is (free_shape h.modes h.managers)
 
--- an error that isn't out of memory has a kind that was found
+-- if an error of `clap` isn't out of memory, it is a fault that was found in the arguments
 pub another_kind_is_found : (kinds : Kinds) (e : Error) → HasKind kinds e → (kind_of e ≡ kind.OutOfMemory → ⊥) → kinds ≢ []
 another_kind_is_found [] e (inl wanting) other none = other wanting
 another_kind_is_found [] e (inr among) other none = among

@@ -1,4 +1,4 @@
--- The addresses of an argument's names don't change the faults that are found in the arguments.
+-- For the law `all_such_commands_read_alike`: at whatever addresses an argument's names are, `clap` finds the same faults in the arguments.
 use Rattle.std.proofs.Common.{◌≡◌, ◌∙◌, ◌&&◌, ℕ, Bool, zero, suc, not, List, [], ◌∷◌, map, length, refl, ap, ap₂, Option, Some, None, is_some}
 use Rattle.std.proofs.Common.{if◌then◌else◌}
 use Rattle.std.specs.List.{list_any}
@@ -129,7 +129,7 @@ module _ (s : Shape) where
       (not has && s.subcommand_required) (not (s.subcommand_negates_reqs && has) && x))
       (list_any-rebased (λ (a : Rule). a.required && not (is_given a.id rows)) s.rules)
 
--- the faults that are found after the walk
+-- the faults that `clap` finds after its walk over the arguments
 abbrev end_fault : Shape → Bool → Kinds → Held → Kinds
 end_fault s has below h = or_else below (or_else (settle_fault s.rules s.args_override_self h)
     (or_else (defaults_fault (settled s.rules h).rows s.rules) (check_fault s (finished s.rules h) has)))
@@ -146,7 +146,7 @@ level_fault-rebased s names h words has below = ap₂ or_else (walk_fault-rebase
     (end_fault-rebased s has below (walk (map rebased s.rules) names h words).held
     ∙ ap (λ (w : Walk). end_fault s has below w.held) (walk-rebased s.rules names (walk_from h) words))
 
--- the command, with the names of its own arguments at address 0
+-- the command a, with the names that its arguments may have as values at address 0
 abbrev pub rebased_app : App → App
 rebased_app a = record a { top = rebased_shape a.top }
 

@@ -1,4 +1,4 @@
--- Examples of arguments, read by the command whose names are at address 0.
+-- For the laws that are examples: what the command whose names are at address 0 finds in these arguments.
 use Rattle.std.proofs.Common.{◌≡◌, List, [], ◌∷◌, refl, codes}
 use Rattle.cf_base.specs.Kind.{kind_name}
 use Rattle.cf_base.specs.declared.kind.Kind.{Kind}

@@ -1,4 +1,4 @@
--- Every command with our names reads arguments as the command whose names are at address 0 does.
+-- For the laws of `laws`: every command with our names reads arguments as the command whose names are at address 0 does.
 use Rattle.std.proofs.Common.{◌≡◌, ◌∙◌, ◌⊎◌, List, map, refl, sym, ap, ap₂, inl, inr}
 use Rattle.std.specs.Prelude.{Result, Ok, Err}
 use Rattle.clap.specs.Simple.{argument_words, built, names_of}

@@ -1,4 +1,4 @@
--- The addresses of an argument's names don't change what `clap` reads: its rule reads as the same rule with these names at address 0.
+-- For the law `all_such_commands_read_alike`: the rule of an argument reads values as the same rule with its names at address 0 does.
 use Rattle.std.proofs.Common.{◌≡◌, ◌∙◌, ◌||◌, Bool, List, [], ◌∷◌, map, refl, sym, ap, ap₂, Option, Some, None, if◌then◌else◌}
 use Rattle.std.specs.Borrow.{Bor}
 use Rattle.std.specs.List.{fold, list_any}
@@ -16,15 +16,16 @@ use Rattle.clap.specs.Walk.{Row, Rule, Text, action_of, default_rows, has_row, i
 use Rattle.clap.specs.Walk.{with_default}
 use Rattle.clap.proofs.WalkLemmas.{list_any-map}
 
--- a text at address 0
+-- a reference to the text t, at address 0
 abbrev pub at_zero : Text → Bor Text
 at_zero t = record { ref_ptr = (0, 0); now = t }
 
+-- the parser, with its names at address 0
 abbrev pub rebased_parser : ValueParser → ValueParser
 rebased_parser (vp.Names names) = vp.Names (record { ref_ptr = (0, 0); now = map at_zero (texts names.now) })
 rebased_parser p = p
 
--- the rule, with the names of its parser at address 0
+-- the rule a, with the names of its parser at address 0
 abbrev pub rebased : Rule → Rule
 rebased a = record a { parser = option_map rebased_parser a.parser }
 

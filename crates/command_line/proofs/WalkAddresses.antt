@@ -1,4 +1,4 @@
--- The addresses of an argument's names don't change the walk over the arguments.
+-- For the law `all_such_commands_read_alike`: at whatever addresses an argument's names are, `clap` finds the same values in its walk over the arguments.
 use Rattle.std.proofs.Common.{◌≡◌, ◌∙◌, ◌&&◌, ◌||◌, ℕ, Bool, zero, suc, false, not, List, [], ◌∷◌, map, length, refl, sym, ap, ap₂, Option, Some, None}
 use Rattle.std.proofs.Common.{is_some, if◌then◌else◌}
 use Rattle.std.specs.List.{fold}
@@ -15,7 +15,7 @@ use Rattle.clap.specs.Walk.{walked, walked_from, with_default, word_met}
 use Rattle.clap.proofs.WalkLemmas.{find-map}
 use Rattle.command_line.proofs.RuleAddresses.{defaults-rebased, rebased, used-rebased}
 
--- the walk after the positional argument got its word
+-- the walk over the arguments after a positional argument, whose rule is a, got its word
 abbrev placed : Rule → Walk → Held → Walk
 placed a w h = record {
   held = h;
@@ -162,7 +162,7 @@ module _ (c : List Rule) where
   pub finished-rebased : (h : Held) → finished (map rebased c) h ≡ finished c h
   finished-rebased h = defaults-rebased c (settled (map rebased c) h).rows ∙ ap (λ rows. fold with_default rows c) (settled_rows-rebased h.pending h.rows)
 
-  -- the rows of the matches
+  -- the rows that `clap` finds: for each argument its name and its texts
   pub rows-rebased : (names : Names) (words : List Text) → rows_after (map rebased c) names words ≡ rows_after c names words
   rows-rebased names words = finished-rebased (walk (map rebased c) names nothing_held words).held
       ∙ ap (λ (w : Walk). finished c w.held) (walk-rebased names (walk_from nothing_held) words)

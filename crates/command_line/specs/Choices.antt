@@ -1,4 +1,5 @@
--- The choice that arguments make, by `clap`'s definitions of matches.
+-- Which choice the arguments of the command line make, and when they are refused, by the definitions of the crate `clap`. In this file `words` are the
+-- arguments; the first is the program's name.
 use Rattle.std.specs.Prelude.{◌≡◌, ◌≢◌, ⊤, ℕ, List, [], Option, Some, None, Result, Ok, Err, codes, false, if◌then◌else◌}
 use Rattle.std.specs.Str.{bytes_eq}
 use Rattle.std.specs.Str.Parse.{digits_value, without_leading_plus}
@@ -14,7 +15,7 @@ use Rattle.command_line.specs.declared.choice.Mode.TheVariants.{Run, Compare, Be
 use Rattle.command_line.specs.declared.choice.WordsFault.{WordsFault}
 use Rattle.command_line.specs.declared.choice.WordsFault.TheVariants.{Refused, OutOfMemory}
 
--- the mode with this name; the command accepts no name but those of the modes
+-- the mode with this name; `Run` for any other name or none, which the command never lets through
 abbrev pub mode_named : Option Text → Mode
 mode_named None = Run
 mode_named (Some name) = if bytes_eq name (mode_name Compare) then Compare
@@ -24,23 +25,23 @@ mode_named (Some name) = if bytes_eq name (mode_name Compare) then Compare
     else (if bytes_eq name (mode_name Load) then Load
     else (if bytes_eq name (mode_name Slice) then Slice else (if bytes_eq name (mode_name Quota) then Quota else Run))))))
 
--- the kind with this name; the command accepts no name but those of the kinds
+-- the kind with this name; `Moving` for any other name or none, which the command never lets through
 abbrev pub kind_named : Option Text → Kind
 kind_named None = Moving
 kind_named (Some name) = if bytes_eq name (kind_name NonMoving) then NonMoving
     else (if bytes_eq name (kind_name Tlsf) then Tlsf else (if bytes_eq name (kind_name HalfFit) then HalfFit else Moving))
 
--- the number of a text, as `clap` reads a u64; the command accepts no other text
+-- the number that a text spells, as `clap` reads a number of 64 bits; 0 for any other text or none, which the command never lets through
 abbrev pub u64_in : Option Text → ℕ
 u64_in None = 0
 u64_in (Some text) = if accepts false any_u64 text then digits_value 10 (without_leading_plus text) else 0
 
--- the quantum of a text; the command accepts no other text
+-- the quantum that a text spells, from 1 to 16,384; 16 for any other text or none, which the command never lets through
 abbrev pub quantum_in : Option Text → ℕ
 quantum_in None = 16
 quantum_in (Some text) = if accepts false quantum_parser text then digits_value 10 (without_leading_plus text) else 16
 
--- the choice that the rows of the matches make
+-- the choice that the rows make: what `clap` found, a row for each argument with its name and its texts
 abbrev pub choice_of : List Row → Choice
 choice_of rows = record {
   mode = mode_named (first_of (codes "mode") rows);
@@ -50,7 +51,8 @@ choice_of rows = record {
   quantum = quantum_in (one_of (codes "quantum") rows);
 }
 
--- the command finds no fault in the arguments; here and below it may have any references to its names, since all such commands read alike
+-- The command `app` finds no fault in the arguments. Here and below `app` is any command with our arguments; they differ only in the addresses of names,
+-- and all read alike.
 pub record AreAccepted (words : List Text) : Type 0 where
   pub app : App
   pub is_app : IsCfApp app
@@ -69,7 +71,7 @@ pub record AreRefused (words : List Text) : Type 0 where
   pub is_app : IsCfApp app
   pub refused : fault_of app words ≢ []
 
--- the arguments make this choice, or are refused; `OutOfMemory` may replace either
+-- what `read_words` may return for these arguments: the choice that they make; `Refused` if they are refused; or, for any arguments, `OutOfMemory`
 abbrev pub ReadsAs : List Text → Result Choice WordsFault → Type 0
 ReadsAs words (Ok choice) = Chooses words choice
 ReadsAs words (Err Refused) = AreRefused words

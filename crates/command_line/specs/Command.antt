@@ -1,4 +1,4 @@
--- The command line of the tool, as `clap` reads it.
+-- The command of `clap` that reads the arguments of `cf_tool`: a rule for each argument, which says what values it may have and which is its default.
 use Rattle.std.specs.Prelude.{◌≡◌, List, [], ◌∷◌, Some, map, codes}
 use Rattle.std.specs.Borrow.{Bor}
 use Rattle.cf_base.specs.Kind.{kind_name}
@@ -13,7 +13,7 @@ use Rattle.command_line.specs.declared.choice.Mode.TheVariants.{Run, Compare, Be
 abbrev pub NameList : Type 0
 NameList = Bor (List (Bor Text))
 
--- the names of a list, as texts
+-- the names in a list that `clap` keeps, as texts
 abbrev pub texts_of : NameList → List Text
 texts_of names = map (λ name. name.now) names.now
 
@@ -28,53 +28,54 @@ mode_name Load = codes "load"
 mode_name Slice = codes "slice"
 mode_name Quota = codes "quota"
 
--- the names of the modes
+-- the names of all modes on the command line
 abbrev pub mode_names : List Text
 mode_names = map mode_name (Run ∷ Compare ∷ Bench ∷ Large ∷ Save ∷ Load ∷ Slice ∷ Quota ∷ [])
 
--- the names of the kinds
+-- the names of all kinds of managers on the command line
 abbrev pub manager_names : List Text
 manager_names = kind_name Moving ∷ kind_name NonMoving ∷ kind_name Tlsf ∷ kind_name HalfFit ∷ []
 
--- the positional MODE
+-- the argument MODE: one of these names, by default `run`
 abbrev pub mode_rule : NameList → Rule
 mode_rule names = record (new_rule (codes "mode")) { parser = Some (Names names); defaults = mode_name Run ∷ [] }
 
--- an option with this name, this parser of its value and this default
+-- an option with this name, of which the parser reads the value, and with the default `given`
 abbrev pub option_rule : Text → ValueParser → Text → Rule
 option_rule name parser given = record (new_rule name) { long = Some name; parser = Some parser; defaults = given ∷ [] }
 
--- the option `--manager`
+-- the option `--manager`: one of these names, by default `cf`
 abbrev pub manager_rule : NameList → Rule
 manager_rule names = option_rule (codes "manager") (Names names) (kind_name Moving)
 
--- a whole number up to 2^64 - 1
+-- the parser of a whole number up to 2^64 - 1
 abbrev pub any_u64 : ValueParser
 any_u64 = Unsigned 0 18446744073709551615
 
--- the option `--seed`
+-- the option `--seed`: any number of 64 bits, by default 0
 abbrev pub seed_rule : Rule
 seed_rule = option_rule (codes "seed") any_u64 (codes "0")
 
--- the option `--count`: a whole number up to 1,000,000
+-- the option `--count`: a whole number up to 1,000,000, by default 1000
 abbrev pub count_rule : Rule
 count_rule = option_rule (codes "count") (Unsigned 0 1000000) (codes "1000")
 
--- a whole number from 1 to 16,384
+-- the parser of a whole number from 1 to 16,384
 abbrev pub quantum_parser : ValueParser
 quantum_parser = Unsigned 1 16384
 
--- the option `--quantum`
+-- the option `--quantum`: a whole number from 1 to 16,384, by default 16
 abbrev pub quantum_rule : Rule
 quantum_rule = option_rule (codes "quantum") quantum_parser (codes "16")
 
--- the command, with these references to the names
+-- the command with our five arguments, if `modes` and `managers` are its references to the names
 abbrev pub cf_app : NameList → NameList → App
 cf_app modes managers =
     with_rule (with_rule (with_rule (with_rule (with_rule (new_app (codes "cf_tool")) (mode_rule modes)) (manager_rule managers)) seed_rule) count_rule)
     quantum_rule
 
--- the command, with any references to its names: a rule keeps the references themselves, and the logic doesn't know the address of a static
+-- The command is ours, with any references to its names that show the right texts. A rule keeps the references themselves, and the logic doesn't know the
+-- address of a static.
 pub record IsCfApp (app : App) : Type 0 where
   pub modes : NameList
   pub managers : NameList

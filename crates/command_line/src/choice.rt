@@ -1,4 +1,4 @@
-//! What the arguments of the command line choose.
+//! The types of what the arguments of the command line choose, and of why they choose nothing.
 
 use cf_base::Kind;
 
@@ -9,7 +9,7 @@ pub enum Mode {
     Run,
     /// Runs a script on several managers, side by side.
     Compare,
-    /// Runs a generated script on one manager, and prints counts.
+    /// Runs a generated script on one manager, and prints counts; no script is read.
     Bench,
     /// Runs a script whose objects may be larger than a page.
     Large,
@@ -23,21 +23,25 @@ pub enum Mode {
     Quota,
 }
 
-/// The choice that the arguments make: mode, kind of manager, seed and number of commands of a
-/// generated script, and the most words that a slice moves or clears.
+/// The choice that the arguments make. The seed and the count are for mode `bench`, the quantum for mode
+/// `slice`.
 #[derive(Clone, Copy, Debug, PartialEq, Eq)]
 pub struct Choice {
     pub mode: Mode,
+    /// The kind of the manager.
     pub kind: Kind,
+    /// The seed of the generated script.
     pub seed: u64,
+    /// The number of commands of the generated script.
     pub count: u64,
+    /// The most words that a slice clears or moves.
     pub quantum: u32,
 }
 
 /// Why the arguments make no choice.
 #[derive(Clone, Copy, Debug, PartialEq, Eq)]
 pub enum WordsFault {
-    /// `clap` refuses the arguments; a request for help is refused too.
+    /// `clap` finds a fault in the arguments, or they are a request for help.
     Refused,
     /// Out of memory.
     OutOfMemory,

@@ -1,4 +1,5 @@
-//! The command that reads the arguments, and the rules of its arguments.
+//! Builds the command of `clap` that reads the arguments: for each argument its name, the values that it may
+//! have, and its default.
 ghost use Rattle.std.specs.Prelude.{◌≡◌, IfOk, false};
 ghost use Rattle.clap.specs.Words.{app_of, rule_of};
 ghost use Rattle.command_line.specs.Command.{IsCfApp, count_rule, manager_rule, mode_rule, quantum_rule, seed_rule};
@@ -7,12 +8,12 @@ ghost use Rattle.command_line.specs.Command.{manager_names, mode_names, texts_of
 use clap::{Arg, Command, value_parser};
 use std::alloc::{AllocError, Global};
 
-/// The names of the modes.
+/// The names of the modes on the command line.
 static MODES: [&str; 8] = [
     "run", "compare", "bench", "large", "save", "load", "slice", "quota",
 ];
 
-/// The names of the kinds of managers.
+/// The names of the kinds of managers on the command line.
 static MANAGERS: [&str; 4] = ["cf", "nm", "tlsf", "half"];
 
 /// The names of the modes, as a slice.
@@ -29,7 +30,7 @@ fn managers<'a>() -> &'a [&'a str]
     MANAGERS.as_slice()
 }
 
-/// The argument MODE, by position: one of these names, by default `run`.
+/// The argument MODE, which has no option name before it: one of `names`, by default `run`.
 fn mode_arg<'a>(alloc: Global, names: &'a [&'a str]) -> Arg<'a>
     ensures rule { rule_of result ≡ mode_rule names.entry }
     ensures local { result.global ≡ false }
@@ -39,7 +40,7 @@ fn mode_arg<'a>(alloc: Global, names: &'a [&'a str]) -> Arg<'a>
         .default_value("run")
 }
 
-/// The option `--manager`: one of these names, by default `cf`.
+/// The option `--manager`: one of `names`, by default `cf`.
 fn manager_arg<'a>(alloc: Global, names: &'a [&'a str]) -> Arg<'a>
     ensures rule { rule_of result ≡ manager_rule names.entry }
     ensures local { result.global ≡ false }
@@ -50,7 +51,7 @@ fn manager_arg<'a>(alloc: Global, names: &'a [&'a str]) -> Arg<'a>
         .default_value("cf")
 }
 
-/// The option `--seed`: a u64, by default 0.
+/// The option `--seed`: a number of 64 bits, by default 0.
 fn seed_arg<'a>(alloc: Global) -> Arg<'a>
     ensures rule { rule_of result ≡ seed_rule }
     ensures local { result.global ≡ false }
@@ -61,7 +62,7 @@ fn seed_arg<'a>(alloc: Global) -> Arg<'a>
         .default_value("0")
 }
 
-/// The option `--count`: at most 1,000,000 commands, by default 1000.
+/// The option `--count`, a number of commands: at most 1,000,000, by default 1000.
 fn count_arg<'a>(alloc: Global) -> Arg<'a>
     ensures rule { rule_of result ≡ count_rule }
     ensures local { result.global ≡ false }
@@ -72,7 +73,7 @@ fn count_arg<'a>(alloc: Global) -> Arg<'a>
         .default_value("1000")
 }
 
-/// The option `--quantum`: 1 to 16,384 words, by default 16.
+/// The option `--quantum`, a number of words: from 1 to 16,384, by default 16.
 fn quantum_arg<'a>(alloc: Global) -> Arg<'a>
     ensures rule { rule_of result ≡ quantum_rule }
     ensures local { result.global ≡ false }
@@ -83,8 +84,8 @@ fn quantum_arg<'a>(alloc: Global) -> Arg<'a>
         .default_value("16")
 }
 
-/// The command: MODE, `--manager`, `--seed`, `--count` and `--quantum`, with their values, ranges and
-/// defaults, and nothing else.
+/// Returns the command of `clap` with the arguments MODE, `--manager`, `--seed`, `--count` and `--quantum`,
+/// and no others of our own. Fails if out of memory.
 pub fn cf_command<'a>(alloc: Global) -> Result<Command<'a>, AllocError>
     ensures { IfOk result (λ command. IsCfApp (app_of command)) }
 {

@@ -1,4 +1,5 @@
-//! The arguments of the command line, read by `clap`, as a plain value.
+//! Reads the arguments of the program `cf_tool` by `clap`, and returns what they choose as a `Choice`: mode,
+//! kind of manager, seed, count and quantum.
 #![tactic(auto)]
 
 mod choice;

@@ -1,4 +1,4 @@
-//! From the arguments of the command line to a choice.
+//! `read_words`: reads the arguments of the command line, and returns the choice that they make.
 ghost use Rattle.std.specs.Prelude.{◌≡◌, ◌≤◌, IfOk, map, option_map, string_bytes};
 ghost use Rattle.clap.specs.Words.{found_of, one_text};
 ghost use Rattle.command_line.specs.Choices.{ReadsAs, kind_named as kind_by, mode_named as mode_by};
@@ -11,7 +11,8 @@ use clap::ArgMatches;
 use clap::error::ErrorKind;
 use std::alloc::Global;
 
-/// The mode with this name. The command accepts no name but those of the modes.
+/// The mode with this name; `Run` for any other name and for none, which do not occur, since the command
+/// accepts the names of modes alone and has a default.
 fn mode_named(name: Option<&str>) -> Mode
     ensures { result ≡ mode_by (option_map (λ s. s.now) name.entry) }
 {
@@ -27,7 +28,8 @@ fn mode_named(name: Option<&str>) -> Mode
     }
 }
 
-/// The kind with this name. The command accepts no name but those of the kinds.
+/// The kind with this name; `Moving` for any other name and for none, which do not occur, since the command
+/// accepts the names of kinds alone and has a default.
 fn kind_named(name: Option<&str>) -> Kind
     ensures { result ≡ kind_by (option_map (λ s. s.now) name.entry) }
 {
@@ -39,15 +41,16 @@ fn kind_named(name: Option<&str>) -> Kind
     }
 }
 
-/// The number of this option in the matches; 0 if it is missing.
+/// The number that the option `id` has in the arguments that `clap` has read; 0 if it has none.
 fn u64_in(matches: &ArgMatches<'_>, id: &str) -> u64
     ensures { result ≡ number_by (one_text (found_of matches.now) id.now) }
 {
     matches.get_one::<u64>(id).unwrap_or(0)
 }
 
-/// The quantum, in words, of the matches; 16 if it is missing or out of range, neither of which the
-/// command accepts.
+/// The quantum in words that the option `id` has in the arguments that `clap` has read. It would be 16 if the
+/// option had no number, or one out of range; but the command accepts only a number in range, and has a
+/// default.
 fn quantum_in(matches: &ArgMatches<'_>, id: &str) -> u32
     ensures value { result ≡ quantum_by (one_text (found_of matches.now) id.now) }
     ensures least { 1 ≤ result }
@@ -61,9 +64,9 @@ fn quantum_in(matches: &ArgMatches<'_>, id: &str) -> u32
     }
 }
 
-/// Reads the arguments of the command line; the first is the program's name. Returns their choice,
-/// or `Refused` if `clap` refuses them for a cause other than memory. `OutOfMemory` may replace
-/// either. A slice has 1 to 16,384 words.
+/// Reads the arguments `words` of the command line; the first is the program's name. Returns the choice
+/// that they make, whose quantum is from 1 to 16,384 words. Fails with `Refused` if `clap` finds a fault
+/// in them or they ask for help. Fails with `OutOfMemory`, whatever they are, if out of memory.
 // Without this, a goal that no proof covers would start a search over the whole command, which
 // takes long.
 #[tactic(none)]

@@ -1,3 +1,4 @@
+//! Counted cells in an array of fixed length, and the bits of such cells.
 ghost use Rattle.std.specs.Prelude.{◌≡◌, ℕ, true, ◌+◌, ◌^◌, ◌<◌, slice_index, slice_index_or, slice_set};
 ghost use Rattle.std.specs.Int.{bit_at};
 ghost use Rattle.step_ledger.specs.Counting.{RoseBy};
@@ -6,7 +7,8 @@ ghost use Rattle.cf_lemmas.specs.Bits.{WritesBit};
 use std::marker::Model;
 use step_ledger::Steps;
 
-/// `N` cells in an array, for structs that allocate no memory.
+/// `N` cells in an array, for structs that allocate no memory. Each access to a cell adds its step
+/// to the ledger.
 #[derive(Drop)]
 pub struct CellArray<T, const N: usize> {
     items: [T; N],
@@ -53,8 +55,8 @@ impl<T: Copy, const N: usize> CellArray<T, N> {
 }
 
 impl<const N: usize> CellArray<u64, N> {
-    /// Sets or clears one bit of cell `i`. Costs one step: the word is read and written at once.
-    /// Returns the new word.
+    /// Sets bit `bit` of cell `i` if `on`, else clears it. Costs one step: the word is read and
+    /// written at once. Returns the new word.
     pub fn write_bit(&mut self, i: usize, bit: u32, on: bool, steps: &mut Steps) -> u64
         requires cell { i < N }
         requires bit { bit < 64 }
@@ -69,8 +71,8 @@ impl<const N: usize> CellArray<u64, N> {
         word
     }
 
-    /// Sets the lowest clear bit of cell `i`, which must have one. Costs one step: the word is read
-    /// and written at once. Returns the position of the bit, and the new word.
+    /// Sets the lowest clear bit of cell `i`, which must have a clear bit. Costs one step: the word
+    /// is read and written at once. Returns the position of the bit, and the new word.
     pub fn set_least_clear(&mut self, i: usize, steps: &mut Steps) -> (u32, u64)
         requires cell { i < N }
         requires clear { slice_index self.old i + 1 < 2 ^ 64 }
@@ -90,7 +92,8 @@ impl<const N: usize> CellArray<u64, N> {
     }
 }
 
-/// Returns the word with bit `bit` set if `on`, else cleared.
+/// Returns the word with its bit `bit` set if `on`, else cleared. It touches no cell, so it costs
+/// no step.
 pub fn with_bit(word: u64, bit: u32, on: bool) -> u64
     requires { bit < 64 }
     ensures written { WritesBit 64 word result bit on }

@@ -1,3 +1,4 @@
+//! A list of counted cells in allocated memory.
 ghost use Rattle.std.specs.Prelude.{◌≡◌, ◌+◌, ◌<◌, ◌≤◌, ◌⊎◌, length, drop, take, slice_index_or, slice_set};
 ghost use Rattle.step_ledger.specs.Counting.{RoseBy};
 ghost use Rattle.cf_lemmas.specs.Exchanges.{exchanged};
@@ -5,7 +6,8 @@ ghost use Rattle.cf_lemmas.specs.Exchanges.{exchanged};
 use std::marker::Model;
 use step_ledger::Steps;
 
-/// A list of cells. Reading its length costs no step.
+/// A list of cells in allocated memory. Each access to a cell adds its step to the ledger. Reading
+/// the length costs none.
 #[derive(Drop)]
 pub struct Cells<T> {
     items: Vec<T>,
@@ -30,7 +32,7 @@ impl<T: Copy> Cells<T> {
         Cells { items }
     }
 
-    /// The number of cells.
+    /// How many cells there are. Costs no step.
     pub fn len(&self) -> usize
         ensures { result ≡ length self.now }
     {
@@ -101,7 +103,7 @@ impl<T: Copy> Cells<T> {
         items[j] = second;
     }
 
-    /// Returns the `n` cells from `from` on. Costs n steps.
+    /// Returns the `n` cells from cell `from` on as a slice. Costs n steps.
     pub fn run(&self, from: usize, n: usize, steps: &mut Steps) -> &[T]
         requires { from + n ≤ length self.now }
         ensures value { result.now ≡ take n (drop from self.now) }

@@ -1,6 +1,6 @@
-//! Cells that count their accesses in the ledger: each cell that is read or written costs a step. A
-//! module that keeps its words in cells can't touch one without a step. Making a cell costs no
-//! step.
+//! Cells for the words and entries of a heap's tables, which count their accesses in the ledger:
+//! each cell that is read or written costs a step. A module that keeps its words in cells can't
+//! touch one without a step. Making a cell costs no step.
 #![tactic(auto)]
 
 mod array;

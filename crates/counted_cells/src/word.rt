@@ -1,3 +1,4 @@
+//! One counted cell.
 ghost use Rattle.std.specs.Prelude.{◌≡◌, ◌<◌};
 ghost use Rattle.std.specs.Borrow.{Lends, sem, u64};
 ghost use Rattle.step_ledger.specs.Counting.{RoseBy};
@@ -8,7 +9,7 @@ use crate::array::with_bit;
 use std::marker::Model;
 use step_ledger::Steps;
 
-/// One cell: a word of 64 bits.
+/// One cell that holds a word of 64 bits. Each access adds its step to the ledger.
 #[derive(Drop)]
 pub struct WordCell {
     word: u64,
@@ -48,7 +49,8 @@ impl WordCell {
         self.word = word;
     }
 
-    /// Sets or clears one bit of the word. Costs one step: the word is read and written at once.
+    /// Sets bit `bit` of the word if `on`, else clears it. Costs one step: the word is read and
+    /// written at once.
     pub fn write_bit(&mut self, bit: u32, on: bool, steps: &mut Steps)
         requires { bit < 64 }
         ensures written { WritesBit 64 self.old self.new bit on }
@@ -58,7 +60,7 @@ impl WordCell {
         self.word = with_bit(self.word, bit, on);
     }
 
-    /// Lends the word, to be read and written at once. Costs one step.
+    /// Lends the word, so that the caller reads and writes it at once. Costs one step.
     pub fn lend(&mut self, steps: &mut Steps) -> &mut u64
         ensures* writes_back { sem 𝓛 (Lends the_row u64 self.entry result (λ w. w)) }
         ensures value { result.now ≡ self.old }

@@ -1,4 +1,4 @@
--- The lines of the classes below c, and then of one class more.
+-- For `put_classes`: the lines of the classes below c, written one class after the other, or cut.
 use Rattle.std.proofs.Common.{◌≡◌, ◌∙◌, ℕ, zero, suc, ◌+◌, ◌-◌, ◌<◌, ◌++◌, List, [], ◌∷◌, Bool, true, false, cond, Option, refl, ap, sym, subst, arith}
 use Rattle.std.proofs.Common.{◌≤◌, Some, None, inl, inr, nat_lt}
 use Rattle.std.proofs.lemmas.Bool.{cases_lt}

@@ -1,4 +1,4 @@
--- The lines of the classes, and the last line.
+-- The lines of `walk` on a heap with pages, as they are written one after the other. `p` is the pages and classes, `m` the objects by number.
 use Rattle.std.specs.Prelude.{ℕ, List, [], map, filter, not, nat_eq, if◌then◌else◌}
 use Rattle.std.specs.List.{range_with_len}
 use Rattle.cf_base.specs.declared.answers.Figures.{Figures}
@@ -22,6 +22,6 @@ classes_below p m c = lines_of p m (range_with_len 0 c)
 abbrev pub class_if_live : Figures → Reply
 class_if_live f = if nat_eq f.live 0 then [] else said (class_line f)
 
--- the figures that the last line of a report on pages shows
+-- totals with the three figures that the last line of a report on pages shows; the other figures are 0 and aren't shown
 abbrev pub totals_with : ℕ → ℕ → ℕ → Totals
 totals_with live used free = record { live = live; asked = 0; taken = 0; held = 0; used = used; free = free; largest = 0 }

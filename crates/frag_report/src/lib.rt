@@ -1,4 +1,5 @@
-//! The reports on the classes and on the bytes of a heap.
+//! The reports of commands `walk` and `frag`: how a heap uses its pages or blocks, and how many bytes are
+//! asked for, taken and held. Sessions write them line by line to a sink.
 #![tactic(auto)]
 
 mod reports;

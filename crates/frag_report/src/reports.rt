@@ -1,5 +1,6 @@
-//! The reports on a heap. Each line begins with `lead`: in mode `compare` the name of the manager's kind, else
-//! no bytes.
+//! The reports of commands `walk` and `frag`. Each line begins with `lead`: in mode `compare` the name of the
+//! manager's kind and a space, else no bytes. It is built in `line`, which is scratch, and written to the
+//! sink `out` in one call. If the sink fails, the result is `Failed`, and a prefix of the report was written.
 ghost use Rattle.std.specs.Prelude.{◌≡◌, ◌≤◌, IsTrue, OnErr, length, OnOk};
 ghost use Rattle.cf_io.specs.Feeds.{FailsLast, Puts};
 ghost use Rattle.cf_base.specs.declared.answers.Totals.{Totals};
@@ -14,8 +15,7 @@ use cf_io::{Line, Sink, begin_line, push_field, put_line};
 use cf_model::{Manager, Usage};
 use step_ledger::Steps;
 
-/// Puts the report on classes and pages, or on blocks: each line after the lead, built in `line` and
-/// put in one call. `Failed` if the sink failed; a prefix of the report was put.
+/// `walk`: writes the report on classes and pages, or on blocks, to the sink.
 pub fn walk_lines<H: Manager, K: Sink>(
     heap: &H,
     lead: &[u8],
@@ -40,8 +40,8 @@ pub fn walk_lines<H: Manager, K: Sink>(
     }
 }
 
-/// Puts the report on the bytes asked for, taken and held: one line after the lead, built in `line`
-/// and put in one call. `Failed` if the sink failed; a prefix of the line was put.
+/// `frag`: writes one line to the sink, with the bytes asked for by the objects, taken by their slots or
+/// blocks, and held by pages in use or, with blocks, by the whole region.
 pub fn frag_line<H: Manager, K: Sink>(
     heap: &H,
     lead: &[u8],
@@ -62,8 +62,8 @@ pub fn frag_line<H: Manager, K: Sink>(
     put_frag(&usage, lead, line, out)
 }
 
-/// Puts the report on classes and pages: a line for each class with live objects, then the last line.
-/// `Failed` if the sink failed; a prefix of the report was put.
+/// Writes the report on pages: a line for each class with live objects, then the line of totals, from
+/// `totals`, which the caller got from the heap.
 fn put_pages<H: Manager, K: Sink>(
     heap: &H,
     totals: &Totals,
@@ -93,8 +93,7 @@ fn put_pages<H: Manager, K: Sink>(
     }
 }
 
-/// Puts a line for each class with live objects, in rising order. `Failed` if the sink failed; a prefix
-/// of the lines was put.
+/// Writes a line for each class with live objects, in rising order of the slot sizes.
 fn put_classes<H: Manager, K: Sink>(
     heap: &H,
     lead: &[u8],
@@ -122,8 +121,7 @@ fn put_classes<H: Manager, K: Sink>(
     Ok(())
 }
 
-/// Puts the line of a class after the lead, if the class has live objects. `Failed` if the sink failed;
-/// a prefix of the line was put.
+/// Writes the line of a class with these figures; nothing if the class has no live object.
 pub fn put_class<K: Sink>(
     figures: &Figures,
     lead: &[u8],
@@ -148,8 +146,8 @@ pub fn put_class<K: Sink>(
     put_line(line, out)
 }
 
-/// Puts the last line of a report on pages after the lead: the live objects, the pages in use, the
-/// free pages. `Failed` if the sink failed; a prefix of the line was put.
+/// Writes the last line of a report on pages: how many objects are live, and how many pages are in use and
+/// free.
 pub fn put_total<K: Sink>(
     live: u32,
     used: u64,
@@ -172,8 +170,7 @@ pub fn put_total<K: Sink>(
     put_line(line, out)
 }
 
-/// Puts the report on blocks: how many are used, how many are free, and the words of the largest free
-/// one. `Failed` if the sink failed; a prefix of the line was put.
+/// Writes the line on blocks: how many are used, how many are free, and the words of the largest free one.
 fn put_blocks<K: Sink>(
     totals: &Totals,
     lead: &[u8],
@@ -194,8 +191,7 @@ fn put_blocks<K: Sink>(
     put_line(line, out)
 }
 
-/// Puts the line on the bytes asked for, taken and held. `Failed` if the sink failed; a prefix of the
-/// line was put.
+/// Writes the line on the bytes asked for, taken and held.
 fn put_frag<K: Sink>(usage: &Usage, lead: &[u8], line: &mut Line, out: &mut K) -> Result<(), Failed>
     requires { length lead.now ≤ 8 }
     ensures puts { (totals : Totals) → usage_of totals ≡ usage.now

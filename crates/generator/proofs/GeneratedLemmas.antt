@@ -1,4 +1,4 @@
--- Generated commands are well formed, and their numbers fit their types.
+-- For `next_ref` and the law `generated_scripts_are_read_back`: generated commands have fields in range, which fit their types.
 use Rattle.std.proofs.Common.{◌≡◌, ◌≤◌, ◌<◌, ◌/◌, ◌%◌, ◌^◌, ◌==◌, ℕ, Bool, zero, suc, true, false, List, [], ◌∷◌, refl, arith, lit≤}
 use Rattle.std.specs.Prelude.{⊤, nat_lt, if◌then◌else◌}
 use Rattle.std.specs.Int.{w64, to_le_bytes}
@@ -30,7 +30,7 @@ are_bytes : (word : ℕ) → IsBytes (to_le_bytes w64 word)
 are_bytes word = bytes_of_low (to_le_bytes w64 word)
     (omega arith, (omega arith, (omega arith, (omega arith, (omega arith, (omega arith, (omega arith, (omega arith, tt))))))))
 
--- the facts about one command
+-- what holds of each generated command: its fields fit, and it is not `k`
 record IsPlain (c : Command) : Type 0 where
   is : IsCommand c
   plain : is_bound c ≡ false

@@ -1,4 +1,4 @@
--- The line of a command is read back.
+-- For the laws: the line that is written for a command means this command by the grammar, and so do the lines of a script.
 use Rattle.std.proofs.Common.{◌≡◌, ◌∙◌, ◌≤◌, ◌+◌, ◌*◌, ◌++◌, ℕ, Bool, true, false, List, [], ◌∷◌, length, map, refl, sym, ap, arith}
 use Rattle.std.proofs.Common.{Some, codes, append-nil, append_assoc}
 use Rattle.std.proofs.Common.{length-append}
@@ -24,7 +24,7 @@ use Rattle.generator.specs.ReadBack.{ArePlain, CanOpen, IsCommand, IsShort, IsWo
 use Rattle.generator.proofs.TextLemmas.{AreWords, hex_token, number_token, number_tokens, numbers_short}
 use Rattle.generator.proofs.TokenLemmas.{AreTokens, IsToken, high_by_test, line_cut, no_return, shown_spaced, tokens_spaced}
 
--- a number of a field is read back
+-- a number n that is written in decimal is read as n, if it is in the range of the field
 number_back : (low high n : ℕ) → IsWord n → low ≤ n → n ≤ high → number_from low high (decimal n) ≡ Some n
 number_back low high n word least most = rw (number_of_decimal n word, within_limits low high n least most) refl
 
@@ -42,7 +42,7 @@ bytes_back bytes are some few =
     let long = length_in_hex bytes in
     rw (within_limits 2 8192 (length (encode_lower bytes)) (omega arith) (omega arith), decode_of-encode_lower bytes are) refl
 
--- the tokens of a command are read as the command
+-- by the grammar the tokens of a command mean the command
 pub tokens_back : (c : Command) → IsCommand c → tokens_say (tokens_of c) ≡ item (asks c)
 tokens_back (Malloc id bytes) is = rw (id_back id is.typed.0, word_back bytes is.typed.1) refl
 tokens_back (Free id) is = rw (id_back id is.typed) refl
@@ -65,7 +65,7 @@ tokens_back (Quota task pages) is = rw (task_back task is.formed, word_back page
 tokens_back (Need task bytes count) is = rw (task_back task is.formed, word_back bytes is.typed.0, word_back count is.typed.1) refl
 tokens_back (Admit task) is = rw (task_back task is.formed) refl
 
--- a line of a word and numbers
+-- the tokens of a line of a word and numbers are tokens, and the line is no longer than this
 record IsWordLine (word numbers : List ℕ) : Type 0 where
   tokens : AreTokens (word_and_numbers word numbers)
   short : length (spaced (word_and_numbers word numbers)) ≤ length word + 21 * length numbers
@@ -76,7 +76,7 @@ word_line word numbers is are = record {
   short = (let few = numbers_short numbers are in let e = length-append word (after_spaces (map decimal numbers)) in omega arith);
 }
 
--- each token is valid, and their line isn't too long
+-- each of these is a token, and a line of them isn't too long
 record AreShort (ts : List (List ℕ)) : Type 0 where
   tokens : AreTokens ts
   short : length (spaced ts) ≤ 8999
@@ -137,7 +137,7 @@ short_line (Admit task) is =
     let low : IsWord task = omega (arith, is.formed) in
     of_words (codes "admit") (task ∷ []) (high_by_test (codes "admit") refl) (low, tt) (omega arith) (omega arith)
 
--- such a line is read by its tokens
+-- such a line has the meaning of its tokens
 line_by_tokens : (ts : List (List ℕ)) → AreShort ts → line_says (spaced ts) ≡ tokens_say ts
 line_by_tokens ts are =
     let fits : is_too_long (spaced ts) ≡ false = (let s = are.short in grind (arith, nat_tests)) in
@@ -153,7 +153,7 @@ line_back c rest ended is = cut_tokens (tokens_of c) rest ended (short_line c is
 pub says_back : (c : Command) → IsCommand c → line_says (spaced (tokens_of c)) ≡ item (asks c)
 says_back c is = line_by_tokens (tokens_of c) (short_line c is) ∙ tokens_back c is
 
--- the `heap` line
+-- a `heap` line with these numbers: it is read as their settings
 module _ (pages page_bytes k proxies : ℕ) (can : CanOpen pages page_bytes k proxies) where
   abbrev numbers : List ℕ
   numbers = pages ∷ page_bytes ∷ k ∷ proxies ∷ []
@@ -173,7 +173,7 @@ module _ (pages page_bytes k proxies : ℕ) (can : CanOpen pages page_bytes k pr
   after_opening rest = ap (λ ls. items_at ls 0 Opening) (cut_tokens (word_and_numbers (codes "heap") numbers) rest true heap_tokens)
       ∙ ap (λ says. items_by (verdict Opening says) 0 Opening (items_at (lines rest true) 1)) heap_says
 
--- a command directly after the `heap` line
+-- a script of a `heap` line and the line of one command has these two items
 pub alone_back : (pages page_bytes k proxies : ℕ) (c : Command) → CanOpen pages page_bytes k proxies → IsCommand c
     → items (heap_line pages page_bytes k proxies ++ line_of c) true ≡ starts (profile_from pages page_bytes k proxies) ∷ asks c ∷ []
 alone_back pages page_bytes k proxies c can is =
@@ -182,7 +182,7 @@ alone_back pages page_bytes k proxies c can is =
     (ap (λ l. lines l true) (sym (append-nil (line_of c))) ∙ line_back c [] true is)
     ∙ ap (λ says. starts (profile_from pages page_bytes k proxies) ∷ items_by (verdict Bounding says) 1 Bounding (items_at [] 2)) (says_back c is)
 
--- the stage after the `heap` line
+-- the stage is one after the `heap` line
 abbrev IsOpened : Stage → Type 0
 IsOpened Opening = ⊥
 IsOpened stage = ⊤

@@ -1,4 +1,4 @@
--- The texts of numbers and bytes are valid tokens, and short.
+-- For `command_text` and the laws: the texts of numbers and of bytes are tokens, and so short that a line holds them.
 use Rattle.std.proofs.Common.{◌≡◌, ◌∙◌, ◌≤◌, ◌<◌, ◌+◌, ◌*◌, ◌/◌, ◌%◌, ◌++◌, ◌&&◌, ℕ, Bool, suc, true, false, List, [], ◌∷◌, length, map}
 use Rattle.std.proofs.Common.{refl, sym, ap, arith, append-nil, append_assoc, Some}
 use Rattle.std.proofs.Common.{length-append}
@@ -47,7 +47,7 @@ hex_high (b ∷ bytes) are =
 pub hex_token : (bytes : List ℕ) → 1 ≤ length bytes → IsBytes bytes → IsToken (encode_lower bytes)
 hex_token bytes some are = token_of (encode_lower bytes) (omega (arith, length_in_hex bytes)) (hex_high bytes are)
 
--- each number has 32 bits, which bounds the length of a line
+-- each of these numbers has 32 bits, so each has at most ten digits
 abbrev pub AreWords : List ℕ → Type 0
 AreWords [] = ⊤
 AreWords (n ∷ rest) = IsWord n × AreWords rest
@@ -65,7 +65,7 @@ numbers_short (n ∷ rest) are =
     let e = length-append (decimal n) (after_spaces (map decimal rest)) in
     omega arith
 
--- one more token at the end of a line
+-- the bytes of tokens with one more token t at the end
 after_push : (ts : List (List ℕ)) (t : List ℕ) → after_spaces (ts ++ t ∷ []) ≡ after_spaces ts ++ (32 ∷ t)
 after_push [] t = append-nil (32 ∷ t)
 after_push (u ∷ ts) t = ap (λ l. (32 ∷ u) ++ l) (after_push ts t) ∙ sym (append_assoc (32 ∷ u) (after_spaces ts) (32 ∷ t))

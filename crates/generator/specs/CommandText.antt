@@ -1,25 +1,25 @@
--- The line of a command.
+-- The line that is written for a command: its tokens, separated by single spaces, and a line feed.
 use Rattle.std.specs.Prelude.{◌≤◌, ℕ, ◌++◌, List, [], ◌∷◌, map, decimal, codes}
 use Rattle.hex.specs.Hex.{encode_lower}
 use Rattle.script_reader.specs.declared.command.Command.{Command}
 use Rattle.script_reader.specs.declared.command.Command.TheVariants.{Malloc, Free, Write, Read, Place, Block, Peek, Walk, Frag, Steps, Bound, Resize, Slice}
 use Rattle.script_reader.specs.declared.command.Command.TheVariants.{Task, Quota, Need, Admit}
 
--- the tokens, each after a space
+-- the bytes of the tokens, with a space (32) before each
 abbrev pub after_spaces : List (List ℕ) → List ℕ
 after_spaces [] = []
 after_spaces (token ∷ rest) = (32 ∷ token) ++ after_spaces rest
 
--- the tokens, separated by single spaces
+-- the bytes of the tokens, with a space between each two
 abbrev pub spaced : List (List ℕ) → List ℕ
 spaced [] = []
 spaced (token ∷ rest) = token ++ after_spaces rest
 
--- a word, and numbers without leading zeros
+-- the tokens of a line: a word, and then these numbers in decimal, without leading zeros
 abbrev pub word_and_numbers : List ℕ → List ℕ → List (List ℕ)
 word_and_numbers word numbers = word ∷ map decimal numbers
 
--- the tokens of a command's line; bytes are written in lower case
+-- the tokens of a command's line; the bytes of a write are lower-case hexadecimal digits
 abbrev pub tokens_of : Command → List (List ℕ)
 tokens_of (Malloc id bytes) = word_and_numbers (codes "m") (id ∷ bytes ∷ [])
 tokens_of (Free id) = word_and_numbers (codes "f") (id ∷ [])
@@ -39,6 +39,6 @@ tokens_of (Quota task pages) = word_and_numbers (codes "quota") (task ∷ pages 
 tokens_of (Need task bytes count) = word_and_numbers (codes "need") (task ∷ bytes ∷ count ∷ [])
 tokens_of (Admit task) = word_and_numbers (codes "admit") (task ∷ [])
 
--- the line of a command, with its line feed
+-- the bytes of a command's line, with its line feed (10)
 abbrev pub line_of : Command → List ℕ
 line_of c = spaced (tokens_of c) ++ 10 ∷ []

@@ -1,30 +1,30 @@
--- The commands that a seed generates.
+-- The commands that a seed generates, each computed from one word of 64 bits of the random generator SplitMix64.
 use Rattle.std.specs.Prelude.{ℕ, ◌/◌, ◌%◌, ◌^◌, ◌==◌, List, [], ◌∷◌, map, nat_lt, zero, suc, if◌then◌else◌}
 use Rattle.std.specs.Int.{w64, to_le_bytes}
 use Rattle.rand_xoshiro.specs.SplitMix64.{mix_u64}
 use Rattle.script_reader.specs.declared.command.Command.{Command}
 use Rattle.script_reader.specs.declared.command.Command.TheVariants.{Malloc, Free, Write, Read}
 
--- the id that a word names
+-- the id of the command of this word: below 4,096
 abbrev pub id_named : ℕ → ℕ
 id_named word = word % 4096
 
--- how many bytes a word requests: below 16,384 for one word in eight, below 1,024 for the others
+-- the number of bytes of the object, if the command of this word is a malloc: below 16,384 for one word in eight, below 1,024 for the others
 abbrev pub bytes_asked : ℕ → ℕ
 bytes_asked word = word / 2 ^ 16 % (if word / 2 ^ 32 % 8 == 0 then 16384 else 1024)
 
--- a number below eight, by which a word determines its command
+-- a number below eight, from which it follows what kind of command this word generates
 abbrev pub one_of_eight : ℕ → ℕ
 one_of_eight word = word / 2 ^ 12 % 8
 
--- the command of a word, by one of eight cases: three make an object, two free one, one writes the word's own eight bytes, and two read eight bytes
+-- the command of a word. Of the eight cases three are mallocs, two frees, one a write of the word's own eight bytes, and two reads of eight bytes.
 abbrev pub command_of_word : ℕ → Command
 command_of_word word =
     if nat_lt (one_of_eight word) 3 then Malloc (id_named word) (bytes_asked word)
     else (if nat_lt (one_of_eight word) 5 then Free (id_named word)
     else (if one_of_eight word == 5 then Write (id_named word) 0 (to_le_bytes w64 word) else Read (id_named word) 0 8))
 
--- the first `count` words of SplitMix64 from a state on
+-- the first `count` words that SplitMix64 makes from this state on
 abbrev pub words_from : ℕ → ℕ → List ℕ
 words_from state zero = []
 words_from state (suc count) = (mix_u64 state).0 ∷ words_from (mix_u64 state).1 count

@@ -1,4 +1,4 @@
--- Commands whose lines are read back.
+-- For the laws of this crate: of which commands the written lines are read as the same commands, and the scripts that such lines make.
 use Rattle.std.specs.Prelude.{◌≡◌, ◌≤◌, ⊤, ℕ, false, ◌++◌, List, [], ◌∷◌, None, codes}
 use Rattle.cf_base.specs.Settings.{setting_fault}
 use Rattle.hex.specs.Hex.{IsBytes}
@@ -32,26 +32,26 @@ FitsTypes (Quota task pages) = IsWord pages
 FitsTypes (Need task bytes count) = IsWord bytes × IsWord count
 FitsTypes command = ⊤
 
--- a command that both a value of the code's type and a line of a script may hold
+-- a command that the code's type `Command` has: its fields fit their types, and are in the ranges of the grammar
 pub record IsCommand (c : Command) : Type 0 where
   pub formed : IsWellFormed c
   pub typed : FitsTypes c
 
--- the numbers of a `heap` line: they fit their types and are in range
+-- these numbers may be those of a `heap` line: they have 32 bits, and settings with them are allowed
 pub record CanOpen (pages page_bytes k proxies : ℕ) : Type 0 where
   pub typed : IsWord pages × IsWord page_bytes × IsWord k × IsWord proxies
   pub in_range : setting_fault pages page_bytes k proxies ≡ None
 
--- the `heap` line of these numbers, with its line feed
+-- the bytes of the `heap` line with these numbers, with its line feed
 abbrev pub heap_line : ℕ → ℕ → ℕ → ℕ → List ℕ
 heap_line pages page_bytes k proxies = spaced (word_and_numbers (codes "heap") (pages ∷ page_bytes ∷ k ∷ proxies ∷ [])) ++ 10 ∷ []
 
--- the lines of the commands, one after the other
+-- the bytes of the lines of the commands, one after the other
 abbrev pub lines_of : List Command → List ℕ
 lines_of [] = []
 lines_of (c ∷ rest) = line_of c ++ lines_of rest
 
--- commands of a program, none of them `k`
+-- each of these commands can have a line, and none of them is `k`
 abbrev pub ArePlain : List Command → Type 0
 ArePlain [] = ⊤
 ArePlain (c ∷ rest) = IsCommand c × (is_bound c ≡ false) × ArePlain rest

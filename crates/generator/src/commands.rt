@@ -1,4 +1,4 @@
-//! The commands of a seed.
+//! `Generator`: makes commands from a seed, always the same ones from the same seed.
 ghost use Rattle.std.specs.Prelude.{◌≡◌, ◌∷◌, ℕ, suc};
 ghost use Rattle.generator.specs.Generated.{bytes_asked, command_of_word, generated};
 ghost use Rattle.rand_xoshiro.specs.SplitMix64.{mix_u64, next_state};
@@ -11,8 +11,9 @@ use rand_xoshiro::SplitMix64;
 use script_reader::{Command, CommandRef};
 use std::marker::Model;
 
-/// Makes the commands of a seed, one after the other, without end. Each takes one word of
-/// SplitMix64, which starts with the seed as its state. Contracts see a generator as that state.
+/// Makes the commands of a seed, one after the other, without end. Each is computed from the next number
+/// of 64 bits, a word, of the random generator SplitMix64, which starts with the seed as its state.
+/// Contracts see a `Generator` as that state.
 #[derive(Drop)]
 pub struct Generator {
     words: SplitMix64,
@@ -29,7 +30,7 @@ impl Model for Generator {
 }
 
 impl Generator {
-    /// The generator of all commands of the seed.
+    /// Returns the generator that begins with the first command of the seed.
     pub fn new(seed: u64) -> Generator
         ensures { result ≡ seed }
     {
@@ -38,7 +39,7 @@ impl Generator {
         }
     }
 
-    /// The next command.
+    /// Makes the next command; the bytes of a write are its own.
     pub fn next_command(&mut self) -> Command
         ensures value { result ≡ command_of_word (mix_u64 self.old).0 }
         ensures rest { self.new ≡ next_state self.old }
@@ -49,7 +50,8 @@ impl Generator {
         self.next_ref(&mut bytes).to_command()
     }
 
-    /// The next command. The bytes of a write are stored in `bytes` and borrowed from there.
+    /// Makes the next command. Of the eight cases of a word three make an object, two free one, one writes
+    /// eight bytes, and two read eight. The bytes of a write are put into `bytes` and borrowed from there.
     pub fn next_ref<'a>(&mut self, bytes: &'a mut [u8; 8]) -> CommandRef<'a>
         ensures value { owned_command result ≡ command_of_word (mix_u64 self.old).0 }
         ensures rest { self.new ≡ next_state self.old }
@@ -73,7 +75,8 @@ impl Generator {
     }
 }
 
-/// How many bytes a word requests.
+/// The number of bytes of the object that a malloc makes, computed from its word: below 16,384 for one word
+/// in eight, below 1,024 for the others.
 fn bytes_asked(word: u64) -> u32
     ensures { result ≡ bytes_asked word }
 {

@@ -1,4 +1,5 @@
-//! Laws of written lines: they are read back.
+//! Laws of the lines that this crate writes: by the grammar of scripts each line means the command that it was
+//! written for.
 ghost use Rattle.std.specs.Prelude.{◌≡◌, ◌++◌, ◌∷◌, [], ℕ, List, Bool, true, map};
 ghost use Rattle.cf_base.specs.Settings.{profile_from};
 ghost use Rattle.generator.specs.CommandText.{line_of, spaced, tokens_of};
@@ -8,7 +9,8 @@ ghost use Rattle.script_reader.specs.Items.{asks, item, items, line_says, starts
 ghost use Rattle.script_reader.specs.Lines.{lines};
 ghost use Rattle.script_reader.specs.declared.command.Command.{Command};
 
-/// The line of a command is read back as that command, whatever follows it.
+/// The line that is written for a command `c` is one line, whatever bytes follow it, and by the grammar it
+/// means `c`. After a `heap` line it is the script's one command.
 pub fn commands_are_read_back()
     ensures line { (c : Command) (rest : List ℕ) (ended : Bool) → IsCommand c
         → lines (line_of c ++ rest) ended ≡ spaced (tokens_of c) ∷ lines rest ended }
@@ -17,15 +19,16 @@ pub fn commands_are_read_back()
         → items (heap_line pages page_bytes k proxies ++ line_of c) true ≡ starts (profile_from pages page_bytes k proxies) ∷ asks c ∷ [] }
 {}
 
-/// A script of a `heap` line and other lines of commands, none of them `k`, is read back as those
-/// commands.
+/// A script of a `heap` line, with settings in range, and then the lines written for these commands, none of
+/// them `k`, has as its items the `heap` line and these commands.
 pub fn scripts_are_read_back()
     ensures { (pages page_bytes k proxies : ℕ) (commands : List Command) → CanOpen pages page_bytes k proxies → ArePlain commands
         → items (heap_line pages page_bytes k proxies ++ lines_of commands) true
         ≡ starts (profile_from pages page_bytes k proxies) ∷ map (λ c. asks c) commands }
 {}
 
-/// A script of a `heap` line and the commands of a seed is read back as those commands.
+/// A script of a `heap` line, with settings in range, and then the lines written for the first `count` commands
+/// of a seed has as its items the `heap` line and these commands.
 pub fn generated_scripts_are_read_back()
     ensures { (pages page_bytes k proxies seed count : ℕ) → CanOpen pages page_bytes k proxies
         → items (heap_line pages page_bytes k proxies ++ lines_of (generated seed count)) true

@@ -1,4 +1,5 @@
-//! The commands of a script that a seed generates, and the line of a command.
+//! For mode `bench` and for tests: `Generator` makes the commands of a script from a seed, and `command_text`
+//! writes any command as a line of a script. The reader reads each such line as the command again.
 #![tactic(auto)]
 
 mod commands;

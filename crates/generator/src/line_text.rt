@@ -1,4 +1,4 @@
-//! The line of a command.
+//! `command_text`: writes a command as a line of a script.
 ghost use Rattle.std.specs.Prelude.{◌≡◌, ◌≤◌, ◌++◌, ◌∷◌, [], length, IsOk};
 ghost use Rattle.cf_io.specs.Lines.{Pushes};
 ghost use Rattle.generator.specs.CommandText.{line_of, spaced, tokens_of, word_and_numbers};
@@ -8,9 +8,10 @@ ghost use Rattle.script_reader.specs.Commands.{IsWellFormed};
 use cf_io::{Full, Line, push_field, push_text};
 use script_reader::Command;
 
-/// Appends the line of the command, with its line feed: single spaces, lower case, and no leading
-/// zeros. Returns `Full` if and only if the whole would exceed 9,000 bytes, and then appends
-/// nothing. On an empty line it never does.
+/// Appends the line of the command `c`, with its line feed, to the buffer `line`. Tokens are separated by
+/// single spaces; numbers are decimal, without leading zeros; bytes are in lower-case hexadecimal. Returns
+/// `Full`, with nothing appended, if and only if the buffer would then have more than 9,000 bytes. An empty
+/// buffer holds the line of any command.
 pub fn command_text(c: &Command, line: &mut Line) -> Result<(), Full>
     requires { IsWellFormed c.now }
     ensures pushes { Pushes line.old (line_of c.now) result line.new }
@@ -22,7 +23,7 @@ pub fn command_text(c: &Command, line: &mut Line) -> Result<(), Full>
     line.push(whole.bytes())
 }
 
-/// Writes the tokens of the command to an empty line.
+/// Writes the line of the command `c`, without its line feed, into an empty buffer.
 fn push_command(line: &mut Line, c: &Command)
     requires empty { line.old ≡ [] }
     requires formed { IsWellFormed c.now }
@@ -57,7 +58,7 @@ fn push_command(line: &mut Line, c: &Command)
     }
 }
 
-/// Writes a word and a number to an empty line.
+/// Writes the word, a space and the number `a` into an empty buffer.
 fn push_one(line: &mut Line, word: &[u8], a: u64)
     requires empty { line.old ≡ [] }
     requires word { length word.now ≤ 5 }
@@ -68,7 +69,7 @@ fn push_one(line: &mut Line, word: &[u8], a: u64)
     push_field(line, b" ", a);
 }
 
-/// Writes a word and two numbers to an empty line.
+/// Writes the word and the numbers `a` and `b`, separated by spaces, into an empty buffer.
 fn push_two(line: &mut Line, word: &[u8], a: u64, b: u64)
     requires empty { line.old ≡ [] }
     requires word { length word.now ≤ 5 }
@@ -79,7 +80,7 @@ fn push_two(line: &mut Line, word: &[u8], a: u64, b: u64)
     push_field(line, b" ", b);
 }
 
-/// Writes a word and three numbers to an empty line.
+/// Writes the word and the numbers `a`, `b` and `c`, separated by spaces, into an empty buffer.
 fn push_three(line: &mut Line, word: &[u8], a: u64, b: u64, c: u64)
     requires empty { line.old ≡ [] }
     requires word { length word.now ≤ 5 }
@@ -90,7 +91,8 @@ fn push_three(line: &mut Line, word: &[u8], a: u64, b: u64, c: u64)
     push_field(line, b" ", c);
 }
 
-/// Appends a space and the bytes in lower-case hexadecimal.
+/// Appends a space and the bytes, two lower-case hexadecimal digits each. The buffer had at most 47 bytes, so
+/// they fit.
 fn push_bytes(line: &mut Line, bytes: &[u8])
     requires line { length line.old ≤ 47 }
     requires bytes { length bytes.now ≤ 4096 }

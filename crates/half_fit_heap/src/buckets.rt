@@ -1,12 +1,13 @@
-//! The free lists of Half-Fit (1995), as a rule for tagged blocks.
+//! `HalfFitBuckets`: the free lists of Half-Fit (1995), as a rule for the blocks of `tag_blocks`.
 ghost use Rattle.block_model.specs.Buckets.{half_fit as half_fit_lists};
 ghost use Rattle.block_model.proofs.CallerLemmas.{half_fit_lawful};
 
 use block_model::half_fit;
 use tag_blocks::Buckets;
 
-/// Half-Fit (1995): a free list for each power of two. The search for a block of `need` words begins at
-/// the first list in which every block has at least `need` words.
+/// Half-Fit (1995): a free list for each power of two, for the blocks of at least that many words
+/// and less than twice as many. The search for a block of `need` words begins at the first list in
+/// which every block has at least `need` words.
 #[derive(Drop)]
 pub struct HalfFitBuckets;
 
@@ -17,10 +18,12 @@ impl Buckets for HalfFitBuckets {
 
     ghost rule = { half_fit_lists };
 
+    // Returns the number of the free list for blocks of `size` words.
     fn bucket(size: u32) -> u32 {
         half_fit::bucket_of(size)
     }
 
+    // Returns the number of the first free list that is searched for a block of `need` words.
     fn search(need: u32) -> u32 {
         half_fit::search_for(need)
     }

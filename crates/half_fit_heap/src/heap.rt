@@ -1,4 +1,4 @@
-//! The Half-Fit manager.
+//! `HalfFitHeap`, the Half-Fit manager: the heap of `tag_heap` with the free lists of Half-Fit.
 ghost use Rattle.std.specs.Prelude.{refl};
 ghost use Rattle.cf_base.specs.declared.kind.Kind.TheVariants.{HalfFit};
 
@@ -12,6 +12,7 @@ pub type HalfFitHeap = TagHeap<HalfFitBuckets>;
 impl FitPolicy for HalfFitBuckets {
     ghost kind = { HalfFit };
 
+    // Returns the kind `HalfFit`.
     fn kind() -> Kind {
         Kind::HalfFit
     }

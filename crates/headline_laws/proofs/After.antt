@@ -1,4 +1,5 @@
--- What the replies alone show of the heap: its settings, its bounds and the bytes of each id.
+-- For `the_output_shows_the_replies` and the laws at bound 1: the settings, bounds and bytes of each id (`view`) after a command follow from those before it
+-- and from its reply.
 use Rattle.std.proofs.Common.{◌≡◌, ℕ, Bool, true, false, cond, ◌+◌, List, Option, Some, None, Err, length, sym, ◌∙◌, ap, refl, inl, inr}
 use Rattle.std.specs.Prelude.{◌⊎◌, codes, nat_eq, nat_le, position}
 use Rattle.std.specs.FinMap.{get, insert, len, remove}

@@ -1,4 +1,4 @@
--- Runs over the same items on managers with an order have one outcome.
+-- For `one_output`: runs over the same items on managers with an order have the same replies and the same end.
 use Rattle.std.proofs.Common.{◌≡◌, ℕ, ◌+◌, ◌*◌, Bool, true, false, List, [], ◌∷◌, Option, Some, None, Result, Ok, Err, refl, sym, ◌∙◌, ap, subst}
 use Rattle.std.specs.Prelude.{IsSome, IsTrue, ⊤, codes, is_some}
 use Rattle.std.specs.FinMap.{get, remove}

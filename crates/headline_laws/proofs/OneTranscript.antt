@@ -1,4 +1,4 @@
--- Runs over the same items at bound 1, from the beginning and from equal objects.
+-- For `one_transcript` and `equal_objects_get_equal_replies`: at bound 1 runs over the same items, from the start or from equal objects, have the same replies.
 use Rattle.std.proofs.Common.{◌≡◌, ℕ, ◌<◌, List, [], ◌∷◌, Option, Some, None, length, sym, ◌∙◌, ap, subst}
 use Rattle.std.specs.Prelude.{option_map}
 use Rattle.std.proofs.lemmas.Grind.{same_number_lists}

@@ -1,4 +1,4 @@
--- The text of replies as claimed fixes each of them.
+-- For `the_output_shows_the_replies`: the whole text of the replies determines each of them, since the number of lines of a reply is known before it.
 use Rattle.std.proofs.Common.{◌≡◌, ℕ, zero, suc, true, false, ◌++◌, List, [], ◌∷◌, Option, Some, None, sym, ◌∙◌, ap, refl, subst, append_assoc}
 use Rattle.std.specs.Prelude.{⊤, codes, nat_eq, not, option_map}
 use Rattle.std.proofs.lemmas.Bool.{and_parts}

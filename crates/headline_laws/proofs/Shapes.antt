@@ -1,4 +1,4 @@
--- How many lines each reply has, by what is known before it, and that no line has a line feed.
+-- For `the_output_shows_the_replies`: how many lines a reply has follows from what is known before it (`view`), and no line contains a line feed.
 use Rattle.std.proofs.Common.{◌≡◌, inl, inr, ℕ, zero, suc, Bool, true, false, cond, ◌+◌, ◌/◌, ◌%◌, ◌&&◌, ◌++◌, List, [], ◌∷◌, Option, Some, None, Err, length, map, arith, ap, refl, subst, sym}
 use Rattle.std.specs.Prelude.{⊤, codes, decimal, drop, filter, take, nat_eq, nat_le, nat_lt, not, slice_index}
 use Rattle.std.specs.Fmt.{digit_glyph, digits, digits_onto}

@@ -1,4 +1,4 @@
--- The heap that a run shows, and what its steps leave of it.
+-- The `ShownHeap` of a state of a run (`shown`): its objects under ids are those of the manager under handles.
 use Rattle.std.proofs.Common.{◌≡◌, ◌≢◌, ℕ, [], Option, Some, None, sym, ◌∙◌, ap, refl, inl, inr}
 use Rattle.std.specs.Prelude.{⊤}
 use Rattle.std.proofs.lemmas.Bool.{cases_eq}

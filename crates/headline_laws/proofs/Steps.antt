@@ -1,4 +1,4 @@
--- What each step of a run shows.
+-- For `the_headline`: each `Step` of a run gives an `IsAnswer` between the heaps that the states show, command by command.
 use Rattle.std.proofs.Common.{◌≡◌, ℕ, ◌+◌, ◌*◌, ◌<◌, ◌++◌, Bool, List, [], Option, Some, None, Result, Ok, Err, max, map, cond, length, arith, sym, ◌∙◌, ap, refl, subst, inl, inr}
 use Rattle.std.specs.Prelude.{◌⊎◌, codes, filter, nat_eq, nat_le, nat_lt, not, slice_get, slice_index}
 use Rattle.std.specs.List.{range_with_len}

@@ -1,4 +1,4 @@
--- Wrong replies to small scripts, which the headline refuses.
+-- For `wrong_replies_fall_short`: each small script with its wrong replies doesn't meet the headline.
 use Rattle.std.proofs.Common.{◌≡◌, ◌≢◌, ℕ, true, false, cond, ◌-◌, ◌/◌, ◌≤◌, ◌<◌, Err, List, [], ◌∷◌, ◌++◌, drop, get_or, map, Option, Some, None, length, replicate, arith, sym}
 use Rattle.std.proofs.Common.{◌∙◌, ap, refl, subst, lit≤, inl, inr}
 use Rattle.std.specs.Prelude.{⊤, codes}

@@ -1,8 +1,9 @@
--- What is claimed of every script, by its lines and their replies alone.
+-- The headline: what is claimed of the replies to every script, by its lines and these replies alone. In each definition `old` is the heap before the command
+-- and `new` the heap after it, as lines and replies show them; `id` is that of the command, `x` its object, `n` the bytes asked for.
 --
 -- The replies meet the headline if there is one for each item, and heaps between them, such that each reply and each heap follow from the heap before and the
--- item. `IsAnswer` says how, command by command. All is fixed but these choices of the manager: which of the free places a malloc takes, which object moves, how
--- many steps a call takes within its bound, which unused number an object gets, which only its header shows, and with blocks word 1 of a free block.
+-- item. `IsAnswer` says how, command by command. All is fixed but these choices of the manager: which of the free places a malloc takes, which object moves,
+-- how many steps a call takes within its bound, which unused number an object gets, which only its header shows, and with blocks word 1 of a free block.
 use Rattle.std.specs.Prelude.{◌≡◌, ◌≢◌, ℕ, ◌⊎◌, ◌+◌, ◌*◌, ◌≤◌, ◌<◌, List, ◌++◌, Option, Some, None, Err, codes, if◌then◌else◌, length, max, nat_le, nat_lt}
 use Rattle.std.specs.FinMap.{get, insert, len, remove}
 use Rattle.cf_base.specs.Classes.{need}
@@ -32,13 +33,13 @@ use Rattle.run_model.specs.Texts.{Reply, said, with_number}
 use Rattle.headline_laws.specs.ShownHeap.{IsArranged, ShownHeap, heap_opened, with_move}
 use Rattle.headline_laws.specs.ShownWords.{ShowsWord}
 
--- the reply is this one line, and nothing changes
+-- the reply is the one line `text`, and the heap doesn't change
 abbrev pub OnlyReplies : ShownHeap → List ℕ → Reply → ShownHeap → Type 0
 OnlyReplies old text reply new = (reply ≡ said text) × (new ≡ old)
 
--- m, `ok`: n zeros under the id. With pages they get a free slot of their class, on a partly full page if the class has one, else on a free page; with blocks
--- a block of the least bucket that serves. `number` is the manager's own number for the object, below the proxies, and no other object has it; only `p` shows
--- it.
+-- Command `m` with the reply `ok`: the id names a new object of `n` zeros at `place`. With pages it is in a free slot of its class, on a partly full page if
+-- the class has one, else on a free page; with blocks in a block of the least bucket that serves. `number` is the manager's own number for the object, below
+-- the proxies, and no other object has it; only `p` shows it.
 pub record IsMalloc (old : ShownHeap) (id n : ℕ) (reply : Reply) (new : ShownHeap) : Type 0 where
   pub fits : need n ≤ old.heap.profile.page_words
   pub few : len old.heap.held < old.heap.profile.proxies
@@ -55,8 +56,8 @@ pub record IsMalloc (old : ShownHeap) (id n : ℕ) (reply : Reply) (new : ShownH
     step_bound = 64;
   }
 
--- m, refused: `refused size` if the object needs more than a page, else `refused proxy` if all proxies are in use, else `refused space` if there is no room:
--- with pages if no page of its class is partly full and none is free, with blocks if no free block serves
+-- Command `m`, refused: `refused size` if the object needs more than a page, else `refused proxy` if all proxies are in use, else `refused space` if there is
+-- no room: with pages if no page of its class is partly full and none is free, with blocks if no free block serves. No object changes.
 pub record IsRefusedMalloc (old : ShownHeap) (n : ℕ) (reply : Reply) (new : ShownHeap) : Type 0 where
   pub refusal : Refusal
   pub cause : IsRefusedBy old.heap n refusal
@@ -64,13 +65,15 @@ pub record IsRefusedMalloc (old : ShownHeap) (n : ℕ) (reply : Reply) (new : Sh
   pub reply_is : reply ≡ said (malloc_text (Err refusal))
   pub heap_is : new ≡ record old { heap = record old.heap { cost = new.heap.cost }; step_bound = 64 }
 
--- m, by the object that the id names: `live` if there is one; else `ok`, or refused
+-- Command `m` for the id, by the object that the id names before it: if there is one, the reply is `live` and nothing changes; else the malloc is done or
+-- refused.
 abbrev pub Mallocs : Option Placed → ShownHeap → ℕ → ℕ → Reply → ShownHeap → Type 0
 Mallocs (Some x) old id n reply new = OnlyReplies old (codes "live") reply new
 Mallocs None old id n reply new = IsMalloc old id n reply new ⊎ IsRefusedMalloc old n reply new
 
--- f, of a live id: its object is removed. With pages one other object of its class moves into its slot if and only if its page was full, with several slots, and
--- its class had as many partly full pages as it may; that object comes from a partly full page. No other address changes.
+-- Command `f` for a live id: its object `x` is removed. With pages another object of its class, that of the id `moved`, moves into its slot if and only if its
+-- page was full, with several slots, and its class had as many partly full pages as it may; that object comes from a partly full page. No other address
+-- changes.
 pub record IsFree (old : ShownHeap) (id : ℕ) (x : Placed) (reply : Reply) (new : ShownHeap) : Type 0 where
   pub moved : Option ℕ
   pub moves : MovesIn old.heap.kind old.heap x moved
@@ -87,29 +90,30 @@ pub record IsFree (old : ShownHeap) (id : ℕ) (x : Placed) (reply : Reply) (new
     step_bound = 96 + 2 * slot_in old.heap.kind old.heap x;
   }) moved (slot_in old.heap.kind old.heap x)
 
--- f, by the object that the id names: `unknown` if there is none
+-- command `f` for the id, by the object that the id names: if there is none, the reply is `unknown`, and nothing changes
 abbrev pub Frees : Option Placed → ShownHeap → ℕ → Reply → ShownHeap → Type 0
 Frees None old id reply new = OnlyReplies old (codes "unknown") reply new
 Frees (Some x) old id reply new = IsFree old id x reply new
 
--- the heap with this object under the id
+-- the heap `s` with the object `x` under the id
 abbrev pub with_object : ShownHeap → ℕ → Placed → ShownHeap
 with_object s id x = record s { heap = record s.heap { held = insert s.heap.held id x } }
 
--- w: the bytes are written if they lie within the object, else `range`
+-- command `w` for the id, by the object that the id names: the bytes are written from byte `at` on if they lie within the object, else the reply is `range`
 abbrev pub Writes : Option Placed → ShownHeap → ℕ → ℕ → List ℕ → Reply → ShownHeap → Type 0
 Writes None old id at bytes reply new = OnlyReplies old (codes "unknown") reply new
 Writes (Some x) old id at bytes reply new =
     (reply ≡ said (if nat_le (at + length bytes) (length x.bytes) then codes "ok" else codes "range"))
     × (new ≡ if nat_le (at + length bytes) (length x.bytes) then with_object old id (record x { bytes = written x.bytes at bytes }) else old)
 
--- z within the class: the address stays
+-- Command `z` within the class: `after` is the objects afterwards, in which the id has `n` bytes at the same address; no other object moves.
 pub record RefitsInPlace (old : ShownHeap) (id : ℕ) (x : Placed) (n : ℕ) (after : Leaves) : Type 0 where
   pub same : class_for (paging_in old.heap) n ≡ class_at (paging_in old.heap) x
   pub still : after.moved ≡ None
   pub placed : after.held ≡ insert old.heap.held id (resized_at x.place x n)
 
--- z to another class: the object takes a free slot as a malloc does, and leaves its old one as a free does
+-- Command `z` to another class: the object takes the free slot at `place` as a malloc does, and leaves its old one as a free does: `after.moved` is the id
+-- whose object moved there, if one did.
 pub record RefitsElsewhere (old : ShownHeap) (id : ℕ) (x : Placed) (n : ℕ) (after : Leaves) : Type 0 where
   pub other : class_for (paging_in old.heap) n ≢ class_at (paging_in old.heap) x
   pub place : ℕ
@@ -121,7 +125,7 @@ pub record RefitsElsewhere (old : ShownHeap) (id : ℕ) (x : Placed) (n : ℕ) (
 abbrev pub resize_bound_for : ShownHeap → Placed → ℕ → ℕ
 resize_bound_for old x n = 160 + 3 * max (slot_for (paging_in old.heap) (length x.bytes)) (slot_for (paging_in old.heap) n)
 
--- z, `ok`: the first bytes stay, and zeros are added
+-- Command `z` with the reply `ok`: the object `x` has `n` bytes afterwards. Its first bytes stay, and added bytes are zeros.
 pub record IsResize (old : ShownHeap) (id : ℕ) (x : Placed) (n : ℕ) (reply : Reply) (new : ShownHeap) : Type 0 where
   pub pages : IsPaged old.heap.kind
   pub fits : need n ≤ old.heap.profile.page_words
@@ -134,7 +138,8 @@ pub record IsResize (old : ShownHeap) (id : ℕ) (x : Placed) (n : ℕ) (reply :
     step_bound = resize_bound_for old x n;
   }) after.moved (slot_for (paging_in old.heap) (length x.bytes))
 
--- z, refused: `none` with blocks; `refused size` if it would need more than a page, else `refused space` if its class would be another one, without room
+-- Command `z`, refused: `none` with blocks; `refused size` if the object would need more than a page, else `refused space` if its class would be another one,
+-- which has no slot left. No object changes.
 pub record IsRefusedResize (old : ShownHeap) (id n : ℕ) (reply : Reply) (new : ShownHeap) : Type 0 where
   pub fault : ResizeFault
   pub cause : IsResizeFault old.heap (record { number = id; length = n }) fault
@@ -143,33 +148,35 @@ pub record IsRefusedResize (old : ShownHeap) (id n : ℕ) (reply : Reply) (new :
   pub still : IsUnmoved old.heap.kind old.heap new.heap
   pub heap_is : new ≡ record old { heap = new.heap; step_bound = 160 }
 
--- z, by the object that the id names: `unknown` if there is none
+-- command `z` for the id, by the object that the id names: if there is none, the reply is `unknown`, and nothing changes
 abbrev pub Resizes : Option Placed → ShownHeap → ℕ → ℕ → Reply → ShownHeap → Type 0
 Resizes None old id n reply new = OnlyReplies old (codes "unknown") reply new
 Resizes (Some x) old id n reply new = IsResize old id x n reply new ⊎ IsRefusedResize old id n reply new
 
--- k: the class with these slots gets the bound, if no object is live
+-- command `k`: if no object is live, the class with slots of `slot_words` words gets the bound `k`, and the reply is `ok`; else, or without such a class,
+-- `none`
 abbrev pub Bounds : ShownHeap → ℕ → ℕ → Reply → ShownHeap → Type 0
 Bounds old slot_words k reply new = (reply ≡ said (bound_text (class_to_bound old.heap slot_words)))
     × (new ≡ record old { heap = bound_put old.heap (class_to_bound old.heap slot_words) k })
 
--- p: a word in 16 digits, which shows the objects and the blocks; `range` past the region
+-- command `p`: word `word` of the region in 16 hexadecimal digits, with the value that objects and blocks require (`ShowsWord`); `range` past the region
 abbrev pub Peeks : ShownHeap → ℕ → Reply → ShownHeap → Type 0
 Peeks old word reply new = (value : ℕ) × OnlyReplies old (peek_text (if nat_lt word (region_words old.heap.profile) then Some value else None)) reply new
     × ShowsWord old word value
 
--- steps: those of the last malloc, free or resize; with pages also their bound, how many objects moved, and the words of their slots
+-- the reply to `steps` with pages: the steps of the last malloc, free or resize, the bound on them, how many objects have moved, and the words of their slots
 abbrev pub steps_line : ℕ → ℕ → ℕ → ℕ → List ℕ
 steps_line last bound moves words = with_number (codes "steps last ") last ++ (with_number (codes " bound ") bound
     ++ (with_number (codes " moves ") moves ++ with_number (codes " words ") words))
 
+-- the reply to `steps` for a heap `t` of the kind; with blocks it has only the steps
 abbrev pub steps_shown : Kind → ShownHeap → List ℕ
 steps_shown kind t = elim (family_of kind) [
   | paged ↦ steps_line t.heap.cost t.step_bound t.moves t.moved_words
   | tiled ↦ with_number (codes "steps last ") t.heap.cost
 ]
 
--- The reply to a command, and the heap after it. The last row is of the commands of other modes.
+-- In heap `old` the command may get this reply and leave the heap `new`. The last row is for the commands of other modes, which get `none`.
 abbrev pub IsAnswer : ShownHeap → Command → Reply → ShownHeap → Type 0
 IsAnswer old (Malloc id n) reply new = Mallocs (get old.heap.held id) old id n reply new
 IsAnswer old (Free id) reply new = Frees (get old.heap.held id) old id reply new
@@ -185,14 +192,14 @@ IsAnswer old (Bound slot_words k) reply new = Bounds old slot_words k reply new
 IsAnswer old (Resize id n) reply new = Resizes (get old.heap.held id) old id n reply new
 IsAnswer old command reply new = OnlyReplies old (codes "none") reply new
 
--- the reply to the `heap` line is `ok`, and the new heap is empty and arranged by the rules
+-- the reply to the `heap` line with settings `p` is `ok`, and the heap after it is empty and arranged by the rules (`IsArranged`)
 abbrev pub Opens : Kind → Profile → Reply → ShownHeap → Type 0
 Opens kind p reply new = (reply ≡ said (codes "ok")) × (new ≡ heap_opened kind p) × IsArranged new.heap
 
--- a command gets its reply as claimed, and the heap after it is arranged by the rules
+-- in heap `old` the command may get this reply and leave the heap `new`, which is arranged by the rules (`IsArranged`)
 abbrev pub Answers : ShownHeap → Command → Reply → ShownHeap → Type 0
 Answers old command reply new = IsAnswer old command reply new × IsArranged new.heap
 
--- The replies to a script are as claimed, one for each item.
+-- There is one reply for each item of the script, and there are heaps between them such that each reply and each heap follow from the item and the heap before.
 abbrev pub MeetsHeadline : Kind → List Item → List Reply → Type 0
 MeetsHeadline kind script replies = (end : Option ShownHeap) × PlayRun (Opens kind) Answers None script replies end

@@ -1,5 +1,6 @@
-//! What is claimed of every script, by its lines and their replies alone. The public functions do
-//! nothing: each one's contract is a law of runs.
+//! The headline of modes `run` and `compare`: what is claimed of the replies to every script, by its lines
+//! and replies alone (`MeetsHeadline`). The public functions do nothing: the contract of each is a theorem on
+//! runs.
 #![tactic(auto)]
 
 ghost use Rattle.std.specs.Prelude.{◌≡◌, Bool, codes, IsSome, ℕ, List, [], ◌∷◌, None, Option, Some, true};
@@ -17,15 +18,15 @@ ghost use Rattle.transcript_laws.specs.Transcripts.{ArePlaceless, StaysAtOne, tr
 ghost use Rattle.headline_laws.specs.Headline.{MeetsHeadline};
 ghost use Rattle.headline_laws.specs.OneOutput.{BeginNone, BeginOnce, IsOrdered};
 
-/// The replies of every run over a script meet the headline: exactly one for each item, and each follows
-/// from the item and the heap before it, whose objects are numbered by the ids of the script.
+/// The replies of every run over a script meet the headline: there is exactly one for each item, and it
+/// follows from the item and a heap that the lines and replies before it show.
 pub fn the_headline()
     ensures { (kind : Kind) (items : List Item) (replies : List Reply) (end : Option RunState)
         → Run kind None items replies end → MeetsHeadline kind items replies }
 {}
 
-/// The text of the output determines the replies that meet the headline: no other replies with the same
-/// text meet it. So the output shows which lines are the reply to which command.
+/// Replies that meet the headline are determined by their text: no two different lists of replies that meet
+/// it for the same items have the same text. So the output shows which lines are the reply to which command.
 pub fn the_output_shows_the_replies()
     ensures { (kind : Kind) (items : List Item) (replies others : List Reply)
         → MeetsHeadline kind items replies → MeetsHeadline kind items others
@@ -40,12 +41,14 @@ pub fn at_bound_one_the_headline_is_the_transcript()
         → MeetsHeadline kind items replies → replies ≡ transcript kind items }
 {}
 
-/// Wrong replies do not meet the headline. On two pages of 64 words, of a malloc that fits while there
-/// is room: `refused space`, `refused size`, no line, no reply, or a reply more than there are items; a
-/// page more than the object needs and may have; a total that is not the sum of the lines above it; more
-/// steps than a malloc may take; `ok` for a free of an id that isn't live; one address of two objects;
-/// another address of an object, though nothing was freed or resized; a word other than 0 of a heap
-/// without objects. With blocks, of TLSF: more steps than a malloc may take.
+/// Wrong replies do not meet the headline, so it isn't empty. Each clause has a script on two pages of 64
+/// words and wrong replies to it. To a malloc that fits while there is room: `refused space` (`room`),
+/// `refused size` (`size`), a reply without a line (`silent`), no reply (`missing`), or a reply more than
+/// there are items (`over`). In `walk`: a page more than the object needs (`pages`), and a total that isn't
+/// the sum of the lines above it (`total`). More steps than a malloc may take, with pages (`steps`) and with
+/// TLSF (`blocks`). `ok` to a free of an id that isn't live (`unknown`). The same address for two objects
+/// (`shared`). A new address of an object, though nothing was freed or resized (`moved`). A word other than 0
+/// in a heap without objects (`word`).
 pub fn wrong_replies_fall_short()
     ensures room { ¬ MeetsHeadline Moving (items (codes "heap 2 512 1 8\nm 1 176\n") true)
         (said (codes "ok") ∷ said (codes "refused space") ∷ []) }
@@ -88,8 +91,9 @@ pub fn one_transcript()
         → Run kind None items replies last → replies ≡ transcript kind items }
 {}
 
-/// If every bound is 1, after two histories that leave equal objects by id under equal settings, the
-/// same further items get the same replies.
+/// If two runs with pages are in states in which each id names the same bytes, under equal settings and with
+/// every bound 1, then the same further items get the same replies in both, whatever their scripts were so
+/// far.
 pub fn equal_objects_get_equal_replies()
     ensures { (one other : RunState) (items : List Item) (replies shown : List Reply)
         (last end : Option RunState)
@@ -100,10 +104,10 @@ pub fn equal_objects_get_equal_replies()
         → shown ≡ replies }
 {}
 
-/// One script has one output of a manager of any kind that has an order: two runs over the same items
-/// have the same replies, with each address, block, word and cost, and lead to the same state. It is
-/// enough that both managers have an order at the end, and there is such a run. The same holds of two
-/// runs that go on from one state.
+/// On managers of one kind that promise an order, one script has one output: two runs over the same items
+/// have the same replies, with each address, block, word and cost, and lead to the same state. `there`: for
+/// any input there is such a run. `script` and `items`: it is enough that both managers have an order at the
+/// end. `further`: the same holds of two runs that continue from one state with an order.
 pub fn one_output()
     ensures there { (kind : Kind) (bytes : List ℕ) (ended : Bool)
         → (replies : List Reply) × (last : Option RunState) × Run kind None (items bytes ended) replies last × IsOrdered last }

@@ -1,4 +1,4 @@
--- A heap without objects stays one when its classes get bounds.
+-- For the contract of `set_bound` in `src/bounds.rt`: an open heap without objects is still one after a class gets a bound.
 use Rattle.std.specs.Prelude.{ℕ, Option, Some, None}
 use Rattle.cf_model.specs.Answers.{bound_put}
 use Rattle.cf_model.specs.State.{HeapState}

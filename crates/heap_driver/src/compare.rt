@@ -1,4 +1,5 @@
-//! Comparisons of the heap with the reference implementation.
+//! Compares what the heap shows with what the reference implementation computes, during a random run. Each
+//! comparison fails with the value of the heap if they differ.
 ghost use Rattle.std.specs.Prelude.{◌≡◌, ◌<◌, ◌≤◌, None, OnOk, Some};
 ghost use Rattle.page_model.specs.Figures.{figures_of, totals_of};
 ghost use Rattle.page_model.specs.Paging.{classes};
@@ -12,7 +13,8 @@ use std::alloc::Global;
 use test_support::{Wrong, hold};
 
 impl<H: Manager> RandomRun<H> {
-    /// Compares the figures of a class, which has at most as many pages partly full as it may.
+    /// Fails unless the heap shows the figures of this class that the reference computes, and no more of its
+    /// pages are partly full than its bound. The heap must show none if there is no such class.
     pub(crate) fn compare_figures(&self, class: u32) -> Result<(), Wrong>
         ensures same { OnOk result (class < classes self.now.reference.paging → figures_in (H.state self.now.calls.heap) class
             ≡ Some (figures_of self.now.reference.paging self.now.reference.held class)) }
@@ -34,7 +36,7 @@ impl<H: Manager> RandomRun<H> {
     }
 
     /// Compares all figures, each word of the region, and the bytes, the address and the blocks of each
-    /// object.
+    /// object. The heap must show no word past the end of the region.
     pub(crate) fn compare_all(&mut self, alloc: Global) -> Result<(), Wrong> {
         for class in 0..self.reference.classes() {
             self.compare_figures(class)?;
@@ -54,7 +56,8 @@ impl<H: Manager> RandomRun<H> {
         Ok(())
     }
 
-    /// Compares the figures of the heap. If every bound is 1 the used pages are those of the arithmetic.
+    /// Compares the figures of the whole heap. If every bound is 1, the pages in use must also be as many
+    /// as the objects need: for each class, its objects over the slots of a page, rounded up.
     fn compare_totals(&mut self) -> Result<(), Wrong>
         ensures same { OnOk result (totals_in (H.state self.new.calls.heap).kind (H.state self.new.calls.heap)
             ≡ totals_of self.new.reference.paging self.new.reference.held) }
@@ -70,7 +73,8 @@ impl<H: Manager> RandomRun<H> {
         )
     }
 
-    /// Compares the address of an object, and each of its blocks.
+    /// Compares the address of the object with this number, and the physical block of each block of its slot.
+    /// The heap must show no address if no object has the number, and no block past the end of the slot.
     fn compare_blocks(&mut self, number: u16) -> Result<(), Wrong> {
         let handle = Handle(u32::from(number));
         let Some((place, length)) = self.reference.object(number) else {
@@ -85,7 +89,8 @@ impl<H: Manager> RandomRun<H> {
         self.calls.compare_block(handle, blocks, None)
     }
 
-    /// The physical block of block i of an object at an address; none if words are moved.
+    /// The physical block of block i, from 0 on, of the object at address `place`. None with the moving
+    /// manager: it has no block table, and `frames` is empty.
     fn block_at(&self, place: u32, i: u32) -> Option<u32> {
         if (place / 4) as usize + (i as usize) < self.frames.len() {
             Some(block_of(&self.frames, place, i))

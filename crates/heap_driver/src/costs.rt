@@ -1,28 +1,33 @@
-//! The steps of single calls.
+//! Counts the steps of single calls of a manager, for tests that have worked them out by hand.
 
 use cf_base::{Handle, Settings};
 use cf_model::Manager;
 use step_ledger::Meter;
 
-/// A call of a manager.
+/// A call that a test makes on a manager. A `Handle` names the object.
 #[derive(Clone, Copy, Debug)]
 pub enum Call {
-    /// An object of this length in bytes.
+    /// A malloc of this many bytes.
     Malloc(u32),
     Free(Handle),
+    /// A resize of the object to this length in bytes.
     Resize(Handle, u32),
-    /// Two words are touched: bytes 4 to 11 of the object.
+    /// A write of bytes 4 to 11 of the object, which are in two words.
     Write(Handle),
+    /// A read of the same bytes.
     Read(Handle),
+    /// A look-up of the object's address.
     Place(Handle),
-    /// A word of the region.
+    /// A read of the word of the region with this number.
     Peek(u32),
-    /// A block of the object's slot.
+    /// A look-up of the physical block of one block of the object's slot: its number, from 0 on.
     Block(Handle, u32),
+    /// The figures of the whole heap.
     Totals,
 }
 
-/// The steps of a call on an open heap; none if the heap is closed.
+/// Makes the call and returns its steps, whether it succeeds or is refused. If the heap is closed, it makes
+/// no call and returns `None`.
 pub fn steps_of<H: Manager>(heap: &mut H, call: Call, meter: &mut Meter) -> Option<u64> {
     if !heap.is_open() {
         return None;
@@ -61,8 +66,10 @@ pub fn steps_of<H: Manager>(heap: &mut H, call: Call, meter: &mut Meter) -> Opti
     Some(meter.lap())
 }
 
-/// Plays the calls on that many pages of 512 bytes with k = 1 and five proxies, and returns the number of the
-/// first call that does not take the steps beside it; none if each does.
+/// Opens the heap with `pages` pages of 512 bytes, k = 1 and five proxies, and makes the calls in order.
+/// Each has beside it the steps that it must take. Returns `None` if each takes them. Else it stops at
+/// the first that doesn't, and returns the index of that call and the steps it took. `(0, 0)` is also
+/// returned if the heap can't be opened.
 pub fn first_with_other_steps<H: Manager>(
     heap: &mut H,
     pages: u32,

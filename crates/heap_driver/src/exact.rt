@@ -1,4 +1,5 @@
-//! The exact steps of calls, computed from the objects and the order before them.
+//! The exact steps that each call of a manager with pages must take. They are computed from what the
+//! reference implementation holds before the call: the objects on their pages, and the order.
 ghost use Rattle.std.specs.Prelude.{◌≡◌, ◌*◌, ◌+◌, ◌<◌, ◌≤◌, Err, IsTrue, None, Ok, Option, Some, false, is_some};
 ghost use Rattle.std.specs.FinMap as map;
 ghost use Rattle.cf_base.specs.declared.answers.Freed.{Freed};
@@ -19,7 +20,9 @@ use page_reference::Plain;
 use page_reference::order::PlainOrder;
 use page_reference::steps::{copy_steps, run_steps, slot_steps, wipe_steps, word_steps};
 
-/// What the steps of a call depend on: the kind of manager, the objects on their pages, and the order.
+/// What the steps of a call depend on, as it is before the call. `kind` is moving or non-moving: a non-moving
+/// heap also takes a step to look up a block. `plain` has the objects on their pages, and `order` the pages,
+/// slots and numbers that are used next.
 #[derive(Clone, Copy)]
 pub(crate) struct Exact<'a> {
     pub(crate) kind: Kind,
@@ -28,7 +31,8 @@ pub(crate) struct Exact<'a> {
 }
 
 impl<'a> Exact<'a> {
-    /// The steps of a malloc of `bytes` bytes that succeeds (`is_given`) or is refused.
+    /// The steps of a malloc of `bytes` bytes. `is_given` is whether it succeeds: a refused one takes one
+    /// step, whatever the cause.
     pub(crate) fn malloc_steps(&self, bytes: u32, is_given: bool) -> u64
         ensures given { (s : HeapState) (h : Handle) → HasPages self.now.kind self.now.plain.now s → IsTrue is_given
             → class_for self.now.plain.now.paging bytes < classes self.now.plain.now.paging
@@ -59,8 +63,9 @@ impl<'a> Exact<'a> {
         }
     }
 
-    /// The steps to vacate the slot at this address, of an object of `length` bytes: the slot is cleared and
-    /// becomes free; or, if `moves`, another object moves into it, and that object's slot becomes free.
+    /// The steps to vacate the slot at address `place`, which has an object of `length` bytes. If `moves`,
+    /// another object moves into it, and that object's slot becomes free. Else the slot itself is cleared and
+    /// becomes free. 0 if no class holds `length` bytes.
     fn leaving_steps(&self, place: u32, length: u32, moves: bool) -> u64
         ensures value { (s : HeapState) (x : Placed) (moved : Option Handle) → HasPages self.now.kind self.now.plain.now s
             → IsObject self.now.plain.now place length x → is_some moved ≡ moves
@@ -82,7 +87,8 @@ impl<'a> Exact<'a> {
         }
     }
 
-    /// The steps of a resize of the object with this number to `bytes` bytes, or of its refusal by `fault`.
+    /// The steps of a resize of the object with this number to `bytes` bytes. `fault` is why it is refused,
+    /// or `None` if it succeeds. 0 if it is to succeed but no object has this number.
     pub(crate) fn resize_steps(&self, number: u16, bytes: u32, fault: Option<ResizeFault>) -> u64
         ensures done { (s : HeapState) (x : Placed) (done : Resized) → HasPages self.now.kind self.now.plain.now s → fault ≡ None
             → IsFreed self.now.plain.now number x done.moved → class_for self.now.plain.now.paging bytes < classes self.now.plain.now.paging
@@ -101,8 +107,9 @@ impl<'a> Exact<'a> {
         }
     }
 
-    /// The steps of a resize, which is not refused, of an object of `length` bytes at this address to `bytes`
-    /// bytes. If its class changes and `moves` is true, another object moves into its old slot.
+    /// The steps of a resize that succeeds, of an object of `length` bytes at address `place`, to `bytes`
+    /// bytes. If its class changes and `moves` is true, another object moves into its old slot. 0 if no
+    /// class holds `bytes` bytes.
     fn resized_steps(&self, place: u32, length: u32, bytes: u32, moves: bool) -> u64
         ensures { (s : HeapState) (x : Placed) (moved : Option Handle) → HasPages self.now.kind self.now.plain.now s
             → IsObject self.now.plain.now place length x → is_some moved ≡ moves
@@ -122,8 +129,8 @@ impl<'a> Exact<'a> {
         }
     }
 
-    /// The steps to cut `most` bytes to `bytes` bytes: those of the word in which the bytes then end, and
-    /// those of clearing the words after it; 0 if nothing is cut.
+    /// The steps to cut the `most` bytes of a slot to the first `bytes`: those of the word with the first
+    /// byte that is cut, and those of clearing the words after it; 0 if nothing is cut.
     fn tail_steps(&self, bytes: u32, most: u64) -> u64
         requires { most ≤ 4294967303 }
         ensures value { result ≡ tail self.now.kind 0 bytes most }
@@ -139,8 +146,9 @@ impl<'a> Exact<'a> {
         }
     }
 
-    /// The steps to copy an object of `length` bytes into another slot, where it has `bytes` bytes: to copy
-    /// the words that it keeps and cut them, and to write the header and the proxy.
+    /// The steps to copy an object of `length` bytes into a slot of another class, where it has `bytes`
+    /// bytes: to copy the words that it keeps, to cut the last of them, and to write the header and the
+    /// proxy.
     fn carrying_steps(&self, length: u32, bytes: u32) -> u64
         ensures value { result ≡ carrying_cost self.now.kind length bytes }
         ensures few { result ≤ 100000000000 }

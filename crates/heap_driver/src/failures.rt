@@ -1,11 +1,14 @@
-//! Runs that differ from the reference.
+//! The error of a run in which the heap and the reference implementation differed.
 use crate::random_run::Bounds;
 use test_support::Wrong;
 
-/// A run that differs: the bounds, the number of calls before it differed, and the difference.
+/// Where and how a run of the heap differed from the reference implementation.
 #[derive(Debug, Drop)]
 pub struct RunFailure {
+    /// The bounds of the run.
     pub bounds: Bounds,
+    /// How many calls of the run passed before.
     pub call: u32,
+    /// The result of the heap that differed.
     pub wrong: Wrong,
 }

@@ -1,6 +1,6 @@
-//! What the tests of the managers with pages share: long runs of drawn calls against the reference
-//! implementation, and the steps of single calls. Nothing here ends a process: a difference is returned,
-//! and a test fails by it.
+//! What the tests of `MovingHeap` and `NonMovingHeap` share: long runs of random calls, each compared with
+//! the reference implementation (`page_reference`), and the steps of single calls. Nothing here ends the
+//! process: a difference is returned as an error, and the test fails with it.
 #![tactic(auto)]
 
 mod bounds;

@@ -1,5 +1,6 @@
-//! Long runs of drawn calls, against a reference implementation that computes each result from the objects,
-//! and from the order in which pages, slots and numbers are used.
+//! Long runs of random calls on a manager with pages, drawn from a seed. A reference implementation
+//! computes the result, the address and the steps of each call. It knows the objects and the order, which
+//! is what the heap uses next. A run fails at the first difference.
 ghost use Rattle.std.specs.Prelude.{◌≡◌, IfOk};
 
 use crate::bounds::open_bounded;
@@ -14,52 +15,61 @@ use std::alloc::Global;
 use step_ledger::Meter;
 use test_support::{Calls, Draw, Objects, Wrong, hold};
 
-/// Pages, bytes to a page, and proxies.
+/// The pages of the heap.
 const PAGES: u32 = 16;
 
+/// The bytes of a page.
 const PAGE_BYTES: u32 = 512;
 
+/// The proxies of the heap: no more objects are live at a time.
 pub const PROXIES: u32 = 48;
 
 /// How often a run compares everything, each time after `BETWEEN` calls.
 const COMPARISONS: u32 = 30;
 
+/// The calls between two comparisons of everything.
 const BETWEEN: u32 = 50;
 
-/// The least number of objects that move in a run in which any can.
+/// The least number of moves of objects in a run in which objects can move.
 const MOVES: u32 = 10;
 
-/// The bounds of the pages that may be partly full.
+/// The bounds of a run: how many pages of each class may be partly full.
 #[derive(Clone, Copy, Debug, PartialEq, Eq)]
 pub enum Bounds {
-    /// Each class has this one.
+    /// Every class has this bound.
     Each(u32),
-    /// The classes have 1, 2 or 3, in turn.
+    /// The classes have the bounds 1, 2 and 3 in turn, by rising size.
     OfClasses,
 }
 
-/// The heap, the reference implementation with its order, and the address and the bytes of each object.
+/// A heap under test, and beside it the reference implementation, which follows each of its calls.
 #[derive(Drop)]
 pub struct RandomRun<H: Manager> {
+    /// The heap, with the ledger of its calls.
     pub calls: Calls<H>,
+    /// The reference implementation: the objects with their addresses, and the bounds of the classes.
     pub(crate) reference: Plain,
+    /// The pages, slots and numbers that the reference expects the heap to use next.
     order: PlainOrder,
+    /// The slot sizes: in words for the moving manager, in blocks for the non-moving one.
     layout: Layout,
+    /// Each live object by number, with the address and the bytes that it must have.
     pub(crate) objects: Objects<u32>,
-    /// By virtual block, its physical block; none if objects' words are moved.
+    /// By virtual block, its physical block; empty for the moving manager, which has no block table.
     pub(crate) frames: Vec<u32>,
     /// By class, how many pages may be partly full.
     pub(crate) bounds: Vec<u32>,
-    /// How many objects a free or a resize of another one has moved.
+    /// How often a free or a resize of one object has moved another one.
     moves: u32,
     /// Whether frees are drawn more often than mallocs in this phase.
     drains: bool,
+    /// The calls that are left of this phase.
     phase: u32,
     draw: Draw,
 }
 
 impl<H: Manager> RandomRun<H> {
-    /// The heap, whose slots have sizes of this layout, before its first run.
+    /// Prepares runs on this heap, whose slots have sizes of this layout. Each run opens it anew.
     pub fn new(alloc: Global, heap: H, layout: Layout, meter: Meter) -> Result<RandomRun<H>, Wrong>
         ensures kept { IfOk result (λ run. run.calls.heap ≡ heap) }
     {
@@ -81,8 +91,9 @@ impl<H: Manager> RandomRun<H> {
         })
     }
 
-    /// Long runs, one after another: every class has a bound of 1, of 2, one of its own, and of 64.
-    /// Objects move, unless the bound is 64: there are fewer pages.
+    /// Makes four runs, each on an empty heap. In the first, second and fourth every class has bound 1, 2
+    /// and 64; in the third the bounds differ by class. Objects must move, but for bound 64: the heap has
+    /// fewer pages, so no class reaches it. Stops at the first run that differs from the reference.
     pub fn play(&mut self, alloc: Global) -> Result<(), RunFailure> {
         for bounds in [
             Bounds::Each(1),
@@ -102,7 +113,8 @@ impl<H: Manager> RandomRun<H> {
         Ok(())
     }
 
-    /// A run under these bounds, whose calls are counted. All is compared after every 50.
+    /// One run of 1,500 calls under these bounds. Everything is compared after each 50. `call` is raised by
+    /// one for each call that passed.
     fn run(&mut self, alloc: Global, bounds: Bounds, call: &mut u32) -> Result<(), Wrong> {
         self.open(alloc, bounds)?;
         for _i in 0..COMPARISONS {
@@ -118,7 +130,7 @@ impl<H: Manager> RandomRun<H> {
         )
     }
 
-    /// Both anew, without objects.
+    /// Opens the heap under these bounds and makes a new reference for it, both without objects.
     fn open(&mut self, alloc: Global, bounds: Bounds) -> Result<(), Wrong> {
         let k = match bounds {
             Bounds::Each(k) => k,
@@ -150,7 +162,7 @@ impl<H: Manager> RandomRun<H> {
         Ok(())
     }
 
-    /// The reference with its order and the kind of the heap, which give the steps of each call.
+    /// What computes the steps of the next call: the reference, its order, and the kind of the heap.
     fn exact(&self) -> Exact<'_> {
         Exact {
             kind: match self.layout {
@@ -162,8 +174,9 @@ impl<H: Manager> RandomRun<H> {
         }
     }
 
-    /// A length of up to 560 bytes: most are small, and some are too large. Half of them are of few
-    /// classes, so that these have pages enough for an object to move where two may be partly full.
+    /// Draws a length of 0 to 559 bytes; more than 504 are too large for a page. Half of the lengths are
+    /// 140 to 163, which are of two classes. So these classes have enough pages for objects to move, even
+    /// if two of their pages may be partly full. Of the other lengths most are small.
     fn length(&mut self) -> u32 {
         if self.draw.below(2) == 0 {
             return 140 + self.draw.below(24);
@@ -172,7 +185,8 @@ impl<H: Manager> RandomRun<H> {
         self.draw.below(most)
     }
 
-    /// One call, drawn. In turn the heap fills and drains, for a drawn number of calls.
+    /// Makes one drawn call. In phases of 20 to 139 calls the heap fills and drains in turn: in the one
+    /// mallocs are drawn more often, in the other frees.
     fn call(&mut self, alloc: Global) -> Result<(), Wrong> {
         if self.phase == 0 {
             self.drains = !self.drains;
@@ -190,7 +204,9 @@ impl<H: Manager> RandomRun<H> {
         }
     }
 
-    /// A malloc: the number, the address and the steps are those of the order.
+    /// Makes an object of a drawn length. The reference computes whether it must be refused, and for
+    /// which cause; else its number and its address. Fails unless the heap does the same, in the exact
+    /// steps.
     fn malloc(&mut self, alloc: Global) -> Result<(), Wrong> {
         let length = self.length();
         let want = self.refusal(length);
@@ -210,7 +226,7 @@ impl<H: Manager> RandomRun<H> {
         self.compare_figures(self.reference.class_for(length))
     }
 
-    /// Why the reference implementation would refuse `length` bytes.
+    /// Why a malloc of `length` bytes must be refused, computed from the objects; none if it must succeed.
     fn refusal(&self, length: u32) -> Option<Refusal> {
         let class = self.reference.class_for(length);
         if class >= self.reference.classes() {
@@ -224,7 +240,8 @@ impl<H: Manager> RandomRun<H> {
         }
     }
 
-    /// The heap has the object of this number at its address, and the reference gets it.
+    /// Copies the object of this number from `objects` to the reference, and fails unless the heap has it
+    /// at the same address. Does nothing if there is no such object.
     fn put(&mut self, alloc: Global, number: u16) -> Result<(), Wrong> {
         let Some(object) = self.objects.get(u32::from(number)) else {
             return Ok(());
@@ -236,7 +253,9 @@ impl<H: Manager> RandomRun<H> {
             .compare_place(Handle(u32::from(number)), Some(place))
     }
 
-    /// A free: the object that moves and the steps are those of the order.
+    /// Frees the object of this number. The reference computes which object must move into its slot, if
+    /// any. Fails unless the heap does the same, in the exact steps. A number without an object must be
+    /// refused.
     fn free(&mut self, alloc: Global, number: u16) -> Result<(), Wrong> {
         let steps = self.exact().free_steps(number);
         let freed = self.calls.free(Handle(u32::from(number)))?;
@@ -258,8 +277,9 @@ impl<H: Manager> RandomRun<H> {
         self.compare_figures(class)
     }
 
-    /// Records that the object `moved`, if there is one, is now at this address, exchanges its blocks with
-    /// those there, and compares its address in the heap.
+    /// Records a move that the heap has made: the object with the number `moved`, if there is one, is at the
+    /// address `to` from now on. With a block table, its old slot and the new one exchange their blocks; both
+    /// have `slot_words` words. Fails unless the heap shows the object at `to`.
     fn fill_hole(
         &mut self,
         alloc: Global,
@@ -283,7 +303,9 @@ impl<H: Manager> RandomRun<H> {
         self.calls.compare_place(Handle(other), Some(to))
     }
 
-    /// A resize: the address, the object that moves and the steps are those of the order.
+    /// Resizes the object of this number to a drawn length. The reference computes whether it must be
+    /// refused, and for which cause; else its new address, and the object that moves into its old slot.
+    /// Fails unless the heap does the same, in the exact steps.
     fn resize(&mut self, alloc: Global, number: u16) -> Result<(), Wrong> {
         let length = self.length();
         let want = self.resize_fault(number, length);
@@ -315,7 +337,8 @@ impl<H: Manager> RandomRun<H> {
         self.compare_figures(after)
     }
 
-    /// Why the reference implementation would refuse an object this length.
+    /// Why a resize of the object of this number to `length` bytes must be refused, computed from the
+    /// objects; none if it must succeed.
     fn resize_fault(&self, number: u16, length: u32) -> Option<ResizeFault> {
         let Some((_place, old)) = self.reference.object(number) else {
             return Some(ResizeFault::Unknown);
@@ -330,7 +353,8 @@ impl<H: Manager> RandomRun<H> {
         }
     }
 
-    /// Writes up to 40 bytes, which may pass the end of the object.
+    /// Writes up to 40 drawn bytes into the object of this number, at a drawn place. They may pass its end,
+    /// and the number may have no object: then the write must be refused, and the object keeps its bytes.
     fn write(&mut self, alloc: Global, number: u16) -> Result<(), Wrong> {
         let handle = Handle(u32::from(number));
         let length = self.objects.length(handle.0).unwrap_or(0).min(1_000);
@@ -342,7 +366,8 @@ impl<H: Manager> RandomRun<H> {
         self.put(alloc, number)
     }
 
-    /// Reads a whole object and compares its bytes.
+    /// Reads the whole object of this number and compares its bytes. The read must be refused if no object
+    /// has the number.
     pub(crate) fn read(&mut self, number: u16) -> Result<(), Wrong> {
         let handle = Handle(u32::from(number));
         let length = self.objects.length(handle.0).unwrap_or(0);
@@ -352,7 +377,7 @@ impl<H: Manager> RandomRun<H> {
     }
 }
 
-/// A number of the reference implementation.
+/// The number of an object in the 16 bits that the reference has for it. Fails if it doesn't fit.
 fn number_of(number: u32) -> Result<u16, Wrong> {
     match u16::try_from(number) {
         Ok(number) => Ok(number),
@@ -360,7 +385,7 @@ fn number_of(number: u32) -> Result<u16, Wrong> {
     }
 }
 
-/// The handle of an object that moved.
+/// The handle of the object that moved, by its number; none if none moved.
 fn handle_of(moved: Option<u32>) -> Option<Handle> {
     match moved {
         Some(number) => Some(Handle(number)),
@@ -368,8 +393,8 @@ fn handle_of(moved: Option<u32>) -> Option<Handle> {
     }
 }
 
-/// The table after the last number of entries from the first on changed places with those from the
-/// second on.
+/// The block table after the n entries from a on changed places with the n entries from b on, where `run` is
+/// [a, b, n]. Fails if they are not all in the table.
 fn exchanged(alloc: Global, frames: &[u32], run: [u32; 3]) -> Result<Vec<u32>, Wrong> {
     let [a, b, n] = run;
     let len = frames.len();

@@ -1,4 +1,4 @@
--- Bytes that are put chunk by chunk.
+-- An object whose bytes are written to a sink chunk by chunk: for the loop of `put_bytes`.
 use Rattle.std.proofs.Common.{◌≡◌, ◌∙◌, ◌++◌, ◌+◌, ◌≤◌, ℕ, List, Option, Some, length, take, drop, ap, sym, subst}
 use Rattle.std.specs.Prelude.{Err}
 use Rattle.std.specs.FinMap.{get}
@@ -21,12 +21,12 @@ all_of : (n : ℕ) (xs : List ℕ) → length xs ≤ n → take n xs ≡ xs
 all_of n xs le = take_all n xs le
 
 module _ (w x y : Written) (bytes chunk : List ℕ) (i n : ℕ) (first : x ≡ appended w (take i bytes)) (is : chunk ≡ take n (drop i bytes)) where
-  -- one chunk more
+  -- after one more chunk the first i + n bytes are written
   pub chunk_put : y ≡ appended x chunk → y ≡ appended w (take (i + n) bytes)
   chunk_put next = next ∙ ap (appended x) is ∙ ap (λ (o : Written). appended o (take n (drop i bytes))) first
       ∙ appended_then w (take i bytes) (take n (drop i bytes)) ∙ ap (appended w) (sym (take-add i n bytes))
 
-  -- a chunk is cut
+  -- if a chunk is cut, a prefix of all bytes is written
   pub chunk_cut : (e : Failed) → Puts {T = Unit {0}} x chunk (Err e) y → Puts {T = Unit {0}} w bytes (Err e) y
   chunk_cut e put =
       let part = subst (λ (b : List ℕ). Puts {T = Unit {0}} x b (Err e) y) is put in
@@ -35,11 +35,11 @@ module _ (w x y : Written) (bytes chunk : List ℕ) (i n : ℕ) (first : x ≡ a
       subst (λ (b : List ℕ). Puts {T = Unit {0}} w b (Err e) y) (split i bytes) (puts_then {T = Unit {0}} w x y (take i bytes) (drop i bytes) (Err e) first
       rest)
 
--- all chunks
+-- after the last chunk all bytes are written
 pub chunks_put : (w x : Written) (bytes : List ℕ) (i : ℕ) → x ≡ appended w (take i bytes) → length bytes ≤ i → x ≡ appended w bytes
 chunks_put w x bytes i first all = first ∙ ap (appended w) (all_of i bytes all)
 
--- the length of the object that is under a number
+-- the object with the handle h has n bytes
 pub object_length : (m : Held) (h n : ℕ) (x : Placed) → (y : Placed) × (get m h ≡ Some y) × (n ≡ length y.bytes) → get m h ≡ Some x → length x.bytes ≡ n
 object_length m h n x live some =
     let e : Some live.0 ≡ Some x = sym live.1 ∙ some in

@@ -1,4 +1,4 @@
--- The entries of an image that is loaded, one after the other, and its end.
+-- The entries of an image that is loaded, one after the other, and then its end: for the loop of `load_entries`.
 use Rattle.std.proofs.Common.{◌≡◌, ◌≢◌, ◌∙◌, ◌++◌, ◌+◌, ◌-◌, ◌≤◌, ◌<◌, ℕ, suc, List, [], ◌∷◌, Some, None, length, refl, ap, sym, arith, inl}
 use Rattle.std.specs.Prelude.{Result, Ok, Err}
 use Rattle.std.specs.FinMap.{empty, get, get-empty, insert, len, len-empty}
@@ -31,7 +31,7 @@ reached_is : (next next2 at at2 : ℕ) (o o2 : Objects) → next ≡ next2 → o
     → ◌≡◌ {A = Reached} (record { next = next; objects = o; at = at }) (record { next = next2; objects = o2; at = at2 })
 reached_is next next2 at at2 o o2 a b c = λ i. record { next = a i; objects = b i; at = c i }
 
--- no entry was read
+-- before the first entry all `count` entries are still to be decoded, from byte 20 on
 pub entries_begin : (p : Profile) (count : ℕ) (s : RunState) (had : Feed) → objects_of s ≡ empty
     → Passes (entries_decoded p count at_first) had had (entries_decoded p (count - 0) (reached_in s 0 20))
 entries_begin p count s had none = passes_same _ _ had (λ bytes.
@@ -45,7 +45,7 @@ nothing_fresh s none id = ap (λ (o : Objects). get o id) none ∙ get-empty nat
 pub nothing_counts : (s : RunState) → objects_of s ≡ empty → len (objects_of s) ≡ 0
 nothing_counts s none = ap len none ∙ len-empty nat_cmp (List ℕ)
 
--- one more entry was read
+-- after one more entry, one entry fewer is to be decoded
 module _ (p q : Profile) (count i next at : ℕ) (had mid left : Feed) (old new : RunState) (e : Entry) (lt : i < count) (same : q ≡ p)
     (before : Passes (entries_decoded p count at_first) had mid (entries_decoded p (count - i) (reached_in old next at)))
     (entry : (go : Reached → List ℕ → Decoded) → EntryBy (λ bytes. entry_decoded q (reached_in old next at) bytes go) go old (reached_in old next at) mid
@@ -110,7 +110,7 @@ entry_ends p q count i next at had mid left old new f lt same profile before ent
     by fault.Read s w = (s.0, s.1 ∙ ap (λ p. Some p) profile, shows_then _ _ had mid left all s.0 s.3, s.4, holds s.0 s.2 w)
     by fault.OutOfMemory s w = absurd s
 
--- no entry is left
+-- after the last entry the end is to be decoded
 end_is : (p : Profile) (r : Reached) (bytes : List ℕ) → entries_decoded p 0 r bytes ≡ end_decoded p r bytes
 unfolding entries_decoded
 end_is p r bytes = refl
@@ -123,7 +123,7 @@ end_broken : (p : Profile) (r : Reached) (byte : ℕ) (more : List ℕ) → end_
 unfolding end_decoded
 end_broken p r byte more = refl
 
--- without a byte past the image no rule is broken
+-- if no byte follows the last entry, no rule is broken
 end_sound : (p : Profile) (r : Reached) (few : List ℕ) → length few < 1 → BreaksNoRule (end_decoded p r few)
 end_sound p r [] short = inl (ap (λ (d : Decoded). d.broken) (end_whole p r))
 end_sound p r (x ∷ rest) short = absurd (omega arith)

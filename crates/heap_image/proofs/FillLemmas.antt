@@ -1,4 +1,4 @@
--- A buffer that is filled chunk by chunk.
+-- A buffer that is filled from a source chunk by chunk: for the loop of `fill`, and for `read_end`.
 use Rattle.std.proofs.Common.{◌≡◌, ◌∙◌, ◌++◌, ◌+◌, ◌≤◌, ℕ, List, [], ◌∷◌, length, take, drop, get_or, refl, ap, sym, subst, arith}
 use Rattle.std.proofs.Common.{length-append}
 use Rattle.std.proofs.lemmas.List.{length-take-le, take-append-le}
@@ -10,7 +10,7 @@ use Rattle.script_loop.proofs.CallerLemmas.{given_min}
 use Rattle.heap_image.specs.Feed.{Feed, Takes}
 use Rattle.heap_image.proofs.StageLemmas.{takes_then}
 
--- the front of a list, and a part of what follows it
+-- the list a and the first n elements of b after it
 front_and : (a b : List ℕ) (n k : ℕ) → k ≡ length a → take (k + n) (a ++ b) ≡ a ++ take n b
 front_and a b n k is =
     take-add k n (a ++ b)
@@ -34,7 +34,7 @@ module _ (at n k : ℕ) (buffer chunk : List ℕ) (within : at ≤ length buffer
       ∙ ap (λ (b : List ℕ). take at buffer ++ b) (take-append-le n chunk (post_of at k buffer) few)))
       (takes_then (take at buffer) (take n chunk) had mid left before more)
 
--- what a call of a source took
+-- a call of a source that returned n bytes took the first n bytes of the chunk
 pub chunk_taken : (n : ℕ) (chunk : List ℕ) (had left : Feed) → n ≤ length chunk → had.rest ≡ preceded (take n chunk) left.rest
     → left.given ≡ min (had.given + n) last_count → Takes (take n chunk) had left
 chunk_taken n chunk had left few first counted = record {

@@ -1,4 +1,4 @@
--- The header of an object holds its length.
+-- The header word at an object's address holds its length in the upper half: for `length_of`.
 use Rattle.std.proofs.Common.{◌≡◌, ℕ, ◌/◌, ◌^◌, ◌<◌, List, Some, None, length, get_or, arith, sym, ◌∙◌, ap, subst}
 use Rattle.std.specs.Prelude.{option_map, slice_get}
 use Rattle.std.proofs.lemmas.Option.{slice_get-get_or}
@@ -12,11 +12,11 @@ use Rattle.cf_model.specs.Answers.{place_of}
 use Rattle.cf_model.specs.Rules.{KeepsPages, KeepsRules, KeepsRulesOf}
 use Rattle.cf_model.specs.State.{HeapState, paging_in}
 
--- what a manager of kind Moving keeps of its pages
+-- a manager of kind Moving keeps the rules of its pages
 pub pages_of : (s : HeapState) → s.kind ≡ Moving → KeepsRules s → KeepsPages s
 pages_of s moving rules = (let r : KeepsRulesOf Moving s = subst (λ (k : Kind). KeepsRulesOf k s) moving rules.of_kind in r.0)
 
--- the word at an index that there is
+-- at an index below the length there is a word
 there : (words : List ℕ) (i : ℕ) → i < length words → slice_get words i ≡ Some (get_or words i 0)
 there words i lt = slice_get-get_or words i 0 lt
 

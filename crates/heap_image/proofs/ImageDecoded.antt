@@ -1,4 +1,4 @@
--- The fields of an image, one after the other.
+-- The image of settings and objects decodes to these, field by field: for the law `an_image_is_read_back`.
 use Rattle.std.proofs.Common.{◌≡◌, ◌∙◌, ◌++◌, ◌+◌, ◌*◌, ◌/◌, ◌%◌, ◌≤◌, ◌<◌, ◌^◌, ℕ, zero, suc, true, List, [], Option, Some, None}
 use Rattle.std.proofs.Common.{length, refl, ap, sym, arith, append_assoc}
 use Rattle.std.proofs.Common.{length-append}
@@ -27,7 +27,7 @@ use Rattle.heap_image.proofs.Encoded.{AreBelow, below_none, below_some, needed_a
 use Rattle.heap_image.proofs.Listing.{listed_all, listed_end, listed_none, listed_some}
 use Rattle.heap_image.proofs.Numbers.{field_read_2, field_read_4}
 
--- one entry
+-- an entry that was written decodes to its object, and `go` decodes what follows
 module _ (p : Profile) (r : Reached) (go : Reached → List ℕ → Decoded) where
   pub bytes_read : (id : ℕ) (v rest : List ℕ) → bytes_decoded p r id (length v) (v ++ rest) go ≡ go (passed r id v) rest
   unfolding bytes_decoded
@@ -61,12 +61,12 @@ pub entries_next : (p : Profile) (n : ℕ) (r : Reached) (bytes : List ℕ)
 unfolding entries_decoded
 entries_next p n r bytes = refl
 
--- the mark
+-- after the mark `pages_decoded` decodes the rest
 pub mark_read : (rest : List ℕ) → decoded (mark ++ rest) ≡ pages_decoded rest
 unfolding decoded
 mark_read rest = refl
 
--- the settings are small
+-- a page has at most 8,388,608 words, so its bytes fit a number of 32 bits
 pub page_small : (p : Profile) → AreInRange p → p.page_words ≤ 8388608
 page_small p h = (let least = h.some_pages in let most = h.small_region in let m = mul-le 1 p.page_words p.pages p.page_words least (omega arith) in omega
     arith)

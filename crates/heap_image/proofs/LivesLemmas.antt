@@ -1,4 +1,4 @@
--- The live objects of a heap have an image, and equal objects have the same image.
+-- Live objects have an image, and equal objects have the same one: for the laws `live_objects_have_an_image` and `equal_objects_have_one_image`.
 use Rattle.std.proofs.Common.{◌≡◌, ◌∙◌, ◌+◌, ◌*◌, ◌≤◌, ℕ, List, Option, Some, None, length, refl, ap, sym, subst, arith}
 use Rattle.std.specs.Prelude.{option_map}
 use Rattle.std.specs.List.{range_with_len}
@@ -63,7 +63,7 @@ same_image one other t u pages words proxies same =
     let o : objects_of other ≡ objects_of one = equal_maps _ _ (λ id. objects_of_is other u id ∙ same id ∙ sym (objects_of_is one t id)) in
     λ i. image_of (pages i) (8 * words i) (proxies i) (o i)
 
--- the numbers under which an object by id is held
+-- a run in progress on a manager of kind Moving: the object under an id is held under the number that the id names
 module _ (s : RunState) (going : IsGoing s) (ids : AreWithin s.session.ids) (moving : s.heap.kind ≡ Moving) where
   names : AreTiedTo s.session.ids (objects s.heap.held)
   names = names_of_objects s.session.ids s.heap.held going.tied.ids
@@ -109,7 +109,7 @@ module _ (s : RunState) (going : IsGoing s) (ids : AreWithin s.session.ids) (mov
         room = (let e = needed_any s.heap.profile (image_paging (at_bound_one s.heap.profile)).bounds (objects_of s) in omega arith);
       }
 
--- the kind Moving has slots of whole words
+-- the live objects need no more pages than there are
 pub room_of : (s : RunState) → IsGoing s → s.heap.kind ≡ Moving
     → ((p : Paging) (m : Held) → IsPaging p → IsSound p m → pages_needed p (objects m) ≤ used_pages p m)
     → ((p : Paging) (m : Held) → IsSound p m → used_pages p m + free_pages p m ≡ p.pages)

@@ -1,4 +1,4 @@
--- The stages of a load put together.
+-- A load put together from its stages, the settings and the objects: for `load` and `load_objects`.
 use Rattle.std.proofs.Common.{◌≡◌, ◌∙◌, ◌++◌, ℕ, Bool, true, false, List, [], Option, Some, None, refl, ap, sym, subst, append-nil}
 use Rattle.std.specs.Prelude.{Result, Ok, Err}
 use Rattle.std.specs.FinMap.{empty, get, get-empty}
@@ -98,7 +98,7 @@ settings_lack from to had left s q closed session = record {
   };
 }
 
--- the objects were read after the settings
+-- once the settings are read, the load ends as the reading of the objects does
 module _ (from to : RunState) (settings : Settings) (q : Profile) (had mid left : Feed) where
   pub loads_whole : q ≡ profile_of settings → Passes decoded had mid (count_decoded (profile_of settings)) → EndsBy (count_decoded q) q mid (Ok tt) left to
       → LoadsBy from had (Ok settings) left to

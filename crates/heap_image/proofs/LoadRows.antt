@@ -1,4 +1,4 @@
--- What a load did, over the bytes that the source had, and over some that may follow.
+-- From clause `loads` of `load`, for callers: what a load did, if the source had the bytes `all`; and over any source, for some bytes that may follow.
 use Rattle.std.proofs.Common.{◌≡◌, ◌∙◌, ◌++◌, ℕ, List, [], Option, Some, None, refl, ap, sym, subst}
 use Rattle.std.specs.Prelude.{Result}
 use Rattle.cf_base.specs.declared.settings.Settings.{Settings}

@@ -1,4 +1,4 @@
--- The mark of an image, and the settings after it.
+-- The mark of an image, and the settings after it: for `read_settings` and the functions below it.
 use Rattle.std.proofs.Common.{◌≡◌, ◌∙◌, ◌++◌, ◌+◌, ◌≤◌, ◌<◌, ℕ, Bool, true, false, List, None, length, take, refl, ap, sym, arith}
 use Rattle.std.proofs.Common.{append_assoc, inr, length-append}
 use Rattle.std.specs.Prelude.{Result, Ok, Err, if◌then◌else◌, nat_lt}
@@ -21,7 +21,7 @@ use Rattle.heap_image.specs.declared.fault.LoadFault.TheVariants as fault
 use Rattle.heap_image.proofs.ImageDecoded.{mark_read}
 use Rattle.heap_image.proofs.StageLemmas.{falls_stops, field_breaks, field_shows, stops_then, takes_then}
 
--- the settings after k bytes
+-- if k bytes are taken, and then the settings are read in n bytes, the settings are read in k + n bytes
 pub settings_then : (T U : List ℕ → Decoded) (a : List ℕ) (k n : ℕ) (had mid left : Feed) (r : Result Settings LoadFault) → length a ≡ k → Takes a had mid
     → ((more : List ℕ) → T (a ++ more) ≡ U more) → SettingsBy n U mid r left → SettingsBy (k + n) T had r left
 settings_then T U a k n had mid left (Ok s) long took shows q = record {
@@ -34,7 +34,7 @@ settings_then T U a k n had mid left (Ok s) long took shows q = record {
 settings_then T U a k n had mid left (Err f) long took shows q =
     stops_then T U had mid left (record { taken = a; took = took; shows = shows }) None empty f q
 
--- behind a field
+-- the settings, from a field of four bytes on whose number n passes its test
 pub field_then : (bad : Decoded) (test : ℕ → Bool) (go : ℕ → List ℕ → Decoded) (n at count : ℕ) (had mid left : Feed) (r : Result Settings LoadFault)
     → ReadsNumber w32 at had (Ok n) mid → test n ≡ true → SettingsBy count (go n) mid r left
     → SettingsBy (4 + count) (λ bytes. number w32 bytes bad (λ n rest. if test n then go n rest else bad)) had r left
@@ -72,7 +72,7 @@ mark_then bytes n had mid left r four good took q =
     let is = (bytes_eq-Decides bytes mark).0 good in
     settings_then decoded pages_decoded bytes 4 n had mid left r four took (λ more. ap (λ (b : List ℕ). decoded (b ++ more)) is ∙ mark_read more) q
 
--- fewer than four bytes
+-- fewer than four bytes end within the mark
 short_mark : (bytes : List ℕ) → length bytes < 4 → decoded bytes ≡ cut (unopened 0)
 short_mark bytes short = unmarked_are bytes (go (bytes_eq (take 4 bytes) mark) refl) ∙ unmarked_short bytes short
   where
@@ -87,7 +87,7 @@ short_mark bytes short = unmarked_are bytes (go (bytes_eq (take 4 bytes) mark) r
 pub mark_stops : (n : ℕ) (had left : Feed) (f : LoadFault) → StopsShort 4 0 had f left → SettingsBy n decoded had (Err f) left
 mark_stops n had left f q = falls_stops decoded 4 (unopened 0) short_mark had left 0 f None empty refl refl refl q
 
--- other bytes were read
+-- four bytes were read that are not the mark
 pub mark_bad : (n : ℕ) (bytes : List ℕ) (had left : Feed) → length bytes ≡ 4 → bytes_eq bytes mark ≡ false → Takes bytes had left
     → SettingsBy n decoded had (Err (fault.Bad 0)) left
 mark_bad n bytes had left four other took = settings_bad n decoded had left 0

@@ -1,4 +1,4 @@
--- Numbers as bytes, and fields that are numbers.
+-- Numbers of two and four bytes: they are read back as written; and decoding a field that is a number, whole or cut.
 use Rattle.std.proofs.Common.{◌≡◌, ◌∙◌, ◌++◌, ◌<◌, ◌^◌, ℕ, Bool, true, false, List, length, take, drop, refl, ap, sym, arith, get_or}
 use Rattle.std.specs.Prelude.{nat_lt, if◌then◌else◌}
 use Rattle.std.specs.Int.{Width, w16, w32, byte_len}
@@ -50,7 +50,7 @@ module _ (w : Width) (bytes : List ℕ) (bad : Decoded) (go : ℕ → List ℕ �
       let less : nat_lt (length bytes) (byte_len w) ≡ true = grind (arith, nat_tests) in
       ap (λ b. if b then cut bad else go (number_of_bytes w (take (byte_len w) bytes)) (drop (byte_len w) bytes)) less
 
--- a number that was written
+-- a number that was written is read back, whatever follows it
 module _ (n : ℕ) (rest : List ℕ) (bad : Decoded) (go : ℕ → List ℕ → Decoded) where
   pub number_read_2 : n < 2 ^ 16 → number w16 (number_bytes w16 n ++ rest) bad go ≡ go n rest
   number_read_2 small = number_whole w16 (number_bytes w16 n) bad go rest (length-number_2 n) ∙ ap (λ n. go n rest) (number_back_2 n small)

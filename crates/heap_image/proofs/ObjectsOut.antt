@@ -1,4 +1,4 @@
--- The objects that live, written one after another.
+-- The live objects, written one after another: for the loop of `put_objects`.
 use Rattle.std.proofs.Common.{◌≡◌, ◌∙◌, ◌++◌, ◌+◌, ◌-◌, ℕ, suc, List, [], Option, Some, None, refl, ap, sym, subst, arith, append_assoc, append-nil}
 use Rattle.std.specs.Prelude.{Err}
 use Rattle.std.specs.FinMap.{entries, get}
@@ -18,7 +18,8 @@ use Rattle.heap_image.proofs.Listing.{listed_all, listed_end, listed_none, liste
 abbrev Written : Type 0
 Written = Option (List ℕ)
 
--- the writing came to an id: what was written by then, and the objects from the id on
+-- The loop came to the id `id`: of all the objects' texts, `done` was written, and those of the objects from the id on are still to be written.
+-- The sink held w before the loop and holds x now.
 pub record CameTo (text : ℕ → List ℕ → List ℕ) (s : RunState) (w x : Written) (id : ℕ) : Type 0 where
   pub done : List ℕ
   pub rest : texts_of text (entries (objects_of s)) ≡ done ++ texts_of text (listed (objects_of s) id (65536 - id))
@@ -32,7 +33,7 @@ module _ (text : ℕ → List ℕ → List ℕ) (s : RunState) where
   abbrev all_texts : List ℕ
   all_texts = texts_of text (entries (objects_of s))
 
-  -- no object was written
+  -- before the loop nothing is written
   pub came_first : (w : Written) → AreWithin s.session.ids → CameTo text s w w 0
   came_first w ids = record {
     done = [];
@@ -44,7 +45,7 @@ module _ (text : ℕ → List ℕ → List ℕ) (s : RunState) where
   }
 
   module _ (w x : Written) (id n : ℕ) (left : 65536 - id ≡ suc n) (next : 65536 - (id + 1) ≡ n) (so_far : CameTo text s w x id) where
-    -- an id that has no object
+    -- past an id without an object nothing more is written
     pub came_past : get s.session.ids id ≡ None → CameTo text s w x (id + 1)
     came_past none = record {
       done = so_far.done;
@@ -65,7 +66,7 @@ module _ (text : ℕ → List ℕ → List ℕ) (s : RunState) where
           ∙ listed_some (objects_of s) id n object.bytes
           (live_by_id s.session.ids (objects s.heap.held) id h object.bytes named (bytes_held s.heap.held h object some)))
 
-      -- an object was written
+      -- past an id with an object its text is written too
       pub came_on : (y : Written) → y ≡ appended x own → CameTo text s w y (id + 1)
       came_on y put = record {
         done = so_far.done ++ own;
@@ -74,12 +75,12 @@ module _ (text : ℕ → List ℕ → List ℕ) (s : RunState) where
         written = put ∙ ap (λ (t : Written). appended t own) so_far.written ∙ appended_then w so_far.done own;
       }
 
-      -- an object was cut
+      -- if the text of an object is cut, a prefix of all texts is written
       pub came_short : (y : Written) (e : Failed) → Puts {T = Unit {0}} x own (Err e) y → Puts {T = Unit {0}} w all_texts (Err e) y
       came_short y e put = subst (λ (b : List ℕ). Puts {T = Unit {0}} w b (Err e) y) (sym split)
           (puts_then {T = Unit {0}} w x y so_far.done (own ++ behind) (Err e) so_far.written (puts_cut x y own behind e put))
 
-  -- no id is left
+  -- past the last id all texts are written
   pub came_last : (w x : Written) → CameTo text s w x 65536 → x ≡ appended w all_texts
   came_last w x so_far = so_far.written ∙ ap (appended w) (sym (so_far.rest
       ∙ ap (λ (es : List (ℕ × List ℕ)). so_far.done ++ texts_of text es) (listed_end (objects_of s) 65536) ∙ append-nil so_far.done))

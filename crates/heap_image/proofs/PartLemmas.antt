@@ -1,4 +1,4 @@
--- An object that is filled part by part.
+-- An object that is filled with bytes part by part, and its entry: for the loop of `fill_object`, and for `read_object` and `read_entry`.
 use Rattle.std.proofs.Common.{◌≡◌, ◌∙◌, ◌++◌, ◌+◌, ◌-◌, ◌≤◌, ◌<◌, ℕ, true, List, [], Some, None, length, take, drop, refl, ap, sym, subst}
 use Rattle.std.proofs.Common.{arith, append_assoc, inl, inr, length-append}
 use Rattle.std.specs.Prelude.{replicate, Result, Ok, Err}
@@ -31,7 +31,7 @@ module _ (m : Objects) (k : ℕ) (v : List ℕ) where
     | inr ne ↦ sym (get_insert_other m k v q ne)
   ])
 
--- one step after another
+-- the objects by id after two steps on one id, from `old` to `mid` and from `mid` to `new`
 module _ (old mid new : RunState) (id : ℕ) where
   pub leads_written : (v w x : List ℕ) → LeadsTo old mid (insert (objects_of old) id v) → LeadsTo mid new (insert (objects_of mid) id w) → w ≡ x
       → LeadsTo old new (insert (objects_of old) id x)
@@ -99,13 +99,13 @@ falls_more a n done count had mid left is fits took f = record {
   took = takes_then a f.taken had mid left took f.took;
 }
 
--- an entry after a part
+-- if a part of an entry was taken, and then the rest was read, the entry was read
 pub entry_then : (T U : List ℕ → Decoded) (go : Reached → List ℕ → Decoded) (old : RunState) (r : Reached) (had mid left : Feed) (e : Result Entry LoadFault)
     (new : RunState) → Passes T had mid U → EntryBy U go old r mid e left new → EntryBy T go old r had e left new
 entry_then T U go old r had mid left (Ok e) new p q = (q.0, q.1, q.2, passes_then T U had mid left p (go (passed r e.id q.0)) q.3, q.4)
 entry_then T U go old r had mid left (Err f) new p q = (stops_then T U had mid left p (Some old.heap.profile) r.objects f q.0, q.1)
 
--- the bytes of an object
+-- the bytes of an entry's object: they were read, or the reading stopped in them
 module _ (p : Profile) (r : Reached) (id n : ℕ) (go : Reached → List ℕ → Decoded) (had left : Feed) where
   abbrev bytes_reading : List ℕ → Decoded
   bytes_reading bytes = bytes_decoded p r id n bytes go
@@ -124,7 +124,7 @@ module _ (p : Profile) (r : Reached) (id n : ℕ) (go : Reached → List ℕ →
   pub bytes_stop : (f : LoadFault) → StopsShort n (r.at + 6) had f left → StopsBy (Some p) r.objects bytes_reading had f left
   bytes_stop f q = falls_stops bytes_reading n (breaks_in p r 6) bytes_short had left (r.at + 6) f (Some p) r.objects refl refl refl q
 
--- the length and the bytes
+-- an entry after its id: the length was read and the object made, and then it was filled or freed
 module _ (old mid new : RunState) (r : Reached) (id n : ℕ) (had rest left : Feed) (mine : r.objects ≡ objects_of old) (rises : r.next ≤ id)
     (good : has_room old.heap.profile r.objects n ≡ true) (reads : ReadsNumber w32 (r.at + 2) had (Ok n) rest)
     (made : LeadsTo old mid (insert (objects_of old) id (replicate n 0))) (go : Reached → List ℕ → Decoded) where

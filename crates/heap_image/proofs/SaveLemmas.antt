@@ -1,4 +1,4 @@
--- The image of what is live, written object by object.
+-- The header and the entries that are written make up the image of the live objects: for `save`.
 use Rattle.std.proofs.Common.{◌≡◌, ◌∙◌, ◌++◌, ◌*◌, ℕ, List, [], Option, length, ap, sym, subst, append_assoc}
 use Rattle.std.specs.Prelude.{Result, Err}
 use Rattle.std.specs.FinMap.{entries, len}
@@ -23,7 +23,7 @@ use Rattle.transcript_laws.proofs.CallerLemmas.{by_id_counts}
 abbrev Written : Type 0
 Written = Option (List ℕ)
 
--- what an object is written as
+-- an id, a length and bytes that are written one after the other are an entry (`entry_of`)
 pub entry_put : {T : Type 0} (w x y : Written) (id n : ℕ) (line line2 line3 bytes : List ℕ) (r : Result T Failed) → line ≡ [] → line2 ≡ line ++ number_bytes w16 id
     → line3 ≡ line2 ++ number_bytes w32 n → n ≡ length bytes → x ≡ appended w line3 → Puts x bytes r y → Puts w (entry_of id bytes) r y
 entry_put {T} w x y id n line line2 line3 bytes r none first second same put rest =
@@ -61,7 +61,7 @@ module _ (s : RunState) (tied : AreTied s.session s.heap) where
       puts_then {T = Unit {0}} w x y _ (entries_of (entries (objects_of s))) r
       (put ∙ ap (λ (b : List ℕ). appended w b) (header_is pages page_words proxies live p q t l)) rest
 
-  -- the header was cut
+  -- if the header is cut, a prefix of the image is written
   pub header_cut : (w x : Written) (pages page_words proxies live : ℕ) (e : Failed) → s.heap.profile.pages ≡ pages → s.heap.profile.page_words ≡ page_words
       → s.heap.profile.proxies ≡ proxies → live ≡ len s.heap.held → Puts {T = Unit {0}} w (header_of pages (8 * page_words) proxies live) (Err e) x
       → Puts {T = Unit {0}} w (heap_image s) (Err e) x

@@ -1,4 +1,4 @@
--- Which field of the settings a fault is of.
+-- Which number breaks a rule if `Settings::check` refuses the numbers read: for `read_page_bytes` and `read_proxies`.
 use Rattle.std.proofs.Common.{◌≡◌, ◌∙◌, ◌*◌, ℕ, Bool, true, false, Option, Some, None, refl, ap}
 use Rattle.std.specs.Prelude.{◌&&◌, if◌then◌else◌, nat_le}
 use Rattle.cf_base.specs.Limits.{is_page_bytes, is_within}
@@ -7,7 +7,7 @@ use Rattle.cf_base.specs.declared.settings.SettingFault.{SettingFault}
 use Rattle.cf_base.specs.declared.settings.SettingFault.TheVariants.{PageBytes, Pages, Proxies, Region}
 use Rattle.heap_image.specs.Decoded.{is_page_of}
 
--- by the tests of the pages, the bytes of a page, the proxies, and the region
+-- the fault of settings, by the results of the tests of the pages, the bytes of a page, the proxies, and the region
 fault_by : Bool → Bool → Bool → Bool → Option SettingFault
 fault_by pages size proxies region =
     if pages then (if size then (if proxies then (if region then None else Some Region) else Some Proxies) else Some PageBytes) else Some Pages

@@ -1,4 +1,4 @@
--- Stages of a load, one after the other.
+-- How the stages of a load (`Stages`) follow one another: parts that are read in turn, a field that breaks a rule, and one that is cut.
 use Rattle.std.proofs.Common.{◌≡◌, ◌∙◌, ◌++◌, ◌+◌, ◌<◌, ℕ, Bool, true, false, List, [], ◌∷◌, Option, Some, length, refl, ap, sym, subst}
 use Rattle.std.proofs.Common.{append_assoc, append-nil, arith, inl, inr, length-append}
 use Rattle.std.proofs.lemmas.Bool.{cond-true, cond-false}
@@ -72,7 +72,7 @@ module _ (T U : Reading) (had mid left : Feed) (p : Passes T had mid U) where
   stops_then s o fault.Read q = (q.0, q.1, q.2, shows_then q.0 q.3, q.4)
   stops_then s o fault.OutOfMemory q = absurd q
 
--- bytes and the last of them
+-- bytes, of which there is one at least, are some bytes and a last one
 last_of : (bytes : List ℕ) → 0 < length bytes → (before : List ℕ) × (last : ℕ) × (bytes ≡ before ++ (last ∷ [])) × (length before < length bytes)
 last_of [] some = absurd (omega arith)
 last_of (x ∷ []) some = ([], x, refl, omega arith)

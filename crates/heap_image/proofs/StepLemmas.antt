@@ -1,4 +1,4 @@
--- What commands do to the objects by id, if every bound is 1.
+-- What the commands `m`, `w` and `f` do to the objects by id, if every bound is 1: for `make_object`, `write_part` and `free_object`.
 use Rattle.std.proofs.Common.{◌≡◌, ◌≢◌, ◌∙◌, ◌+◌, ◌*◌, ◌≤◌, ◌<◌, ℕ, Bool, true, false, List, Option, Some, None, length, refl, ap, sym, subst, arith, inl, inr}
 use Rattle.std.specs.Prelude.{◌⊎◌, ◌&&◌, cond, nat_eq, Result, Ok, Err, nat_le, replicate, ◌↔◌}
 use Rattle.std.specs.Bool.{OnFalse, OnTrue}
@@ -93,7 +93,7 @@ module _ (old new : RunState) (loading : IsLoading old) (going : IsGoing new) wh
     objects = is;
   }
 
-  -- m
+  -- `m` of n bytes, for an id that isn't live
   module _ (id n : ℕ) (none : get o id ≡ None) (few : len o < old.heap.profile.proxies) (reply : Reply) (turn : Turn old (Malloc id n) reply new) where
     unnamed : get ids id ≡ None
     unnamed = unnumbered_by_id ids m id none
@@ -175,7 +175,7 @@ module _ (old new : RunState) (loading : IsLoading old) (going : IsGoing new) wh
         by false good other (inl w) = absurd (other w.0)
         by false good other (inr w) = (sym w.1, tt, w.2)
 
-  -- w
+  -- `w` of bytes that are within a live object
   module _ (id at : ℕ) (bytes v : List ℕ) (some : get o id ≡ Some v) (within : at + length bytes ≤ length v) (reply : Reply)
       (turn : Turn old (Write id at bytes) reply new) where
     handle : (h : ℕ) × (get ids id ≡ Some h) × (get m h ≡ Some v)
@@ -212,7 +212,7 @@ module _ (old new : RunState) (loading : IsLoading old) (going : IsGoing new) wh
     pub wrote_counts : new.session ≡ old.session
     wrote_counts = writes.session
 
-  -- f
+  -- `f` of a live object
   module _ (id : ℕ) (v : List ℕ) (some : get o id ≡ Some v) (reply : Reply) (turn : Turn old (Free id) reply new) where
     freed_handle : (h : ℕ) × (get ids id ≡ Some h) × (get m h ≡ Some v)
     freed_handle = found_by_id ids m names id v some

@@ -1,4 +1,4 @@
--- What a session counts while an image is loaded.
+-- How a load of an image changes the counters of a session: its step bound, and the objects and words that moved.
 use Rattle.std.specs.Prelude.{◌≡◌, ◌⊎◌, ◌+◌, ◌*◌, Bool, Result, Ok, Err, if◌then◌else◌, nat_lt}
 use Rattle.std.specs.FinMap.{len}
 use Rattle.cf_base.specs.declared.answers.Freed.{Freed}
@@ -6,20 +6,24 @@ use Rattle.run_model.specs.Sessions.{Ids, RunState, SessionState, counted}
 use Rattle.heap_image.specs.Heaps.{objects_of}
 use Rattle.heap_image.specs.declared.fault.LoadFault.{LoadFault}
 
--- the session after mallocs and writes, which move no object: its step bound is that of a malloc, if there was one
+-- the session s after mallocs and writes, which move no object: its ids are `ids`; `some` says whether there was a malloc, whose step bound is 64
 abbrev pub after_mallocs : SessionState → Bool → Ids → SessionState
 after_mallocs s some ids = record s { ids = ids; bound = if some then 64 else s.bound }
 
--- a free after mallocs: if it moved an object, the move is counted
+-- The last command of a load was a free: the session `new` has the step bound of the free, and counts its move besides what `old` counted.
+-- `freed` is the reply to the free: the object that moved, if one did, and the words of the slot.
 pub record CountsFree (old new : SessionState) : Type 0 where
   pub freed : Freed
+  -- 96 + 2s is the step bound of a free, where s is the words of the slot
   pub counts : new ≡ counted (record old { ids = new.ids; bound = 96 + 2 * freed.slot_words }) freed.moved freed.slot_words
 
--- the counters after a load that failed: there were only mallocs and writes; or the last command freed the object whose bytes were cut or couldn't be read
+-- How a load that failed changed the session `old` to `new`: there were only mallocs (`some`: at least one) and writes;
+-- or the last command freed the object whose bytes were cut or couldn't be read.
 abbrev pub CountsStop : SessionState → SessionState → Type 0
 CountsStop old new = ((some : Bool) × (new ≡ after_mallocs old some new.ids)) ⊎ CountsFree old new
 
--- the counters after a load: one malloc for each object, if the bytes are an image
+-- How a load changed the session `old`, by its result; `to` is the run after it. If an image was loaded with at least one object, the step bound
+-- is that of a malloc; after an image without objects it is the old one. A load that failed changed the session as in `CountsStop`.
 abbrev pub CountsLoad : {T : Type 0} → SessionState → Result T LoadFault → RunState → Type 0
 CountsLoad old (Ok loaded) to = to.session ≡ after_mallocs old (nat_lt 0 (len (objects_of to))) to.session.ids
 CountsLoad old (Err fault) to = CountsStop old to.session

@@ -1,4 +1,4 @@
--- How the objects of an image may end. No public clause cites this module.
+-- How a load ends after the settings: what `load_objects`, `load_entries` and `read_end` claim. No public clause cites this module.
 use Rattle.std.specs.Prelude.{◌≡◌, ℕ, List, [], ◌∷◌, Some, Result, Ok, Err}
 use Rattle.cf_base.specs.Settings.{Profile}
 use Rattle.cf_io.specs.Feeds.{IsSpent}
@@ -11,7 +11,9 @@ use Rattle.heap_image.specs.Stages.{ReadsAs, ReadsBroken}
 use Rattle.heap_image.specs.declared.fault.LoadFault.{LoadFault}
 use Rattle.heap_image.specs.declared.fault.LoadFault.TheVariants as fault
 
--- all objects were read, and the heap holds them; or it holds those before the field that breaks a rule, or those read before the source failed
+-- How reading the objects ended, by the result. `reading` decodes what was still to be read under the settings p; `had` and `left` are the source
+-- before and after, `to` is the run after. `Ok`: all was read, and the heap holds the objects o. `Bad`: it holds those before the field that
+-- breaks a rule. `Read`: it holds those of the whole entries that were read before the source failed.
 abbrev pub EndsBy : (List ℕ → Decoded) → Profile → Feed → Result Unit LoadFault → Feed → RunState → Type 0
 EndsBy reading p had (Ok u) left to = (o : Objects) × ReadsAs reading had left (whole p o) × IsSpent left.rest × HoldsObjects p o to
 EndsBy reading p had (Err (fault.Bad at)) left to =
@@ -20,7 +22,8 @@ EndsBy reading p had (Err fault.Read) left to =
     (t : Decoded) × (t.settings ≡ Some p) × ReadsAs reading had left t × BreaksNoRule t × HoldsObjects p t.objects to
 EndsBy reading p had (Err fault.OutOfMemory) left to = ⊥
 
--- what `read_end` found, by its result: the source had ended; or it had a byte more; or it failed
+-- What `read_end` found at the offset `at`, by its result: the source had ended; or it returned one byte more; or it failed.
+-- `had` and `left` are the source before and after.
 abbrev pub EndRead : ℕ → Feed → Result Unit LoadFault → Feed → Type 0
 EndRead at had (Ok u) left = Takes [] had left × IsSpent left.rest
 EndRead at had (Err (fault.Bad b)) left = (b ≡ at) × ((byte : ℕ) × Takes (byte ∷ []) had left)

@@ -1,4 +1,4 @@
--- The image of what a session and its manager hold.
+-- The image of a run: of the live objects of its manager, by the ids of its session; and which objects have an image.
 use Rattle.std.specs.Prelude.{◌≡◌, ℕ, ◌*◌, ◌^◌, ◌≤◌, ◌<◌, List, Some, length}
 use Rattle.std.specs.FinMap.{get, len}
 use Rattle.cf_base.specs.Classes.{need}
@@ -12,7 +12,7 @@ use Rattle.transcript_laws.specs.Histories.{objects_by_id}
 use Rattle.heap_image.specs.Decoded.{image_paging}
 use Rattle.heap_image.specs.Image.{image_of}
 
--- the live objects of a run by id
+-- the live objects of a run: a map from ids to their bytes
 abbrev pub objects_of : RunState → Objects
 objects_of s = objects_by_id s.session.ids (objects s.heap.held)
 
@@ -24,12 +24,13 @@ image_under p objects = image_of p.pages (8 * p.page_words) p.proxies objects
 abbrev pub heap_image : RunState → List ℕ
 heap_image s = image_under s.heap.profile (objects_of s)
 
--- Settings with the bound 1, and objects by id that a heap of kind Moving may hold at once: they have an image.
+-- The settings p with the bound 1, and objects by id that a heap of kind Moving with these settings may hold at once: they have an image.
 pub record HaveImage (p : Profile) (objects : Objects) : Type 0 where
   pub settings : AreInRange p
   pub one : p.k ≡ 1
   pub ids : (id : ℕ) (v : List ℕ) → get objects id ≡ Some v → id < 2 ^ 16
   pub bytes : (id : ℕ) (v : List ℕ) → get objects id ≡ Some v → AreBytes v
+  -- each object fits a page, there is a proxy for each, and all need no more pages than there are
   pub fit : (id : ℕ) (v : List ℕ) → get objects id ≡ Some v → need (length v) ≤ p.page_words
   pub few : len objects ≤ p.proxies
   pub room : pages_needed (image_paging p) objects ≤ p.pages

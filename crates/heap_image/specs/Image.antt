@@ -1,13 +1,14 @@
--- A heap image: the settings, and the objects by id, as bytes.
+-- The bytes of a heap image: 20 bytes with the mark, the settings and the number of objects; then an entry for each object, by rising id.
 use Rattle.std.specs.Prelude.{ℕ, List, [], ◌∷◌, ◌++◌, codes, length}
 use Rattle.std.specs.Int.{Width, w16, w32, from_le_bytes, to_le_bytes}
 use Rattle.std.specs.FinMap.{entries, len}
 use Rattle.page_model.specs.Held.{Objects}
 
--- a number as bytes, the least first, and back
+-- the number n as bytes, the least significant first: two or four, by the width w
 unfoldable pub number_bytes : Width → ℕ → List ℕ
 number_bytes w n = to_le_bytes w n
 
+-- the number that these bytes are, the least significant first
 unfoldable pub number_of_bytes : Width → List ℕ → ℕ
 number_of_bytes w bytes = from_le_bytes w bytes
 
@@ -15,24 +16,24 @@ number_of_bytes w bytes = from_le_bytes w bytes
 abbrev pub mark : List ℕ
 mark = codes "CFI1"
 
--- the entry of an object: its id in two bytes, its length in four, and its bytes
+-- the entry of the object with the bytes v: its id in two bytes, its length in four, and v
 abbrev pub entry_of : ℕ → List ℕ → List ℕ
 entry_of id v = number_bytes w16 id ++ (number_bytes w32 (length v) ++ v)
 
--- the texts of objects one after the other, each the `text` of an id and its bytes
+-- what is written for the objects of a list, one after the other: for each pair of an id and the object's bytes their `text`
 abbrev pub texts_of : (ℕ → List ℕ → List ℕ) → List (ℕ × List ℕ) → List ℕ
 texts_of text [] = []
 texts_of text (e ∷ es) = text e.0 e.1 ++ texts_of text es
 
--- the entries of objects, one after the other
+-- the entries of the objects of a list, one after the other
 abbrev pub entries_of : List (ℕ × List ℕ) → List ℕ
 entries_of es = texts_of entry_of es
 
--- the first 20 bytes of an image: the mark, the settings, and how many objects there are
+-- the first 20 bytes of an image: the mark, and in four bytes each the pages, the bytes of a page, the proxies, and the number of objects
 abbrev pub header_of : ℕ → ℕ → ℕ → ℕ → List ℕ
 header_of pages page_bytes proxies count =
     mark ++ (number_bytes w32 pages ++ (number_bytes w32 page_bytes ++ (number_bytes w32 proxies ++ number_bytes w32 count)))
 
--- the image of these objects by id, in rising order of the ids, under these settings; there is no bound in an image
+-- the image of these objects by rising id, under these settings; an image holds no bound
 abbrev pub image_of : ℕ → ℕ → ℕ → Objects → List ℕ
 image_of pages page_bytes proxies objects = header_of pages page_bytes proxies (len objects) ++ entries_of (entries objects)

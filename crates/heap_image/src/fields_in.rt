@@ -1,4 +1,5 @@
-//! Fields of an image from a source.
+//! Reads the fields of an image from a source, whatever its chunks: a buffer of bytes, or a number of two or
+//! four bytes, the least significant first.
 ghost use Rattle.std.specs.Prelude.{◌≡◌, ◌≤◌, Err, ◌≢◌};
 ghost use Rattle.std.specs.Int.{w16, w32};
 ghost use Rattle.cf_io.specs.Feeds.{FailsLast};
@@ -8,7 +9,7 @@ ghost use Rattle.heap_image.specs.Stages.{Fills, ReadsNumber};
 use crate::fault::LoadFault;
 use cf_io::Source;
 
-/// How a buffer was filled.
+/// How far `fill` filled a buffer.
 #[derive(Clone, Copy, Debug, PartialEq, Eq)]
 pub(crate) enum Filled {
     /// To its end.
@@ -19,8 +20,8 @@ pub(crate) enum Filled {
     Failed,
 }
 
-/// Fills the buffer from the source, whatever its chunks, until it is full, the input ends or the source
-/// fails.
+/// Takes bytes from the source into the buffer, chunk by chunk, until the buffer is full, the input ends or
+/// the source fails. Returns which of the three ended it.
 pub(crate) fn fill<S: Source>(source: &mut S, buffer: &mut [u8]) -> Filled
     ensures fills { Fills (feed_at (S.rest source.old) (S.given source.old)) buffer.new result (feed_at (S.rest source.new) (S.given source.new)) }
     ensures grows { S.faults source.old ≤ S.faults source.new }
@@ -42,8 +43,9 @@ pub(crate) fn fill<S: Source>(source: &mut S, buffer: &mut [u8]) -> Filled
     Filled::Whole
 }
 
-/// Reads a number of 16 bits at this offset. Fails with `Bad` if the input ends within it, and with `Read` if
-/// the source failed.
+/// Takes the next two bytes of the source as a number, the least significant first. Fails with `Bad` if the
+/// input ends within them, and with `Read` if the source failed. `at` is their offset in the image, which
+/// `Bad` shows.
 pub(crate) fn read_u16<S: Source>(source: &mut S, at: u64) -> Result<u16, LoadFault>
     ensures reads { ReadsNumber w16 at (feed_at (S.rest source.old) (S.given source.old)) result (feed_at (S.rest source.new) (S.given source.new)) }
     ensures grows { S.faults source.old ≤ S.faults source.new }
@@ -58,8 +60,9 @@ pub(crate) fn read_u16<S: Source>(source: &mut S, at: u64) -> Result<u16, LoadFa
     }
 }
 
-/// Reads a number of 32 bits at this offset. Fails with `Bad` if the input ends within it, and with `Read` if
-/// the source failed.
+/// Takes the next four bytes of the source as a number, the least significant first. Fails with `Bad` if the
+/// input ends within them, and with `Read` if the source failed. `at` is their offset in the image, which
+/// `Bad` shows.
 pub(crate) fn read_u32<S: Source>(source: &mut S, at: u64) -> Result<u32, LoadFault>
     ensures reads { ReadsNumber w32 at (feed_at (S.rest source.old) (S.given source.old)) result (feed_at (S.rest source.new) (S.given source.new)) }
     ensures grows { S.faults source.old ≤ S.faults source.new }

@@ -1,4 +1,4 @@
-//! Loading an image into a heap.
+//! Loads an image from a source into a heap: opens the heap with the image's settings, then makes its objects.
 ghost use Rattle.std.specs.Prelude.{◌≡◌, ◌+◌, ◌<◌, ◌≤◌, ◌^◌, ℕ, List, Err, ◌≢◌};
 ghost use Rattle.std.specs.FinMap as map;
 ghost use Rattle.cf_base.specs.declared.kind.Kind.TheVariants.{Moving};
@@ -20,13 +20,15 @@ use cf_io::Source;
 use cf_model::Manager;
 use cf_session::Session;
 
-/// Loads an image into a heap of kind Moving at bound 1, under any chunking of its bytes. After `Ok` the
-/// heap is open with the settings of the image and holds its objects by id, and the source is at its
-/// end. Fails with `Read` only if the source failed; the bytes before that break no rule. Fails with
-/// `Bad` if the bytes are not an image; it reads no byte past the field that breaks. After either the
-/// heap is unchanged if the settings were not read, and else holds the objects of the whole entries that
-/// were read. Fails with `OutOfMemory` only at the opening, after the 16 bytes of the mark and the
-/// settings; then the heap is closed.
+/// Loads an image into a heap of kind Moving, however the source chunks its bytes, and returns the image's
+/// settings, with the bound 1. The session has no live id before.
+///
+/// After `Ok` the heap is open with these settings and holds the image's objects, the session maps their ids
+/// to handles, and the source is at its end. Fails with `Read` only if the source failed; the bytes before
+/// that break no rule. Fails with `Bad` if the bytes are not an image; it takes no byte past the field that
+/// breaks a rule. After `Read` or `Bad` the heap is unchanged if the settings were not read, and else holds
+/// the objects of the whole entries that were read. Fails with `OutOfMemory` only when it opens the heap,
+/// after the 16 bytes of the mark and the settings; then the heap is closed.
 pub fn load<S: Source, H: Manager>(
     source: &mut S,
     heap: &mut H,
@@ -56,7 +58,8 @@ pub fn load<S: Source, H: Manager>(
     }
 }
 
-/// Reads the number of objects and the entries, and loads them into a heap without objects. Fails as
+/// Reads the number of objects at byte 16 of the image, which is at most `proxies`, then that many entries,
+/// and makes their objects in an open heap without objects. Checks that the source then ends. Fails as
 /// `load` does.
 fn load_objects<S: Source, H: Manager>(
     source: &mut S,
@@ -85,7 +88,8 @@ fn load_objects<S: Source, H: Manager>(
     load_entries(source, heap, session, count)
 }
 
-/// Loads `count` entries, and checks that the source then ends. Fails as `load` does.
+/// Reads `count` entries, from byte 20 of the image on, and makes their objects in an open heap without
+/// objects. Checks that the source then ends. Fails as `load` does.
 fn load_entries<S: Source, H: Manager>(
     source: &mut S,
     heap: &mut H,
@@ -118,8 +122,8 @@ fn load_entries<S: Source, H: Manager>(
     read_end(source, at)
 }
 
-/// Checks that the source ends at this offset. Fails with `Bad` if it returns another byte, and with `Read`
-/// if it failed.
+/// Checks that the source ends behind the last entry, at the offset `at` of the image. Fails with `Bad { at }`
+/// if the source returns another byte, and with `Read` if it failed.
 fn read_end<S: Source>(source: &mut S, at: u64) -> Result<(), LoadFault>
     ensures end { EndRead at (feed_at (S.rest source.old) (S.given source.old)) result (feed_at (S.rest source.new) (S.given source.new)) }
     ensures grows { S.faults source.old ≤ S.faults source.new }

@@ -1,4 +1,4 @@
-//! Writes the live objects of a heap as an image.
+//! Saves a heap: writes its settings and its live objects as an image.
 ghost use Rattle.std.specs.Prelude.{◌≡◌, ◌^◌, ◌<◌, ◌≤◌, ◌*◌, IsTrue, OnErr, Some, length, OnOk};
 ghost use Rattle.std.specs.FinMap as map;
 ghost use Rattle.cf_base.specs.declared.kind.Kind.TheVariants.{Moving};
@@ -17,12 +17,13 @@ use cf_model::Manager;
 use cf_session::Session;
 use step_ledger::Meter;
 
-/// Writes an object as an entry of an image.
+/// Writes an object as an entry of an image: its id in two bytes, its length in four, and its bytes.
 struct Entries;
 
 impl ObjectWriter for Entries {
     ghost text = { entry_of };
 
+    /// Writes the entry of the object: its id and its length, then its bytes chunk by chunk.
     fn put_object<H: Manager, K: Sink>(
         &self,
         heap: &H,
@@ -45,9 +46,9 @@ impl ObjectWriter for Entries {
     }
 }
 
-/// Writes the image of the live objects of the heap: the settings, then the objects by rising id, each
-/// with its length and its bytes, in chunks of at most 4,096 bytes. Returns `Failed` only if the sink
-/// failed; then a prefix of the image was written.
+/// Writes the image of the live objects of the heap: the settings `s`, then the objects by rising id, each
+/// with its length and its bytes, in chunks of at most 4,096 bytes. The ids are those of the session that
+/// runs on the heap. Returns `Failed` only if the sink failed; then a prefix of the image was written.
 pub fn save<H: Manager, K: Sink>(
     s: &Settings,
     heap: &H,
@@ -64,7 +65,7 @@ pub fn save<H: Manager, K: Sink>(
     ensures same { OnOk result (K.faults out.new ≡ K.faults out.old) }
     ensures failed { OnErr result (FailsLast (K.faults out.old) (K.faults out.new) (K.last_failed out.new)) }
 {
-    // An open heap keeps its rules.
+    // For its contract: an open heap keeps its rules.
     let _open = heap.is_open();
     let mut line = Line::new();
     meter.lap();
@@ -76,8 +77,10 @@ pub fn save<H: Manager, K: Sink>(
     put_objects(&Entries, heap, session, &mut line, out, meter)
 }
 
-/// Writes the mark, the settings, and the number of objects. `Failed` if the sink failed; a prefix was
-/// written.
+/// Writes the 20 bytes that an image begins with: the mark `CFI1`, then four numbers of four bytes each. These
+/// are the pages, the bytes of a page and the proxies, by the settings `s`, and `live`, the number of live
+/// objects. `line` is the buffer in which the bytes are put together. Returns `Failed` only if the sink
+/// failed; then a prefix of the 20 bytes was written.
 fn put_header<K: Sink>(s: &Settings, live: u32, line: &mut Line, out: &mut K) -> Result<(), Failed>
     ensures puts { Puts (K.written out.old) (header_of s.now.pages (8 * s.now.page_words) s.now.proxies live)
         result (K.written out.new) }
@@ -94,7 +97,8 @@ fn put_header<K: Sink>(s: &Settings, live: u32, line: &mut Line, out: &mut K) ->
     put_all(out, line.bytes())
 }
 
-/// The length of an object in bytes, as its header says.
+/// The length in bytes of the live object with the handle `h`: the upper half of its header, the word at its
+/// address.
 pub fn length_of<H: Manager>(heap: &H, h: Handle, meter: &mut Meter) -> u32
     requires moving { (H.state heap.now).kind ≡ Moving }
     requires open { IsTrue (H.state heap.now).is_open }
@@ -112,7 +116,8 @@ pub fn length_of<H: Manager>(heap: &H, h: Handle, meter: &mut Meter) -> u32
     (header >> 32) as u32
 }
 
-/// Writes the `n` bytes of an object, chunk by chunk. `Failed` if the sink failed; a prefix was written.
+/// Writes the `n` bytes of the live object with the handle `h`, at most 4,096 at a time, through `buffer`.
+/// Returns `Failed` only if the sink failed; then a prefix of the bytes was written.
 fn put_bytes<H: Manager, K: Sink>(
     heap: &H,
     h: Handle,

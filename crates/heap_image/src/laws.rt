@@ -15,20 +15,22 @@ ghost use Rattle.heap_image.specs.Heaps.{HaveImage, heap_image, image_under, obj
 
 use page_model::{objects_need_no_more_pages, pages_and_objects_add_up};
 
-/// An image decodes to the settings and the objects that it was made of, and so it is an image.
+/// The image of the settings `p` and of the objects `o` by id decodes to exactly these settings and
+/// objects, if a heap of kind Moving may hold them (`HaveImage`).
 pub fn an_image_is_read_back()
     ensures { (p : Profile) (o : Objects) → HaveImage p o → decoded (image_under p o) ≡ whole p o }
 {}
 
-/// An image determines its settings and its objects by id.
+/// An image determines its settings and its objects by id: if the image of the settings `p` and the objects
+/// `o` is that of `q` and `n`, then `p` is `q` and `o` is `n`.
 pub fn an_image_determines_its_objects()
     ensures { (p q : Profile) (o n : Objects) → HaveImage p o → HaveImage q n
         → image_under p o ≡ image_under q n → (p ≡ q) × (o ≡ n) }
 {}
 
-/// The objects of a sound arrangement of the moving manager need, by arithmetic, no more pages than
-/// there are, whatever the bounds of the classes. So the live objects of a heap of kind Moving have an
-/// image.
+/// Clause `pages`: the objects of a sound arrangement `m` of the moving manager with the settings `p` need, by
+/// `pages_needed`, no more pages than there are, whatever the `bounds` of the classes. Clause `lives`: so the
+/// live objects of a run `s` on a heap of kind Moving have an image.
 pub fn live_objects_have_an_image()
     ensures pages { (p : Profile) (bounds : List ℕ) (m : Held) → IsPaging (paging_of p Words bounds)
         → IsSound (paging_of p Words bounds) m → pages_needed (image_paging p) (objects m) ≤ p.pages }
@@ -39,8 +41,8 @@ pub fn live_objects_have_an_image()
     pages_and_objects_add_up();
 }
 
-/// Heaps with equal pages, page sizes, proxies and objects by id have one image, whatever their
-/// histories and bounds.
+/// Two heaps with equal pages, page sizes and proxies, and with the same bytes under each id, have the same
+/// image, whatever their histories and bounds.
 pub fn equal_objects_have_one_image()
     ensures { (one other : RunState) → AreTied one.session one.heap → AreTied other.session other.heap
         → other.heap.profile.pages ≡ one.heap.profile.pages

@@ -1,4 +1,5 @@
-//! Heap images: writes the live objects of a heap as canonical bytes, and loads them back.
+//! Heap images: `save` writes the live objects of a heap as bytes, which depend on its settings and its objects
+//! by id alone, and `load` makes the objects again.
 #![tactic(auto)]
 
 mod fault;

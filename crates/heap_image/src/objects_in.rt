@@ -1,4 +1,5 @@
-//! The objects of an image: each is made, filled, or freed again, by commands of a session.
+//! Reads the entries of an image and makes their objects, by commands of a session. An object whose bytes
+//! can't all be read is freed again.
 ghost use Rattle.std.specs.Prelude.{◌≡◌, ◌≢◌, ◌+◌, ◌<◌, ◌≤◌, ◌^◌, ℕ, List, Some, None, Err, OnErr, OnOk, true, false, length, replicate};
 ghost use Rattle.std.specs.Bool.{OnFalse, OnTrue};
 ghost use Rattle.std.specs.FinMap as map;
@@ -23,15 +24,18 @@ use script_reader::CommandRef;
 /// The most bytes of an object that are written at once.
 pub(crate) const CHUNK: usize = 4_096;
 
-/// An object that was read: its id, and its length in bytes.
+/// An entry that was read: the id of its object, and the object's length in bytes.
 #[derive(Clone, Copy, Debug, PartialEq, Eq)]
 pub(crate) struct Entry {
     pub id: u16,
     pub length: u32,
 }
 
-/// Reads an entry at this offset, whose id is `next` at least, and makes its object. Fails with `Bad` or
-/// `Read` as `load` does, and then the objects are as before.
+/// Reads the next entry of the source and makes its object. The id must be `next` at least; `at` is the
+/// offset of the entry in the image, and `buffer` takes up to 4,096 bytes of the object at a time. Fails
+/// with `Bad` or `Read` as `load` does, and then the heap holds the same objects as before.
+///
+/// In clause `entry`, `go` is any decoding of the bytes after the entry.
 pub(crate) fn read_entry<S: Source, H: Manager>(
     source: &mut S,
     heap: &mut H,
@@ -65,7 +69,8 @@ pub(crate) fn read_entry<S: Source, H: Manager>(
     read_object(source, heap, session, id, next, at, buffer)
 }
 
-/// Reads the length of the object of an id and its bytes, and makes the object. Fails as `read_entry` does.
+/// Reads the rest of an entry, the length and the bytes of its object, and makes the object. The other
+/// parameters are those of `read_entry`; `id` was read before. Fails as `read_entry` does.
 fn read_object<S: Source, H: Manager>(
     source: &mut S,
     heap: &mut H,
@@ -104,7 +109,8 @@ fn read_object<S: Source, H: Manager>(
     }
 }
 
-/// Makes an object of `n` zeros. False if it fits no page, or there is no page or slot for it.
+/// Makes an object of `n` zero bytes under the id. Returns false, and makes none, if it doesn't fit a page, or
+/// if all objects with it need more pages than the heap has.
 fn make_object<H: Manager>(heap: &mut H, session: &mut Session, id: u16, n: u32) -> bool
     requires loading { IsLoading (run_at session.old (H.state heap.old)) }
     requires fresh { map.get (objects_of (run_at session.old (H.state heap.old))) id ≡ None }
@@ -127,7 +133,7 @@ fn make_object<H: Manager>(heap: &mut H, session: &mut Session, id: u16, n: u32)
     }
 }
 
-/// Whether a command did what it asks.
+/// Whether a command had the outcome `Good`: it did what it asks for.
 fn is_good(outcome: Outcome) -> bool
     ensures good { OnTrue result (outcome ≡ Outcome.Good) }
     ensures other { OnFalse result (outcome ≢ Outcome.Good) }
@@ -138,8 +144,9 @@ fn is_good(outcome: Outcome) -> bool
     }
 }
 
-/// Fills an object of `n` zeros with bytes from the source. Fails with `Bad` if the input ends before, and
-/// with `Read` if the source failed; then it frees the object.
+/// Fills the object of an id, `n` zero bytes, with the next `n` bytes of the source, the first of which is at
+/// the offset `at` of the image. Fails with `Bad { at }` if the input ends before the last of them, and with
+/// `Read` if the source failed; then it frees the object.
 fn fill_object<S: Source, H: Manager>(
     source: &mut S,
     heap: &mut H,
@@ -181,7 +188,7 @@ fn fill_object<S: Source, H: Manager>(
     Ok(())
 }
 
-/// Writes bytes into the object of an id, from byte `at` on.
+/// Writes these bytes into the object of an id, from byte `at` of the object on.
 fn write_part<H: Manager>(heap: &mut H, session: &mut Session, id: u16, at: u32, bytes: &[u8])
     requires loading { IsLoading (run_at session.old (H.state heap.old)) }
     requires some { 1 ≤ length bytes.now }
@@ -204,7 +211,7 @@ fn write_part<H: Manager>(heap: &mut H, session: &mut Session, id: u16, at: u32,
     }
 }
 
-/// Frees the object of an id.
+/// Frees the live object of an id.
 fn free_object<H: Manager>(heap: &mut H, session: &mut Session, id: u16)
     requires loading { IsLoading (run_at session.old (H.state heap.old)) }
     requires live { (v : List ℕ) × (map.get (objects_of (run_at session.old (H.state heap.old))) id ≡ Some v) }

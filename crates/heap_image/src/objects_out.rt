@@ -1,4 +1,5 @@
-//! Writes the live objects of a heap, one after another.
+//! Visits the live objects of a heap by rising id, and writes each with an `ObjectWriter`: mode `save` as an
+//! entry of an image, mode `load` as lines of a script.
 ghost use Rattle.std.specs.Prelude.{◌≡◌, ◌≤◌, ℕ, List, IsTrue, OnErr, Some, length, OnOk};
 ghost use Rattle.std.specs.FinMap as map;
 ghost use Rattle.cf_base.specs.declared.kind.Kind.TheVariants.{Moving};
@@ -15,7 +16,7 @@ use cf_model::Manager;
 use cf_session::Session;
 use step_ledger::Meter;
 
-/// The most bytes of an object that are read at once.
+/// The most bytes of an object that are read and written at once.
 pub(crate) const CHUNK: usize = 4_096;
 
 /// How many ids there are.
@@ -23,11 +24,12 @@ const IDS: u32 = 65_536;
 
 /// How to write one object of a heap of kind Moving: as an entry of an image, or as lines of a script.
 pub trait ObjectWriter {
-    /// What an object is written as, by its id and its bytes.
+    /// The bytes that are written for an object, by its id and its bytes.
     ghost text: { ℕ → List ℕ → List ℕ };
 
-    /// Writes an object under its id. `buffer` takes up to 4,096 of its bytes at a time. Returns `Failed`
-    /// only if the sink failed; then a prefix was written.
+    /// Writes the live object with the handle `h`, whose id is `id`. `buffer` takes up to 4,096 of its bytes
+    /// at a time, in `line` other output is put together, and `meter` counts the steps of the heap's calls.
+    /// Returns `Failed` only if the sink failed; then a prefix of the object's text was written.
     fn put_object<H: Manager, K: Sink>(
         &self,
         heap: &H,
@@ -49,8 +51,9 @@ pub trait ObjectWriter {
         ensures failed { OnErr result (FailsLast (K.faults out.old) (K.faults out.new) (K.last_failed out.new)) };
 }
 
-/// Writes the live objects of the heap one after another, by rising id. Returns `Failed` only if the
-/// sink failed; then a prefix was written.
+/// Writes the live objects of the heap one after another, by rising id, each with the writer. The session maps
+/// the ids to handles; `line` and `meter` are passed to the writer. Returns `Failed` only if the sink failed;
+/// then a prefix of all the objects' texts was written.
 pub fn put_objects<W: ObjectWriter, H: Manager, K: Sink>(
     writer: &W,
     heap: &H,
@@ -68,7 +71,7 @@ pub fn put_objects<W: ObjectWriter, H: Manager, K: Sink>(
     ensures same { OnOk result (K.faults out.new ≡ K.faults out.old) }
     ensures failed { OnErr result (FailsLast (K.faults out.old) (K.faults out.new) (K.last_failed out.new)) }
 {
-    // Ids have 16 bits.
+    // For its contract: each live id has 16 bits.
     let _first = session.handle(0);
     let mut buffer = [0; CHUNK];
     'ids: for id in 0..IDS {

@@ -1,4 +1,5 @@
-//! The settings at the head of an image.
+//! Reads the first 16 bytes of an image: the mark `CFI1`, then the pages, the bytes of a page and the
+//! proxies, each a number of four bytes.
 ghost use Rattle.std.specs.Prelude.{◌≡◌, ◌≤◌, IsTrue, Err, ◌≢◌};
 ghost use Rattle.std.specs.Str.{bytes_eq};
 ghost use Rattle.cf_base.specs.Limits.{is_within};
@@ -13,8 +14,9 @@ use crate::fields_in::{Filled, fill, read_u32};
 use cf_base::Settings;
 use cf_io::Source;
 
-/// Reads the mark and the settings, and gives these the bound 1. Fails with `Bad` if a field breaks a rule or
-/// is cut, and with `Read` if the source failed.
+/// Reads the first 16 bytes of an image: the mark, the pages, the bytes of a page and the proxies. Returns the
+/// settings with these numbers and the bound 1. Fails with `Bad` if a field breaks a rule or is cut by the end
+/// of the input, and with `Read` if the source failed.
 pub(crate) fn read_settings<S: Source>(source: &mut S) -> Result<Settings, LoadFault>
     ensures settings { SettingsBy 16 decoded (feed_at (S.rest source.old) (S.given source.old)) result (feed_at (S.rest source.new) (S.given source.new)) }
     ensures grows { S.faults source.old ≤ S.faults source.new }
@@ -33,7 +35,7 @@ pub(crate) fn read_settings<S: Source>(source: &mut S) -> Result<Settings, LoadF
     read_pages(source)
 }
 
-/// Whether these bytes are the mark of an image.
+/// Whether these bytes are `CFI1`, the mark of an image.
 fn is_mark(bytes: &[u8]) -> bool
     ensures { result ≡ bytes_eq bytes.now mark }
 {
@@ -47,7 +49,8 @@ fn are_pages(pages: u32) -> bool
     (1..=4096).contains(&pages)
 }
 
-/// Reads the pages, the bytes of a page and the proxies, and makes the settings. Fails as `read_settings` does.
+/// Reads the number of pages at byte 4 of the image, then the bytes of a page and the proxies, and returns the
+/// settings. Fails as `read_settings` does.
 fn read_pages<S: Source>(source: &mut S) -> Result<Settings, LoadFault>
     ensures settings { SettingsBy 12 pages_decoded (feed_at (S.rest source.old) (S.given source.old)) result (feed_at (S.rest source.new) (S.given source.new)) }
     ensures grows { S.faults source.old ≤ S.faults source.new }
@@ -64,7 +67,8 @@ fn read_pages<S: Source>(source: &mut S) -> Result<Settings, LoadFault>
     read_page_bytes(source, pages)
 }
 
-/// Reads the bytes of a page and the proxies, and makes the settings. Fails as `read_settings` does.
+/// Reads the bytes of a page at byte 8 of the image, then the proxies, and returns the settings; `pages` was
+/// read before them. Fails as `read_settings` does.
 fn read_page_bytes<S: Source>(source: &mut S, pages: u32) -> Result<Settings, LoadFault>
     requires pages { IsTrue (is_within 1 4096 pages) }
     ensures settings { SettingsBy 8 (page_bytes_decoded pages) (feed_at (S.rest source.old) (S.given source.old)) result (feed_at (S.rest source.new) (S.given source.new)) }
@@ -82,7 +86,8 @@ fn read_page_bytes<S: Source>(source: &mut S, pages: u32) -> Result<Settings, Lo
     }
 }
 
-/// Reads the proxies, and makes the settings. Fails as `read_settings` does.
+/// Reads the number of proxies at byte 12 of the image, and returns the settings; `pages` and `page_bytes`
+/// were read before it. Fails as `read_settings` does.
 fn read_proxies<S: Source>(
     source: &mut S,
     pages: u32,

@@ -1,4 +1,4 @@
--- The memory that a place owns belongs to no thread, so that a place may go to another one.
+-- For `Send` of each `Place`: the memory that a place owns belongs to no thread, so C may pass the place to another thread.
 use base.Shift.{Keyless}
 use denote.Param.Send.{IsSend}
 use denote.RattleType.{RattleType}
@@ -8,6 +8,7 @@ use Rattle.std.specs.Prelude.{Option, Some, None}
 use Rattle.std_alloc.proofs.SendSync.{lies}
 use Rattle.held_heap.specs.Place.{place_owns}
 
+-- if a value of type R may go to another thread, what a place with the address p owns, a value h of this type or nothing, may too
 pub place-Keyless : (R : RattleType) → IsSend R → (p : Ptr) (h : Option R.Denot) → Keyless (place_owns R p h)
 place-Keyless R s p (Some x) = (lies R s p x, frees.frees _ _ p)
 place-Keyless R s p None = tt

@@ -1,4 +1,4 @@
--- A closed manager that opens is a fresh heap, in its opening order.
+-- For `Held::open`: a closed manager that is opened is a fresh heap (`IsFreshHeap`), and how a fact about a `Result` passes through `ok()` and `?`.
 use Rattle.std.proofs.Common.{◌≡◌, Some, None, refl, sym, ◌∙◌, ap, subst}
 use Rattle.std.specs.Prelude.{IfOk, IfSome, IsSome, OnOk, Option, Result, Ok, Err}
 use Rattle.core.specs.Result.{result_ok}
@@ -12,6 +12,7 @@ use Rattle.cf_model.specs.Steps.{IsEmptyHeap, IsOpeningWords, opening_order, ord
 use Rattle.cf_model.proofs.CallerLemmas.{opened_in_order}
 use Rattle.held_heap.specs.Calls.{IsFreshHeap}
 
+-- a manager that was closed, of this kind, is opened with the settings s: it is fresh, with a count of 0
 pub fresh_from_closed : (kind : Kind) (s : Settings) (old new : HeapState) → old ≡ closed_state kind → IsEmptyHeap old.kind s new → KeepsPromise old new
     → KeepsRules new → IsFreshHeap kind (profile_of s) (record { heap = new; steps = 0 })
 fresh_from_closed kind s old new is opened promise rules =
@@ -29,7 +30,7 @@ pub at_ok : {T E : Type 0} (r : Result T E) (P : Type 0) → OnOk r P → (o : O
 at_ok (Ok u) P p o e t f = p
 at_ok (Err x) P p o e t f = absurd (let z : None ≡ Some t = sym e ∙ f in cc)
 
--- a property of the boxed value is one of the box that `ok()` returned, if it returned one
+-- if v has the property P, and the box of r holds v, then the box that `ok()` returned, if it returned one, has P
 pub in_box : {B V E : Type 0} (r : Result B E) (value : B → V) (v : V) (P : V → Type 0) → P v → IfOk r (λ b. value b ≡ v) → (o : Option B) → o ≡ result_ok r
     → IfSome o (λ b. P (value b))
 in_box (Ok b) value v P p is o e = subst (λ q. IfSome q (λ b. P (value b))) (sym e) (subst P (sym is) p)

@@ -1,4 +1,4 @@
--- The machine value of an unboxed value: its allocator, and then its address. It is taken apart, and put together.
+-- For `Unboxed` and each `Place`: the machine value of an `Unboxed` is its allocator and then its address; how to take it apart and put it together.
 use Rattle.std.proofs.Common.{◌≡◌, ℕ, List, [], ◌∷◌, ◌++◌, refl, subst, ap}
 use mathlib.Core.Bool.{true, ◌&&◌}
 use lib.Dec.{T}
@@ -27,7 +27,7 @@ use Rattle.std_alloc.specs.Box.Ownership.{box_owns}
 use Rattle.std_alloc.proofs.ResultValues.{and_tt}
 use Rattle.held_heap.specs.contracts.unboxed.Unboxed as unboxed
 
--- an allocator and an address
+-- the machine value with the parts h, an allocator, and the address with block b and offset o
 abbrev pub parts : Val → ℕ → ℕ → Val
 parts h b o = vstruct (of_list (h ∷ vptr b o ∷ []))
 
@@ -36,6 +36,7 @@ abbrev pub allocator_of : (Z : RattleType) → Laws Z → Ghosts Z.Denot → Al
 allocator_of Z L g = record { row = Z; laws = L; g = g; d = impl [] tnil dnil; drops = impl [] tnil dnil }
 
 module _ (R Z : RattleType) (L : Laws Z) (g : Ghosts Z.Denot) where
+  -- the type of an unboxed value of type R with an allocator of type Z
   abbrev pub U : RattleType
   U = unboxed.the_row R Z g
 
@@ -50,6 +51,7 @@ module _ (R Z : RattleType) (L : Laws Z) (g : Ghosts Z.Denot) where
   box_fits h b o good = (and_tt (has_ty (layout Z) h) good.0, (tt, (good.1, tt)))
 
   module _ {M : Type 1} {𝓤 : Ura M} {𝓛 : Logic 𝓤} {K : Type 0} {Γ : List (Item 𝓤)} {G : Goal 𝓤 𝓛.H} where
+    -- who owns an unboxed value may own its block and its allocator instead
     pub take_apart : K → (d : U.Denot) (vs : List Val)
         → ((h : Val) (b o : ℕ) → d.at ≡ block_ptr b o → vs ≡ parts h b o ∷ [] → Good (layout Z) h
         → Seq K 𝓛 (‵ (block d.alloc (block_ptr b o) d.value) ∷ ‵ (Z.own_val d.alloc (h ∷ [])) ∷ Γ) G)
@@ -78,6 +80,7 @@ module _ (R Z : RattleType) (L : Laws Z) (g : Ghosts Z.Denot) where
         let two = subst (λ (p : Ptr). u ∷ [] ≡ vstruct (of_list (ptr_val p ∷ (vss.1.0 ++ []))) ∷ []) at one in
         k h b o (ap only (subst (λ (ws : List Val). u ∷ [] ≡ vstruct (of_list (vptr b o ∷ (ws ++ []))) ∷ []) second two)) good)))))
 
+    -- who owns a block and its allocator may own the unboxed value of both
     pub put_together : K → (h : Val) (b o : ℕ) (a : Z.Denot) (x : R.Denot)
         → Step K 𝓛 (‵ (U.own_val (record { alloc = a; at = block_ptr b o; value = x }) (parts h b o ∷ [])) ∷ Γ) G
         (‵ (block a (block_ptr b o) x) ∷ ‵ (Z.own_val a (h ∷ [])) ∷ Γ) G

@@ -1,4 +1,4 @@
--- The heap at a caller's address may go to another thread, whichever manager it has.
+-- The law `Send` of `NphHeap`, for each manager: C may pass a heap to another thread. No function cites it; it checks that the kit finds the law.
 use denote.Param.Send.{IsSend}
 use Rattle.held_heap.specs.contracts.moving.NphHeap as moving
 use Rattle.held_heap.specs.contracts.nonmoving.NphHeap as nonmoving

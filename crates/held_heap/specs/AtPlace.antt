@@ -1,4 +1,4 @@
--- What a call does to a heap at a place, which is open or closed.
+-- What an export does to a caller's heap. A heap is its state if it is open, `None` if it is closed.
 use Rattle.std.specs.Prelude.{◌≡◌, ℕ, ℤ, pos, Option, Some, None}
 use Rattle.cf_base.specs.Settings.{Profile, profile_from, setting_fault}
 use Rattle.cf_base.specs.declared.kind.Kind.{Kind}
@@ -7,22 +7,23 @@ use Rattle.held_heap.specs.Calls.{IsFreshHeap}
 use Rattle.held_heap.specs.Codes.{fault_code}
 use Rattle.held_heap.specs.HeldState.{HeldState}
 
--- the heap is open, and its state satisfies `holds`
+-- the heap is open, and `holds` is true of its state
 abbrev pub IsOpenWith : Option HeldState → (HeldState → Type 0) → Type 0
 IsOpenWith None holds = ⊥
 IsOpenWith (Some h) holds = holds h
 
--- On an open heap a call does this step. On a closed one it returns 7 (`CLOSED`), and `kept` says that the caller's values are unchanged.
+-- A call that returns `code` on a heap, and leaves `new`. On an open heap it does `step`, a relation of the states before and after it. On a closed one it
+-- returns 7 (`CLOSED`), the heap stays closed, and `kept` holds: that the caller's values are unchanged.
 abbrev pub OnOpen : Option HeldState → ℤ → Option HeldState → Type 0 → (HeldState → HeldState → Type 0) → Type 0
 OnOpen None code new kept step = (code ≡ pos 7) × (new ≡ None) × kept
 OnOpen (Some h) code new kept step = IsOpenWith new (step h)
 
--- an open with valid settings: code 0 and a fresh heap, or code 10 (`MEMORY`) and a closed heap
+-- an open of a closed heap with the valid settings p: code 0 and a fresh heap, or code 10 (`MEMORY`) and a heap that is still closed
 abbrev pub IsOpened : Kind → Profile → ℤ → Option HeldState → Type 0
 IsOpened kind p code None = code ≡ pos 10
 IsOpened kind p code (Some h) = (code ≡ pos 0) × IsFreshHeap kind p h
 
--- an open of a closed heap: the code of the first setting that is out of range, if there is one; else as `IsOpened`
+-- an open of a closed heap, where the first argument is the first setting out of range: its code, and the heap stays closed; if there is none, `IsOpened`
 abbrev pub IsOpening : Option SettingFault → Kind → Profile → ℤ → Option HeldState → Type 0
 IsOpening (Some e) kind p code new = (code ≡ fault_code e) × (new ≡ None)
 IsOpening None kind p code new = IsOpened kind p code new

@@ -1,4 +1,5 @@
--- The calls of a manager with their steps: the most of each call, exact for a read, a write and a length.
+-- For the trait `Offered`: what each call of a manager does, with how many steps it takes: at most a bound, for a read and a write exactly a number.
+-- Below, `old` and `new` are the heap before and after a call, `answer` is its result, and `from` and `to` are the ledger's steps before and after it.
 use Rattle.std.specs.Prelude.{◌≡◌, ℕ, ◌+◌, IsTrue, List, Option, Result, length}
 use Rattle.step_ledger.specs.Counting.{RoseAtMost, RoseBy}
 use Rattle.cf_base.specs.declared.answers.Handle.{Handle}
@@ -16,7 +17,8 @@ use Rattle.cf_model.specs.State.{HeapState}
 use Rattle.cf_model.specs.Steps.{IsFreeStep, IsMallocStep, IsReadAnswer, IsResizeStep, IsWriteStep, Part, StaysOpen}
 use Rattle.page_model.specs.Steps.{Request}
 
--- the most steps of each call by its result; of a resize also by the new length, of a read or a write by the first byte and the count
+-- For each call its most steps, as a function of its result; `access` is a read or a write, `room` is `has_room`. A resize has its new length in bytes as
+-- another argument; an access has two, the first byte and the count of bytes. The numbers of an access and of a length are exact.
 pub record Bounds : Type 0 where
   pub malloc : Result Handle Refusal → ℕ
   pub free : Result Freed NotLive → ℕ
@@ -26,12 +28,12 @@ pub record Bounds : Type 0 where
   pub room : Result (Unit {0}) Refusal → ℕ
   pub totals : Totals → ℕ
 
--- the heap is open, and of this kind
+-- the heap s is open, and of the kind `of_kind`
 pub record IsOpenOf (of_kind : Kind) (s : HeapState) : Type 0 where
   pub open_now : IsTrue s.is_open
   pub kind : s.kind ≡ of_kind
 
--- a malloc of this many bytes; `from` and `to` are the ledger's steps before and after it
+-- a malloc of `bytes` bytes; its steps are the cost that the new heap records
 pub record IsMalloc (most : Bounds) (old : HeapState) (bytes : ℕ) (answer : Result Handle Refusal) (new : HeapState) (from to : ℕ) : Type 0 where
   pub step : IsMallocStep old bytes answer new
   pub ordered : IsOrderedMalloc old bytes answer new
@@ -40,7 +42,7 @@ pub record IsMalloc (most : Bounds) (old : HeapState) (bytes : ℕ) (answer : Re
   pub bound : RoseAtMost from to (most.malloc answer)
   pub cost : to ≡ from + new.cost
 
--- a free of this handle's number
+-- a free of the handle `number`; its steps are the cost that the new heap records
 pub record IsFree (most : Bounds) (old : HeapState) (number : ℕ) (answer : Result Freed NotLive) (new : HeapState) (from to : ℕ) : Type 0 where
   pub step : IsFreeStep old number answer new
   pub ordered : IsOrderedFree old number answer new
@@ -49,7 +51,7 @@ pub record IsFree (most : Bounds) (old : HeapState) (number : ℕ) (answer : Res
   pub bound : RoseAtMost from to (most.free answer)
   pub cost : to ≡ from + new.cost
 
--- a resize of an object to a new length
+-- a resize of the object `asked.number` to `asked.length` bytes
 pub record IsResize (most : Bounds) (old : HeapState) (asked : Request) (answer : Result Resized ResizeFault) (new : HeapState) (from to : ℕ) : Type 0 where
   pub step : IsResizeStep old asked answer new
   pub ordered : IsOrderedResize old asked answer new
@@ -57,14 +59,14 @@ pub record IsResize (most : Bounds) (old : HeapState) (asked : Request) (answer 
   pub same : StaysOpen old new
   pub bound : RoseAtMost from to (most.resize asked.length answer)
 
--- a write of these bytes into object `part.number`, from byte `part.from` on
+-- a write of `bytes` into object `part.number`, from byte `part.from` on
 pub record IsWrite (most : Bounds) (old : HeapState) (part : Part) (bytes : List ℕ) (answer : Result (Unit {0}) AccessFault) (new : HeapState) (from to : ℕ) : Type 0 where
   pub step : IsWriteStep old part bytes answer new
   pub rules : KeepsRules new
   pub same : StaysOpen old new
   pub exact : RoseBy from to (most.access part.from (length bytes) answer)
 
--- a read of the bytes of object `part.number` from byte `part.from` on; `before` and `after` are the caller's bytes
+-- a read of object `part.number` from byte `part.from` on, in the heap s; `before` and `after` are the bytes of the caller's buffer
 pub record IsRead (most : Bounds) (s : HeapState) (part : Part) (before : List ℕ) (answer : Result (Unit {0}) AccessFault) (after : List ℕ) (from to : ℕ) : Type 0 where
   pub read : IsReadAnswer s part before answer after
   pub rules : KeepsRules s

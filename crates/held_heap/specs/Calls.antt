@@ -1,4 +1,6 @@
--- Each call of the C library on an open heap: its code, the values that it writes for its caller (`before` and `after` it), and its step of the heap.
+-- For `Held`: each call of the C library on an open heap. `old` and `new` are the heap with its step count before and after the call, `code` is what it
+-- returns, `before` and `after` are the caller's number, structure or buffer, and `answer` is the result of the manager's call that is made. Each call begins
+-- with a ledger of 0 steps, so `new.steps` are its steps. `number` is a handle, and `most` the manager's step bounds.
 use Rattle.std.specs.Prelude.{◌≡◌, ℕ, ℤ, pos, List, Option, Some, None, Result, Ok, Err}
 use Rattle.cf_base.specs.Settings.{Profile}
 use Rattle.cf_base.specs.declared.answers.Handle.{Handle}
@@ -25,68 +27,68 @@ use Rattle.held_heap.specs.declared.answers.NphFreed.{NphFreed}
 use Rattle.held_heap.specs.declared.answers.NphResized.{NphResized}
 use Rattle.held_heap.specs.declared.answers.NphHeapTotals.{NphHeapTotals}
 
--- a heap that was just opened with these settings: it has no objects and the opening order, and its step count is 0
+-- `new` is a heap that was just opened with the settings p: it has no objects, its pages, numbers and blocks are in the opening order, and its count is 0
 pub record IsFreshHeap (kind : Kind) (p : Profile) (new : HeldState) : Type 0 where
   pub words : IsOpeningWords kind p new.heap.words
   pub whole : new.heap ≡ ordered_heap kind p new.heap.words (Some (opening_order kind p))
   pub rules : KeepsRules new.heap
   pub steps : new.steps ≡ 0
 
--- the caller's number after a malloc: the handle, or after a refusal the number before
+-- the caller's number after a malloc: the new handle, or after a refusal the number before the call
 abbrev pub malloc_number : ℕ → Result Handle Refusal → ℕ
 malloc_number before (Ok h) = h.0
 malloc_number before (Err e) = before
 
--- a malloc of this many bytes; `new.steps` are its steps
+-- a malloc of `bytes` bytes
 pub record IsMallocCall (most : Bounds) (old : HeldState) (bytes before : ℕ) (code : ℤ) (after : ℕ) (new : HeldState) : Type 0 where
   pub answer : Result Handle Refusal
   pub by_code : code ≡ malloc_code answer
   pub by_number : after ≡ malloc_number before answer
   pub call : IsMalloc most old.heap bytes answer new.heap 0 new.steps
 
--- the caller's structure after a free; unchanged after a refusal
+-- the caller's structure after a free with this result: what was freed and moved, or after a refusal the structure before the call
 abbrev pub freed_shown : NphFreed → Result Freed NotLive → NphFreed
 freed_shown before (Ok f) = record { slot_words = f.slot_words; moved = moved_number f.moved }
 freed_shown before (Err e) = before
 
--- a free of this number
+-- a free of the handle `number`
 pub record IsFreeCall (most : Bounds) (old : HeldState) (number : ℕ) (before : NphFreed) (code : ℤ) (after : NphFreed) (new : HeldState) : Type 0 where
   pub answer : Result Freed NotLive
   pub by_code : code ≡ free_code answer
   pub by_freed : after ≡ freed_shown before answer
   pub call : IsFree most old.heap number answer new.heap 0 new.steps
 
--- the caller's structure after a resize; unchanged after a refusal
+-- the caller's structure after a resize with this result: the slots and what moved, or after a refusal the structure before the call
 abbrev pub resized_shown : NphResized → Result Resized ResizeFault → NphResized
 resized_shown before (Ok done) = record { old_slot_words = done.old_slot_words; slot_words = done.slot_words; moved = moved_number done.moved }
 resized_shown before (Err e) = before
 
--- a resize of this number to this many bytes
+-- a resize of object `number` to `bytes` bytes
 pub record IsResizeCall (most : Bounds) (old : HeldState) (number bytes : ℕ) (before : NphResized) (code : ℤ) (after : NphResized) (new : HeldState) : Type 0 where
   pub answer : Result Resized ResizeFault
   pub by_code : code ≡ resize_code answer
   pub by_resized : after ≡ resized_shown before answer
   pub call : IsResize most old.heap (record { number = number; length = bytes }) answer new.heap 0 new.steps
 
--- a write of these bytes into object `number`, from byte `from` on
+-- a write of `bytes` into object `number`, from its byte `from` on
 pub record IsWriteCall (most : Bounds) (old : HeldState) (number from : ℕ) (bytes : List ℕ) (code : ℤ) (new : HeldState) : Type 0 where
   pub answer : Result (Unit {0}) AccessFault
   pub by_code : code ≡ access_code answer
   pub call : IsWrite most old.heap (record { number = number; from = from }) bytes answer new.heap 0 new.steps
 
--- a read of object `number`, from byte `from` on, into the caller's bytes; the heap is unchanged
+-- a read of object `number`, from its byte `from` on, into the caller's buffer; the heap is unchanged
 pub record IsReadCall (most : Bounds) (old : HeldState) (number from : ℕ) (before : List ℕ) (code : ℤ) (after : List ℕ) (new : HeldState) : Type 0 where
   pub answer : Result (Unit {0}) AccessFault
   pub by_code : code ≡ access_code answer
   pub call : IsRead most old.heap (record { number = number; from = from }) before answer after 0 new.steps
   pub kept : new.heap ≡ old.heap
 
--- the code of a length that may be absent: 0, or 4 (`UNKNOWN`)
+-- the code of a call for a length: 0, or 4 (`UNKNOWN`) if the handle is not live and there is no length
 abbrev pub found_code : Option ℕ → ℤ
 found_code (Some n) = pos 0
 found_code None = pos 4
 
--- the caller's number after a length: the length, or the number before if there is none
+-- the caller's number after a call for a length: the length, or the number before the call if there is none
 abbrev pub found_number : Option ℕ → ℕ → ℕ
 found_number (Some n) before = n
 found_number None before = before
@@ -98,7 +100,7 @@ pub record IsLengthCall (most : Bounds) (old : HeldState) (number before : ℕ) 
   pub kept : new.heap ≡ old.heap
   pub exact : RoseBy 0 new.steps (most.length (length_of old.heap number))
 
--- the code of `has_room`: that of a malloc
+-- the code of `has_room` with this result: that of a malloc with it
 abbrev pub room_code : Result (Unit {0}) Refusal → ℤ
 room_code (Ok u) = pos 0
 room_code (Err e) = malloc_code (Err e)
@@ -127,7 +129,7 @@ figures_shown s class before = shown (figures_in s class)
     shown (Some f) = record { slot_words = f.slot_words; slots = f.slots; live = f.live; pages = f.pages; not_full = f.not_full }
     shown None = before
 
--- the structure with the figures of the whole heap
+-- the caller's structure after a call for the figures of the whole heap
 abbrev pub totals_shown : HeapState → NphHeapTotals
 totals_shown s = shown (totals_in s.kind s)
   where

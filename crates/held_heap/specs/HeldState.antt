@@ -1,9 +1,9 @@
--- The state of an open heap with its step count.
+-- For `Held`: an open heap with its step count, as contracts see it.
 use Rattle.std.specs.Prelude.{ℕ, refl}
 use Rattle.std.specs.Coded.{Coded, code_by, coded×, coded_ℕ}
 use Rattle.cf_model.specs.State.{HeapState, state_code}
 
--- the heap, and the steps of the last call that counts steps
+-- the state of the heap, and the steps of the last call that counts steps
 pub record HeldState : Type 0 where
   pub heap : HeapState
   pub steps : ℕ

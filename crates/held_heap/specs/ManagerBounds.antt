@@ -1,4 +1,4 @@
--- The most steps of the calls of each manager.
+-- The step bounds (`Bounds`) of the managers in the C libraries: one record for a kind with pages, one for the kinds with blocks.
 use Rattle.std.specs.Prelude.{ℕ, ◌+◌, ◌*◌, Option, Some, None}
 use Rattle.cf_base.specs.declared.kind.Kind.{Kind}
 use Rattle.page_model.specs.Order.{word_steps}
@@ -6,7 +6,8 @@ use Rattle.held_heap.specs.Bounds.{Bounds}
 use Rattle.paged_heap.specs.Costs as pages
 use Rattle.tag_heap.specs.Costs as blocks
 
--- a length with pages: the proxy and, if the handle is live, the header, for the non-moving kind with its block
+-- the steps of a call for a length with pages, by its result: one for the proxy and, if the handle is live, those of the header, which the non-moving kind
+-- finds through the block table
 abbrev pub length_steps : Kind → Option ℕ → ℕ
 length_steps kind (Some n) = 1 + word_steps kind
 length_steps kind None = 1
@@ -23,7 +24,7 @@ page_bounds kind = record {
   totals = λ totals. 0;
 }
 
--- the most steps of each call of a kind with blocks; a resize is refused after at most 1 step, and the totals visit each free block
+-- the most steps of each call of a kind with blocks; a resize is always refused, after at most 1 step, and the totals take 2 steps for each free block
 abbrev pub block_bounds : Bounds
 block_bounds = record {
   malloc = blocks.malloc_steps;

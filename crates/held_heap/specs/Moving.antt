@@ -1,9 +1,10 @@
--- The machine type of an open heap of the moving manager, which a place owns.
+-- For `moving.rt`: the type of the value in the block that a `Place` owns, in the kit's logic of memory (`RattleType`).
 use denote.RattleType.{RattleType}
 use Rattle.moving_heap.specs.contracts.manager.MovingHeap.{the_row}
 use Rattle.moving_heap.specs.contracts.manager.MovingHeapManager.TheImpl.{ghosts}
 use Rattle.held_heap.specs.contracts.held.Held as held
 use Rattle.held_heap.specs.contracts.offered.MovingHeapOffered.TheImpl as offered
 
+-- an open heap of the moving manager, `Held`
 abbrev pub open_heap : RattleType
 open_heap = held.the_row the_row offered.ghosts ghosts

@@ -1,9 +1,10 @@
--- The machine type of an open heap of the non-moving manager, which a place owns.
+-- For `nonmoving.rt`: the type of the value in the block that a `Place` owns, in the kit's logic of memory (`RattleType`).
 use denote.RattleType.{RattleType}
 use Rattle.nonmoving_heap.specs.contracts.manager.NonMovingHeap.{the_row}
 use Rattle.nonmoving_heap.specs.contracts.manager.NonMovingHeapManager.TheImpl.{ghosts}
 use Rattle.held_heap.specs.contracts.held.Held as held
 use Rattle.held_heap.specs.contracts.offered.NonMovingHeapOffered.TheImpl as offered
 
+-- an open heap of the non-moving manager, `Held`
 abbrev pub open_heap : RattleType
 open_heap = held.the_row the_row offered.ghosts ghosts

@@ -1,4 +1,4 @@
--- The memory that the place of a heap owns.
+-- For `Place`: the memory that a place owns, a block with an open heap or nothing. R is the type of the heap.
 use base.Fml.{Fml, ftrue}
 use denote.RattleType.{RattleType}
 use denote.RawPtr.{Ptr}
@@ -6,11 +6,11 @@ use Rattle.std.specs.Prelude.{Option, Some, None}
 use Rattle.std_alloc.specs.Box.Ownership.{box_owns}
 use Rattle.std.specs.contracts.prelude.GlobalAllocator.TheImpl.{ghosts}
 
--- at p is the value x, in a block that the global allocator may free
+-- at the address p is the value x of type R, in a block that the global allocator may free
 abbrev pub lies_in_block : (R : RattleType) → Ptr → R.Denot → Fml
 lies_in_block R p x = box_owns (ghosts.dealloc_token (record { memory = record { seal = tt } })) R p x
 
--- as `lies_in_block` if there is a value; else the place owns nothing
+-- what a place with the address p owns: the block with the value x, or nothing
 abbrev pub place_owns : (R : RattleType) → Ptr → Option R.Denot → Fml
 place_owns R p (Some x) = lies_in_block R p x
 place_owns R p None = ftrue

@@ -1,4 +1,4 @@
--- The machine type of an open heap of the TLSF manager, which a place owns.
+-- For `tlsf.rt`: the type of the value in the block that a `Place` owns, in the kit's logic of memory (`RattleType`).
 use denote.RattleType.{RattleType}
 use Rattle.tag_heap.specs.contracts.manager.TagHeap as heap
 use Rattle.tag_heap.specs.contracts.manager.TagHeapManager.TheImpl as manager
@@ -8,6 +8,7 @@ use Rattle.tlsf_heap.specs.contracts.heap.TlsfBucketsFitPolicy.TheImpl as policy
 use Rattle.held_heap.specs.contracts.held.Held as held
 use Rattle.held_heap.specs.contracts.offered.TagHeapOffered.TheImpl as offered
 
+-- an open heap of the TLSF manager, `Held`
 abbrev pub open_heap : RattleType
 open_heap = held.the_row
     (heap.the_row the_row policy.ghosts buckets.ghosts)

@@ -1,7 +1,8 @@
-//! The structures that calls fill for their C caller. The header `norphuen.h` declares the same types.
+//! The structures that a caller in C passes to calls, which write their results into them. The header
+//! `norphuen.h` declares the same types.
 
-/// The result of a free: the words of the freed slot or block, and the handle of the object that moved to its
-/// address, or `NONE`.
+/// The result of a free: the words of the freed slot or block (`slot_words`), and the handle of the object
+/// that moved to its address (`moved`), `NONE` if no object moved.
 #[repr(C)]
 #[derive(Clone, Copy, Drop)]
 pub struct NphFreed {
@@ -9,8 +10,8 @@ pub struct NphFreed {
     pub moved: u32,
 }
 
-/// The result of a resize: the words of the slot before and after, and the handle of the other object that
-/// moved, or `NONE`.
+/// The result of a resize: the words of the object's slot before (`old_slot_words`) and after (`slot_words`),
+/// and the handle of the other object that moved to the old address (`moved`), `NONE` if none did.
 #[repr(C)]
 #[derive(Clone, Copy, Drop)]
 pub struct NphResized {
@@ -19,8 +20,8 @@ pub struct NphResized {
     pub moved: u32,
 }
 
-/// The figures of a size class: the words of a slot, the slots of a page, and the numbers of live objects,
-/// pages and partly full pages.
+/// The figures of a size class: the words of a slot, the slots of a page, and how many objects are live,
+/// how many pages the class has, and how many of these are partly full (`not_full`).
 #[repr(C)]
 #[derive(Clone, Copy, Drop)]
 pub struct NphClass {
@@ -31,8 +32,9 @@ pub struct NphClass {
     pub not_full: u32,
 }
 
-/// The figures of the whole heap: bytes asked for, taken and held; live objects; pages or blocks in use and
-/// free; the words of the largest free page or block.
+/// The figures of the whole heap. In bytes: what the live objects asked for, what their slots or blocks take,
+/// and what the pages in use (with blocks, the region) hold. Then counts: live objects, and the pages or
+/// blocks in use and free. `largest` is the words of the largest free page or block.
 #[repr(C)]
 #[derive(Clone, Copy, Drop)]
 pub struct NphHeapTotals {

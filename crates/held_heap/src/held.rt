@@ -11,8 +11,8 @@ use std::marker::Model;
 use std::rt::Memory;
 use step_ledger::Meter;
 
-/// An open heap, and the steps of the last call that counts steps. Each such call has a ledger of its
-/// own, so that the compiler keeps the count in a register.
+/// An open heap, and the steps of the last call that counts steps. Each such call makes a ledger of its
+/// own from `memory`, so that the compiler keeps the count in a register.
 #[derive(Drop)]
 pub struct Held<H: Offered> {
     heap: H,
@@ -36,7 +36,7 @@ impl<H: Offered> Model for Held<H> {
 impl<H: Offered> Held<H> {
     ghost use Rattle.held_heap.specs.Calls.{IsFiguresCall, IsFreeCall, IsFreshHeap, IsLengthCall, IsMallocCall, IsReadCall, IsResizeCall, IsRoomCall, IsStepsCall, IsTotalsCall, IsWriteCall};
 
-    /// Opens a heap without objects, in a block of its own; none if out of memory.
+    /// Opens a heap without objects, in a block of its own. Returns `None` if out of memory.
     pub fn open(memory: Memory, s: &Settings) -> Option<Box<Held<H>>>
         ensures { IfSome result (λ b. IsFreshHeap H.of_kind (profile_of s.now) b.value) }
     {
@@ -51,8 +51,8 @@ impl<H: Offered> Held<H> {
         Box::new(alloc, held).ok()
     }
 
-    /// Makes an object of `bytes` zeros and writes its handle into `handle`. Returns a code of
-    /// `codes.rt`; after a refusal `handle` is unchanged.
+    /// Makes an object of `bytes` zeros and writes its handle into `handle`. Returns `DONE`, or the code of
+    /// the refusal: `SIZE`, `PROXY` or `SPACE`. After a refusal `handle` is unchanged.
     pub fn malloc(&mut self, bytes: u32, handle: &mut u32) -> i32
         ensures { IsMallocCall H.most self.old bytes handle.old result handle.new self.new }
     {
@@ -69,7 +69,8 @@ impl<H: Offered> Held<H> {
     }
 
     /// Frees an object. Writes into `freed` the words of its slot or block, and the handle of the object
-    /// that moved, or `NONE`. Returns `UNKNOWN` if the handle isn't live; `freed` is unchanged then.
+    /// that moved there, or `NONE`. Returns `DONE`, or `UNKNOWN` if the handle isn't live; then `freed` is
+    /// unchanged.
     pub fn free(&mut self, handle: u32, freed: &mut NphFreed) -> i32
         ensures { IsFreeCall H.most self.old handle freed.old result freed.new self.new }
     {
@@ -89,8 +90,8 @@ impl<H: Offered> Held<H> {
     }
 
     /// Changes an object's length to `bytes` bytes. Writes into `resized` the words of its slot before and
-    /// after, and the handle of the other object that moved, or `NONE`. Returns a code of `codes.rt`;
-    /// after a refusal `resized` is unchanged.
+    /// after, and the handle of the other object that moved, or `NONE`. Returns `DONE`, or the code of the
+    /// refusal: `UNKNOWN`, `KIND`, `SIZE` or `SPACE`. After a refusal `resized` is unchanged.
     pub fn resize(&mut self, handle: u32, bytes: u32, resized: &mut NphResized) -> i32
         ensures { IsResizeCall H.most self.old handle bytes resized.old result resized.new self.new }
     {
@@ -112,7 +113,8 @@ impl<H: Offered> Held<H> {
         }
     }
 
-    /// Writes the bytes into an object, from its byte `at` on. Returns `UNKNOWN` or `RANGE` if refused.
+    /// Writes the bytes into an object, from its byte `at` on. Returns `DONE`; or `UNKNOWN` or `RANGE`, and
+    /// then the object is unchanged.
     pub fn write(&mut self, handle: u32, at: u32, bytes: &[u8]) -> i32
         ensures { IsWriteCall H.most self.old handle at bytes.now result self.new }
     {
@@ -127,8 +129,8 @@ impl<H: Offered> Held<H> {
         }
     }
 
-    /// Fills `out` with the bytes of an object from its byte `at` on. Returns `UNKNOWN` or `RANGE` if
-    /// refused; `out` is unchanged then.
+    /// Fills `out` with the bytes of an object from its byte `at` on. Returns `DONE`; or `UNKNOWN` or
+    /// `RANGE`, and then `out` is unchanged.
     pub fn read(&mut self, handle: u32, at: u32, out: &mut [u8]) -> i32
         ensures { IsReadCall H.most self.old handle at out.old result out.new self.new }
     {
@@ -143,8 +145,8 @@ impl<H: Offered> Held<H> {
         }
     }
 
-    /// Writes the object's length in bytes into `bytes`. Returns `UNKNOWN` if the handle isn't live;
-    /// `bytes` is unchanged then.
+    /// Writes the object's length in bytes into `bytes`. Returns `DONE`, or `UNKNOWN` if the handle isn't
+    /// live; then `bytes` is unchanged.
     pub fn length(&mut self, handle: u32, bytes: &mut u32) -> i32
         ensures { IsLengthCall H.most self.old handle bytes.old result bytes.new self.new }
     {
@@ -160,7 +162,7 @@ impl<H: Offered> Held<H> {
         }
     }
 
-    /// Returns the code that a malloc of `bytes` bytes would return now.
+    /// Returns the code that a malloc of `bytes` bytes would return now; makes no object.
     pub fn has_room(&mut self, bytes: u32) -> i32
         ensures { IsRoomCall H.most self.old bytes result self.new }
     {
@@ -173,8 +175,8 @@ impl<H: Offered> Held<H> {
         }
     }
 
-    /// Writes the figures of a class into `figures`; counts no steps. Returns `UNKNOWN` if there is no such
-    /// class; `figures` is unchanged then.
+    /// Writes the figures of a class, numbered from 0, into `figures`; counts no steps. Returns `DONE`, or
+    /// `UNKNOWN` if there is no such class; then `figures` is unchanged.
     pub fn figures(&mut self, class: u32, figures: &mut NphClass) -> i32
         ensures { IsFiguresCall self.old class figures.old result figures.new self.new }
     {
@@ -193,7 +195,7 @@ impl<H: Offered> Held<H> {
         }
     }
 
-    /// Writes the figures of the whole heap into `totals`.
+    /// Writes the figures of the whole heap into `totals`. Always returns `DONE`.
     pub fn totals(&mut self, totals: &mut NphHeapTotals) -> i32
         ensures { IsTotalsCall H.most self.old result totals.new self.new }
     {
@@ -212,7 +214,8 @@ impl<H: Offered> Held<H> {
         DONE
     }
 
-    /// Writes the steps of the last call that counts steps into `steps`.
+    /// Writes the steps of the last call that counts steps into `steps`; counts none itself. Always returns
+    /// `DONE`.
     pub fn last_steps(&mut self, steps: &mut u64) -> i32
         ensures { IsStepsCall self.old result steps.new self.new }
     {

@@ -1,5 +1,6 @@
-//! A heap behind a pointer, for callers in C and other languages: a call returns a code, and writes its other
-//! results through references.
+//! An open heap in a block of memory, for callers in C and other languages, which hold the block's address. A
+//! call returns a code, and writes its other results through references. The static libraries `norphuen`,
+//! `norphuen_nonmoving` and `norphuen_tlsf` export these calls, each for one manager.
 #![tactic(auto)]
 
 mod answers;

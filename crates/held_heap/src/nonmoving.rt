@@ -1,4 +1,5 @@
-//! A heap of the non-moving manager at an address of its caller.
+//! `NphHeap` for the non-moving manager: the struct that a caller in C has for its heap, open or closed. Each
+//! manager has such a file, because an export takes no type parameters.
 ghost use Rattle.std.specs.Prelude.{◌≡◌, Option, Some, None, IsSome, is_some};
 ghost use Rattle.std.specs.Borrow.{sem};
 ghost use Rattle.std.specs.Coded.{coded_option};
@@ -16,9 +17,11 @@ use std::alloc::Global;
 use std::marker::Model;
 use std::rt::Memory;
 
+/// The open heap in the block whose address C has.
 type Open = Held<NonMovingHeap>;
 
-/// The address of a block that holds an open heap, which the place owns; or null, and nothing.
+/// The address of the block of an open heap, and then the place owns that block; or null, and it owns
+/// nothing. `held` is the state of that heap, `None` with null.
 #[repr(C)]
 #[derive(Drop)]
 pub struct Place {
@@ -44,14 +47,14 @@ impl Place {
         }
     }
 
-    /// Takes the block of an open heap out of its box.
+    /// Returns a place that owns the block of this box.
     fn of(b: Box<Open>) -> Place
         ensures { result.held ≡ Some b.value }
     {
         place_of(Unboxed::new(b))
     }
 
-    /// Returns the box of the open heap, so that dropping it frees the block.
+    /// Returns the box of the open heap; dropping the box frees the block.
     fn into_box(self, alloc: Global) -> Box<Open>
         requires { IsSome self.held }
         ensures { self.held ≡ Some result.value }
@@ -59,7 +62,7 @@ impl Place {
         unboxed_of(self, alloc).boxed()
     }
 
-    /// Lends the open heap.
+    /// Borrows the open heap. When the borrow ends, the heap as it then is belongs to the place again.
     fn lend(&mut self) -> &mut Open
         requires { IsSome self.old.held }
         ensures* writes_back { sem 𝓛 (LendsPlace self.entry result) }
@@ -69,7 +72,7 @@ impl Place {
     }
 }
 
-/// Keeps the address of an unboxed heap as a place.
+/// Returns a place that owns the block of an unboxed heap.
 fn place_of(u: Unboxed<Open, Global>) -> Place
     ensures { result.held ≡ Some u.value }
 {
@@ -79,7 +82,7 @@ fn place_of(u: Unboxed<Open, Global>) -> Place
     }
 }
 
-/// Returns the heap at a place as an unboxed value of this allocator.
+/// Returns the heap of a place as an unboxed value, whose block this allocator may free.
 fn unboxed_of(p: Place, alloc: Global) -> Unboxed<Open, Global>
     requires { IsSome p.held }
     ensures { p.held ≡ Some result.value }
@@ -91,8 +94,8 @@ fn unboxed_of(p: Place, alloc: Global) -> Unboxed<Open, Global>
     }
 }
 
-/// A heap, open or closed, at an address that C owns. Call `close` before it is dropped: a drop does not free
-/// the memory of an open heap.
+/// A heap, open or closed, in memory of a caller in C. `shown` says that the flag is true if and only if the
+/// place has a heap. Call `close` before it is dropped: a drop does not free the memory of an open heap.
 #[repr(C)]
 #[derive(Drop)]
 pub struct NphHeap {
@@ -113,7 +116,7 @@ impl NphHeap {
         self.is_open
     }
 
-    /// Lends the open heap.
+    /// Borrows the open heap. When the borrow ends, the heap as it then is belongs to this struct again.
     pub fn held(&mut self) -> &mut Open
         requires { IsSome (held_in self.old) }
         ensures* writes_back { sem 𝓛 (LendsHeap self.entry result) }
@@ -123,8 +126,8 @@ impl NphHeap {
     }
 
     /// Opens a heap without objects, with these settings. Returns `DONE`; else, with nothing changed, `OPEN`
-    /// if the heap is open already, the code of the first setting out of range, or `MEMORY`. Of these calls
-    /// it alone allocates.
+    /// if the heap is open already, the code of the first setting out of range, or `MEMORY`. No other
+    /// call of the heap allocates.
     pub fn open(&mut self, memory: Memory, pages: u32, page_bytes: u32, k: u32, proxies: u32) -> i32
         ensures { IsOpenCall NonMoving (held_in self.old) pages page_bytes k proxies result (held_in self.new) }
     {

@@ -1,6 +1,6 @@
-//! The type to which the pointer of a place points.
+//! The opaque type that C sees at the address of an open heap.
 
-/// The block of an open heap, whose bytes only the library reads: C sees this type, not the heap's.
+/// The block of an open heap. C sees this type in place of the heap's own; only the library uses its bytes.
 #[repr(C)]
 #[derive(Drop)]
 pub struct Sealed {

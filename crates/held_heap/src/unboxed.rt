@@ -1,11 +1,13 @@
-//! A box taken apart into its address and its allocator, and put together again.
+//! A `Box` taken apart into its address and its allocator, and put together again: for a heap whose address C
+//! holds.
 ghost use Rattle.std.specs.Prelude.{◌≡◌};
 ghost use Rattle.std_alloc.specs.Box.Ownership.{box_owns};
 
 use std::alloc::Allocator;
 use std::marker::Model;
 
-/// A value in a block that this allocator allocated and may free.
+/// A value (`value`, known to proofs alone) in a block at the address `at`, which `alloc` allocated and may
+/// free.
 pub(crate) struct Unboxed<T, A: Allocator> {
     pub(crate) alloc: A,
     pub(crate) at: *mut T,
@@ -17,7 +19,7 @@ impl<T, A: Allocator> Model for Unboxed<T, A> {
 }
 
 impl<T: Drop, A: Allocator> Unboxed<T, A> {
-    /// Takes a box apart.
+    /// Takes a box apart. The value stays in its block.
     pub(crate) fn new(value: Box<T, A>) -> Unboxed<T, A>
         ensures { result.value ≡ value.value }
     {
@@ -25,7 +27,7 @@ impl<T: Drop, A: Allocator> Unboxed<T, A> {
         Unboxed { alloc, at }
     }
 
-    /// Puts the box together again.
+    /// Puts the box together again, over the same block.
     pub(crate) fn boxed(self) -> Box<T, A>
         ensures { result.value ≡ self.value }
     {

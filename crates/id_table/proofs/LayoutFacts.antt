@@ -1,4 +1,4 @@
--- How changes to the list of numbers change the ids that it represents.
+-- For the calls of `IdTable`: how a change of the list of numbers changes the map of ids that it represents.
 use Rattle.std.proofs.Common.{◌≡◌, ◌∙◌, ℕ, zero, suc, ◌+◌, ◌-◌, ◌<◌, ◌≤◌, Bool, true, false, List, length, get_or, set}
 use Rattle.std.proofs.Common.{Option, Some, None, refl, ap, sym, arith, inl, inr}
 use Rattle.std.specs.Prelude.{◌↔◌, IsTrue, cond, IsSome, is_some, nat_eq, not}

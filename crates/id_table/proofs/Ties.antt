@@ -1,4 +1,4 @@
--- Ids stay tied to the objects when one is made, freed or changed.
+-- For proofs about sessions: ids stay tied to the objects (`AreTiedTo`) when an object is made, freed or changed.
 use Rattle.std.proofs.Common.{◌≡◌, ℕ, Some, None, sym, ◌∙◌, ap, inl, inr}
 use Rattle.std.specs.Prelude.{Option}
 use Rattle.std.proofs.lemmas.Bool.{cases_eq}

@@ -3,7 +3,7 @@ use Rattle.std.specs.Prelude.{◌≡◌, ℕ, ◌^◌, List, Option, length}
 use Rattle.std.specs.FinMap.{len}
 use Rattle.cf_lemmas.specs.Maps.{numbered}
 
--- there is an entry for each id, and `live` counts the ids that have a handle
+-- the invariant of an id table: `numbers` has an entry for each id, and `live` counts the entries that have a handle
 pub record IsValid (numbers : List (Option ℕ)) (live : ℕ) : Type 0 where
   pub long : length numbers ≡ 2 ^ 16
   pub counted : live ≡ len (numbered 0 numbers)

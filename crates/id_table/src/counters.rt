@@ -1,10 +1,10 @@
-//! The counters of a session.
+//! What a session counts over its calls: the last step bound, and the objects that moved.
 ghost use Rattle.std.specs.Prelude.{◌≡◌};
 ghost use Rattle.id_table.specs.Counters.{no_counts, with_move};
 
 use cf_base::Handle;
 
-/// What a session counts over its calls.
+/// What a session counts over its calls; the reply to `steps` shows it.
 #[derive(Clone, Copy, Debug, PartialEq, Eq)]
 pub struct Counters {
     /// The step bound of the last malloc, free or resize; 0 before the first one.
@@ -16,7 +16,7 @@ pub struct Counters {
 }
 
 impl Counters {
-    /// The counters of a new session.
+    /// The counters of a new session: all are 0.
     pub fn new() -> Counters
         ensures { result ≡ no_counts }
     {
@@ -27,8 +27,8 @@ impl Counters {
         }
     }
 
-    /// Counts the object that moved, if one did, from a slot of `slot_words` words. Both counts
-    /// saturate at `2^64 - 1`.
+    /// Counts the object that moved, if one did, and the words of the slot that it moved from,
+    /// `slot_words`. Both counts saturate at `2^64 - 1`.
     pub fn count_move(&mut self, moved: Option<Handle>, slot_words: u32)
         ensures { self.new ≡ with_move self.old moved slot_words }
     {

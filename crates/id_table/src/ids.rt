@@ -1,4 +1,4 @@
-//! The table from ids to handles.
+//! The table from the ids of a script to the handles of their objects.
 ghost use Rattle.std.specs.Prelude.{◌≡◌, ◌↔◌, IfOk, IsTrue, option_map};
 ghost use Rattle.std.specs.FinMap as map;
 ghost use Rattle.cf_base.specs.declared.answers.Handle.{Handle as AHandle};
@@ -9,11 +9,12 @@ use cf_base::{Handle, OutOfMemory};
 use std::alloc::{AllocError, Global};
 use std::marker::Model;
 
-/// The number of ids.
+/// How many ids there are: the numbers of 16 bits.
 const IDS: usize = 65_536;
 
-/// The live ids, each with the handle of its object: a finite map from the ids 0 to 65,535 to
-/// numbers of handles. Each call but `new` takes constant time.
+/// The live ids, each with the handle of its object: a finite map from the ids 0 to 65,535 to the
+/// numbers of handles. `numbers` has an entry for each id, `live` counts those with a handle. Each
+/// call but `new` takes constant time.
 #[derive(Drop)]
 pub struct IdTable {
     numbers: Vec<Option<u32>>,
@@ -35,7 +36,7 @@ impl Model for IdTable {
 }
 
 impl IdTable {
-    /// A table without live ids. Only this call allocates.
+    /// A table without live ids. Only this call allocates; it fails only if memory runs out.
     pub fn new(alloc: Global) -> Result<IdTable, OutOfMemory>
         ensures { IfOk result (λ ids. ids ≡ map.empty) }
     {
@@ -60,7 +61,7 @@ impl IdTable {
         self.live == 0
     }
 
-    /// The handle of an id; none if the id isn't live.
+    /// The handle of the object with this id; none if the id isn't live.
     pub fn handle(&self, id: u16) -> Option<Handle>
         ensures found { option_map (λ (h : AHandle). h.0) result ≡ map.get self.now id }
         ensures kept { AreWithin self.now }
@@ -71,7 +72,7 @@ impl IdTable {
         }
     }
 
-    /// Binds an id to a handle, in place of its old one, if it had one.
+    /// Makes `h` the handle of an id, in place of its old one, if it had one. The id is live then.
     pub fn bind(&mut self, id: u16, h: Handle)
         ensures { self.new ≡ map.insert self.old id h.0 }
     {
@@ -80,7 +81,7 @@ impl IdTable {
         self.numbers[id as usize] = Some(h.0);
     }
 
-    /// Removes an id's handle, if it has one.
+    /// Removes the handle of an id, if it has one. The id isn't live then.
     pub fn unbind(&mut self, id: u16)
         ensures { self.new ≡ map.remove self.old id }
     {
@@ -90,7 +91,7 @@ impl IdTable {
     }
 }
 
-/// n ids without a handle.
+/// n entries without a handle. Fails only if memory runs out.
 fn vacancies(alloc: Global, n: usize) -> Result<Vec<Option<u32>>, AllocError>
     ensures { IfOk result (λ numbers. numbers.items ≡ vacant n) }
 {

@@ -1,4 +1,5 @@
-//! The ids of a session, and what it counts over its calls.
+//! For a session of a script: the table from its ids to the handles of their objects, and what it
+//! counts over its calls.
 #![tactic(auto)]
 
 mod counters;

@@ -1,4 +1,4 @@
--- Mode `save` on the script that mode `load` printed writes the same image, and its manager holds the same objects.
+-- For `what_was_loaded_is_saved_again`: mode `save` on the script that mode `load` printed writes the same image, and its manager holds the same objects.
 use Rattle.std.proofs.Common.{◌≡◌, ◌∙◌, ℕ, List, [], Some, ap, sym}
 use Rattle.std.specs.Prelude.{◌↔◌}
 use Rattle.std.specs.FinMap.{get}

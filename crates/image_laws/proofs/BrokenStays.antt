@@ -1,4 +1,4 @@
--- Bytes that break a rule of images still do so if more bytes follow.
+-- For `a_broken_rule_stays_broken`: bytes that break a rule of images still do so if more bytes follow.
 use Rattle.std.proofs.Common.{◌≡◌, ◌∙◌, ◌++◌, ◌≤◌, ◌<◌, ℕ, zero, suc, Bool, true, false, List, [], ◌∷◌, Some, None, length, take, drop}
 use Rattle.std.proofs.Common.{refl, ap, sym, arith, inl, inr, length-append}
 use Rattle.std.specs.Prelude.{if◌then◌else◌, nat_le, nat_lt}

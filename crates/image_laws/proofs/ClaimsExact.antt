@@ -1,4 +1,4 @@
--- From the script of some objects mode `save` prints exactly their image, and from the image mode `load` prints exactly the script.
+-- For `wrong_images_fall_short`: from the script of some objects mode `save` prints exactly their image, and from the image mode `load` exactly the script.
 use Rattle.std.proofs.Common.{◌≡◌, ◌≢◌, ◌∙◌, ◌+◌, ◌*◌, ℕ, List, [], Option, Some, None, true, length, arith, refl, ap, sym}
 use Rattle.std.specs.Prelude.{option_map}
 use Rattle.std.specs.FinMap.{get, insert, len}

@@ -1,4 +1,4 @@
--- Modes `save` and `load` print what is claimed.
+-- For `cf_main`: modes `save` and `load` print what `SavesAs` and `LoadsAs` claim.
 use Rattle.std.proofs.Common.{◌≡◌, ◌≢◌, ◌∙◌, ◌++◌, ℕ, false, List, [], Option, Some, None, append-nil, refl, ap, sym, subst}
 use Rattle.std.specs.Prelude.{Err, Ok, if◌then◌else◌}
 use Rattle.cf_base.specs.Settings.{profile_of}

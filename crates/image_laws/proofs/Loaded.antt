@@ -1,4 +1,4 @@
--- After a run over the script of some objects, the heap holds these objects.
+-- For the laws on `save` and `load`: after a run over the script of some objects the heap holds these objects; after a load it holds those of the image.
 use Rattle.std.proofs.Common.{◌≡◌, ◌≢◌, ◌∙◌, append-nil, ◌++◌, ◌≤◌, ℕ, zero, suc, true, List, [], ◌∷◌, Option, Some, None, length, map, refl, ap, sym, subst}
 use Rattle.std.specs.Prelude.{⊤, Err, Ok, codes, option_map, if◌then◌else◌}
 use Rattle.std.specs.FinMap.{entries}

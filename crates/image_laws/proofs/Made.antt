@@ -1,4 +1,4 @@
--- The commands of the script of objects leave these objects.
+-- For `printed_scripts_are_read_back`, clauses `makes` and `replies`: the commands of the script of objects leave these objects, each with the reply `ok`.
 use Rattle.std.proofs.Common.{◌≡◌, ◌∙◌, ◌++◌, ◌+◌, ◌-◌, ◌*◌, ◌≤◌, ◌<◌, ℕ, zero, suc, true, false, List, [], ◌∷◌, Option, Some, None}
 use Rattle.std.proofs.Common.{length, take, drop, map, refl, ap, sym, subst, arith, append_assoc, append-nil, inl, inr}
 use Rattle.std.proofs.Common.{length-append, length-drop}

@@ -1,4 +1,4 @@
--- Entries that the definition accepts are the entries of the objects that they decode to.
+-- For `only_images_are_read`: entries of an image that the definition accepts are, byte for byte, those of the objects that they decode to.
 use Rattle.std.proofs.Common.{◌≡◌, ◌∙◌, ◌++◌, ◌+◌, ◌-◌, ◌≤◌, ◌<◌, ◌^◌, ℕ, zero, suc, Bool, true, false, List, [], ◌∷◌}
 use Rattle.std.proofs.Common.{Some, None, length, get_or, take, drop, refl, ap, sym, subst, arith}
 use Rattle.std.proofs.Common.{append-nil, append_assoc, inl, inr, lit<}

@@ -1,4 +1,4 @@
--- Bytes that the definition accepts are the image of what they decode to.
+-- For `only_images_are_read`: bytes that the definition accepts are the image of the settings and objects that they decode to.
 use Rattle.std.proofs.Common.{◌≡◌, ◌∙◌, ◌++◌, ◌*◌, ◌/◌, ◌%◌, ◌≤◌, ◌^◌, ℕ, true, List, Some, None, length, take, drop, refl, ap, sym}
 use Rattle.std.proofs.Common.{subst, arith, append_assoc}
 use Rattle.std.specs.Prelude.{◌==◌, ◌↔◌, nat_le, nat_lt}

@@ -1,4 +1,4 @@
--- The script of objects is read back as its items.
+-- For `printed_scripts_are_read_back`, clause `read`: the script of objects is read back as its items.
 use Rattle.std.proofs.Common.{◌≡◌, ◌∙◌, ◌++◌, ◌+◌, ◌*◌, ◌/◌, ◌%◌, ◌≤◌, ◌<◌, ℕ, zero, suc, true, List, [], ◌∷◌, Option, Some, None}
 use Rattle.std.proofs.Common.{length, take, drop, map, refl, ap, sym, subst, arith}
 use Rattle.std.proofs.Common.{length-drop}

@@ -1,4 +1,4 @@
--- What mode `save` prints is an image, and mode `load` never refuses it.
+-- For `what_was_saved_is_loaded_again`: what mode `save` prints is an image, mode `load` never refuses it, and then both heaps answer alike.
 use Rattle.std.proofs.Common.{◌≡◌, ◌≢◌, ◌∙◌, ℕ, List, [], Option, Some, refl, ap, sym, subst}
 use Rattle.std.specs.Prelude.{IsTrue, if◌then◌else◌}
 use Rattle.cf_base.specs.Settings.{Profile, at_bound_one}

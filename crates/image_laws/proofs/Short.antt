@@ -1,4 +1,4 @@
--- The script of objects is within the limit of a script.
+-- For `printed_scripts_are_read_back`, clause `clean`: the script of objects is within the limit of a script.
 use Rattle.std.proofs.Common.{◌≡◌, ◌++◌, ◌+◌, ◌*◌, ◌≤◌, ℕ, zero, suc, List, [], ◌∷◌, Option, Some, None, length, take, drop, refl, ap, arith}
 use Rattle.std.proofs.Common.{length-append, take-append-drop}
 use Rattle.std.specs.Prelude.{codes}

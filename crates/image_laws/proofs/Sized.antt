@@ -1,4 +1,4 @@
--- How long an image is; and that the script of objects has no bad line.
+-- For `the_size_of_an_image_is_known_beforehand`: how long an image is. For clause `clean`: the script of objects has no bad line.
 use Rattle.std.proofs.Common.{◌≡◌, ◌∙◌, ◌++◌, ◌+◌, ◌*◌, ◌<◌, ◌^◌, ℕ, zero, suc, false, List, [], ◌∷◌, Option, Some, None, length, map, refl, ap, arith}
 use Rattle.std.proofs.Common.{length-append}
 use Rattle.std.specs.Int.{w16, w32}

@@ -42,12 +42,13 @@ pub record IsRefusedLoad (read printed : List ℕ) : Type 0 where
   pub broken : (decoded read).broken ≡ Some at
   pub text : printed ≡ bad_image at
 
--- what mode `save` prints, by the status: nothing unless the script was run to its end
+-- What mode `save` prints after it read the bytes `read`, by the status: nothing unless it is `Done`. The claims don't use this for `WriteFault`.
 abbrev pub SavesAs : Status → List ℕ → List ℕ → Type 0
 SavesAs Done read printed = MeetsSave (items_within read) printed
 SavesAs status read printed = printed ≡ []
 
--- what mode `load` prints, by the status
+-- What mode `load` prints after it read the bytes `read`, by the status: a script, the offset of a broken rule, or nothing. The claims don't use this for
+-- `WriteFault`.
 abbrev pub LoadsAs : Status → List ℕ → List ℕ → Type 0
 LoadsAs Done read printed = MeetsLoad read printed
 LoadsAs BadImage read printed = IsRefusedLoad read printed

@@ -1,6 +1,7 @@
-//! Laws of heap images: which bytes are an image, how many bytes an image has, that the script that mode
-//! `load` prints makes the objects of the image, and that modes `save` and `load` undo each other. The
-//! public functions do nothing: each one's contract is a law.
+//! Theorems on heap images and on modes `save` and `load`: which bytes are an image, how many bytes it has,
+//! that the script that `load` prints makes the objects of the image, and that the two modes undo each other.
+//! The public functions do nothing but call other laws for their contracts: the contract of each is a
+//! theorem.
 #![tactic(auto)]
 
 ghost use Rattle.std.specs.Prelude.{IsTrue, ◌≡◌, ◌≢◌, ◌↔◌, ◌+◌, ◌*◌, ◌<◌, ◌^◌, ◌++◌, [], ℕ, List, None, Option, Some, codes, false, length, map, true};
@@ -32,9 +33,9 @@ ghost use Rattle.transcript_laws.specs.Histories.{AreAlike, AreFurther};
 use headline_laws::equal_objects_get_equal_replies;
 use heap_image::{an_image_determines_its_objects, an_image_is_read_back};
 
-/// Only images are read: bytes that are accepted are the image of some objects under some settings,
-/// byte for byte. Bytes decode to settings and objects if and only if the bytes are the image of these.
-/// So an image that is read and written again has the same bytes.
+/// Only images are read. `images`: bytes that are accepted are the image of some objects under some settings,
+/// byte for byte. `exactly`: bytes decode to the settings `p` and the objects `o` if and only if they are the
+/// image of these. So an image that is read and written again has the same bytes.
 pub fn only_images_are_read()
     ensures images { (bytes : List ℕ) → AreBytes bytes → IsImage bytes
         → (p : Profile) × (o : Objects) × IsImageOf bytes p o }
@@ -44,8 +45,8 @@ pub fn only_images_are_read()
     an_image_is_read_back();
 }
 
-/// If bytes break a rule of images, and not only because they end too early, then all longer bytes that
-/// begin with them break it at the same offset. So if bytes break no rule, no prefix of them does.
+/// If `bytes` break a rule of images, and not only because they end too early, then all longer bytes that
+/// begin with them break it at the same offset. So no prefix of an image breaks a rule but by its early end.
 pub fn a_broken_rule_stays_broken()
     ensures { (bytes more : List ℕ) (at : ℕ) → (decoded bytes).broken ≡ Some at → (decoded bytes).is_cut ≡ false
         → decoded (bytes ++ more) ≡ decoded bytes }
@@ -57,9 +58,9 @@ pub fn the_size_of_an_image_is_known_beforehand()
         → length (image_under p o) ≡ 20 + 6 * len o + asked_bytes o }
 {}
 
-/// The script that mode `load` prints of objects is read back as the commands that make them. It has
-/// no bad line and is within the limit of a script, its commands leave just these objects, and in
-/// every run each reply is `ok`.
+/// The script that mode `load` prints for objects `o`, which have an image under the settings `p`. `read`:
+/// its items are the commands that make them. `clean`: it has no bad line and is within the limit of a
+/// script. `makes`: its commands leave just these objects. `replies`: in every run each reply is `ok`.
 pub fn printed_scripts_are_read_back()
     ensures read { (p : Profile) (o : Objects) → HaveImage p o → items (script_under p o) true ≡ script_items p o }
     ensures clean { (p : Profile) (o : Objects) → HaveImage p o → IsClean (Some (script_under p o)) }
@@ -70,8 +71,9 @@ pub fn printed_scripts_are_read_back()
         → replies ≡ map (λ i. said (codes "ok")) (script_items p o) }
 {}
 
-/// If mode `load` prints the script of an image and mode `save` runs this script, then mode `save` prints
-/// the image again, byte for byte, and both heaps have the same objects by id.
+/// If a call `one` in mode `load` reads the image `all` and prints `script`, and a call `two` in mode `save`
+/// runs this script, then `two` prints the image again, byte for byte, and both heaps have the same objects
+/// by id.
 pub fn what_was_loaded_is_saved_again()
     ensures { (from to begin end : RunState) (one two : Effects) (all script : List ℕ)
         → AreBytes all → one.had ≡ Some all → one.status ≡ Done → one.before ≡ Some [] → one.after ≡ Some script → EndsLoad from one to
@@ -82,10 +84,10 @@ pub fn what_was_loaded_is_saved_again()
     only_images_are_read();
 }
 
-/// What mode `save` prints at the end of a script with a `heap` line is an image. Mode `load` never
-/// refuses the image. When `load` is done, its heap has the same objects by id, under the same settings
-/// with the bound 1. So if all bounds of the saved heap are 1, both heaps give the same further items the
-/// same replies.
+/// `image`: what a call `one` in mode `save` prints at the end of a script with a `heap` line is an image.
+/// `taken`: a call `two` in mode `load` never refuses this image. `loads`: if `two` is done, its heap has the
+/// same objects by id, under the same settings with the bound 1. `further`: so if the settings of the saved
+/// heap have the bound 1, and all its classes too, both heaps give the same further items the same replies.
 pub fn what_was_saved_is_loaded_again()
     ensures image { (from to : RunState) (one : Effects) → one.status ≡ Done → EndsSave from one to → IsTrue to.heap.is_open
         → IsImage (saved to) }
@@ -107,10 +109,10 @@ pub fn what_was_saved_is_loaded_again()
     equal_objects_get_equal_replies();
 }
 
-/// If mode `save` reads the script of some objects, only their image meets its claim: no empty output, no
-/// output of another length, no image with an entry too many, and no image of other objects. If mode
-/// `load` reads the image, only the script of the objects meets its claim: no empty output, and no script
-/// of other objects.
+/// If mode `save` reads the script of the objects `o`, only their image meets its claim (`save`): no empty
+/// output (`nothing`), no output of another length (`size`), no image with an entry too many (`over`), and no
+/// image of other objects (`others`). If mode `load` reads the image, only the script of the objects meets
+/// its claim (`load`): no empty output (`silent`), and no script of other objects (`exchanged`).
 pub fn wrong_images_fall_short()
     ensures save { (p : Profile) (o : Objects) → HaveImage p o → (printed : List ℕ) → MeetsSave (script_items p o) printed
         → printed ≡ image_under p o }

@@ -1,4 +1,4 @@
--- The lines that the code builds field by field are the lines of commands.
+-- For `put_heap`, `put_malloc` and `put_write`: the lines that the code builds field by field are the lines of commands.
 use Rattle.std.proofs.Common.{◌≡◌, ◌∙◌, ◌++◌, List, [], ◌∷◌, ℕ, Option, ap, sym, subst, append_assoc, append-nil}
 use Rattle.std.specs.Prelude.{Result, codes, decimal}
 use Rattle.cf_base.specs.declared.answers.Failed.{Failed}

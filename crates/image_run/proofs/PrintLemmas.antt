@@ -1,4 +1,4 @@
--- The script of what is live, written object by object.
+-- For `print_script`: the script of the live objects, written line by line and object by object, or cut.
 use Rattle.std.proofs.Common.{◌≡◌, ◌∙◌, ◌++◌, ℕ, List, [], ◌∷◌, Option, refl, ap, sym, append_assoc}
 use Rattle.std.specs.Prelude.{Result, Err, length}
 use Rattle.std.specs.FinMap.{entries}

@@ -1,4 +1,4 @@
--- The end of a script whose session keeps its settings, by status.
+-- For `save_script`: from how the script ended (its session keeps the settings) and what was written of the image to `EndsSave`, by status.
 use Rattle.std.proofs.Common.{◌≡◌, ◌≢◌, ◌∙◌, ◌++◌, ℕ, List, [], false, true, Option, Some, None, refl, ap, sym, subst}
 use Rattle.std.specs.Prelude.{Err, option_map, if◌then◌else◌}
 use Rattle.cf_base.specs.Settings.{profile_of}

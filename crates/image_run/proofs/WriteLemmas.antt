@@ -1,4 +1,4 @@
--- The bytes of an object, written line by line.
+-- For `put_writes`: the bytes of an object, written as `w` lines one after the other, or cut.
 use Rattle.std.proofs.Common.{◌≡◌, ◌∙◌, ◌++◌, ◌+◌, ◌-◌, ◌<◌, ◌≤◌, ℕ, zero, suc, List, [], ◌∷◌, Option, length, take, drop, refl, ap, sym, arith}
 use Rattle.std.proofs.Common.{append_assoc, append-nil, inl, inr}
 use Rattle.std.proofs.Common.{length-drop}

@@ -1,4 +1,4 @@
--- An image is loaded, and the script that makes its objects is written.
+-- The contract of `load_script`: an image is loaded, and the script that makes its objects is written. `from` is the state of the run before, `to` after it.
 use Rattle.std.specs.Prelude.{◌≡◌, ℕ, List, [], Option, Result, Ok, Err, codes}
 use Rattle.cf_base.specs.declared.settings.Settings.{Settings}
 use Rattle.cf_base.specs.declared.status.Status.{Status}
@@ -18,18 +18,19 @@ use Rattle.script_loop.specs.ScriptOutcome.{Effects}
 abbrev pub bad_image : ℕ → List ℕ
 bad_image at = led [] (said (with_number (codes "bad image ") at))
 
--- the sink failed: a prefix of the script was written, or of the line `bad image`
+-- the sink failed: a prefix was written of the script, if the image was loaded, or of the line `bad image`, if it was refused; no other result of the load is
+-- possible
 abbrev pub IsCutOff : Result Settings LoadFault → Option (List ℕ) → RunState → Option (List ℕ) → Type 0
 IsCutOff (Ok settings) before to after = WritesPrefix before (heap_script to) after
 IsCutOff (Err (fault.Bad at)) before to after = WritesPrefix before (bad_image at) after
 IsCutOff (Err fault.Read) before to after = ⊥
 IsCutOff (Err fault.OutOfMemory) before to after = ⊥
 
--- a load from the source of a call, with its result
+-- the load from the source of the call had this result
 abbrev pub LoadsIn : RunState → Effects → Result Settings LoadFault → RunState → Type 0
 LoadsIn from call result to = LoadsBy from (feed_at call.had call.given_before) result (feed_at call.left call.given_after) to
 
--- by the status: how the image was loaded, and what was written
+-- for each status, how the load ended, and what was written
 abbrev pub EndsLoadBy : Status → RunState → Effects → RunState → Type 0
 EndsLoadBy Done from call to = (settings : Settings) × LoadsIn from call (Ok settings) to × (call.after ≡ appended call.before (heap_script to))
 EndsLoadBy BadImage from call to = (at : ℕ) × LoadsIn from call (Err (fault.Bad at)) to × (call.after ≡ appended call.before (bad_image at))
@@ -38,6 +39,6 @@ EndsLoadBy OutOfMemory from call to = LoadsIn from call (Err fault.OutOfMemory) 
 EndsLoadBy WriteFault from call to = (result : Result Settings LoadFault) × LoadsIn from call result to × IsCutOff result call.before to call.after
 EndsLoadBy status from call to = ⊥
 
--- how a call that loads an image may end
+-- what the call `call` did, by its status
 abbrev pub EndsLoad : RunState → Effects → RunState → Type 0
 EndsLoad from call to = EndsLoadBy call.status from call to

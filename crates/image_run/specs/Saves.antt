@@ -1,4 +1,4 @@
--- A script is run, and the objects that are live at its end are written as an image.
+-- The contract of `save_script`: a script is run, and the objects that are live at its end are written as an image.
 use Rattle.std.specs.Prelude.{◌≡◌, ◌++◌, ℕ, List, [], Option, None, IsTrue, if◌then◌else◌}
 use Rattle.cf_base.specs.Settings.{at_bound_one}
 use Rattle.cf_base.specs.declared.kind.Kind.TheVariants.{Moving}
@@ -10,20 +10,20 @@ use Rattle.run_model.specs.Sessions.{IsGoing, RunState}
 use Rattle.script_loop.specs.OneManager.{one_manager}
 use Rattle.script_loop.specs.ScriptOutcome.{Effects, MeetsOutcome}
 
--- the bytes that a run is saved as: the image of its objects, or no bytes if no `heap` line opened the manager
+-- the bytes that mode `save` writes for a run that ends in state `s`: the image of its objects, or no bytes if no `heap` line opened the manager
 abbrev pub saved : RunState → List ℕ
 saved s = if s.heap.is_open then heap_image s else []
 
--- the status of the script: the sink can fail only after the script's end, when the image is written
+-- the status with which the script itself ended, from that of the call: the sink can fail only after the script's end, when the image is written
 abbrev pub script_status : Status → Status
 script_status WriteFault = Done
 script_status status = status
 
--- the effects of the script alone: its replies are dropped, as by a sink that isn't observable
+-- the effects of the script alone, from those of the call: its replies are dropped, so its sink isn't observable
 abbrev pub unseen : Effects → Effects
 unseen call = record call { before = None; after = None; status = script_status call.status }
 
--- only a prefix of the bytes was written
+-- only `front`, a prefix of `bytes`, was written; `before` and `after` are the bytes of the sink, if it is observable
 abbrev pub WritesPrefix : Option (List ℕ) → List ℕ → Option (List ℕ) → Type 0
 WritesPrefix before bytes after = (front : List ℕ) × (lost : List ℕ) × (bytes ≡ front ++ lost) × (after ≡ appended before front)
 
@@ -39,7 +39,7 @@ pub record CanBeSaved (s : RunState) : Type 0 where
   pub kind : s.heap.kind ≡ Moving
   pub have : HaveImage (at_bound_one s.heap.profile) (objects_of s)
 
--- how a call that saves the objects of a script may end
+-- what the call did: the script led the run from `from` to `to`; the image of `to`, or a prefix of it, was written; and if a heap was opened, it has an image
 pub record EndsSave (from : RunState) (call : Effects) (to : RunState) : Type 0 where
   pub script : MeetsOutcome one_manager from (unseen call) to
   pub written : WritesAtEnd call.status call.before (saved to) call.after

@@ -1,4 +1,4 @@
--- The script that makes the live objects of a heap.
+-- The script that makes the live objects of a heap, which mode `load` prints, as commands and as bytes.
 use Rattle.std.specs.Prelude.{ℕ, zero, suc, ◌+◌, ◌*◌, ◌++◌, List, [], ◌∷◌, length, take, drop}
 use Rattle.std.specs.FinMap.{entries}
 use Rattle.std.specs.Int.{div_ceil}
@@ -10,12 +10,12 @@ use Rattle.run_model.specs.Sessions.{RunState}
 use Rattle.script_reader.specs.declared.command.Command.{Command}
 use Rattle.script_reader.specs.declared.command.Command.TheVariants.{Malloc, Write}
 
--- n writes from an offset on: 4,096 bytes each, the last one shorter
+-- write commands for `bytes`, from byte `at` of the object of `id` on: as many as the first argument, of 4,096 bytes each, the last one shorter
 unfoldable pub writes_from : ℕ → ℕ → ℕ → List ℕ → List Command
 writes_from zero id at bytes = []
 writes_from (suc more) id at bytes = Write id at (take 4096 bytes) ∷ writes_from more id (at + 4096) (drop 4096 bytes)
 
--- the writes that the bytes need; no bytes need none
+-- the write commands that fill the object of `id` with `bytes`; none if there are no bytes
 abbrev pub writes_of : ℕ → List ℕ → List Command
 writes_of id bytes = writes_from (div_ceil (length bytes) 4096) id 0 bytes
 
@@ -27,19 +27,19 @@ object_commands id bytes = Malloc id (length bytes) ∷ writes_of id bytes
 abbrev pub object_lines : ℕ → List ℕ → List ℕ
 object_lines id bytes = lines_of (object_commands id bytes)
 
--- the commands that make the objects of these ids
+-- the commands that make these objects, each an id with its bytes, in turn
 abbrev pub commands_of : List (ℕ × List ℕ) → List Command
 commands_of [] = []
 commands_of (e ∷ es) = object_commands e.0 e.1 ++ commands_of es
 
--- the `heap` line of these settings, with the bound 1
+-- the `heap` line of the settings `p`, with the bound 1
 abbrev pub opening_line : Profile → List ℕ
 opening_line p = heap_line p.pages (8 * p.page_words) 1 p.proxies
 
--- the script of these objects by id, in rising order of the ids, on a heap with these settings
+-- the script that makes these objects by id, in rising order of the ids, on a heap with the settings `p`
 abbrev pub script_under : Profile → Objects → List ℕ
 script_under p objects = opening_line p ++ lines_of (commands_of (entries objects))
 
--- the script that makes the live objects of a run
+-- the script that makes the live objects of a run in state `s`
 abbrev pub heap_script : RunState → List ℕ
 heap_script s = script_under s.heap.profile (objects_of s)

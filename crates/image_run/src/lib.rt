@@ -1,5 +1,5 @@
-//! From a script to an image of the objects that it leaves, and from an image to the script that makes its
-//! objects.
+//! What modes `save` and `load` do on a moving manager: `save_script` runs a script and writes an image of
+//! the objects that it leaves; `load_script` loads an image and writes the script that makes its objects.
 #![tactic(auto)]
 
 mod load;

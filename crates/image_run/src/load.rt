@@ -1,4 +1,4 @@
-//! From an image to a script.
+//! Mode `load`: from an image to the script that makes its objects.
 ghost use Rattle.std.specs.Prelude.{◌≡◌, ◌≤◌, OnErr, OnOk, ◌≢◌};
 ghost use Rattle.std.specs.FinMap as map;
 ghost use Rattle.cf_base.specs.declared.kind.Kind.TheVariants.{Moving};
@@ -55,7 +55,8 @@ pub fn load_script<H: Manager, S: Source, K: Sink>(
     }
 }
 
-/// Prints the offset at which the bytes are no image. `Failed` if the sink failed; a prefix was written.
+/// Writes the line `bad image` with `at`, the offset in bytes of the first field that breaks a rule. `Failed`
+/// if the sink failed; then a prefix of the line was written.
 fn put_bad_image<K: Sink>(at: u64, sink: &mut K) -> Result<(), Failed>
     ensures puts { Puts (K.written sink.old) (bad_image at) result (K.written sink.new) }
     ensures grows { K.faults sink.old ≤ K.faults sink.new }

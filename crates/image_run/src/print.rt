@@ -1,4 +1,4 @@
-//! Writes the script that makes the live objects of a heap.
+//! `print_script`, for mode `load`: writes the script that makes the live objects of a heap.
 ghost use Rattle.std.specs.Prelude.{◌≡◌, ◌≤◌, IsTrue, OnErr, Some, length, OnOk};
 ghost use Rattle.std.specs.FinMap as map;
 ghost use Rattle.cf_base.specs.declared.kind.Kind.TheVariants.{Moving};
@@ -22,7 +22,8 @@ use step_ledger::Meter;
 /// The most bytes of one write.
 const CHUNK: u64 = 4_096;
 
-/// Writes an object as the lines of the script that make it.
+/// The writer with which `put_objects` writes each object as the lines of a script that make it: an `m` line
+/// and its `w` lines.
 struct Lines;
 
 impl ObjectWriter for Lines {
@@ -74,7 +75,7 @@ pub fn print_script<H: Manager, K: Sink>(
     put_objects(&Lines, heap, session, &mut line, out, meter)
 }
 
-/// Writes the `heap` line of the settings, with the bound 1.
+/// Writes the `heap` line of the settings `s`, with the bound 1 in place of theirs.
 fn put_heap<K: Sink>(s: &Settings, line: &mut Line, out: &mut K) -> Result<(), Failed>
     ensures puts { Puts (K.written out.old) (opening_line (profile_of s.now)) result (K.written out.new) }
     ensures grows { K.faults out.old ≤ K.faults out.new }
@@ -89,7 +90,7 @@ fn put_heap<K: Sink>(s: &Settings, line: &mut Line, out: &mut K) -> Result<(), F
     put_line(line, out)
 }
 
-/// Writes the line that makes an object of `n` bytes.
+/// Writes the `m` line that makes an object of `n` bytes for `id`.
 fn put_malloc<K: Sink>(id: u16, n: u32, line: &mut Line, out: &mut K) -> Result<(), Failed>
     ensures puts { Puts (K.written out.old) (line_of (Malloc id n)) result (K.written out.new) }
     ensures grows { K.faults out.old ≤ K.faults out.new }
@@ -102,7 +103,8 @@ fn put_malloc<K: Sink>(id: u16, n: u32, line: &mut Line, out: &mut K) -> Result<
     put_line(line, out)
 }
 
-/// Writes `w` lines for the `n` bytes of an object, at most 4,096 bytes each.
+/// Writes `w` lines for the `n` bytes of object `h`, which `id` names, at most 4,096 bytes each. `buffer` is
+/// scratch, for the bytes of one line.
 fn put_writes<H: Manager, K: Sink>(
     heap: &H,
     id: u16,
@@ -140,7 +142,7 @@ fn put_writes<H: Manager, K: Sink>(
     Ok(())
 }
 
-/// Writes the `w` line of these bytes at an offset.
+/// Writes the `w` line that writes `bytes` into the object of `id` from byte `at` on.
 fn put_write<K: Sink>(
     id: u16,
     at: u32,

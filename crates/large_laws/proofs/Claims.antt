@@ -1,4 +1,4 @@
--- The replies of a run are as claimed.
+-- For `the_large_headline`: the replies of a run meet the claim, from the steps of `Steps` one by one.
 use Rattle.std.proofs.Common.{◌≡◌, List, [], ◌∷◌, Option, Some, None, sym, ◌∙◌, ap, subst}
 use Rattle.std.specs.Prelude.{⊤, option_map}
 use Rattle.cf_base.specs.Settings.{Profile, at_bound_one}

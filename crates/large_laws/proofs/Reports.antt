@@ -1,4 +1,4 @@
--- What a run shows: its objects by id have the parts that the inner manager holds, so refusals and reports are as claimed.
+-- For `m`, `walk` and `frag`: the inner manager holds exactly the spines, parts and short objects of the objects by id, so refusals and reports are as claimed.
 use Rattle.std.proofs.Common.{◌≡◌, ℕ, zero, suc, false, cond, ◌+◌, ◌-◌, ◌*◌, ◌<◌, ◌≤◌, Bool, List, [], ◌∷◌, ◌++◌, Option, Some, None, length, get_or, map, replicate, arith, sym, ◌∙◌}
 use Rattle.std.proofs.Common.{ap, refl, inl, inr}
 use Rattle.std.specs.Prelude.{◌&&◌, filter, nat_eq, nat_lt, not, sum_by}

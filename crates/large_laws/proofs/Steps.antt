@@ -1,4 +1,4 @@
--- What each command of a session prints and leaves, by the heap that is shown.
+-- For `the_large_headline`: each command's reply and the heap after it are those of `large_reply` and `large_after`.
 use Rattle.std.proofs.Common.{◌≡◌, ℕ, cond, ◌+◌, ◌<◌, ◌≤◌, List, Option, Some, None, length, replicate, arith, sym, ◌∙◌, ap, refl}
 use Rattle.std.specs.Prelude.{Result, Ok, Err, codes}
 use Rattle.std.specs.Option.{MatchOption}

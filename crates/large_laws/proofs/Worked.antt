@@ -1,4 +1,4 @@
--- The right replies to the small script meet the claim, and wrong ones don't.
+-- For `wrong_large_replies_fall_short`: the right replies to the small script meet the claim, and wrong ones don't.
 use Rattle.std.proofs.Common.{◌≡◌, ℕ, true, List, [], ◌∷◌, Some, None, length, replicate, get_or, sym, ◌∙◌, ap, refl}
 use Rattle.std.specs.Prelude.{codes}
 use Rattle.std.specs.Fmt.{digits}

@@ -1,4 +1,5 @@
--- What is claimed of every script in mode large: each reply is a function of the lines before it.
+-- What is claimed of every script in mode `large`: each reply is a function of the lines before it. `t` is the heap before a command: its settings, with the
+-- bound 1 in each class, and its objects by id, long ones whole.
 --
 -- An object that fits a page is one inner object, a longer one is a spine and its parts (`inner_lengths`). Refusals and reports count inner objects.
 use Rattle.std.specs.Prelude.{◌≡◌, ℕ, ◌+◌, ◌-◌, ◌*◌, ◌&&◌, List, [], ◌∷◌, ◌++◌, Option, Some, None, Err, codes, filter, if◌then◌else◌, length, map, nat_eq, nat_lt, not}
@@ -30,15 +31,15 @@ use Rattle.transcript_laws.specs.Replies.{free_said, objects_after, ok_or, put_u
 abbrev pub most : ById → ℕ
 most t = whole_part_bytes t.profile
 
--- Why a malloc of n bytes is refused; None if it isn't. The causes in turn: its spine exceeds a page; the inner objects with the new ones exceed the proxies;
--- they need more pages than there are.
+-- Why a malloc of `n` bytes is refused; None if it isn't. The first cause that holds: its spine would be longer than a page (`Size`); the inner objects with
+-- the new ones would be more than the proxies (`Proxy`); they would need more pages than there are (`Space`).
 abbrev pub large_refusal : ById → ℕ → Option Refusal
 large_refusal t n =
     if nat_lt (most t) n && nat_lt (most t) (spine_bytes (most t) n) then Some refusal.Size
     else (if nat_lt t.profile.proxies (inner_count (most t) t.objects + length (inner_lengths (most t) n)) then Some refusal.Proxy
     else (if nat_lt t.profile.pages (inner_pages_with (paging_by_id t) (most t) t.objects n) then Some refusal.Space else None))
 
--- the reply to `m`, by the bytes of the id (None if it isn't live)
+-- the reply to `m` for `n` bytes, from the bytes that the id names (None if it isn't live)
 abbrev pub malloc_line : Option (List ℕ) → ById → ℕ → List ℕ
 malloc_line (Some v) t n = codes "live"
 malloc_line None t n = ok_or (λ e. malloc_text (Err e)) (large_refusal t n)
@@ -89,7 +90,7 @@ large_reply t Walk = large_walk t
 large_reply t Frag = said (frag_line (large_totals t))
 large_reply t command = said (codes "none")
 
--- the objects after `m`: the id names n zero bytes; unchanged if the id was live or the malloc is refused
+-- the objects after `m` for `n` bytes, from the bytes that the id names: the id names `n` zeros; unchanged if the id was live or the malloc is refused
 abbrev pub malloc_leaves : Option (List ℕ) → ById → ℕ → ℕ → Objects
 malloc_leaves (Some v) t id n = t.objects
 malloc_leaves None t id n = put_unless (large_refusal t n) t.objects id (replicate n 0)
@@ -105,25 +106,25 @@ large_leaves t command = t.objects
 abbrev pub large_after : ById → Command → ById
 large_after t command = record t { objects = large_leaves t command }
 
--- the reply to an item; a command before the `heap` line has none
+-- the reply to an item; a command before the `heap` line has a reply without lines
 abbrev pub reply_in : Option ById → Item → Reply
 reply_in t (starts p) = said (codes "ok")
 reply_in None (asks command) = []
 reply_in (Some t) (asks command) = large_reply t command
 reply_in t (bad n) = said (bad_line n)
 
--- the heap after an item; a `heap` line opens it with the bound 1 in each class, whatever bound the line has
+-- the heap after an item; a `heap` line with the settings `p` opens it with the bound 1 in each class, whatever bound the line has
 abbrev pub after_in : Kind → Option ById → Item → Option ById
 after_in kind t (starts p) = Some (begun kind (at_bound_one p))
 after_in kind None (asks command) = None
 after_in kind (Some t) (asks command) = Some (large_after t command)
 after_in kind t (bad n) = t
 
--- the replies to the items from a state on, one each
+-- the replies to the items, one each, from the heap `t` on; None is before the `heap` line
 abbrev pub large_replies : Kind → Option ById → List Item → List Reply
 large_replies kind t [] = []
 large_replies kind t (item ∷ rest) = reply_in t item ∷ large_replies kind (after_in kind t item) rest
 
--- the claim: over a manager of the kind, the replies to a script are those of `large_replies`
+-- the claim of mode `large`: over an inner manager of the kind, the replies to a script are those of `large_replies`
 abbrev pub MeetsLarge : Kind → List Item → List Reply → Type 0
 MeetsLarge kind items replies = replies ≡ large_replies kind None items

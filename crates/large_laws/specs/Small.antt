@@ -1,12 +1,12 @@
--- A small script in mode large, and the replies to it.
+-- A small script in mode `large` on which right and wrong replies are tried, and replies to its eight lines.
 use Rattle.std.specs.Prelude.{ℕ, true, List, [], ◌∷◌, codes}
 use Rattle.cf_base.specs.declared.kind.Kind.TheVariants.{Moving}
 use Rattle.run_model.specs.Texts.{Reply, said}
 use Rattle.script_reader.specs.Items.{items}
 use Rattle.large_laws.specs.LargeHeadline.{MeetsLarge}
 
--- these replies meet the claim for a script on eight pages of 512 bytes: an object of 600 bytes has a spine of 8 bytes and parts of 504 and 96 bytes; an
--- object of 4000 bytes needs eight pages more
+-- `replies` meet the claim for this script, on eight pages of 512 bytes. An object of 600 bytes has a spine of 8 bytes and parts of 504 and 96 bytes; `m 3
+-- 4000` needs more pages than are free.
 abbrev pub MeetsSmall : List Reply → Type 0
 MeetsSmall replies =
     MeetsLarge Moving (items (codes "heap 8 512 1 16\nm 1 600\nw 1 503 aabb\nm 2 90\nr 1 503 2\nwalk\nfrag\nm 3 4000\n") true) replies
@@ -17,13 +17,13 @@ abbrev pub small_replies : (first read : List ℕ) (walk : Reply) (frag last : L
 small_replies first read walk frag last =
     said (codes "ok") ∷ said first ∷ said (codes "ok") ∷ said (codes "ok") ∷ said read ∷ walk ∷ said frag ∷ said last ∷ []
 
--- the report of `walk` on four inner objects: the spine and the two parts of the long object, and the short object
+-- the right reply to `walk`, with four inner objects: the spine and the two parts of the long object, and the short object
 abbrev pub small_walk : Reply
 small_walk =
     codes "class 4 slots 16 live 1 pages 1 notfull 1" ∷ codes "class 13 slots 4 live 2 pages 1 notfull 1" ∷ codes "class 64 slots 1 live 1 pages 1 notfull 0"
     ∷ codes "total live 4 pages 3 free 5" ∷ []
 
--- a report that counts the long object as one of the largest class
+-- a wrong reply to `walk`, which counts the long object as one object of the largest class
 abbrev pub walk_of_wholes : Reply
 walk_of_wholes =
     codes "class 13 slots 4 live 1 pages 1 notfull 1" ∷ codes "class 64 slots 1 live 1 pages 1 notfull 0" ∷ codes "total live 2 pages 2 free 6" ∷ []

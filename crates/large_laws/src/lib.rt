@@ -1,5 +1,5 @@
-//! What is claimed of every script in mode large, by its lines and their replies alone. The public
-//! functions do nothing: each one's contract is a law.
+//! What is claimed of every script in mode `large`, by its lines and their replies alone (`MeetsLarge`). The
+//! public functions do nothing: the contract of each is a theorem.
 #![tactic(auto)]
 
 ghost use Rattle.std.specs.Prelude.{◌≡◌, ℕ, codes, take, List, [], ◌∷◌, ◌++◌, None, Option};
@@ -12,8 +12,8 @@ ghost use Rattle.script_reader.specs.Items.{Item};
 ghost use Rattle.large_laws.specs.LargeHeadline.{MeetsLarge};
 ghost use Rattle.large_laws.specs.Small.{MeetsSmall, small_replies, small_walk, walk_of_wholes};
 
-/// The replies of every run in mode large meet the claim (`MeetsLarge`), and exactly one list of replies
-/// meets it: nothing is left open. `play` is about a run of the script loop (`RunBy`).
+/// The replies of every run in mode `large` meet the claim (`MeetsLarge`), and exactly one list of replies
+/// meets it. `run` is about runs of a session (`RunsLarge`), `play` about runs of the script loop (`RunBy`).
 pub fn the_large_headline()
     ensures run { (kind : Kind) (items : List Item) (replies : List Reply) (end : Option LargeRun)
         → RunsLarge kind None items replies end → MeetsLarge kind items replies }
@@ -23,12 +23,13 @@ pub fn the_large_headline()
         → MeetsLarge kind items replies → MeetsLarge kind items others → others ≡ replies }
 {}
 
-/// Wrong replies violate the claim. The script, on eight pages of 512 bytes: a malloc of 600 bytes; a
-/// write of two bytes across the end of a part; a malloc of 90 bytes; a read of the two bytes; `walk`;
-/// `frag`; and a malloc of 4,000 bytes, which needs more pages than are free. The claim holds for the
-/// right replies. It fails for `refused size` to a malloc that fits, for no reply, for a reply too few or
-/// too many, for a read of zeros, for a `walk` that counts the long object as one object, for a `frag`
-/// that leaves out the bytes of the spine or those of its slot, and for `ok` to the last malloc.
+/// Wrong replies violate the claim, so it isn't empty. The script, on eight pages of 512 bytes: a malloc of
+/// 600 bytes; a write of two bytes across the end of a part; a malloc of 90 bytes; a read of the two bytes;
+/// `walk`; `frag`; and a malloc of 4,000 bytes, which needs more pages than are free. The claim holds for the
+/// right replies (`right`). It fails for `refused size` to a malloc that fits (`size`), for no replies at all
+/// (`silent`), for a reply too few (`missing`) or too many (`over`), for a read of zeros (`other`), for a
+/// `walk` that counts the long object as one object (`whole`), for a `frag` without the bytes of the spine
+/// (`spine`) or of its slot (`slots`), and for `ok` to the last malloc (`pages`).
 pub fn wrong_large_replies_fall_short()
     ensures right { MeetsSmall (small_replies (codes "ok") (codes "=aabb") small_walk
         (codes "frag asked 698 taken 752 held 1536") (codes "refused space")) }

@@ -1,4 +1,4 @@
--- The parts of an object and their lengths.
+-- How many parts an object has and how long each is, by the object's length: for the functions of `cut` and the law `parts_are_as_many_as_needed`.
 use Rattle.std.proofs.Common.{◌≡◌, ℕ, suc, ◌+◌, ◌-◌, ◌*◌, ◌/◌, ◌%◌, ◌<◌, ◌≤◌, List, [], ◌∷◌, ◌++◌, length, get_or, take, replicate, min}
 use Rattle.std.proofs.Common.{arith, sym, ◌∙◌, ap, refl, inl, inr, length-append}
 use Rattle.std.specs.Prelude.{count_by, sum_by, nat_eq}

@@ -1,4 +1,4 @@
--- Which inner objects are in the classes so far, and the pages that they need.
+-- How many of a new object's inner objects are in the classes that a loop has passed, and the pages that they need: for `pages_with`.
 use Rattle.std.proofs.Common.{◌≡◌, ℕ, zero, suc, ◌+◌, ◌-◌, ◌*◌, ◌/◌, ◌<◌, ◌≤◌, Bool, false}
 use Rattle.std.proofs.Common.{List, [], ◌∷◌, ◌++◌, get_or, replicate, arith, ◌∙◌, ap, refl, inl, inr}
 use Rattle.std.specs.Prelude.{count_by, sum_by, nat_eq, nat_le, nat_lt}

@@ -1,4 +1,4 @@
--- A malloc of a long object, part by part.
+-- A malloc of a long object, part by part: for the loop of `make_long`.
 use Rattle.std.proofs.Common.{◌≡◌, ◌≢◌, ℕ, suc, ◌+◌, ◌-◌, ◌*◌, ◌^◌, ◌<◌, ◌≤◌, List, [], ◌∷◌, ◌++◌}
 use Rattle.std.proofs.Common.{Some, None, length, get_or, take, replicate, arith, sym, ◌∙◌, ap, refl, subst, inl, inr}
 use Rattle.std.specs.Prelude.{◌⊎◌, Option, nat_eq, sum_by}

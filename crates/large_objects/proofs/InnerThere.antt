@@ -1,4 +1,4 @@
--- A malloc of all inner objects of a large object, and a free of them, have some state of the inner manager after them.
+-- For a malloc of all inner objects of a large object, and for a free of them, there is a state of the inner manager after it: for `LargeThere`.
 use Rattle.std.proofs.Common.{◌≡◌, ℕ, zero, suc, ◌+◌, ◌*◌, ◌<◌, ◌≤◌, arith, subst, inl, inr}
 use Rattle.std.specs.Int.{to_le_bytes, w32}
 use Rattle.std.proofs.lemmas.Bool.{cases_lt}

@@ -1,4 +1,4 @@
--- A heap of large objects before and after a call, from what its fields hold.
+-- From the fields of a heap of large objects: what a call may rely on before it, and that the heap keeps its rules after it.
 use Rattle.std.proofs.Common.{◌≡◌, ℕ, ◌+◌, ◌*◌, ◌^◌, ◌<◌, ◌≤◌, Bool, true, List, Some, None, length}
 use Rattle.std.proofs.Common.{get_or, set, take, drop, replicate, arith, sym, ◌∙◌, ap, refl, subst, inl, inr}
 use Rattle.std.specs.Prelude.{Option, IsTrue, option_map}

@@ -1,4 +1,4 @@
--- Every call of a heap of large objects has an answer, and a state after it.
+-- For each call of a heap of large objects there is an answer and a state after it that its contract allows: for `Turns`.
 use Rattle.std.proofs.Common.{◌≡◌, ℕ, zero, suc, ◌+◌, ◌-◌, ◌*◌, ◌/◌, ◌%◌, ◌<◌, ◌≤◌, true, List, Some}
 use Rattle.std.proofs.Common.{None, length, set, take, drop, min, arith, sym, ◌∙◌, ap, refl, subst, inl, inr}
 use Rattle.std.specs.Prelude.{◌⊎◌, IsTrue, Option, option_map}

@@ -1,4 +1,4 @@
--- A run over large objects begins, and stays with its kind of manager.
+-- How a run over large objects begins, and that no command changes the kind of its manager: for `open` and `answer` of the mode handler.
 use Rattle.std.proofs.Common.{◌≡◌, ℕ, List, Some, None, ap, subst}
 use Rattle.std.specs.Prelude.{Option, codes}
 use Rattle.std.specs.Option.{MatchOption}

@@ -1,4 +1,4 @@
--- A heap of large objects that was just opened.
+-- A heap of large objects that was just opened keeps its rules: for `open_heap`.
 use Rattle.std.proofs.Common.{◌≡◌, ℕ, zero, suc, ◌-◌, ◌*◌, ◌<◌, ◌≤◌, true, List, Some, None, length, get_or, arith, sym, ◌∙◌, ap, refl, subst, inl, inr}
 use Rattle.std.specs.Prelude.{IsTrue, Option, sum_by, option_map}
 use Rattle.std.proofs.lemmas.Bool.{cases_lt, false≢true}

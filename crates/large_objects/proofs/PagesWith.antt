@@ -1,4 +1,4 @@
--- The pages that all inner objects need, class by class.
+-- The pages that all inner objects need, class by class: for `pages_with`.
 use Rattle.std.proofs.Common.{◌≡◌, ℕ, ◌+◌, ◌-◌, ◌*◌, ◌/◌, ◌%◌, ◌^◌, ◌<◌, ◌≤◌, Bool, true, false, List, Some, length, min, arith, sym, ◌∙◌, ap, refl, inl, inr}
 use Rattle.std.specs.Prelude.{count_by, nat_eq, nat_le}
 use Rattle.std.proofs.lemmas.Bool.{cases_lt}

@@ -1,4 +1,4 @@
--- In a run, reads return the bytes that follow from the lines and their replies.
+-- In a run over large objects, reads return the bytes that follow from the lines and their replies: for the law `reads_give_what_was_written`.
 use Rattle.std.proofs.Common.{List, Option, None}
 use Rattle.cf_base.specs.declared.kind.Kind.{Kind}
 use Rattle.cf_io.specs.Texts.{Reply}

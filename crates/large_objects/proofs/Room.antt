@@ -1,4 +1,4 @@
--- If there is room for all inner objects of an object, there is room for each in turn.
+-- If there is room for all inner objects of an object, there is room for each in turn; and other facts of counts and pages of inner objects.
 use Rattle.std.proofs.Common.{◌≡◌, ℕ, ◌+◌, ◌≤◌, List, Some, None, length, take, arith, ap}
 use Rattle.std.specs.Prelude.{nat_eq}
 use Rattle.std.proofs.lemmas.List.Sums.{sum_by-take-le}

@@ -1,4 +1,4 @@
--- A free of a long object, part by part.
+-- A free of a long object, part by part: for the loop of `release_parts`.
 use Rattle.std.proofs.Common.{◌≡◌, ℕ, suc, ◌+◌, ◌*◌, ◌<◌, List, Some, get_or, drop, arith, sym, ◌∙◌, ap, refl, subst, inl, inr, length-drop}
 use Rattle.std.specs.Prelude.{nat_eq}
 use Rattle.std.proofs.lemmas.Bool.{cases_eq}

@@ -1,4 +1,4 @@
--- Sums over the lengths of objects, and of their inner objects.
+-- Sums over the lengths of objects, and of their inner objects, after one object is added, removed or rewritten.
 use Rattle.std.proofs.Common.{◌≡◌, ℕ, ◌+◌, ◌<◌, List, [], ◌∷◌, Some, None, length, get_or, take, arith, ap, refl}
 use Rattle.std.specs.Prelude.{sum_by}
 use Rattle.std.specs.FinMap.{get, insert, remove}

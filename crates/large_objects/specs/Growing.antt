@@ -1,4 +1,5 @@
--- An inner manager in the middle of a malloc of a long object. No public clause cites this module.
+-- An inner manager in the middle of a malloc of a long object: some of its parts are made. In all definitions u is the bytes of a whole part, and n
+-- those of the object; h is the handle of its spine. No public clause cites this module.
 use Rattle.std.specs.Prelude.{◌≡◌, ◌≢◌, ℕ, ◌+◌, ◌*◌, ◌^◌, ◌≤◌, ◌<◌, ◌⊎◌, List, Some, None, length, take, replicate, sum_by}
 use Rattle.std.specs.FinMap.{get, insert, len}
 use Rattle.std.specs.Int.{to_le_bytes, w32}
@@ -12,7 +13,7 @@ use Rattle.large_objects.specs.Large.{HasSpine, named}
 use Rattle.large_objects.specs.LargeSteps.{FitsSpine}
 use Rattle.large_objects.specs.InnerObjects.{in_class, length_sum, inner_lengths, whole_part_bytes, part_length, part_count}
 
--- an inner manager has room for all inner objects of one more object of n bytes; a whole part has u bytes
+-- the inner manager s is ready, and has the proxies and the pages for all inner objects of one more object of n bytes
 pub record HasObjectRoom (u n : ℕ) (s : HeapState) : Type 0 where
   pub ready : IsReady s
   pub part_bytes : u ≡ whole_part_bytes s.profile
@@ -20,26 +21,30 @@ pub record HasObjectRoom (u n : ℕ) (s : HeapState) : Type 0 where
   pub proxies : len (objects s.held) + length (inner_lengths u n) ≤ s.profile.proxies
   pub pages : pages_for (paging_in s) (λ c. live (paging_in s) (objects s.held) c + in_class (paging_in s) c (inner_lengths u n)) ≤ s.profile.pages
 
--- The spine h of an object of n bytes and its first i parts are made, and the spine holds the handles of these parts. All other objects are unchanged.
+-- In a malloc that began with the inner objects `old`, the spine h and the first i parts are made, and the spine holds the handles of these parts.
+-- The inner objects are now those of `now`: all old ones unchanged, and these. `named now h j` is the handle of part j in the spine.
 pub record IsGrowing (p : Paging) (u n : ℕ) (old : Objects) (h i : ℕ) (now : Objects) : Type 0 where
   pub spine : HasSpine u now h n
   pub unused : get old h ≡ None
   pub others : (q : ℕ) (b : List ℕ) → get old q ≡ Some b → get now q ≡ Some b
+  -- each of the first i parts is live and zero; its handle is new, differs from the spine's and from those of the other parts
   pub made : (j : ℕ) → j < i → get now (named now h j) ≡ Some (replicate (part_length u n j) 0)
   pub fresh : (j : ℕ) → j < i → get old (named now h j) ≡ None
   pub not_spine : (j : ℕ) → j < i → named now h j ≢ h
   pub apart : (j k : ℕ) → j < i → k < i → named now h j ≡ named now h k → j ≡ k
+  -- no other inner object was made
   pub no_others : (q : ℕ) (b : List ℕ) → get now q ≡ Some b → get old q ≡ None → (q ≡ h) ⊎ ((j : ℕ) × (j < i) × (q ≡ named now h j))
+  -- the inner objects of each class, all inner objects, and each sum over their lengths grew by the spine and these parts
   pub live_now : (c : ℕ) → live p now c ≡ live p old c + in_class p c (take (1 + i) (inner_lengths u n))
   pub all : len now ≡ len old + (1 + i)
   pub sums_now : (f : ℕ → ℕ) → length_sum f now ≡ length_sum f old + sum_by f (take (1 + i) (inner_lengths u n))
 
--- `IsGrowing` of the objects of an inner manager, which keeps its settings and is ready afterwards
+-- `IsGrowing` of the objects of an inner manager before the malloc (`old`) and now; it keeps its settings and is ready now
 pub record Grows (u n : ℕ) (old : HeapState) (h i : ℕ) (now : HeapState) : Type 0 where
   pub stays : StaysReady old now
   pub growing : IsGrowing (paging_in old) u n (objects old.held) h i (objects now.held)
 
--- a part of n bytes is made, and the spine h holds its handle at place i
+-- One part of n zero bytes was made, with the handle `number`, and the spine h holds this handle at place i. Its old bytes were `spine`.
 pub record NamesPart (old : HeapState) (h i n : ℕ) (new : HeapState) : Type 0 where
   pub stays : StaysReady old new
   pub number : ℕ
@@ -49,18 +54,18 @@ pub record NamesPart (old : HeapState) (h i n : ℕ) (new : HeapState) : Type 0 
   pub found : get (objects old.held) h ≡ Some spine
   pub left : objects new.held ≡ insert (insert (objects old.held) number (replicate n 0)) h (written spine (4 * i) (to_le_bytes w32 number))
 
--- an object of n bytes that fits a page is made, as one inner object
+-- an object of n zero bytes, which fits a page, was made as the inner object h
 pub record MakesShort (u n : ℕ) (old : HeapState) (h : ℕ) (new : HeapState) : Type 0 where
   pub short : n ≤ u
   pub stays : StaysReady old new
   pub unused : get (objects old.held) h ≡ None
   pub left : objects new.held ≡ insert (objects old.held) h (replicate n 0)
 
--- the spine and all parts of an object of n bytes, which is longer than a page, are made
+-- the spine h and all parts of an object of n zero bytes, which is longer than a page, were made
 pub record MakesLong (u n : ℕ) (old : HeapState) (h : ℕ) (new : HeapState) : Type 0 where
   pub long : u < n
   pub grown : Grows u n old h (part_count u n) new
 
--- all inner objects of an object of n bytes are made
+-- all inner objects of an object of n zero bytes were made; h is its handle
 abbrev pub Makes : ℕ → ℕ → HeapState → ℕ → HeapState → Type 0
 Makes u n old h new = MakesShort u n old h new ⊎ MakesLong u n old h new

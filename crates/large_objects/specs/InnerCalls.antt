@@ -1,4 +1,5 @@
--- Calls of an inner manager that it doesn't refuse, since there is room or the object is live. No public clause cites this module.
+-- What the calls of an inner manager do that it can't refuse, since there is room or the object is live: `old` is the manager before the call, `new` after
+-- it, and q the handle of the inner object. No public clause cites this module.
 use Rattle.std.specs.Prelude.{◌≡◌, ℕ, IsTrue, ◌+◌, ◌^◌, ◌≤◌, ◌<◌, List, Some, None, length, replicate}
 use Rattle.std.specs.FinMap.{get, insert, remove, len}
 use Rattle.cf_base.specs.Classes.{need}
@@ -11,7 +12,7 @@ use Rattle.cf_model.specs.Rules.{KeepsRules}
 use Rattle.cf_model.specs.State.{HeapState, paging_in}
 use Rattle.cf_model.specs.Steps.{KeepsSettings}
 
--- an open manager with pages, with the bound 1 in each class
+-- the manager is open, keeps its rules, has pages, and every class has the bound 1
 pub record IsReady (s : HeapState) : Type 0 where
   pub opened : IsTrue s.is_open
   pub rules : KeepsRules s
@@ -36,7 +37,7 @@ pub record GivesInner (old : HeapState) (q n : ℕ) (new : HeapState) : Type 0 w
   pub below : q < 2 ^ 32
   pub left : objects new.held ≡ insert (objects old.held) q (replicate n 0)
 
--- the inner object q is live and has `count` bytes from byte `at` on
+-- the inner object q is live, and the `count` bytes from its byte `at` on are within its `bytes`
 pub record HasInner (s : HeapState) (q at count : ℕ) : Type 0 where
   pub bytes : List ℕ
   pub found : get (objects s.held) q ≡ Some bytes

@@ -7,15 +7,15 @@ use Rattle.page_model.specs.Counts.{ceil_div}
 use Rattle.page_model.specs.Held.{Objects}
 use Rattle.page_model.specs.Paging.{Paging, class_for}
 
--- the bytes of a whole part, the largest object that fits a page: the words of the page without the header
+-- the bytes of a whole part, the largest object that fits a page with the settings p: eight for each word of the page but the header
 abbrev pub whole_part_bytes : Profile → ℕ
 whole_part_bytes p = 8 * (p.page_words - 1)
 
--- the number of parts of u bytes for an object of n bytes
+-- the number of parts of at most u bytes into which an object of n bytes is cut
 unfoldable pub part_count : ℕ → ℕ → ℕ
 part_count u n = ceil_div n u
 
--- the bytes of part i of an object of n bytes: u, or the rest for the last part
+-- the bytes of part i, counted from 0, of an object of n bytes: u, or the rest for the last part
 abbrev pub part_length : ℕ → ℕ → ℕ → ℕ
 part_length u n i = min u (n - u * i)
 
@@ -32,7 +32,7 @@ inner_lengths u n =
 unfoldable pub in_class : Paging → ℕ → List ℕ → ℕ
 in_class p c lengths = count_by (λ n. nat_eq (class_for p n) c) lengths
 
--- the number of inner objects of all objects
+-- the number of inner objects of all objects `large` together
 unfoldable pub inner_count : ℕ → Objects → ℕ
 inner_count u large = sum_by (λ v. length (inner_lengths u (length v))) (values large)
 
@@ -40,14 +40,14 @@ inner_count u large = sum_by (λ v. length (inner_lengths u (length v))) (values
 unfoldable pub length_sum : (ℕ → ℕ) → Objects → ℕ
 length_sum f objects = sum_by (λ v. f (length v)) (values objects)
 
--- the sum of f over the lengths of the inner objects of all objects
+-- the sum of f over the lengths of the inner objects of all objects `large`
 unfoldable pub inner_sum : (ℕ → ℕ) → ℕ → Objects → ℕ
 inner_sum f u large = sum_by (λ v. sum_by f (inner_lengths u (length v))) (values large)
 
--- the number of inner objects of all objects that are in class c
+-- of the inner objects of all objects `large`, the number of those in class c
 unfoldable pub inner_live : Paging → ℕ → Objects → ℕ → ℕ
 inner_live p u large c = sum_by (λ v. in_class p c (inner_lengths u (length v))) (values large)
 
--- the pages that the inner objects of all objects and of one more object of n bytes need, computed from their lengths
+-- the pages that the inner objects of all objects `large` and of one more object of n bytes need, computed from their lengths
 unfoldable pub inner_pages_with : Paging → ℕ → Objects → ℕ → ℕ
 inner_pages_with p u large n = pages_for p (λ c. inner_live p u large c + in_class p c (inner_lengths u n))

@@ -12,7 +12,7 @@ use Rattle.cf_model.specs.Rules.{KeepsRules}
 use Rattle.cf_model.specs.State.{HeapState, paging_in, state_code}
 use Rattle.large_objects.specs.InnerObjects.{inner_count, inner_live, inner_sum, length_sum, whole_part_bytes, part_count, spine_bytes}
 
--- a heap of large objects: the objects by handle, and the inner manager
+-- a heap of large objects: whether it is open, its objects as a map from handles to bytes, and the state of its inner manager
 pub record LargeState : Type 0 where
   pub is_open : Bool
   pub objects : Objects
@@ -23,7 +23,7 @@ abbrev pub large_code : Coded LargeState
 large_code = code_by (Bool × (Objects × HeapState)) (coded× coded_bool (coded× (map.code coded_ℕ (coded_list coded_ℕ)) state_code))
     (λ s. (s.is_open, (s.objects, s.inner))) (λ q. record { is_open = q.0; objects = q.1.0; inner = q.1.1 }) (λ _. refl)
 
--- the bytes of an object; no bytes if it isn't live
+-- the bytes of an object that was looked up; no bytes if it isn't live
 abbrev pub bytes_in : Option (List ℕ) → List ℕ
 bytes_in None = []
 bytes_in (Some v) = v
@@ -32,15 +32,15 @@ bytes_in (Some v) = v
 unfoldable pub handle_at : List ℕ → ℕ → ℕ
 handle_at spine i = from_le_bytes w32 (take 4 (drop (4 * i) spine))
 
--- the handle of part i of the object h, as its spine holds it
+-- the handle of part i of the object whose spine is h: the one in place i of the spine, which is among the inner objects `inner`
 abbrev pub named : Objects → ℕ → ℕ → ℕ
 named inner h i = handle_at (bytes_in (get inner h)) i
 
--- the bytes of part i of an object with the bytes v
+-- the bytes of part i of an object with the bytes v; a whole part has u bytes
 abbrev pub part_bytes_at : ℕ → List ℕ → ℕ → List ℕ
 part_bytes_at u v i = take u (drop (u * i) v)
 
--- the inner object q is part i of the object h, which is longer than a page
+-- The inner object q is part i of the object h, which is longer than a page. `large` are the objects and `inner` the inner ones; a whole part has u bytes.
 pub record IsPart (u : ℕ) (large inner : Objects) (q h i : ℕ) : Type 0 where
   pub bytes : List ℕ
   pub found : get large h ≡ Some bytes
@@ -48,7 +48,7 @@ pub record IsPart (u : ℕ) (large inner : Objects) (q h i : ℕ) : Type 0 where
   pub below : i < part_count u (length bytes)
   pub is : q ≡ named inner h i
 
--- the handle h of an object of n bytes is the handle of its spine, which has four bytes for each part
+-- h, the handle of an object of n bytes, is that of a spine among the inner objects, which has four bytes for each part
 pub record HasSpine (u : ℕ) (inner : Objects) (h n : ℕ) : Type 0 where
   pub spine : List ℕ
   pub found : get inner h ≡ Some spine
@@ -65,7 +65,7 @@ pub record AreLaidOut (u : ℕ) (large inner : Objects) : Type 0 where
   pub of_one : (q h i g j : ℕ) → IsPart u large inner q h i → IsPart u large inner q g j → (h ≡ g) × (i ≡ j)
   pub no_others : (q : ℕ) (b : List ℕ) → get inner q ≡ Some b → get large q ≡ None → (h : ℕ) × (i : ℕ) × IsPart u large inner q h i
 
--- The number of inner objects, in all and in each class, and every sum over their lengths, are computed from the lengths of the large objects.
+-- The number of inner objects, in all and in each class, follows from the lengths of the objects `large`; so does every sum over the inner lengths.
 pub record AreCounted (p : Paging) (u : ℕ) (large inner : Objects) : Type 0 where
   pub all : len inner ≡ inner_count u large
   pub each : (c : ℕ) → live p inner c ≡ inner_live p u large c

@@ -1,4 +1,4 @@
--- A session over a heap of large objects, and what each command does there.
+-- A session over a heap of large objects: its state, and for each command the reply and the state after it.
 use Rattle.std.specs.Prelude.{◌≡◌, ℕ, IsTrue, ◌+◌, ◌++◌, List, Option, Some, None, Result, codes, length, take, drop, nat_le, if◌then◌else◌}
 use Rattle.std.specs.Option.{MatchOption}
 use Rattle.std.specs.FinMap.{get, remove}
@@ -24,6 +24,7 @@ pub record LargeRun : Type 0 where
   pub ids : Ids
   pub heap : LargeState
 
+-- the run with these live ids on this heap
 abbrev pub large_run : Ids → LargeState → LargeRun
 large_run ids heap = record { ids = ids; heap = heap }
 
@@ -33,11 +34,12 @@ pub record IsGoingLarge (s : LargeRun) : Type 0 where
   pub parts : KeepsParts s.heap
   pub tied : AreTiedTo s.ids s.heap.objects
 
--- the object that an id names, if it is live
+-- the bytes of the object that an id names, if the id is live
 abbrev pub large_object_of : LargeRun → ℕ → Option (List ℕ)
 large_object_of s id = elim (get s.ids id) [ None ↦ None | Some h ↦ get s.heap.objects h ]
 
--- the reply to `r`: `=` and the bytes in hexadecimal; `unknown` if the id isn't live, `range` if the bytes pass the object's end
+-- The reply to `r` of `count` bytes from byte `at` on: `=` and the bytes in hexadecimal; `unknown` if the id isn't live (`None`), `range` if the bytes
+-- pass the end of the object, v.
 abbrev pub large_read_text : Option (List ℕ) → ℕ → ℕ → List ℕ
 large_read_text None at count = codes "unknown"
 large_read_text (Some v) at count = if nat_le (at + count) (length v) then codes "=" ++ encode_lower (take count (drop at v)) else codes "range"
@@ -54,7 +56,7 @@ pub record MallocsLarge (old : LargeRun) (id bytes : ℕ) (reply : Reply) (new :
   pub ids : new.ids ≡ ids_given old.ids id answer
   pub reply_is : reply ≡ said (malloc_text answer)
 
--- a free of a live id: the heap removes the object, and the id is no longer live
+-- a free of a live id, which names h: the heap removes the object h, and the id is no longer live; the reply is `ok`
 pub record FreesIdLarge (old : LargeRun) (id h : ℕ) (reply : Reply) (new : LargeRun) : Type 0 where
   pub step : FreesLarge old.heap h new.heap
   pub kept : StaysKept old.heap new.heap
@@ -69,14 +71,15 @@ pub record WritesIdLarge (old : LargeRun) (part : Part) (bytes : List ℕ) (repl
   pub ids : new.ids ≡ old.ids
   pub reply_is : reply ≡ said (write_text answer)
 
--- the reply to a command that changes nothing: the reports are those of the inner manager, and `none` is the reply to a command of another mode
+-- the reply to a command that changes nothing: `r` shows bytes of an object, the reports are those of the inner manager, and `none` is the reply to a
+-- command of another mode
 abbrev pub large_shown : LargeRun → Command → Reply
 large_shown s (Read id at count) = said (large_read_text (large_object_of s id) at count)
 large_shown s Walk = walk_of s.heap.inner.kind s.heap.inner
 large_shown s Frag = frag_of s.heap.inner
 large_shown s command = said (codes "none")
 
--- One command: its reply, and the state after it.
+-- One command: the run before it, its reply, and the run after it.
 abbrev pub LargeStep : LargeRun → Command → Reply → LargeRun → Type 0
 LargeStep old (Malloc id bytes) reply new = MatchOption (get old.ids id) (MallocsLarge old id bytes reply new) (λ h. StaysLarge old (codes "live") reply new)
 LargeStep old (Free id) reply new = MatchOption (get old.ids id) (StaysLarge old (codes "unknown") reply new) (λ h. FreesIdLarge old id h reply new)

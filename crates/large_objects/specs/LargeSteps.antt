@@ -1,4 +1,5 @@
--- What each call of a heap of large objects does: its state before the call, the result, and its state after it.
+-- What each call of a heap of large objects does: `old` is its state before the call, `new` after it. A `part` names an object by its handle (`number`)
+-- and the byte from which the call reads or writes (`from`).
 use Rattle.std.specs.Prelude.{◌≡◌, ℕ, ◌+◌, ◌*◌, ◌≤◌, ◌<◌, ◌⊎◌, true, false, List, Some, None, Result, Ok, Err, length, take, drop, replicate}
 use Rattle.std.specs.FinMap.{get, insert, remove, empty}
 use Rattle.cf_base.specs.declared.answers.AccessFault.{AccessFault}
@@ -81,7 +82,7 @@ IsRefusedLarge s n refusal.Size = WantsLongerSpine s n
 IsRefusedLarge s n refusal.Proxy = WantsProxies s n
 IsRefusedLarge s n refusal.Space = WantsPages s n
 
--- a malloc adds an object, or is refused and changes nothing
+-- a malloc of n bytes adds the object h, or is refused with the cause e and changes nothing
 abbrev pub IsLargeMalloc : LargeState → ℕ → Result Handle Refusal → LargeState → Type 0
 IsLargeMalloc old n (Ok h) new = GivesLarge old h.0 n new
 IsLargeMalloc old n (Err e) new = IsRefusedLarge old n e × (new ≡ old)
@@ -92,7 +93,7 @@ pub record FreesLarge (old : LargeState) (h : ℕ) (new : LargeState) : Type 0 w
   pub found : get old.objects h ≡ Some bytes
   pub left : new.objects ≡ remove old.objects h
 
--- a free removes an object, or is refused and changes nothing
+-- a free removes the object h, or is refused, since no object has this handle, and changes nothing
 abbrev pub IsLargeFree : LargeState → ℕ → Result Unit NotLive → LargeState → Type 0
 IsLargeFree old h (Ok u) new = FreesLarge old h new
 IsLargeFree old h (Err e) new = (get old.objects h ≡ None) × (new ≡ old)
@@ -115,7 +116,7 @@ pub record WritesLarge (old : LargeState) (part : Part) (bytes : List ℕ) (new 
   pub within : part.from + length bytes ≤ length object
   pub left : new.objects ≡ insert old.objects part.number (written object part.from bytes)
 
--- a write replaces bytes, or is refused and changes nothing
+-- a write replaces bytes of an object, or is refused with the cause e and changes nothing
 abbrev pub IsLargeWrite : LargeState → Part → List ℕ → Result Unit AccessFault → LargeState → Type 0
 IsLargeWrite old part bytes (Ok u) new = WritesLarge old part bytes new
 IsLargeWrite old part bytes (Err e) new = IsLargeFault old part (length bytes) e × (new ≡ old)
@@ -127,7 +128,7 @@ pub record ReadsLarge (s : LargeState) (part : Part) (count : ℕ) (bytes : List
   pub within : part.from + count ≤ length object
   pub value : bytes ≡ take count (drop part.from object)
 
--- a read returns the bytes, or is refused and leaves the buffer unchanged
+-- a read into a buffer, `room` before and `out` after, fills it with bytes of an object, or is refused with the cause e and leaves it unchanged
 abbrev pub IsLargeRead : LargeState → Part → List ℕ → Result Unit AccessFault → List ℕ → Type 0
 IsLargeRead s part room (Ok u) out = ReadsLarge s part (length room) out
 IsLargeRead s part room (Err e) out = IsLargeFault s part (length room) e × (out ≡ room)

@@ -1,4 +1,5 @@
--- What a heap of large objects stores: the length of each object, by handle. No public clause cites this module.
+-- What the fields of a heap of large objects represent, and their invariant: it stores the length of each object by handle, and the inner manager holds the
+-- bytes. In all definitions u is the bytes of a whole part. No public clause cites this module.
 use Rattle.std.specs.Prelude.{◌≡◌, ℕ, ◌+◌, ◌<◌, Bool, true, false, List, [], ◌∷◌, Option, Some, None, length, option_map, nat_le, if◌then◌else◌, slice_index_or}
 use Rattle.std.specs.FinMap.{get, empty}
 use Rattle.std.specs.List.{flat_map, range_with_len}
@@ -8,7 +9,7 @@ use Rattle.cf_model.specs.State.{HeapState}
 use Rattle.large_objects.specs.Large.{KeepsParts, LargeState, bytes_in, named}
 use Rattle.large_objects.specs.InnerObjects.{whole_part_bytes, part_count}
 
--- the bytes of the object of n bytes under a handle, gathered from its parts
+-- the bytes of the object h, which has n bytes: those of the inner object h if it fits a page, else those of its parts, in order
 unfoldable pub gathered : ℕ → Objects → ℕ → ℕ → List ℕ
 gathered u inner h n = if nat_le n u then bytes_in (get inner h) else flat_map (λ i. bytes_in (get inner (named inner h i))) (range_with_len 0 (part_count u n))
 
@@ -27,16 +28,17 @@ abbrev pub objects_in : Bool → ℕ → List (Option ℕ) → HeapState → Obj
 objects_in true u lengths s = gathered_objects u lengths (objects s.held)
 objects_in false u lengths s = empty
 
--- the state that the fields of a heap represent
+-- the state that the fields of a heap represent; s is the state of the inner manager
 abbrev pub large_state : Bool → ℕ → List (Option ℕ) → HeapState → LargeState
 large_state is_open u lengths s = record { is_open = is_open; objects = objects_in is_open u lengths s; inner = s }
 
--- there is one entry for each proxy: the length of the object with this handle, None if there is no such object
+-- `lengths` has one entry for each proxy: the length of the object with this handle, None if there is no such object
 pub record AreLengths (lengths : List (Option ℕ)) (large : Objects) (proxies : ℕ) : Type 0 where
   pub count : length lengths ≡ proxies
   pub each : (h : ℕ) → slice_index_or lengths h None ≡ option_map length (get large h)
 
--- the fields of an open heap agree with its objects and its inner manager: the lengths, the bytes of a whole part, and the number of pages
+-- The fields of an open heap, `pages`, u and `lengths`, agree with its objects `large` and its inner manager s: they are the number of pages, the bytes of
+-- a whole part, and the length of each object.
 pub record AreKept (pages u : ℕ) (lengths : List (Option ℕ)) (large : Objects) (s : HeapState) : Type 0 where
   pub parts : KeepsParts (record { is_open = true; objects = large; inner = s })
   pub lengths_are : AreLengths lengths large s.profile.proxies

@@ -1,4 +1,4 @@
--- The mode handler of a session over a heap of large objects.
+-- Mode `large` for the script loop: how a run over a heap of large objects begins, its runs over a script, and what is left if an allocation fails.
 use Rattle.std.specs.Prelude.{◌≡◌, true, List, Option, codes}
 use Rattle.std.specs.FinMap.{empty}
 use Rattle.cf_base.specs.Settings.{Profile, at_bound_one}
@@ -14,11 +14,13 @@ use Rattle.large_objects.specs.Large.{KeepsParts}
 use Rattle.large_objects.specs.LargeRun.{IsGoingLarge, LargeRun, LargeStep}
 use Rattle.large_objects.specs.LargeSteps.{IsShutLarge}
 
--- the run after the `heap` line: the heap is open over a manager of this kind, with no objects and the bound 1, and no id is live
+-- The run `new` after a `heap` line with the settings p: the heap is open over a manager of this kind, with these settings but always the bound 1. It has
+-- no objects, and no id is live.
 pub record BeginsLarge (kind : Kind) (p : Profile) (new : LargeRun) : Type 0 where
   pub ids : new.ids ≡ empty
   pub open_now : new.heap.is_open ≡ true
   pub none : new.heap.objects ≡ empty
+  -- the inner manager is as `open_heap` of this kind leaves it: its words, its order, and all else
   pub words : IsOpeningWords kind (at_bound_one p) new.heap.inner.words
   pub order : IsOpeningOrder kind (at_bound_one p) new.heap.inner.order
   pub inner : new.heap.inner ≡ ordered_heap kind (at_bound_one p) new.heap.inner.words new.heap.inner.order

@@ -1,4 +1,5 @@
--- An inner manager in the middle of a free of a long object. No public clause cites this module.
+-- An inner manager in the middle of a free of a long object: some of its parts are freed. In all definitions u is the bytes of a whole part, and n
+-- those of the object; h is the handle of its spine. No public clause cites this module.
 use Rattle.std.specs.Prelude.{◌≡◌, ◌≢◌, ℕ, ◌+◌, ◌<◌, ◌≤◌, ◌⊎◌, List, Some, None, length, take, drop, sum_by}
 use Rattle.std.specs.FinMap.{get, remove, len}
 use Rattle.page_model.specs.Arrangement.{live}
@@ -9,22 +10,24 @@ use Rattle.large_objects.specs.InnerCalls.{StaysReady}
 use Rattle.large_objects.specs.Large.{HasSpine, named}
 use Rattle.large_objects.specs.InnerObjects.{in_class, length_sum, inner_lengths, part_length, part_count}
 
--- The first i parts of the object of n bytes with the spine h are freed. No other inner object has changed.
+-- In a free that began with the inner objects `old`, the first i parts of the object are freed. The inner objects are now those of `now`, where no
+-- other one has changed. `named old h j` is the handle of part j in the spine.
 pub record IsShrinking (p : Paging) (u n : ℕ) (old : Objects) (h i : ℕ) (now : Objects) : Type 0 where
   pub gone : (j : ℕ) → j < i → get now (named old h j) ≡ None
   pub others : (q : ℕ) → ((j : ℕ) → j < i → q ≢ named old h j) → get now q ≡ get old q
+  -- the inner objects of each class, all inner objects, and each sum over their lengths fell by these parts
   pub live_now : (c : ℕ) → live p now c + in_class p c (take i (drop 1 (inner_lengths u n))) ≡ live p old c
   pub all : len now + i ≡ len old
   pub sums_now : (f : ℕ → ℕ) → length_sum f now + sum_by f (take i (drop 1 (inner_lengths u n))) ≡ length_sum f old
 
--- the spine h of an object of n bytes and all its parts are live, with different handles
+-- among the inner objects o the spine h and all parts of the object are live, with different handles
 pub record HasParts (u n : ℕ) (o : Objects) (h : ℕ) : Type 0 where
   pub spine : HasSpine u o h n
   pub made : (j : ℕ) → j < part_count u n → (v : List ℕ) × (get o (named o h j) ≡ Some v) × (length v ≡ part_length u n j)
   pub not_spine : (j : ℕ) → j < part_count u n → named o h j ≢ h
   pub apart : (j k : ℕ) → j < part_count u n → k < part_count u n → named o h j ≡ named o h k → j ≡ k
 
--- `IsShrinking` of the objects of an inner manager, which keeps its settings and is ready afterwards
+-- `IsShrinking` of the objects of an inner manager before the free (`old`) and now; it keeps its settings and is ready now
 pub record Shrinks (u n : ℕ) (old : HeapState) (h i : ℕ) (now : HeapState) : Type 0 where
   pub stays : StaysReady old now
   pub shrinking : IsShrinking (paging_in old) u n (objects old.held) h i (objects now.held)
@@ -33,13 +36,13 @@ pub record Shrinks (u n : ℕ) (old : HeapState) (h i : ℕ) (now : HeapState) :
 abbrev pub HasInnerObjects : ℕ → ℕ → HeapState → ℕ → Type 0
 HasInnerObjects u n s h = ((n ≤ u) × ((v : List ℕ) × (get (objects s.held) h ≡ Some v) × (length v ≡ n))) ⊎ ((u < n) × HasParts u n (objects s.held) h)
 
--- an object of n bytes that fits a page is freed
+-- the object h of n bytes, which fits a page, was freed as one inner object
 pub record ReleasesShort (u n : ℕ) (old : HeapState) (h : ℕ) (new : HeapState) : Type 0 where
   pub short : n ≤ u
   pub stays : StaysReady old new
   pub left : objects new.held ≡ remove (objects old.held) h
 
--- all parts of an object of n bytes, and then its spine, are freed
+-- All parts of the object h of n bytes, which is longer than a page, and then its spine, were freed. In between the inner objects were `mid`.
 pub record ReleasesLong (u n : ℕ) (old : HeapState) (h : ℕ) (new : HeapState) : Type 0 where
   pub long : u < n
   pub stays : StaysReady old new
@@ -47,6 +50,6 @@ pub record ReleasesLong (u n : ℕ) (old : HeapState) (h : ℕ) (new : HeapState
   pub shrunk : IsShrinking (paging_in old) u n (objects old.held) h (part_count u n) mid
   pub left : objects new.held ≡ remove mid h
 
--- all inner objects of an object of n bytes are freed
+-- all inner objects of the object h of n bytes were freed
 abbrev pub Releases : ℕ → ℕ → HeapState → ℕ → HeapState → Type 0
 Releases u n old h new = ReleasesShort u n old h new ⊎ ReleasesLong u n old h new

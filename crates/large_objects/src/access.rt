@@ -1,4 +1,5 @@
-//! Reads and writes: of a short object by one inner call, of a long one part by part.
+//! Reads and writes of an object's bytes: by one call of the inner manager if the object fits a page, else
+//! part by part.
 ghost use Rattle.std.specs.Prelude.{◌≡◌, ◌+◌, ◌*◌, ℕ, List, Some, IsTrue, length, take, drop};
 ghost use Rattle.std.specs.FinMap.{get};
 ghost use Rattle.large_objects.specs.LargeSteps.{HasLong, HasPartRange, HasShort, StaysKept, WritesLarge, part_bytes_in};
@@ -11,7 +12,7 @@ use cf_model::Manager;
 use step_ledger::Meter;
 
 impl<H: Manager> LargeHeap<H> {
-    /// Writes bytes into an object that fits a page, from byte `at` on.
+    /// Writes these bytes into the live object h, which fits a page, from byte `at` on.
     pub(crate) fn write_short(&mut self, h: Handle, at: u32, bytes: &[u8], meter: &mut Meter)
         requires open { IsTrue self.old.is_open }
         requires has { HasShort self.old h.0 at (length bytes.now) }
@@ -21,7 +22,8 @@ impl<H: Manager> LargeHeap<H> {
         write_inner(&mut self.inner, h, at, bytes, meter);
     }
 
-    /// Writes bytes into the parts of an object longer than a page, from byte `at` of the object on.
+    /// Writes these bytes into the parts of the live object h, which is longer than a page, from byte `at`
+    /// of the object on.
     pub(crate) fn write_long(&mut self, h: Handle, at: u32, bytes: &[u8], meter: &mut Meter)
         requires open { IsTrue self.old.is_open }
         requires has { HasLong self.old h.0 at (length bytes.now) }
@@ -40,7 +42,8 @@ impl<H: Manager> LargeHeap<H> {
         }
     }
 
-    /// Writes bytes into part i of an object longer than a page, from byte `at` of the part on.
+    /// Writes these bytes into part i of the live object h, which is longer than a page, from byte `at` of the
+    /// part on. No byte passes the part's end.
     fn write_part(&mut self, h: Handle, i: u32, at: u32, bytes: &[u8], meter: &mut Meter)
         requires open { IsTrue self.old.is_open }
         requires has { HasPartRange self.old h.0 i at (length bytes.now) }
@@ -51,7 +54,7 @@ impl<H: Manager> LargeHeap<H> {
         write_inner(&mut self.inner, part, at, bytes, meter);
     }
 
-    /// Fills `out` from an object that fits a page, from byte `at` on.
+    /// Fills `out` with bytes of the live object h, which fits a page, from byte `at` on.
     pub(crate) fn read_short(&self, h: Handle, at: u32, out: &mut [u8], meter: &mut Meter)
         requires open { IsTrue self.now.is_open }
         requires has { HasShort self.now h.0 at (length out.old) }
@@ -60,7 +63,8 @@ impl<H: Manager> LargeHeap<H> {
         read_inner(&self.inner, h, at, out, meter);
     }
 
-    /// Fills `out` from the parts of an object longer than a page, from byte `at` of the object on.
+    /// Fills `out` with bytes from the parts of the live object h, which is longer than a page, from byte
+    /// `at` of the object on.
     pub(crate) fn read_long(&self, h: Handle, at: u32, out: &mut [u8], meter: &mut Meter)
         requires open { IsTrue self.now.is_open }
         requires has { HasLong self.now h.0 at (length out.old) }
@@ -78,7 +82,8 @@ impl<H: Manager> LargeHeap<H> {
         }
     }
 
-    /// Fills `out` from part i of an object longer than a page, from byte `at` of the part on.
+    /// Fills `out` with bytes from part i of the live object h, which is longer than a page, from byte `at` of
+    /// the part on. No byte passes the part's end.
     fn read_part(&self, h: Handle, i: u32, at: u32, out: &mut [u8], meter: &mut Meter)
         requires open { IsTrue self.now.is_open }
         requires has { HasPartRange self.now h.0 i at (length out.old) }

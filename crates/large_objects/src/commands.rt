@@ -1,5 +1,5 @@
-//! The commands `m`, `f`, `w` and `r` of a session over large objects. The first three return their reply;
-//! `r` writes its reply on the line.
+//! The commands `m`, `f`, `w` and `r` of a session over large objects, where a script names objects by ids.
+//! The first three return their reply; `r` builds its reply in `line`.
 ghost use Rattle.std.specs.Prelude.{◌≡◌, ◌<◌, ◌≤◌, [], IsTrue, length};
 ghost use Rattle.cf_io.specs.Lines.{line_room};
 ghost use Rattle.cf_io.specs.Texts.{said};
@@ -16,8 +16,8 @@ use cf_session::{Outcome, Short, fault_reply, push_bytes, push_short, refusal_re
 use id_table::IdTable;
 use step_ledger::Meter;
 
-/// `m`: makes an object of `bytes` bytes for an id that isn't live. The reply is `live` if the id is live,
-/// or names the heap's refusal.
+/// `m`: makes an object of `bytes` zero bytes for an id that isn't live. The reply is `ok`; or `live` if
+/// the id is live, or the name of the heap's refusal, and then nothing changes.
 pub(crate) fn malloc<H: Manager>(
     ids: &mut IdTable,
     heap: &mut LargeHeap<H>,
@@ -40,7 +40,8 @@ pub(crate) fn malloc<H: Manager>(
     }
 }
 
-/// `f`: frees the object of a live id. The reply is `unknown` if the id isn't live.
+/// `f`: frees the object of a live id. The reply is `ok`; or `unknown` if the id isn't live, and then nothing
+/// changes.
 pub(crate) fn free<H: Manager>(
     ids: &mut IdTable,
     heap: &mut LargeHeap<H>,
@@ -61,8 +62,8 @@ pub(crate) fn free<H: Manager>(
     Short::Done
 }
 
-/// `w`: writes bytes into the object of a live id, from byte `at` on. The reply is `unknown` if the id
-/// isn't live, or names the heap's fault if the bytes pass the object's end.
+/// `w`: writes these bytes into the object of a live id, from byte `at` on. The reply is `ok`; or `unknown` if
+/// the id isn't live, or `range` if the bytes pass the object's end, and then nothing changes.
 pub(crate) fn write<H: Manager>(
     ids: &IdTable,
     heap: &mut LargeHeap<H>,
@@ -83,8 +84,8 @@ pub(crate) fn write<H: Manager>(
     }
 }
 
-/// `r`: fills `buffer` with bytes of a live id's object, from byte `at` on, and writes them on the line in
-/// hexadecimal. The reply is `unknown` if the id isn't live, or names the heap's fault if the bytes pass
+/// `r`: reads as many bytes as `buffer` holds from the object of a live id, from byte `at` on. The reply in
+/// `line` is `=` and the bytes in hexadecimal; or `unknown` if the id isn't live, or `range` if the bytes pass
 /// the object's end.
 pub(crate) fn read<H: Manager>(
     ids: &IdTable,

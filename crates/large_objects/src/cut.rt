@@ -1,10 +1,11 @@
-//! The number and the lengths of an object's inner objects, computed from its length.
+//! The number and the lengths of an object's inner objects, computed from its length. In all functions
+//! `part_bytes` is the bytes of a whole part, the largest object that fits a page.
 ghost use Rattle.std.specs.Prelude.{◌≡◌, ◌<◌, ◌*◌, ◌↔◌, IsTrue, cond, count_by, length, nat_le};
 ghost use Rattle.cf_base.specs.Classes.{need};
 ghost use Rattle.large_objects.specs.LargeSteps.{FitsSpine};
 ghost use Rattle.large_objects.specs.InnerObjects.{inner_lengths, part_count, part_length};
 
-/// The number of parts of `part_bytes` bytes for an object of `bytes` bytes.
+/// The number of parts of at most `part_bytes` bytes into which an object of `bytes` bytes is cut.
 #[tactic(auto, using(crate::proofs::Cutting::parts_are))]
 pub(crate) fn count_parts(bytes: u32, part_bytes: u32) -> u32
     requires { 0 < part_bytes }
@@ -13,7 +14,8 @@ pub(crate) fn count_parts(bytes: u32, part_bytes: u32) -> u32
     bytes.div_ceil(part_bytes)
 }
 
-/// The bytes of part i of an object of `bytes` bytes.
+/// The bytes of part i, counted from 0, of an object of `bytes` bytes: `part_bytes`, or the rest for the last
+/// part.
 pub(crate) fn bytes_of_part(bytes: u32, part_bytes: u32, i: u32) -> u32
     requires some { 0 < part_bytes }
     requires below { i < part_count part_bytes bytes }
@@ -30,7 +32,8 @@ pub(crate) fn has_spine_that_fits(bytes: u32, part_bytes: u32) -> bool
     bytes <= part_bytes || 4 * count_parts(bytes, part_bytes) as u64 <= part_bytes as u64
 }
 
-/// The number of inner objects of an object of `bytes` bytes.
+/// The number of inner objects of an object of `bytes` bytes: one if it fits a page, else its parts and one
+/// spine.
 pub(crate) fn inner_objects(bytes: u32, part_bytes: u32) -> u64
     requires { 0 < part_bytes }
     ensures { result ≡ length (inner_lengths part_bytes bytes) }
@@ -56,7 +59,8 @@ fn count_if(count: u32, yes: bool) -> u64
     if yes { count as u64 } else { 0 }
 }
 
-/// The number of inner objects of an object of `bytes` bytes that need at most `words` words each.
+/// Of the inner objects of an object of `bytes` bytes, the number of those that need at most `words` words
+/// each, with their header.
 pub(crate) fn inner_objects_within(bytes: u32, part_bytes: u32, words: u32) -> u64
     requires some { 0 < part_bytes }
     requires fits { FitsSpine part_bytes bytes }

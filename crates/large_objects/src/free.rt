@@ -1,4 +1,5 @@
-//! Frees the inner objects of an object.
+//! Frees the inner objects of an object: the object itself if it fits a page, else its parts and then its
+//! spine. In all functions `part_bytes` is the bytes of a whole part, the largest object that fits a page.
 ghost use Rattle.std.specs.Prelude.{◌≡◌, ◌*◌, ◌<◌, ◌^◌};
 ghost use Rattle.page_model.specs.Held.{objects};
 ghost use Rattle.large_objects.specs.InnerCalls.{FreesInner, HasInner, IsReady};
@@ -34,7 +35,7 @@ pub(crate) fn release<H: Manager>(
     }
 }
 
-/// Frees the parts of an object longer than a page, and then its spine.
+/// Frees the parts of an object of `bytes` bytes, which is longer than a page, and then its spine.
 fn release_long<H: Manager>(
     inner: &mut H,
     spine: Handle,
@@ -52,7 +53,8 @@ fn release_long<H: Manager>(
     release_inner(inner, spine, meter);
 }
 
-/// Frees all parts that a spine names; the spine stays.
+/// Frees all parts of an object of `bytes` bytes, which is longer than a page; the spine stays and still holds
+/// their handles.
 fn release_parts<H: Manager>(
     inner: &mut H,
     spine: Handle,
@@ -71,7 +73,7 @@ fn release_parts<H: Manager>(
     }
 }
 
-/// Frees part i, whose handle it reads from the spine.
+/// Frees part i, counted from 0, whose handle it reads from the spine.
 fn release_part<H: Manager>(inner: &mut H, spine: Handle, i: u32, meter: &mut Meter)
     requires ready { IsReady (H.state inner.old) }
     requires has { HasInner (H.state inner.old) spine.0 (4 * i) 4 }

@@ -1,4 +1,5 @@
-//! The heap of large objects.
+//! `LargeHeap`, a heap whose objects may be longer than a page, over a manager with pages: how it is
+//! opened, and its calls `malloc`, `free`, `write` and `read`.
 ghost use Rattle.std.specs.Prelude.{◌≡◌, ◌+◌, ◌≤◌, IsTrue, OnOk, OnErr, IfOk, IfErr, Some, None, false, length, option_map};
 ghost use Rattle.std.specs.FinMap.{get};
 ghost use Rattle.cf_lemmas.specs.Maps.{vacant};
@@ -15,8 +16,9 @@ use std::alloc::{AllocError, Global};
 use std::marker::Model;
 use step_ledger::Meter;
 
-/// Objects of any length over an inner manager with pages. A handle is that of an inner object: the
-/// object itself if it fits a page, else its spine.
+/// Objects that may be longer than a page, over an inner manager with pages. An object that fits a page is
+/// one inner object; a longer one is a spine and its parts. The handle of an object is that of this inner
+/// object or of the spine.
 #[derive(Drop)]
 pub struct LargeHeap<H: Manager> {
     alloc: Global,
@@ -61,7 +63,7 @@ impl<H: Manager> LargeHeap<H> {
         }
     }
 
-    /// The inner manager.
+    /// Lends the inner manager.
     pub fn inner(&self) -> &H
         ensures { H.state result.now ≡ self.now.inner }
     {
@@ -76,9 +78,10 @@ impl<H: Manager> LargeHeap<H> {
         self.is_open
     }
 
-    /// Opens an empty heap with these settings; an open heap loses its objects. Allocates all memory, for
-    /// the inner manager and a length for each proxy. After `OutOfMemory` the heap is closed, and the
-    /// inner manager is unchanged or closed; the heap may be opened again.
+    /// Opens an empty heap with the settings `s`, whose bound is 1; an open heap loses its objects.
+    /// Allocates all memory: that of the inner manager, and a table with a length for each proxy. After
+    /// `OutOfMemory` the heap is closed, and the inner manager is unchanged or closed; the heap may be
+    /// opened again.
     pub fn open_heap(&mut self, s: &Settings) -> Result<(), OutOfMemory>
         requires pages { IsPaged self.old.inner.kind }
         requires one { s.now.k ≡ 1 }
@@ -118,8 +121,8 @@ impl<H: Manager> LargeHeap<H> {
         }
     }
 
-    /// Removes an object and its parts. It fails with `NotLive` if the handle isn't that of an object,
-    /// so also for that of a part, and changes nothing.
+    /// Removes an object, and its spine and parts if it is longer than a page. It fails with `NotLive` if the
+    /// handle isn't that of an object, for instance if it is that of a part, and then changes nothing.
     pub fn free(&mut self, h: Handle, meter: &mut Meter) -> Result<(), NotLive>
         requires { IsTrue self.old.is_open }
         ensures step { IsLargeFree self.old h.0 result self.new }
@@ -200,7 +203,7 @@ impl<H: Manager> LargeHeap<H> {
         h
     }
 
-    /// Frees an object of `bytes` bytes.
+    /// Frees the live object h, which has `bytes` bytes.
     fn release_object(&mut self, h: Handle, bytes: u32, meter: &mut Meter)
         requires open { IsTrue self.old.is_open }
         requires found { option_map length (get self.old.objects h.0) ≡ Some bytes }
@@ -223,8 +226,8 @@ impl<H: Manager> LargeHeap<H> {
         }
     }
 
-    /// The length of an object that has `count` bytes from byte `at` on. It fails with `Unknown` if the
-    /// handle isn't that of an object, with `Range` if the bytes pass the object's end.
+    /// Checks that the object h has `count` bytes from byte `at` on, and returns its length in bytes. It fails
+    /// with `Unknown` if the handle isn't that of an object, with `Range` if the bytes pass the object's end.
     fn length_for(&self, h: Handle, at: u32, count: usize) -> Result<u32, AccessFault>
         requires { IsTrue self.now.is_open }
         ensures found { IfOk result (λ n. option_map length (get self.now.objects h.0) ≡ Some n) }
@@ -243,8 +246,8 @@ impl<H: Manager> LargeHeap<H> {
     }
 }
 
-/// A table with an entry for each proxy, in which no handle has a length; `AllocError` if the allocation
-/// fails.
+/// A table with an entry for each proxy, in which no handle has a length. It returns `AllocError` if the
+/// allocation fails.
 fn no_lengths(alloc: Global, proxies: u32) -> Result<Vec<Option<u32>>, AllocError>
     ensures { IfOk result (λ lengths. lengths.items ≡ vacant proxies) }
 {

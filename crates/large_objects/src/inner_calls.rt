@@ -1,4 +1,5 @@
-//! Calls of an inner manager that it doesn't refuse: each function requires room or a live object.
+//! Calls of the inner manager that it can't refuse: each function requires that there is room, or that the
+//! inner object is live and has the bytes.
 ghost use Rattle.std.specs.Prelude.{◌≡◌, ℕ, List, Some, length, take, drop};
 ghost use Rattle.std.specs.FinMap.{get};
 ghost use Rattle.page_model.specs.Held.{objects};
@@ -21,7 +22,7 @@ pub(crate) fn make_inner<H: Manager>(inner: &mut H, bytes: u32, meter: &mut Mete
     }
 }
 
-/// Writes bytes into an inner object from byte `at` on.
+/// Writes these bytes into the live inner object `object`, from its byte `at` on.
 pub(crate) fn write_inner<H: Manager>(
     inner: &mut H,
     object: Handle,
@@ -37,7 +38,7 @@ pub(crate) fn write_inner<H: Manager>(
     let _ = inner.write(object, at, bytes, meter.steps());
 }
 
-/// Fills `out` with bytes of an inner object, from byte `at` on.
+/// Fills `out` with bytes of the live inner object `object`, from its byte `at` on.
 pub(crate) fn read_inner<H: Manager>(
     inner: &H,
     object: Handle,
@@ -53,7 +54,7 @@ pub(crate) fn read_inner<H: Manager>(
     let _ = inner.read(object, at, out, meter.steps());
 }
 
-/// Frees an inner object.
+/// Frees the live inner object `object`.
 pub(crate) fn release_inner<H: Manager>(inner: &mut H, object: Handle, meter: &mut Meter)
     requires ready { IsReady (H.state inner.old) }
     requires live { HasInner (H.state inner.old) object.0 0 0 }

@@ -23,9 +23,9 @@ ghost use Rattle.large_objects.specs.LargeSteps.{GivesLarge, IsLargeFault, IsRef
 ghost use Rattle.large_objects.specs.InnerObjects.{inner_live, part_count};
 ghost use Rattle.large_objects.specs.Playing.{BeginsLarge, RunsLarge, large_heap};
 
-/// If a malloc makes an object, no cause of a refusal holds; and at most one cause holds at a time. So a
-/// malloc is refused with a cause if and only if the cause holds. If a write is done, no cause of a fault
-/// holds.
+/// Clause `malloc`: if a malloc of n bytes makes an object, no cause of a refusal held before it. Clause
+/// `one_cause`: at most one cause holds at a time. So a malloc is refused with a cause if and only if the
+/// cause holds. Clause `write`: if a write is done, no cause of a fault held before it.
 pub fn refusals_come_exactly_by_their_causes()
     ensures malloc { (old new : LargeState) (h n : ℕ) (e : Refusal)
         → GivesLarge old h n new → ¬ IsRefusedLarge old n e }
@@ -35,21 +35,22 @@ pub fn refusals_come_exactly_by_their_causes()
         → WritesLarge old part bytes new → ¬ IsLargeFault old part (length bytes) e }
 {}
 
-/// The inner manager uses exactly the pages that the inner objects of all objects need, computed from the
-/// lengths of the objects, since every bound is 1.
+/// In an open heap of large objects, the inner manager uses exactly the pages that the inner objects of all
+/// objects need, computed from the lengths of the objects, since every bound is 1.
 pub fn pages_in_use_are_those_of_the_inner_objects()
     ensures { (s : LargeState) → KeepsParts s
         → used_pages (paging_in s.inner) s.inner.held ≡ pages_for (paging_in s.inner) (inner_live (paging_in s.inner) (part_bytes_in s) s.objects) }
 {}
 
-/// The parts of an object hold its bytes, and less than one part is unused.
+/// An object of n bytes is cut into as many parts of u bytes as it needs: they have room for all its bytes,
+/// and fewer than u bytes of them are unused.
 pub fn parts_are_as_many_as_needed()
     ensures enough { (u n : ℕ) → 0 < u → n ≤ u * part_count u n }
     ensures few { (u n : ℕ) → 0 < u → u * part_count u n < n + u }
 {}
 
-/// After a write, a read of the same bytes of the object returns what was written, and no other object has
-/// changed.
+/// Clause `same`: after a write of bytes into an object, a read of equally many from the same place returns
+/// what was written. Clause `others`: the write has changed no other object.
 pub fn what_is_written_is_read()
     ensures same { (old new : LargeState) (part : Part) (bytes out : List ℕ)
         → WritesLarge old part bytes new → ReadsLarge new part (length bytes) out → out ≡ bytes }
@@ -65,8 +66,9 @@ pub fn reads_give_what_was_written()
         → RunsLarge kind None items replies new → AreReadsOf None items replies }
 {}
 
-/// Over any manager with pages a run can begin with any settings in their ranges. In each state of a run
-/// every command of the grammar has a reply, and the run is in progress after it.
+/// Over a manager of any kind with pages a run can begin with any settings in their ranges, and then is in
+/// progress. In each state of a run in progress every command that a script can contain has a reply, and the
+/// run is in progress after it.
 pub fn each_command_has_its_turn()
     ensures begins { (kind : Kind) (p : Profile) → IsPaged kind → AreInRange p
         → (new : LargeRun) × BeginsLarge kind p new }
@@ -77,7 +79,7 @@ pub fn each_command_has_its_turn()
         → LargeStep old command reply new → IsGoingLarge new }
 {}
 
-/// There is a run over the items of any bytes, and each run over a prefix can go on to the end.
+/// There is a run over the items of any bytes, and each run over a prefix of them can be continued to the end.
 pub fn a_long_run_can_always_go_on()
     ensures there { (kind : Kind) (given : List ℕ) (ended : Bool) → IsPaged kind
         → (replies : List Reply) × (new : Option LargeRun) × RunsLarge kind None (items given ended) replies new }

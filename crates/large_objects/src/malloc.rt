@@ -1,4 +1,5 @@
-//! Makes the inner objects of a new object.
+//! Makes the inner objects of a new object: one if it fits a page, else a spine and its parts. In all
+//! functions `part_bytes` is the bytes of a whole part, the largest object that fits a page.
 ghost use Rattle.std.specs.Prelude.{◌≡◌, ◌*◌, ◌<◌, ◌^◌};
 ghost use Rattle.large_objects.specs.Growing.{Grows, HasObjectRoom, Makes, NamesPart};
 ghost use Rattle.large_objects.specs.InnerCalls.{HasInner, HasInnerRoom, IsReady};
@@ -43,7 +44,8 @@ fn make_long<H: Manager>(inner: &mut H, bytes: u32, part_bytes: u32, meter: &mut
     spine
 }
 
-/// Makes a part of `bytes` bytes, and writes its handle into place i of the spine.
+/// Makes a part of `bytes` zero bytes, and writes its handle into place i of the spine: its four bytes from
+/// byte 4 i on.
 fn make_part<H: Manager>(inner: &mut H, spine: Handle, i: u32, bytes: u32, meter: &mut Meter)
     requires ready { IsReady (H.state inner.old) }
     requires room { HasInnerRoom (H.state inner.old) bytes }

@@ -26,8 +26,8 @@ pub struct LargePlayer {
 }
 
 impl LargePlayer {
-    /// A handler with a session in which no id is live. Allocates the table of all 65,536 ids; the result
-    /// is `OutOfMemory` if that fails.
+    /// A handler with a new session, in which no id is live. Allocates the table of all 65,536 ids, and fails
+    /// with `OutOfMemory` if there is no memory for it.
     pub fn start(rt: &HostRuntime, alloc: Global) -> Result<LargePlayer, OutOfMemory>
         ensures { IfOk result (λ p. p.session ≡ map.empty) }
     {
@@ -48,6 +48,7 @@ impl<H: Manager> Player<LargeHeap<H>> for LargePlayer {
 
     ghost semantics = { large_heap };
 
+    /// Opens the heap with the settings of the `heap` line, but the bound 1, and writes the reply `ok`.
     fn open<K: Sink>(
         &mut self,
         heap: &mut LargeHeap<H>,
@@ -66,6 +67,7 @@ impl<H: Manager> Player<LargeHeap<H>> for LargePlayer {
         Ok(())
     }
 
+    /// Does the command on the heap and writes its reply.
     fn answer<K: Sink>(
         &mut self,
         heap: &mut LargeHeap<H>,
@@ -78,9 +80,10 @@ impl<H: Manager> Player<LargeHeap<H>> for LargePlayer {
     }
 }
 
-/// Answers each line of a script before it takes the next chunk: the `heap` line opens the heap, with the
-/// bound 1 for each class, and each command is done on its objects. It stops at a bad line, if the source
-/// or the sink fails, if an allocation fails at the `heap` line, and after 268,435,455 bytes.
+/// Runs the script of a source on the heap, and writes the replies to a sink; the status says how it ended.
+/// The `heap` line opens the heap, with the bound 1 for each class; each later command is done on its
+/// objects. Each complete line has its reply before the next chunk is taken. The run stops at a bad line,
+/// if the source or the sink fails, if an allocation fails at the `heap` line, and after 268,435,455 bytes.
 pub fn run_large<H: Manager, S: Source, K: Sink>(
     player: &mut LargePlayer,
     heap: &mut LargeHeap<H>,

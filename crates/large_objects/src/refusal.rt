@@ -15,7 +15,8 @@ use cf_model::Manager;
 use step_ledger::Meter;
 
 impl<H: Manager> LargeHeap<H> {
-    /// Why the heap refuses an object of `bytes` bytes; none if it doesn't.
+    /// Why the heap would refuse a malloc of `bytes` bytes; `None` if it would not. The causes are tested
+    /// in the order `Size`, `Proxy`, `Space`, and nothing changes.
     pub(crate) fn refusal(&self, bytes: u32, meter: &mut Meter) -> Option<Refusal>
         requires { IsTrue self.now.is_open }
         ensures cause { MatchOption result (HasRoom self.now bytes) (λ e. IsRefusedLarge self.now bytes e) }
@@ -35,7 +36,8 @@ impl<H: Manager> LargeHeap<H> {
     }
 }
 
-/// The number of pages that all inner objects need with those of one more object of `bytes` bytes.
+/// The number of pages that all inner objects need together with those of one more object of `bytes` bytes:
+/// for each class the inner objects over the slots of a page, rounded up.
 fn pages_with<H: Manager>(inner: &H, bytes: u32, part_bytes: u32) -> u64
     requires some { 0 < part_bytes }
     requires fits { FitsSpine part_bytes bytes }
@@ -44,7 +46,7 @@ fn pages_with<H: Manager>(inner: &H, bytes: u32, part_bytes: u32) -> u64
         + in_class (paging_in (H.state inner.now)) c (inner_lengths part_bytes bytes)) }
 {
     let mut pages = 0;
-    // The number of the new object's inner objects in the classes so far.
+    // The number of the new object's inner objects in the classes before c.
     let mut before = 0;
     for c in 0..inner.classes() {
         let Some(figures) = inner.figures(c) else {

@@ -1,4 +1,5 @@
-//! A session over a heap of large objects.
+//! A session over a heap of large objects: it maps a script's ids to handles, does each command, and writes
+//! its reply.
 ghost use Rattle.std.specs.Prelude.{◌≡◌, ◌<◌, ◌≤◌, [], IsTrue, IfOk, OnErr, length, OnOk};
 ghost use Rattle.std.specs.FinMap as map;
 ghost use Rattle.cf_io.specs.Feeds.{FailsLast};
@@ -24,10 +25,10 @@ use std::alloc::Global;
 use std::marker::Model;
 use step_ledger::Meter;
 
-/// The most bytes of one read.
+/// The most bytes that one `r` reads.
 const MOST: usize = 4_096;
 
-/// The ids of the objects of one heap of large objects, and the buffer for the bytes of a read.
+/// The ids of a script with the handles that they name in one heap of large objects, and a buffer.
 #[derive(Drop)]
 pub struct LargeSession {
     ids: IdTable,
@@ -46,8 +47,8 @@ impl Model for LargeSession {
 }
 
 impl LargeSession {
-    /// A session in which no id is live. Allocates the table of all 65,536 ids; the result is
-    /// `OutOfMemory` if that fails.
+    /// A new session, in which no id is live. Allocates the table of all 65,536 ids, and fails with
+    /// `OutOfMemory` if there is no memory for it.
     pub fn start(alloc: Global) -> Result<LargeSession, OutOfMemory>
         ensures { IfOk result (λ s. s ≡ map.empty) }
     {
@@ -57,8 +58,9 @@ impl LargeSession {
         })
     }
 
-    /// Does the command on the heap and writes its reply, built in `line`. If the sink fails, the result
-    /// is `Failed`: the command has taken effect, and a prefix of its reply was written.
+    /// Does the command c on the heap, builds its reply in `line`, and writes it to the sink `out`. If the
+    /// sink fails, the result is `Failed`: the command has taken effect, and a prefix of its reply was
+    /// written.
     pub fn apply<H: Manager, K: Sink>(
         &mut self,
         heap: &mut LargeHeap<H>,
@@ -80,7 +82,7 @@ impl LargeSession {
         self.apply_ref(heap, c.as_ref(), line, out, meter)
     }
 
-    /// `apply` for a command with borrowed bytes.
+    /// The same as `apply`, for a command whose bytes are borrowed.
     pub fn apply_ref<H: Manager, K: Sink>(
         &mut self,
         heap: &mut LargeHeap<H>,
@@ -105,7 +107,7 @@ impl LargeSession {
     }
 }
 
-/// Does the command on the heap and writes its reply to the sink. If the sink fails, the result is
+/// Does the command c on the heap and writes its reply to the sink `out`. If the sink fails, the result is
 /// `Failed`: the command has taken effect, and a prefix of its reply was written.
 fn answer<H: Manager, K: Sink>(
     ids: &mut IdTable,
@@ -141,7 +143,8 @@ fn answer<H: Manager, K: Sink>(
     }
 }
 
-/// Does a command that is no report (`walk` or `frag`), and writes the text of its reply on the line.
+/// Does a command that is no report (`walk` or `frag`), and builds the text of its reply in `line`. The reply
+/// to a command of another mode is `none`.
 fn speak<H: Manager>(
     ids: &mut IdTable,
     heap: &mut LargeHeap<H>,

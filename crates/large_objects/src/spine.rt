@@ -1,4 +1,4 @@
-//! The handles in a spine.
+//! Reads the handles of a long object's parts from its spine.
 ghost use Rattle.std.specs.Prelude.{◌≡◌, ◌*◌};
 ghost use Rattle.page_model.specs.Held.{objects};
 ghost use Rattle.large_objects.specs.InnerCalls.{HasInner, IsReady};
@@ -9,7 +9,8 @@ use cf_base::Handle;
 use cf_model::Manager;
 use step_ledger::Meter;
 
-/// The handle of part i, read from the spine: four bytes from byte 4 i on, the least significant first.
+/// The handle of part i, counted from 0. It is read from the spine's bytes: four from byte 4 i on, the least
+/// significant first.
 pub(crate) fn part_handle<H: Manager>(inner: &H, spine: Handle, i: u32, meter: &mut Meter) -> Handle
     requires ready { IsReady (H.state inner.now) }
     requires has { HasInner (H.state inner.now) spine.0 (4 * i) 4 }

@@ -25,21 +25,24 @@ is_idle (Clear k) e = (let no : Some k ≡ None = e in cc)
 is_idle (Move h k) e = (let no : Some k ≡ None = e in cc)
 
 module _ (plan : Plan) where
+  -- n slices and then one more are n + 1 slices
   pub slices_more : (n : ℕ) (old mid new : Sliced) → AreSlices plan n old mid → IsSlice plan mid new → AreSlices plan (suc n) old new
   slices_more zero old mid new same slice = (new, subst (λ s. IsSlice plan s new) same slice, refl)
   slices_more (suc n) old mid new (first, is, rest) slice = (first, is, slices_more n first mid new rest slice)
 
+  -- slices change no object's bytes
   pub objects_after : (n : ℕ) (old new : Sliced) → AreSlices plan n old new → objects new.held ≡ objects old.held
   objects_after zero old new same = ap (λ (s : Sliced). objects s.held) same
   objects_after (suc n) old new (mid, is, rest) = objects_after n mid new rest ∙ objects_sliced plan old mid is
 
-  -- what the law on slices says of a pending job
+  -- from the law on slices (`slices_alone_end_every_job`): after enough slices no job is pending
   abbrev pub EndsBySlices : Type 0
   EndsBySlices = (old new : Sliced) (k : JobSlot) → IsPlan plan → IsKept plan old → job_slot old.job ≡ Some k
       → AreSlices plan (ceil_div (slot_words plan.paging k.class - k.done) plan.quantum + ceil_div (slot_words plan.paging k.class) plan.quantum) old new
       → new.job ≡ Idle
 
   module _ (ok : IsPlan plan) (ends : EndsBySlices) where
+    -- after n slices no job is pending, if n is at least twice the slices of a page
     pub idle_after : (n : ℕ) (old new : Sliced) → IsKept plan old → 2 * ceil_div plan.paging.page_words plan.quantum ≤ n → AreSlices plan n old new
         → new.job ≡ Idle
     idle_after n old new kept enough s = go (job_slot old.job) refl
@@ -57,6 +60,7 @@ module _ (plan : Plan) where
             let parts = slices_split plan c (n - c) old new (subst (λ m. AreSlices plan m old new) (sym sum) s) in
             slices_idle plan (n - c) parts.0 new (ends old parts.0 k ok kept e parts.1) parts.2
 
+-- the same of heaps: `mid` is the heap after n slices, `new` after one more
 pub next_slice : (old mid new : SlicedState) (n : ℕ) → StaysOpen old mid → AreSlices (plan_in old) n (working_in old).state (working_in mid).state
     → IsSlice (plan_in mid) (working_in mid).state (working_in new).state
     → AreSlices (plan_in old) (n + 1) (working_in old).state (working_in new).state
@@ -66,9 +70,11 @@ next_slice old mid new n stays slices slice =
     subst (λ k. AreSlices (plan_in old) k (working_in old).state (working_in new).state) e
     (slices_more (plan_in old) n (working_in old).state (working_in mid).state (working_in new).state slices is)
 
+-- a heap that stays open twice stays open
 pub stays_on : (old mid new : SlicedState) → StaysOpen old mid → StaysOpen mid new → StaysOpen old new
 stays_on old mid new a b = record { is_open = b.is_open ∙ a.is_open; profile = b.profile ∙ a.profile; quantum = b.quantum ∙ a.quantum; region = b.region ∙ a.region }
 
+-- steps: n slices of at most q steps each, and one more, add at most (n + 1) * q
 pub one_more : (old mid new n q r : ℕ) → RoseAtMost old mid (n * q) → RoseAtMost mid new r → r ≡ q → RoseAtMost old new ((n + 1) * q)
 one_more old mid new n q r a b same =
     let low = a.kept in
@@ -78,15 +84,17 @@ one_more old mid new n q r a b same =
     let m : (n + 1) * q ≡ n * q + q = omega arith in
     record { kept = omega arith; bound = rw m (omega arith) }
 
--- a free, slices and a malloc: `old`, `freed`, `ready` and `new` are the heap before each of them and at the end
+-- a free, n slices and a malloc: the heap is `old` before the free, `freed` after it, `ready` after the slices, and `new` after the malloc
 module _ (old freed ready : SlicedState) (last n : ℕ) (rules : KeepsRules old)
     (free : Happens (plan_in old) (working_in old) (Free last None) (working_in freed))
     (slices : AreSlices (plan_in freed) n (working_in freed).state (working_in ready).state) (rules' : KeepsRules ready) where
+  -- after the free and the slices the objects are all but the last frame
   left : objects ready.held ≡ others old last
   left =
       let gone = call_on_map (plan_in old) rules.plan (working_in old) (Free last None) (working_in freed) rules.consistent free in
       objects_after (plan_in freed) n (working_in freed).state (working_in ready).state slices ∙ gone.0.1
 
+  -- a malloc that succeeds then makes the new frame
   pub has_frame : (new : SlicedState) (bytes : ℕ) (frame : Handle) → Happens (plan_in ready) (working_in ready) (Malloc bytes (Ok frame)) (working_in new)
       → HasFrame old last bytes frame.0 new
   has_frame new bytes frame malloc =
@@ -96,6 +104,7 @@ module _ (old freed ready : SlicedState) (last n : ℕ) (rules : KeepsRules old)
         whole = come.0.1 ∙ ap (λ m. insert m frame.0 (replicate bytes 0)) left;
       }
 
+  -- a malloc that is refused then leaves these objects
   pub has_none : (new : SlicedState) (bytes : ℕ) (cause : SliceRefusal) → StaysOpen ready new
       → IsRefusedBy (plan_in ready) (working_in ready).state bytes cause → working_in new ≡ working_in ready
       → IsRefusedBy (plan_in new) (working_in new).state bytes cause × (objects new.held ≡ others old last)
@@ -106,10 +115,11 @@ module _ (old freed ready : SlicedState) (last n : ℕ) (rules : KeepsRules old)
         ap (λ (t : Sliced). objects t.held) s ∙ left,
       )
 
--- what the law on refusals says of `Busy`
+-- from the law on refusals (`a_malloc_waits_for_a_job_alone`): without a pending job a malloc is not refused as `Busy`
 abbrev pub WaitsForJob : Type 0
 WaitsForJob = (plan : Plan) (s : Sliced) (bytes : ℕ) → IsPlan plan → IsKept plan s → WantsSlot plan s bytes → s.job ≢ Idle
 
+-- after a free and n slices, at least twice those of a page, a malloc is not refused as `Busy`
 pub not_busy : ((plan : Plan) → EndsBySlices plan) → WaitsForJob → (old freed ready : SlicedState) (n bytes : ℕ) (cause : SliceRefusal) → StaysOpen old freed
     → KeepsRules freed → KeepsRules ready → 2 * ceil_div old.profile.page_words old.quantum ≤ n
     → AreSlices (plan_in freed) n (working_in freed).state (working_in ready).state → IsRefusedBy (plan_in ready) (working_in ready).state bytes cause

@@ -1,4 +1,4 @@
--- For `store`: a write into an object that was just made is not refused, and the object has the bytes.
+-- For `store` and `first_object`: a write into an object that was just made is not refused, and the object then begins with the bytes.
 use Rattle.std.proofs.Common.{◌≡◌, ℕ, ◌+◌, ◌-◌, ◌≤◌, List, [], ◌∷◌, ◌++◌, Some, length, take, drop, replicate, arith, sym, ◌∙◌, ap, refl}
 use Rattle.std.specs.Prelude.{Result, Ok, Err, None, IfOk, OnOk}
 use Rattle.std.specs.Result.{result_ok}
@@ -27,7 +27,7 @@ take_none : (v : List ℕ) → take 0 v ≡ []
 take_none [] = refl
 take_none (x ∷ v) = refl
 
--- bytes that are written over the start of zeros
+-- n zeros over whose start `bytes` are written: the bytes, then the zeros that are left
 over_zeros : (bytes : List ℕ) (n : ℕ) → written (replicate n 0) 0 bytes ≡ bytes ++ replicate (n - length bytes) 0
 over_zeros bytes n =
     let start : 0 + length bytes ≡ length bytes = omega arith in
@@ -49,7 +49,7 @@ module _ (old made after : HeapState) (asked : Request) (bytes : List ℕ) (give
       let long : length fault.object.bytes ≡ asked.length = ap (λ (x : Placed). length x.bytes) whole ∙ length-replicate asked.length 0 in
       let past = fault.past in let no : ⊥ = omega arith in elim no [ ]
 
-  -- it has the bytes, and zeros after them
+  -- after the write the object has the bytes, and zeros behind them
   has : (r : Result Unit AccessFault) → IsWriteStep made (start_of asked.number) bytes r after
       → objects after.held ≡ insert (objects old.held) asked.number (bytes ++ replicate (asked.length - length bytes) 0)
   has r step =
@@ -61,13 +61,13 @@ module _ (old made after : HeapState) (asked : Request) (bytes : List ℕ) (give
       ∙ ap (λ (x : Placed). insert (objects old.held) asked.number (written x.bytes 0 bytes)) whole
       ∙ ap (insert (objects old.held) asked.number) (over_zeros bytes asked.length)
 
--- an object that is made and then written has these bytes
+-- after a malloc of 176 bytes and a write of `bytes` from byte 0 on, the object h has `begun bytes`
 pub is_stored : (old made after : HeapState) (h : ℕ) (bytes : List ℕ) (w : Result Unit AccessFault)
     → GivesObject old (record { number = h; length = 176 }) made → length bytes ≤ 176
     → IsWriteStep made (start_of h) bytes w after → objects after.held ≡ insert (objects old.held) h (begun bytes)
 is_stored old made after h bytes w given fits step = has old made after (record { number = h; length = 176 }) bytes given fits w step
 
--- a heap that was opened and then took one object has no other one
+-- a heap that was opened empty, and in which one object was stored, has this object alone
 pub one_is_there : (o : Result Unit OutOfMemory) (r : Result Handle Refusal) (u : Unit) (given : Handle) (kind : Kind) (s : Settings)
     (opened stored : HeapState) (bytes : List ℕ) → Some u ≡ result_ok o → Some given ≡ result_ok r → OnOk o (IsEmptyHeap kind s opened)
     → StaysOpen opened stored → IfOk r (λ h. objects stored.held ≡ insert (objects opened.held) h.0 (begun bytes)) → HoldsOne stored given.0 bytes

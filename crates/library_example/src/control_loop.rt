@@ -1,5 +1,5 @@
-//! A control loop on the sliced heap: each cycle frees a frame (an object of its data) and makes the
-//! next, in at most a number of steps that is known beforehand.
+//! An example: one cycle of a control loop on the sliced heap. It frees the object with the data of the
+//! last cycle (a frame) and makes the next one, in at most a number of steps that is known beforehand.
 ghost use Rattle.std.specs.Prelude.{◌≡◌, ◌≢◌, ◌+◌, ◌*◌, ◌≤◌, IsTrue, IfErr, IfOk, Err};
 ghost use Rattle.page_model.specs.Counts.{ceil_div};
 ghost use Rattle.slice_model.specs.declared.answers.SliceRefusal.TheVariants.{Busy};
@@ -15,7 +15,7 @@ use slice_model::{
 use sliced_heap::SlicedHeap;
 use step_ledger::Steps;
 
-/// The cause if a cycle has no new frame.
+/// The cause if a cycle makes no new frame.
 #[derive(Clone, Copy, Debug, PartialEq, Eq)]
 pub enum Missed {
     /// The free of the last frame was refused; nothing has changed.
@@ -25,8 +25,9 @@ pub enum Missed {
 }
 
 /// Does one cycle: frees the last frame, calls `step` `slices` times for the job that the free left,
-/// and makes the next frame, of `bytes` zeros. The bytes of every other object are unchanged. If
-/// `slices` is at least twice the number of slices of a page, the malloc is never refused as `Busy`.
+/// and makes the next frame, of `bytes` zeros. Returns its handle, or the call that was refused and its
+/// cause. The bytes of every other object are unchanged. If `slices` is at least twice the number of
+/// slices of a page, the malloc is never refused as `Busy`.
 pub fn next_frame(
     heap: &mut SlicedHeap,
     last: Handle,

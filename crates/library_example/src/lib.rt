@@ -1,5 +1,5 @@
-//! Examples of the heap as a library: callers whose own contracts are proved from those of `Manager` alone,
-//! and a control loop on the sliced heap.
+//! Examples of callers in Rattle. This file: callers of managers, whose contracts are proved from those of
+//! `Manager` alone. `control_loop`: a caller of the sliced heap.
 #![tactic(auto)]
 
 mod control_loop;
@@ -18,7 +18,8 @@ use std::alloc::Global;
 use step_ledger::Meter;
 
 /// Opens a moving heap of two pages of 512 bytes, with bound k = 1 and eight proxies, and makes one object,
-/// which begins with the bytes ca fe. None if out of memory.
+/// which begins with the bytes ca fe (hexadecimal). Returns the heap and the object's handle, or `None`
+/// if out of memory.
 pub fn first_object(rt: &HostRuntime, alloc: Global) -> Option<(MovingHeap, Handle)>
     ensures { IfSome result (λ r. HoldsOne r.0 r.1.0 (0xca ∷ 0xfe ∷ [])) }
 {
@@ -29,8 +30,8 @@ pub fn first_object(rt: &HostRuntime, alloc: Global) -> Option<(MovingHeap, Hand
     Some((heap, object))
 }
 
-/// Makes an object of 176 bytes on any manager, and writes its first two bytes. Fails if the malloc is
-/// refused.
+/// Makes an object of 176 bytes on any manager, and writes `bytes` as its first two. Returns its handle, or
+/// the refusal of the malloc.
 pub fn store<M: Manager>(
     heap: &mut M,
     bytes: &[u8; 2],
@@ -48,8 +49,8 @@ pub fn store<M: Manager>(
     Ok(object)
 }
 
-/// Reads the first two bytes of an object, and frees it. Fails if the handle is not live or the object
-/// has fewer than two bytes.
+/// Reads the first two bytes of an object, frees it, and returns the bytes. Fails if the handle is not live
+/// or the object has fewer than two bytes; then it is not freed.
 pub fn take_out<M: Manager>(
     heap: &mut M,
     object: Handle,

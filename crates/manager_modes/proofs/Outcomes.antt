@@ -1,4 +1,4 @@
--- From what a script, an image or a bench did to the outcome of its mode.
+-- From the contract of the function that a mode calls (`run_script`, `play_script`, `run_bench`, `save_script`, `load_script`) to `Ends` of that mode.
 use Rattle.std.proofs.Common.{◌≡◌, ◌≢◌, ◌<◌, ◌⊎◌, ◌∙◌, arith, ℕ, Bool, List, Option, Some, None, refl, ap, sym, subst, length, get_or, set, map, inl, inr}
 use Rattle.std.proofs.lemmas.List.{get_or-map, length-map, map-set}
 use Rattle.std.specs.Prelude.{is_some}
@@ -23,7 +23,7 @@ use Rattle.bench_run.specs.Bench.{EndsBench}
 use Rattle.command_line.specs.declared.choice.Choice.{Choice}
 use Rattle.manager_modes.specs.Outcomes.{Benches, Compares, Ends, Handed, Loads, OrLacks, PlaysOwn, Runs, Saves, effects_of, handed}
 
--- what a mode asks was done, and nothing was written if it ran out of memory
+-- `OrLacks`, if `Does` holds and nothing was written if memory ran out
 or_lacks : (Does : Handed → Status → Handed → Type 0) (old : Handed) (st : Status) (new : Handed)
     → (st ≡ OutOfMemory → new.sink.written ≡ old.sink.written) → Does old st new → OrLacks Does old st new
 or_lacks Does old OutOfMemory new silent done = (silent refl, inr done)
@@ -35,7 +35,7 @@ or_lacks Does old WriteFault new silent done = done
 or_lacks Does old TooLong new silent done = done
 or_lacks Does old BadImage new silent done = done
 
--- what a mode asks was done, with these causes
+-- `Ends`, if `Does` holds, the status has its causes, and kinds and promises are kept
 pub ends_of : (Does : Handed → Status → Handed → Type 0) (s : SourceState) (k : SinkState) (hs : List HeapState) (st : Status) (s' : SourceState)
     (k' : SinkState) (hs' : List HeapState)
     → HasCauses s k st s' k' → map (λ (h : HeapState). h.kind) hs' ≡ map (λ h. h.kind) hs
@@ -54,7 +54,7 @@ ends_of Does s k hs st s' k' hs' causes kinds orders done = record {
 
 module _ (kind : Kind) (s s' : SourceState) (k k' : SinkState) (st : Status) (causes : HasCauses s k st s' k') (session : SessionState) (end : RunState)
     (fresh : session ≡ fresh_session) where
-  -- a script ran on one that was made for it, since none of the given ones is of the kind
+  -- mode `run` on a manager made for the script, since none of the given managers is of the kind
   pub own_ends : (old : HeapState) → old ≡ closed_state kind → (hs : List HeapState) → first_of_kind kind hs ≡ None
       → one_manager.plan end ≡ one_manager.plan (run_at session old)
       → MeetsOutcome one_manager (run_at session old) (effects_of (handed s k hs) st (handed s' k' hs)) end
@@ -67,7 +67,7 @@ module _ (kind : Kind) (s s' : SourceState) (k k' : SinkState) (st : Status) (ca
     promise = ap (λ (p : Kind × Bool). p.1) plan ∙ ap (λ (h : HeapState). is_some h.order) (closed ∙ sym (chosen_none kind hs none));
   })
 
-  -- a script ran on the first of the kind
+  -- mode `run` on the first manager of the kind
   module _ {X : Type 0} (f : X → HeapState) (ms : List X) (i : ℕ) (x n : X) (first : first_of_kind kind (map f ms) ≡ Some i) (is : x ≡ get_or ms i x)
       (end_is : end.heap ≡ f n) where
     lt : i < length ms
@@ -97,7 +97,7 @@ module _ (kind : Kind) (s s' : SourceState) (k k' : SinkState) (st : Status) (ca
           promise = promise;
         })
 
--- a script ran on each of many
+-- mode `compare`
 pub each_ends : (s s' : SourceState) (k k' : SinkState) (st : Status) (causes : HasCauses s k st s' k') → {X : Type 0} (f : X → HeapState)
     (ss : List SessionState) (ms : List X) → AreFresh (length ms) ss → (ss' : List SessionState) (ms' : List X)
     → many_managers.plan (side_by_side_at ss' (map f ms')) ≡ many_managers.plan (side_by_side_at ss (map f ms))
@@ -125,7 +125,7 @@ bench_status ReadFault seed count from to before after done = absurd done.writte
 bench_status TooLong seed count from to before after done = absurd done.written
 bench_status BadImage seed count from to before after done = absurd done.written
 
--- a manager that was made for them ran the commands of a seed
+-- mode `bench`
 module _ (choice : Choice) (k k' : SinkState) (st : Status) (session : SessionState) (old : HeapState) (end : RunState) (fresh : session ≡ fresh_session)
     (closed : old ≡ closed_state choice.kind) (promise : KeepsPromise old end.heap) (outcome : EndsBench st choice.seed choice.count (run_at session old) end k.written k'.written)
     (firm : st ≢ WriteFault → k'.faults ≡ k.faults) (fault : st ≡ WriteFault → FailsLast k.faults k'.faults k'.failed) where
@@ -160,14 +160,14 @@ module _ (choice : Choice) (k k' : SinkState) (st : Status) (session : SessionSt
         untouched = refl;
       })
 
--- a script ran on a heap that was made for it
+-- a mode that runs a script on a heap of its own
 pub made_ends : {S P : Type 0} (m : Semantics S P) (IsMade : S → Type 0) (s s' : SourceState) (k k' : SinkState) (hs : List HeapState) (st : Status)
     → HasCauses s k st s' k' → (begin end : S) → IsMade begin → MeetsOutcome m begin (effects_of (handed s k hs) st (handed s' k' hs)) end
     → Ends (PlaysOwn m IsMade) (handed s k hs) st (handed s' k' hs)
 made_ends m IsMade s s' k k' hs st causes begin end made met = ends_of (PlaysOwn m IsMade) s k hs st s' k' hs causes refl refl
     (record { begin = begin; made = made; end = end; outcome = met; untouched = refl })
 
--- a moving manager was made, and its session begun
+-- modes `save` and `load`, on a moving manager that was made for them, with a new session
 module _ (s s' : SourceState) (k k' : SinkState) (hs : List HeapState) (st : Status) (session : SessionState) (old : HeapState) (end : RunState)
     (fresh : session ≡ fresh_session) (closed : old ≡ closed_state Moving) where
   begun : run_at session old ≡ run_at fresh_session (closed_state Moving)
@@ -176,7 +176,7 @@ module _ (s s' : SourceState) (k k' : SinkState) (hs : List HeapState) (st : Sta
   abbrev call : Effects
   call = effects_of (handed s k hs) st (handed s' k' hs)
 
-  -- a script was saved
+  -- mode `save`
   pub saved_ends : HasCauses s k st s' k' → KeepsPromise old end.heap → EndsSave (run_at session old) call end → Ends Saves (handed s k hs) st (handed s' k' hs)
   saved_ends causes promise ends = ends_of Saves s k hs st s' k' hs causes refl refl (record {
     end = end;
@@ -188,7 +188,7 @@ module _ (s s' : SourceState) (k k' : SinkState) (hs : List HeapState) (st : Sta
   abbrev call_as : Status → Effects
   call_as st = effects_of (handed s k hs) st (handed s' k' hs)
 
-  -- an image was loaded
+  -- mode `load`
   pub loaded_ends : (st ≢ ReadFault → s'.faults ≡ s.faults) → (st ≡ ReadFault → FailsLast s.faults s'.faults s'.failed)
       → (st ≢ WriteFault → k'.faults ≡ k.faults) → (st ≡ WriteFault → FailsLast k.faults k'.faults k'.failed) → EndsLoad (run_at session old) call end
       → Ends Loads (handed s k hs) st (handed s' k' hs)

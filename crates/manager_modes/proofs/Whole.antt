@@ -1,4 +1,5 @@
--- What follows from the outcome of a mode, over every source and sink.
+-- What follows from `Ends` of each mode: if the input is right and neither source nor sink failed, the status is `Done` or `OutOfMemory`; what was printed is
+-- as the mode claims. `top_call` cites these lemmas.
 use Rattle.std.proofs.Common.{◌≡◌, ◌∙◌, ℕ, List, Option, Some, None, true, false, refl, ap, sym, subst, arith, inl, inr}
 use Rattle.std.specs.Prelude.{Err, ⊤}
 use Rattle.cf_base.specs.declared.kind.Kind.{Kind}
@@ -32,7 +33,7 @@ use Rattle.side_by_side.specs.OwnRuns.{MeetHeadlines}
 use Rattle.manager_modes.specs.Claims.{HoldsImage, MeetsClaim}
 use Rattle.manager_modes.specs.Outcomes.{Benches, Compares, Ends, EndsWhole, Handed, Loads, OrLacks, PlaysOwn, Runs, Saves, effects_of, kinds_in}
 
--- no call ends by `Words`; one whose input is right, and that met no fault, did all that the mode asks
+-- A mode is sound: no call ends by `Words`; a call whose input is right, and that met no fault of source or sink, ends by `Done` or `OutOfMemory`.
 pub record IsSound (Does : Handed → Status → Handed → Type 0) (IsRight : Option (List ℕ) → Type 0) : Type 0 where
   pub never_words : (old new : Handed) → Does old Words new → ⊥
   pub whole : (old : Handed) (st : Status) (new : Handed) → Ends Does old st new → IsRight old.source.rest
@@ -50,7 +51,7 @@ outcome_at Does old new P lacks does WriteFault done = does WriteFault done
 outcome_at Does old new P lacks does TooLong done = does TooLong done
 outcome_at Does old new P lacks does BadImage done = does BadImage done
 
--- with no fault, a call is whole if it is for each outcome of its mode
+-- a call ends by `Done` or `OutOfMemory` if each outcome of its mode does, given the causes of its status
 whole_of : (Does : Handed → Status → Handed → Type 0) (old new : Handed)
     → ((st : Status) → Does old st new → (st ≡ ReadFault → FailsLast old.source.faults new.source.faults new.source.failed)
     → (st ≡ WriteFault → FailsLast old.sink.faults new.sink.faults new.sink.failed) → EndsWhole st)
@@ -71,7 +72,7 @@ never_bad_image m from to call is met =
     let row = some_row m from to call met in
     subst (λ (st : Status). IsRow m st from row.0 row.1 call to) is row.2
 
--- with no fault, a script with no bad line ends whole
+-- without a fault, a script within the limit and with no bad line ends by `Done` or `OutOfMemory`
 row_whole : {S P : Type 0} (m : Semantics S P) (from to : S) (all left : List ℕ) (call : Effects) (st : Status) {Read Wrote : Type 0}
     → IsRow m st from all left call to → (st ≡ ReadFault → Read) → (st ≡ WriteFault → Wrote)
     → IsClean (Some all) → ¬ Read → ¬ Wrote → EndsWhole st

@@ -1,4 +1,4 @@
--- What a mode claims of what it prints, and of what it reads.
+-- Two shapes of claims for a mode: on the replies that it prints to the items of a script, and on the image that it reads.
 use Rattle.std.specs.Prelude.{◌≡◌, ⊤, ℕ, List, [], Option, Some, None}
 use Rattle.cf_io.specs.Feeds.{appended}
 use Rattle.script_reader.specs.Items.{Item}
@@ -6,18 +6,18 @@ use Rattle.run_model.specs.Texts.{Reply, text_of}
 use Rattle.script_loop.specs.ScriptOutcome.{Effects, items_within}
 use Rattle.heap_image.specs.Decoded.{IsImage}
 
--- replies to all the items of a script were printed, and they are as claimed
+-- The call printed a reply to each of the items `wanted`, and `Claim` holds of the items and these replies.
 pub record PrintsAs (Claim : List Item → List Reply → Type 0) (wanted : List Item) (call : Effects) : Type 0 where
   pub replies : List Reply
   pub printed : call.after ≡ appended call.before (text_of [] replies)
   pub claimed : Claim wanted replies
 
--- if the source is observable, the replies printed to the bytes that it had are as claimed
+-- `PrintsAs` for the items of the bytes that the source had before the call; if it isn't observable, nothing is claimed
 abbrev pub MeetsClaim : (List Item → List Reply → Type 0) → Option (List ℕ) → Effects → Type 0
 MeetsClaim Claim None call = ⊤
 MeetsClaim Claim (Some all) call = PrintsAs Claim (items_within all) call
 
--- the source is observable, and its bytes are an image
+-- the source is observable, and the bytes that it had are a heap image
 abbrev pub HoldsImage : Option (List ℕ) → Type 0
 HoldsImage None = ⊥
 HoldsImage (Some all) = IsImage all

@@ -1,4 +1,4 @@
-//! Mode `bench`.
+//! Mode `bench`: runs generated commands on one manager of the chosen kind and prints the counts.
 ghost use Rattle.script_loop.specs.ScriptOutcome.{SourceState};
 ghost use Rattle.manager_modes.specs.Outcomes.{Benches, EndsBeside, sink_seen};
 

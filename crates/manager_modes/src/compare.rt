@@ -1,4 +1,4 @@
-//! Mode `compare`.
+//! Mode `compare`: runs one script on several managers and prints the replies of all.
 ghost use Rattle.manager_modes.specs.Outcomes.{Compares, Ends, seen};
 
 use cf_base::Status;
@@ -8,7 +8,8 @@ use script_loop::play_script;
 use side_by_side::Sessions;
 use std::alloc::Global;
 
-/// Runs a script on each of the managers, with a session each: each command in the managers' order.
+/// Runs a script on all managers. Each has a session of its own. A command is done on the first manager, then
+/// on the second, and so on, before the next command.
 pub fn compare_all<H: Manager, S: Source, K: Sink>(
     rt: &HostRuntime,
     alloc: Global,

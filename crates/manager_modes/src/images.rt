@@ -1,5 +1,6 @@
-//! Modes `save` and `load`. Their manager is behind a box, as the given managers are. So only mode `bench`
-//! instantiates a session over an unboxed manager, and the compiler inlines that session into its loop.
+//! Mode `save` runs a script and writes an image of the live objects; mode `load` reads an image and prints
+//! a script that makes its objects. Each makes its own manager behind a box, like those that the caller hands
+//! in. So only mode `bench` instantiates a session over an unboxed manager, and the compiler inlines it there.
 ghost use Rattle.std.specs.Prelude.{◌≡◌};
 ghost use Rattle.cf_base.specs.declared.kind.Kind.TheVariants.{Moving};
 ghost use Rattle.cf_model.specs.State.{closed_state};
@@ -33,7 +34,7 @@ pub fn save_image<S: Source, K: Sink>(
     save_on(rt, alloc, &mut heap, source, sink)
 }
 
-/// Does what `save_image` does, on a moving manager that was never open.
+/// `save_image` on the given heap, a moving manager that was never open.
 fn save_on<H: Manager, S: Source, K: Sink>(
     rt: &HostRuntime,
     alloc: Global,
@@ -73,7 +74,7 @@ pub fn load_image<S: Source, K: Sink>(
     load_on(rt, alloc, &mut heap, source, sink)
 }
 
-/// Does what `load_image` does, on a moving manager that was never open.
+/// `load_image` on the given heap, a moving manager that was never open.
 fn load_on<H: Manager, S: Source, K: Sink>(
     rt: &HostRuntime,
     alloc: Global,

@@ -1,4 +1,4 @@
-//! Mode `large`.
+//! Mode `large`: runs a script whose objects may be larger than a page.
 ghost use Rattle.manager_modes.specs.Outcomes.{EndsBeside, PlaysLarge, sink_seen, source_seen};
 
 use cf_base::Status;

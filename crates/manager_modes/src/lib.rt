@@ -1,4 +1,5 @@
-//! The modes that run managers, over any source, any sink and any managers. `top_call` adds those that run other heaps.
+//! Six modes of the program, a function each: those whose heap is a `Manager` or is built on one. They work over
+//! any source, any sink and any managers. `top_call` adds modes `slice` and `quota`, which have other heaps.
 #![tactic(auto)]
 
 mod bench;

@@ -1,4 +1,4 @@
-//! Mode `run`.
+//! Mode `run`: runs a script on one manager of the chosen kind.
 ghost use Rattle.std.specs.Prelude.{◌≡◌};
 ghost use Rattle.cf_model.specs.State.{closed_state};
 ghost use Rattle.run_model.specs.Sessions.{fresh_session};
@@ -17,8 +17,8 @@ use side_by_side::first_of;
 use std::alloc::Global;
 use tlsf_heap::TlsfHeap;
 
-/// Runs a script on the first manager of the kind; if there is none, on a closed one that is made for
-/// it.
+/// Runs a script on the first of `managers` that is of the kind; if there is none, on a new one, which is
+/// dropped at the end.
 pub fn run_chosen<H: Manager, S: Source, K: Sink>(
     rt: &HostRuntime,
     alloc: Global,
@@ -81,7 +81,7 @@ fn run_own<S: Source, K: Sink>(
     }
 }
 
-/// Runs a script on a manager of the kind that was never open.
+/// Runs a script on the given heap, a manager of the kind that was never open.
 fn run_on<H: Manager, S: Source, K: Sink>(
     kind: Kind,
     heap: &mut H,

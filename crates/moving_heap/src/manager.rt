@@ -1,4 +1,5 @@
-//! The manager: the trait `Manager` over a heap that is closed or open.
+//! `MovingHeap`: the trait `Manager` over an open heap of `paged_heap`, or none while it is closed;
+//! and its calls beyond the trait.
 ghost use Rattle.std.specs.Prelude.{◌≡◌, ◌+◌, ◌^◌, ◌≤◌, ℕ, ◌<◌, List, IfErr, IfOk, IsSome, IsTrue, OnErr, OnOk, Result, if◌then◌else◌, is_some, length, slice_get, option_copied, option_map};
 ghost use Rattle.std.specs.FinMap as map;
 ghost use Rattle.page_model.specs.Held.{Placed};
@@ -32,13 +33,15 @@ use std::marker::Model;
 use step_ledger::Steps;
 use virtual_words::Direct;
 
-/// The moving manager: the allocator with which it opens, and the heap while it is open.
+/// The moving manager: `alloc` is the allocator with which it opens, and `inner` the heap while it
+/// is open.
 #[derive(Drop)]
 pub struct MovingHeap {
     alloc: Global,
     inner: Option<OpenHeap>,
 }
 
+// In contracts a manager is its state (`state_in`), and its heap keeps the invariant `IsValidIn`.
 impl Model for MovingHeap {
     ghost use Rattle.cf_base.specs.declared.kind.Kind.TheVariants.{Moving};
     ghost use Rattle.cf_model.specs.State.{HeapState, state_code};
@@ -63,14 +66,19 @@ impl MovingHeap {
     }
 }
 
+// The calls pass on to the open heap, with the mapping `Direct`. Their contracts require an open
+// heap, so a closed one is never met.
 impl Manager for MovingHeap {
     ghost state = { λ h. h };
 
+    // Returns the kind `Moving`.
     fn kind(&self) -> Kind {
         let _inner = &self.inner;
         Kind::Moving
     }
 
+    // Returns whether the heap is open. Open or closed, the manager promises an order (clause
+    // `order`).
     fn is_open(&self) -> bool
         ensures value { result ≡ self.now.is_open }
         ensures rules { IsTrue result → KeepsRules self.now }
@@ -79,6 +87,7 @@ impl Manager for MovingHeap {
         self.inner.is_some()
     }
 
+    // Opens an empty heap, whose slots are whole words. It has no block table.
     fn open_heap(&mut self, s: &Settings) -> Result<(), OutOfMemory>
         ensures ok { OnOk result (IsEmptyHeap self.old.kind s.now self.new) }
         ensures rules { OnOk result (KeepsRules self.new) }
@@ -91,6 +100,7 @@ impl Manager for MovingHeap {
         Ok(())
     }
 
+    // Adds an object of zeros, or is refused, as the trait says. Costs at most 17 steps.
     fn malloc(&mut self, bytes: u32, steps: &mut Steps) -> Result<Handle, Refusal>
         requires open { IsTrue self.old.is_open }
         requires room { steps.old ≤ 2 ^ 63 }
@@ -108,6 +118,8 @@ impl Manager for MovingHeap {
         }
     }
 
+    // Removes an object, as the trait says. Costs at most 20 + s steps for a slot of s words, 1 if
+    // refused.
     fn free(&mut self, h: Handle, steps: &mut Steps) -> Result<Freed, NotLive>
         requires open { IsTrue self.old.is_open }
         requires room { steps.old ≤ 2 ^ 63 }
@@ -126,6 +138,7 @@ impl Manager for MovingHeap {
         }
     }
 
+    // Writes bytes into an object, as the trait says. Costs exactly `access_steps` steps.
     fn write(
         &mut self,
         h: Handle,
@@ -147,6 +160,7 @@ impl Manager for MovingHeap {
         }
     }
 
+    // Reads bytes of an object, as the trait says. Costs exactly `access_steps` steps.
     fn read(&self, h: Handle, at: u32, out: &mut [u8], steps: &mut Steps) -> Result<(), AccessFault>
         requires open { IsTrue self.now.is_open }
         requires room { steps.old ≤ 2 ^ 63 }
@@ -161,6 +175,7 @@ impl Manager for MovingHeap {
         }
     }
 
+    // Changes the length of an object, as the trait says. Costs at most `resize_steps` steps.
     fn resize(&mut self, h: Handle, bytes: u32, steps: &mut Steps) -> Result<Resized, ResizeFault>
         requires open { IsTrue self.old.is_open }
         requires room { steps.old ≤ 2 ^ 63 }
@@ -179,6 +194,8 @@ impl Manager for MovingHeap {
         }
     }
 
+    // Sets the bound of a class. Returns false, and changes nothing, if no class has this slot
+    // size.
     fn set_bound(&mut self, slot_words: u32, k: u32) -> bool {
         match &mut self.inner {
             Some(open) => open.set_bound::<Direct>(slot_words, k),
@@ -186,6 +203,7 @@ impl Manager for MovingHeap {
         }
     }
 
+    // Returns the address of the object; none if the handle is not live. Costs one step.
     fn place(&self, h: Handle, steps: &mut Steps) -> Option<u32>
         requires { IsTrue self.now.is_open }
         ensures value { result ≡ place_of self.now h.0 }
@@ -195,6 +213,7 @@ impl Manager for MovingHeap {
         self.open().place::<Direct>(h, steps)
     }
 
+    // Returns a word of the region, for one step; none past its end, for no step.
     fn peek(&self, word: u32, steps: &mut Steps) -> Option<u64>
         requires { IsTrue self.now.is_open }
         ensures value { result ≡ slice_get self.now.words word }
@@ -208,6 +227,7 @@ impl Manager for MovingHeap {
         }
     }
 
+    // Returns none, for no step: this kind has no block table.
     fn block(&self, h: Handle, i: u32, steps: &mut Steps) -> Option<u32>
         requires { IsTrue self.now.is_open }
         ensures value { result ≡ block_in self.now.kind self.now h.0 i }
@@ -218,14 +238,17 @@ impl Manager for MovingHeap {
         None
     }
 
+    // Returns the number of size classes.
     fn classes(&self) -> u32 {
         self.open().class_count::<Direct>()
     }
 
+    // Returns the figures of class c; none if there is no such class.
     fn figures(&self, c: u32) -> Option<Figures> {
         self.open().figures::<Direct>(c)
     }
 
+    // Returns the figures of the whole heap, by counts that it keeps. Costs no step.
     fn totals(&self, steps: &mut Steps) -> Totals
         requires { IsTrue self.now.is_open }
         ensures value { result ≡ totals_in self.now.kind self.now }
@@ -235,6 +258,7 @@ impl Manager for MovingHeap {
         self.open().totals::<Direct>()
     }
 
+    // Returns the bytes asked, taken and held, by counts that the heap keeps. Costs no step.
     fn usage(&self, steps: &mut Steps) -> Usage
         requires { IsTrue self.now.is_open }
         ensures value { result ≡ usage_in self.now.kind self.now }
@@ -244,13 +268,15 @@ impl Manager for MovingHeap {
         Usage::of(&self.open().totals::<Direct>())
     }
 
+    // Returns the steps of the last malloc, free or resize since the opening, 0 before the first
+    // one.
     fn cost(&self) -> u64 {
         self.open().cost
     }
 }
 
 impl MovingHeap {
-    /// The number of pages with slots of class c.
+    /// The number of pages of class c, full or partly full.
     pub fn pages_of(&self, c: u32) -> u32
         requires open { IsTrue self.now.is_open }
         requires class { c < classes_in self.now.kind self.now }
@@ -276,8 +302,8 @@ impl MovingHeap {
         self.open().free_pages::<Direct>()
     }
 
-    /// Returns what a malloc of `bytes` bytes would return now, without the handle: `Ok`, or its refusal.
-    /// Changes nothing.
+    /// Returns what a malloc of `bytes` bytes would return now, without the handle: `Ok`, or its
+    /// refusal. Changes nothing, and costs one step.
     pub fn has_room(&self, bytes: u32, steps: &mut Steps) -> Result<(), Refusal>
         requires { IsTrue self.now.is_open }
         ensures ok { IfOk result (λ u. (e : Refusal) → ¬ IsRefusedBy self.now bytes e) }

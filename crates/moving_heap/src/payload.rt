@@ -1,4 +1,5 @@
-//! Borrows the whole words of an object without a copy.
+//! Borrows the whole words of an object for `MovingHeap`, without a copy: eight bytes to a word,
+//! without the bytes after the last whole word.
 ghost use Rattle.std.specs.Prelude.{◌≡◌, ◌+◌, ◌≤◌, IsSome, Some, length, take, drop, option_copied};
 ghost use Rattle.std.specs.Borrow.{sem};
 ghost use Rattle.std.specs.FinMap as map;
@@ -38,8 +39,8 @@ fn payload_mut<'a>(heap: &'a mut OpenHeap, h: Handle, steps: &mut Steps) -> (boo
     (live, run_of(heap, first, count, steps))
 }
 
-/// Returns whether the handle is live, the first of the whole words of its object, and their number;
-/// both are 0 if it is not live.
+/// Returns whether the handle is live, the index in the region of the first of its object's whole
+/// words, and how many these are; both numbers are 0 if it is not live.
 fn find_words(heap: &OpenHeap, h: Handle, steps: &mut Steps) -> (bool, u32, u32)
     requires kept { Holds Moving heap.now }
     ensures found { result ≡ words_found heap.now (map.get heap.now.proxies.places h.0) }
@@ -55,7 +56,8 @@ fn find_words(heap: &OpenHeap, h: Handle, steps: &mut Steps) -> (bool, u32, u32)
     }
 }
 
-/// Lends `count` words of the region from word `first` on, for writing.
+/// Lends `count` words of the region from word `first` on, for writing. After the borrow the region
+/// has the words that were written. Costs a step for each word.
 fn run_of<'a>(heap: &'a mut OpenHeap, first: u32, count: u32, steps: &mut Steps) -> &'a mut [u64]
     requires within { first + count ≤ length heap.old.region }
     ensures* writes_back { sem 𝓛 (LendsRun heap.entry first count result) }
@@ -66,7 +68,8 @@ fn run_of<'a>(heap: &'a mut OpenHeap, first: u32, count: u32, steps: &mut Steps)
     heap.region.payload_mut(first, count, steps)
 }
 
-/// Does what `payload_mut` does, for the heap of a manager that is open.
+/// Lends the whole words of an object for writing, as `payload_mut` does, for the heap `inner` of a
+/// manager, which must be open.
 pub(crate) fn words_in<'a>(
     inner: &'a mut Option<OpenHeap>,
     h: Handle,

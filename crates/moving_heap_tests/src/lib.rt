@@ -1,5 +1,5 @@
-//! Tests of the moving manager. They have a crate of their own, since a crate with tests is
-//! proved twice.
+//! Tests of the moving manager, `MovingHeap`, and of the examples of the library. They have a crate of
+//! their own, since a crate with tests is proved twice.
 #![tactic(auto)]
 
 #[cfg(test)]

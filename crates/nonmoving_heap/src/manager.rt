@@ -1,4 +1,5 @@
-//! The manager: the trait `Manager` over a heap that is closed or open.
+//! `NonMovingHeap`: the trait `Manager` over an open heap of `paged_heap`, or none while it is
+//! closed; and its calls beyond the trait.
 ghost use Rattle.std.specs.Prelude.{◌≡◌, ◌+◌, ◌^◌, ◌<◌, ◌≤◌, [], IfErr, IfOk, IsSome, IsTrue, OnErr, OnOk, Result, if◌then◌else◌, is_some, length, slice_get, option_map};
 ghost use Rattle.std.specs.FinMap as map;
 ghost use Rattle.page_model.specs.Held.{Placed};
@@ -31,14 +32,16 @@ use std::marker::Model;
 use step_ledger::Steps;
 use virtual_words::Mapped;
 
-/// The non-moving manager: the allocator with which it opens, and the heap while it is open. Its state
-/// in contracts is the one of every manager, and the physical words of the region.
+/// The non-moving manager: `alloc` is the allocator with which it opens, and `inner` the heap while
+/// it is open. Contracts see the state that every manager has, and the physical words of the
+/// region.
 #[derive(Drop)]
 pub struct NonMovingHeap {
     alloc: Global,
     inner: Option<OpenHeap>,
 }
 
+// In contracts a manager is its state (`mapped_in`), and its heap keeps the invariant `IsValidIn`.
 impl Model for NonMovingHeap {
     ghost use Rattle.nonmoving_heap.specs.MappedState.{MappedState, mapped_code, mapped_in};
 
@@ -64,14 +67,19 @@ impl NonMovingHeap {
     }
 }
 
+// The calls pass on to the open heap, with the mapping `Mapped`. Their contracts require an open
+// heap, so a closed one is never met.
 impl Manager for NonMovingHeap {
     ghost state = { λ h. h.state };
 
+    // Returns the kind `NonMoving`.
     fn kind(&self) -> Kind {
         let _inner = &self.inner;
         Kind::NonMoving
     }
 
+    // Returns whether the heap is open. Open or closed, the manager promises an order (clause
+    // `order`).
     fn is_open(&self) -> bool
         ensures value { result ≡ self.now.state.is_open }
         ensures rules { IsTrue result → KeepsRules self.now.state }
@@ -80,6 +88,8 @@ impl Manager for NonMovingHeap {
         self.inner.is_some()
     }
 
+    // Opens an empty heap, whose slots are whole blocks of four words, with a block table that maps
+    // each block to itself.
     fn open_heap(&mut self, s: &Settings) -> Result<(), OutOfMemory>
         ensures ok { OnOk result (IsEmptyHeap self.old.state.kind s.now self.new.state) }
         ensures rules { OnOk result (KeepsRules self.new.state) }
@@ -92,6 +102,7 @@ impl Manager for NonMovingHeap {
         Ok(())
     }
 
+    // Adds an object of zeros, or is refused, as the trait says. Costs at most 18 steps.
     fn malloc(&mut self, bytes: u32, steps: &mut Steps) -> Result<Handle, Refusal>
         requires open { IsTrue self.old.state.is_open }
         requires room { steps.old ≤ 2 ^ 63 }
@@ -109,6 +120,8 @@ impl Manager for NonMovingHeap {
         }
     }
 
+    // Removes an object, as the trait says. The physical words of the other objects stay (clause
+    // `others`). Costs at most 22 + s + s/2 steps for a slot of s words, 1 if refused.
     fn free(&mut self, h: Handle, steps: &mut Steps) -> Result<Freed, NotLive>
         requires open { IsTrue self.old.state.is_open }
         requires room { steps.old ≤ 2 ^ 63 }
@@ -128,6 +141,7 @@ impl Manager for NonMovingHeap {
         }
     }
 
+    // Writes bytes into an object, as the trait says. Costs exactly `access_steps` steps.
     fn write(
         &mut self,
         h: Handle,
@@ -149,6 +163,7 @@ impl Manager for NonMovingHeap {
         }
     }
 
+    // Reads bytes of an object, as the trait says. Costs exactly `access_steps` steps.
     fn read(&self, h: Handle, at: u32, out: &mut [u8], steps: &mut Steps) -> Result<(), AccessFault>
         requires open { IsTrue self.now.state.is_open }
         requires room { steps.old ≤ 2 ^ 63 }
@@ -163,6 +178,8 @@ impl Manager for NonMovingHeap {
         }
     }
 
+    // Changes the length of an object, as the trait says. The physical words of the other objects
+    // stay (clause `others`). Costs at most `resize_steps` steps.
     fn resize(&mut self, h: Handle, bytes: u32, steps: &mut Steps) -> Result<Resized, ResizeFault>
         requires open { IsTrue self.old.state.is_open }
         requires room { steps.old ≤ 2 ^ 63 }
@@ -182,6 +199,8 @@ impl Manager for NonMovingHeap {
         }
     }
 
+    // Sets the bound of a class. Returns false, and changes nothing, if no class has this slot
+    // size.
     fn set_bound(&mut self, slot_words: u32, k: u32) -> bool {
         match &mut self.inner {
             Some(open) => open.set_bound::<Mapped>(slot_words, k),
@@ -189,6 +208,7 @@ impl Manager for NonMovingHeap {
         }
     }
 
+    // Returns the address of the object; none if the handle is not live. Costs one step.
     fn place(&self, h: Handle, steps: &mut Steps) -> Option<u32>
         requires { IsTrue self.now.state.is_open }
         ensures value { result ≡ place_of self.now.state h.0 }
@@ -198,6 +218,7 @@ impl Manager for NonMovingHeap {
         self.open().place::<Mapped>(h, steps)
     }
 
+    // Returns a virtual word, for two steps; none past the end of the region, for no step.
     fn peek(&self, word: u32, steps: &mut Steps) -> Option<u64>
         requires { IsTrue self.now.state.is_open }
         ensures value { result ≡ slice_get self.now.state.words word }
@@ -211,6 +232,8 @@ impl Manager for NonMovingHeap {
         }
     }
 
+    // Returns the number of the physical block that holds block i of the object's slot, for exactly
+    // `block_steps` steps; none if the handle is not live, or the slot has no block i.
     fn block(&self, h: Handle, i: u32, steps: &mut Steps) -> Option<u32>
         requires { IsTrue self.now.state.is_open }
         ensures value { result ≡ block_in self.now.state.kind self.now.state h.0 i }
@@ -220,14 +243,17 @@ impl Manager for NonMovingHeap {
         block_of(self.open(), h, i, steps)
     }
 
+    // Returns the number of size classes.
     fn classes(&self) -> u32 {
         self.open().class_count::<Mapped>()
     }
 
+    // Returns the figures of class c; none if there is no such class.
     fn figures(&self, c: u32) -> Option<Figures> {
         self.open().figures::<Mapped>(c)
     }
 
+    // Returns the figures of the whole heap, by counts that it keeps. Costs no step.
     fn totals(&self, steps: &mut Steps) -> Totals
         requires { IsTrue self.now.state.is_open }
         ensures value { result ≡ totals_in self.now.state.kind self.now.state }
@@ -237,6 +263,7 @@ impl Manager for NonMovingHeap {
         self.open().totals::<Mapped>()
     }
 
+    // Returns the bytes asked, taken and held, by counts that the heap keeps. Costs no step.
     fn usage(&self, steps: &mut Steps) -> Usage
         requires { IsTrue self.now.state.is_open }
         ensures value { result ≡ usage_in self.now.state.kind self.now.state }
@@ -246,13 +273,15 @@ impl Manager for NonMovingHeap {
         Usage::of(&self.open().totals::<Mapped>())
     }
 
+    // Returns the steps of the last malloc, free or resize since the opening, 0 before the first
+    // one.
     fn cost(&self) -> u64 {
         self.open().cost
     }
 }
 
 impl NonMovingHeap {
-    /// The number of pages with slots of class c.
+    /// The number of pages of class c, full or partly full.
     pub fn pages_of(&self, c: u32) -> u32
         requires open { IsTrue self.now.state.is_open }
         requires class { c < classes_in self.now.state.kind self.now.state }
@@ -278,8 +307,8 @@ impl NonMovingHeap {
         self.open().free_pages::<Mapped>()
     }
 
-    /// Returns what a malloc of `bytes` bytes would return now, without the handle: `Ok`, or its refusal.
-    /// Changes nothing.
+    /// Returns what a malloc of `bytes` bytes would return now, without the handle: `Ok`, or its
+    /// refusal. Changes nothing, and costs one step.
     pub fn has_room(&self, bytes: u32, steps: &mut Steps) -> Result<(), Refusal>
         requires { IsTrue self.now.state.is_open }
         ensures ok { IfOk result (λ u. (e : Refusal) → ¬ IsRefusedBy self.now.state bytes e) }
@@ -340,8 +369,8 @@ fn empty_heap(alloc: Global, s: &Settings) -> Result<OpenHeap, OutOfMemory>
     OpenHeap::new::<Mapped>(alloc, s, Layout::Blocks, Some(blocks))
 }
 
-/// Looks up the physical block of block i of the object's slot; none if the handle is not live, or the
-/// slot has no block i.
+/// Looks up the number of the physical block that holds block i of the object's slot, counted from
+/// 0; none if the handle is not live, or the slot has no block i.
 fn block_of(heap: &OpenHeap, h: Handle, i: u32, steps: &mut Steps) -> Option<u32>
     requires { Holds NonMoving heap.now }
     ensures value { result ≡ block_in NonMoving (state_at NonMoving heap.now) h.0 i }

@@ -1,6 +1,6 @@
-//! The non-moving manager as a library for C. `include/norphuen.h` says what each export does. Its contract
-//! is that of the call of `held_heap` that it makes. While the heap is closed, each export but `nph_open` and
-//! `nph_close` returns `CLOSED` and changes nothing (`OnOpen`).
+//! The non-moving manager as a library for C. `include/norphuen.h` describes each export for C. An export calls
+//! the function of `held_heap` that its comment names, and its contract is that function's. While the heap is
+//! closed, each export but `nph_open` and `nph_close` returns `CLOSED` and changes nothing (`OnOpen`).
 #![tactic(auto)]
 
 ghost use Rattle.std.specs.Prelude.{◌≡◌, None};
@@ -14,7 +14,8 @@ use held_heap::nonmoving::NphHeap;
 use held_heap::{CLOSED, NphClass, NphFreed, NphHeapTotals, NphResized};
 use std::rt::Memory;
 
-/// Opens the heap with these settings (`NphHeap::open`).
+/// Opens the heap with these settings; `page_bytes` are the bytes of a page, `k` bounds
+/// the partly full pages of each class (`NphHeap::open`).
 #[unsafe(no_mangle)]
 pub extern "C" fn nph_open(
     heap: &mut NphHeap,
@@ -29,7 +30,7 @@ pub extern "C" fn nph_open(
     heap.open(memory, pages, page_bytes, k, proxies)
 }
 
-/// Closes the heap and frees its memory; does nothing if it is closed.
+/// Closes the heap and frees its memory; does nothing if it is closed (`NphHeap::close`).
 #[unsafe(no_mangle)]
 pub extern "C" fn nph_close(heap: &mut NphHeap, memory: Memory)
     ensures { held_in heap.new ≡ None }
@@ -37,7 +38,7 @@ pub extern "C" fn nph_close(heap: &mut NphHeap, memory: Memory)
     heap.close(memory);
 }
 
-/// Makes an object of `bytes` zeros and writes its handle (`Held::malloc`).
+/// Makes an object of `bytes` zeros and writes its handle into `handle` (`Held::malloc`).
 #[unsafe(no_mangle)]
 pub extern "C" fn nph_malloc(heap: &mut NphHeap, bytes: u32, handle: &mut u32) -> i32
     ensures { OnOpen (held_in heap.old) result (held_in heap.new) (handle.new ≡ handle.old)
@@ -50,7 +51,7 @@ pub extern "C" fn nph_malloc(heap: &mut NphHeap, bytes: u32, handle: &mut u32) -
     }
 }
 
-/// Frees an object, and writes its slot words and the object that moved (`Held::free`).
+/// Frees an object. Writes into `freed` the words of its slot, and which object moved into it (`Held::free`).
 #[unsafe(no_mangle)]
 pub extern "C" fn nph_free(heap: &mut NphHeap, handle: u32, freed: &mut NphFreed) -> i32
     ensures { OnOpen (held_in heap.old) result (held_in heap.new) (freed.new ≡ freed.old)
@@ -63,7 +64,8 @@ pub extern "C" fn nph_free(heap: &mut NphHeap, handle: u32, freed: &mut NphFreed
     }
 }
 
-/// Changes an object's length to `bytes` bytes (`Held::resize`).
+/// Changes an object's length to `bytes` bytes. Writes into `resized` the words of its slots, and which other
+/// object moved (`Held::resize`).
 #[unsafe(no_mangle)]
 pub extern "C" fn nph_resize(
     heap: &mut NphHeap,
@@ -107,7 +109,7 @@ pub extern "C" fn nph_read(heap: &mut NphHeap, handle: u32, at: u32, out: &mut [
     }
 }
 
-/// Writes the object's length in bytes (`Held::length`).
+/// Writes the object's length in bytes into `bytes` (`Held::length`).
 #[unsafe(no_mangle)]
 pub extern "C" fn nph_length(heap: &mut NphHeap, handle: u32, bytes: &mut u32) -> i32
     ensures { OnOpen (held_in heap.old) result (held_in heap.new) (bytes.new ≡ bytes.old)
@@ -133,7 +135,7 @@ pub extern "C" fn nph_has_room(heap: &mut NphHeap, bytes: u32) -> i32
     }
 }
 
-/// Writes the figures of a class (`Held::figures`).
+/// Writes the figures of a size class, numbered from 0, into `figures` (`Held::figures`).
 #[unsafe(no_mangle)]
 pub extern "C" fn nph_figures(heap: &mut NphHeap, class: u32, figures: &mut NphClass) -> i32
     ensures { OnOpen (held_in heap.old) result (held_in heap.new) (figures.new ≡ figures.old)
@@ -146,7 +148,7 @@ pub extern "C" fn nph_figures(heap: &mut NphHeap, class: u32, figures: &mut NphC
     }
 }
 
-/// Writes the figures of the whole heap (`Held::totals`).
+/// Writes the figures of the whole heap into `totals` (`Held::totals`).
 #[unsafe(no_mangle)]
 pub extern "C" fn nph_totals(heap: &mut NphHeap, totals: &mut NphHeapTotals) -> i32
     ensures { OnOpen (held_in heap.old) result (held_in heap.new) (totals.new ≡ totals.old)
@@ -159,7 +161,7 @@ pub extern "C" fn nph_totals(heap: &mut NphHeap, totals: &mut NphHeapTotals) -> 
     }
 }
 
-/// Writes the steps of the last call that counts steps (`Held::last_steps`).
+/// Writes the steps of the last call that counts steps into `steps` (`Held::last_steps`).
 #[unsafe(no_mangle)]
 pub extern "C" fn nph_last_steps(heap: &mut NphHeap, steps: &mut u64) -> i32
     ensures { OnOpen (held_in heap.old) result (held_in heap.new) (steps.new ≡ steps.old)

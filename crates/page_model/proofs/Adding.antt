@@ -1,4 +1,4 @@
--- How the sums of the reports change when an object is added, removed or written, and bounds on them.
+-- For the laws of `figures.rt`: how counts and sums of the reports change when an object is added, removed or written, and bounds on them.
 use Rattle.std.proofs.Common.{◌≡◌, ℕ, ◌+◌, ◌*◌, ◌≤◌, List, Some, None, length, arith, ap}
 use Rattle.std.specs.Prelude.{nat_eq}
 use Rattle.std.specs.FinMap.{get, insert, remove, len}

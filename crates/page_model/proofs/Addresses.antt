@@ -1,4 +1,4 @@
--- Slots by page and number, and their addresses.
+-- For the law `slots_have_addresses`: slots by class, page and number, and their addresses.
 use Rattle.std.proofs.Common.{◌≡◌, ℕ, ◌+◌, ◌*◌, ◌/◌, ◌%◌, ◌<◌, ◌≤◌, arith, ap}
 use Rattle.std.proofs.lemmas.Nat.{div-add-mod', mul-le}
 use Rattle.std.proofs.Math.Nat.{mul-mod_left}

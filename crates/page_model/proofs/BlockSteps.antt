@@ -1,4 +1,4 @@
--- What a free (`RemovesObject`) and a resize (`RefitsObject`) do to the frames, the block table of the non-moving heap.
+-- For the laws of `blocks.rt`: what a free (`RemovesObject`) and a resize (`RefitsObject`) do to the frames, the block table of the non-moving heap.
 use Rattle.std.proofs.Common.{◌≡◌, ◌≢◌, ℕ, ◌*◌, ◌/◌, ◌<◌, List, Some, length, ◌∙◌, inl, inr, ap, refl}
 use Rattle.std.specs.FinMap.{get}
 use Rattle.cf_lemmas.proofs.Maps.{get_inserted, get_insert_other}

@@ -1,4 +1,5 @@
--- Counts over the values of a map, and the counts of pages that follow from them.
+-- For every proof about counts: counts over the values of a map. The objects on each page determine how many pages have an object, and how many are partly
+-- full.
 use Rattle.std.proofs.Common.{◌≡◌, ◌≢◌, ℕ, Bool, true, false, ◌+◌, ◌<◌, ◌≤◌, Some, None, arith, sym, ◌∙◌, inl, inr, ap, refl}
 use Rattle.std.specs.Prelude.{◌⊎◌, ◌&&◌, nat_lt, nat_eq, count_by}
 use Rattle.std.proofs.lemmas.Bool.{cases_eq, false≢true}

@@ -1,4 +1,4 @@
--- Objects are on at least as many pages as they need.
+-- For the law `objects_need_no_more_pages`: a sound arrangement uses at least as many pages as its objects need by arithmetic.
 use Rattle.std.proofs.Common.{◌≡◌, ℕ, zero, suc, ◌+◌, ◌-◌, ◌*◌, ◌/◌, ◌%◌, ◌<◌, ◌≤◌, arith}
 use Rattle.std.proofs.lemmas.Nat.{div-add-mod', le-div, mul-le}
 use Rattle.std.proofs.Math.Nat.{div-mul-le_self, div-zero}

@@ -1,4 +1,4 @@
--- The order of an empty heap, with pages and numbers in rising order, is one of no objects.
+-- For the opening of a heap: the order with all pages and numbers in rising order is an order of the arrangement without objects.
 use Rattle.std.proofs.Common.{◌≡◌, ℕ, ◌<◌, List, [], get_or, replicate, arith, sym, subst}
 use Rattle.std.specs.Prelude.{nat_eq, ◌↔◌}
 use Rattle.std.specs.List.{Contains, IsDistinct}

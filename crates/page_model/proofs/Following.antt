@@ -1,4 +1,4 @@
--- Mallocs, frees and resizes that follow an order have one outcome.
+-- For the law `an_order_leaves_no_choice`: mallocs and frees that follow an order have one outcome.
 use Rattle.std.proofs.Common.{◌≡◌, ℕ, List, [], ◌∷◌, Option, Some, None, arith, refl, sym, ◌∙◌, ap, subst, inl, inr}
 use Rattle.std.specs.FinMap.{get}
 use Rattle.std.proofs.lemmas.Bool.{cases_eq, cases_lt}

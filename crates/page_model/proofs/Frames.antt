@@ -1,4 +1,4 @@
--- A free or a resize keeps the blocks of the other objects, and no two objects share a block.
+-- For the laws of `blocks.rt`: a free or a resize keeps the blocks of the other objects, and no two objects share a block.
 use Rattle.std.proofs.Common.{◌≡◌, ◌≢◌, ℕ, ◌+◌, ◌*◌, ◌/◌, ◌%◌, ◌<◌, ◌≤◌, List, Option, Some, None, length, get_or, arith, sym, ◌∙◌, subst, inl, inr, ap, refl}
 use Rattle.std.specs.Prelude.{◌⊎◌}
 use Rattle.std.proofs.Math.Nat.{mul-mod_left}

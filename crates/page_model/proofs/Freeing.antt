@@ -1,4 +1,4 @@
--- A free keeps the arrangement sound, with a move or without.
+-- For `FreeSteps`: the two ways of a free, to remove an object without a move, and to let another object take its address. Both keep the arrangement sound.
 use Rattle.std.proofs.Common.{◌≡◌, ◌≢◌, ℕ, ◌+◌, ◌<◌, ◌≤◌, List, Some, None, arith, sym, ◌∙◌, inl, inr, ap, refl}
 use Rattle.std.specs.Prelude.{◌⊎◌, ◌&&◌, nat_eq}
 use Rattle.std.proofs.lemmas.Bool.{cases_eq}

@@ -1,4 +1,4 @@
--- The image after each kind of step, stated for the region's calls.
+-- For the laws of `words.rt`: which words are right for the objects after a malloc, after other bytes at the same address, and after a move.
 use Rattle.std.proofs.Common.{◌≡◌, ℕ, zero, suc, ◌+◌, ◌-◌, ◌*◌, ◌<◌, ◌≤◌, List, Some, None, length, get_or, set, replicate, take, arith, sym, ◌∙◌, subst, inl}
 use Rattle.std.proofs.Common.{inr, ap, refl}
 use Rattle.std.proofs.lemmas.List.{get_or-set_same, get_or-set_other, drop-replicate, drop_all, length-replicate}

@@ -1,4 +1,4 @@
--- The image after an object is removed, added or replaced.
+-- For the laws of `words.rt`: the words of a region after an object is removed, added or replaced are right for the objects that it then holds.
 use Rattle.std.proofs.Common.{◌≡◌, ℕ, ◌+◌, ◌-◌, ◌<◌, List, Some, None, length, get_or, arith, sym, ◌∙◌, subst, inl, inr}
 use Rattle.std.specs.Prelude.{◌⊎◌}
 use Rattle.std.proofs.lemmas.Bool.{cases_eq, cases_lt}

@@ -1,4 +1,4 @@
--- A free moves the object that is next to move in the order, or none.
+-- For the law `a_free_can_follow_an_order`: a free can move the object that is next in the order, or none.
 use Rattle.std.proofs.Common.{◌≡◌, ℕ, ◌+◌, ◌/◌, ◌%◌, ◌<◌, List, ◌∷◌, Option, Some, None, arith, refl, sym, ◌∙◌, ap, subst, inl, inr}
 use Rattle.std.specs.Prelude.{◌⊎◌}
 use Rattle.std.specs.List.{Contains}

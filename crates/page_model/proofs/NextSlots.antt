@@ -1,4 +1,5 @@
--- If a class has a slot left, the order determines the next one, and the order after it is taken is one of the new arrangement.
+-- For the law `a_malloc_can_follow_an_order`: if a class has a slot left, the order determines the next one. The order after it is taken is one of the new
+-- arrangement.
 use Rattle.std.proofs.Common.{◌≡◌, ℕ, Bool, true, false, zero, suc, ◌+◌, ◌<◌, List, [], ◌∷◌, arith, refl, sym, ◌∙◌, ap, subst, inl, inr}
 use Rattle.std.specs.Prelude.{◌⊎◌, nat_eq, if◌then◌else◌}
 use Rattle.std.specs.List.{Contains}

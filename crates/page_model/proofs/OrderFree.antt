@@ -1,4 +1,4 @@
--- The order after a slot becomes free is an order of the arrangement without the object.
+-- For `OrderSteps`: the order after a slot becomes free is an order of the arrangement without the object.
 use Rattle.std.proofs.Common.{◌≡◌, ◌≢◌, ℕ, Bool, true, false, ◌+◌, ◌<◌, ◌≤◌, Some, ◌∷◌, arith, refl, sym, ◌∙◌, subst, inl, inr}
 use Rattle.std.specs.Prelude.{nat_eq, not, if◌then◌else◌}
 use Rattle.std.specs.List.{Contains, IsDistinct, filter}

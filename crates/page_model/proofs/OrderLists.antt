@@ -1,4 +1,4 @@
--- The lists of pages of an order, for an arrangement: equal counts of objects have equal lists.
+-- For every proof about an order: its lists of free and of partly full pages depend on the counts of objects on each page alone.
 use Rattle.std.proofs.Common.{◌≡◌, ◌≢◌, ℕ, ◌+◌, ◌<◌, List, [], length, get_or, set, arith, refl, sym, ◌∙◌, ap, subst, inl, inr}
 use Rattle.std.specs.Prelude.{◌⊎◌, ◌↔◌, nat_eq}
 use Rattle.std.specs.List.{Contains, IsDistinct}

@@ -1,4 +1,4 @@
--- The free numbers of an order, after a malloc, a free and a resize.
+-- For every proof about an order: its free numbers, after a malloc, a free and a resize.
 use Rattle.std.proofs.Common.{◌≡◌, ◌≢◌, ℕ, ◌+◌, ◌<◌, List, ◌∷◌, Option, Some, None, length, arith, sym, ◌∙◌, ap, subst, inl, inr}
 use Rattle.std.specs.Prelude.{nat_eq}
 use Rattle.std.specs.List.{Contains, IsDistinct}

@@ -1,4 +1,4 @@
--- The order after a slot is taken is one of the arrangement with the new object.
+-- For `NextSlots`: the order after a slot is taken is one of the arrangement with the new object.
 use Rattle.std.proofs.Common.{◌≡◌, ◌≢◌, ℕ, Bool, ◌+◌, ◌<◌, List, [], ◌∷◌, arith, sym, subst, inl, inr}
 use Rattle.std.specs.Prelude.{nat_eq, if◌then◌else◌}
 use Rattle.std.specs.List.{Contains, IsDistinct}

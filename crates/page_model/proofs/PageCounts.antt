@@ -1,4 +1,4 @@
--- In a sound arrangement the number of pages of a class is one that its objects can be on.
+-- For the law `page_counts_of_a_sound_arrangement`: in a sound arrangement the number of pages of a class is one that its objects can be on.
 use Rattle.std.proofs.Common.{◌≡◌, ℕ, zero, suc, ◌+◌, ◌-◌, ◌*◌, ◌/◌, ◌%◌, ◌<◌, ◌≤◌, ◌∷◌, arith, sym, ◌∙◌, inl, inr}
 use Rattle.std.specs.Prelude.{sum_by, count_by, nat_lt}
 use Rattle.std.specs.List.{range_with_len}

@@ -1,4 +1,4 @@
--- Laws of the numbers of pages.
+-- For the laws of `counts.rt`: how many pages n objects can be on, m to a page.
 use Rattle.std.proofs.Common.{◌≡◌, ℕ, zero, suc, Bool, true, false, ◌+◌, ◌-◌, ◌*◌, ◌/◌, ◌%◌, ◌<◌, ◌≤◌, arith, sym, ◌∙◌, inl, inr, refl}
 use Rattle.std.specs.Prelude.{◌&&◌, ◌||◌, nat_le}
 use Rattle.std.specs.List.{range_with_len, list_any}

@@ -1,4 +1,5 @@
--- What a malloc, a free and a resize do to the bytes alone, to the addresses alone, and to the objects on each page.
+-- For the laws `objects_after_a_step` and `counts_after_a_free`: what a malloc, a free and a resize do to the bytes alone, to the addresses alone, and to the
+-- objects on each page.
 use Rattle.std.proofs.Common.{◌≡◌, ◌≢◌, ℕ, ◌+◌, List, Option, Some, None, length, replicate, arith, sym, ◌∙◌, inl, inr, ap, refl}
 use Rattle.std.specs.Prelude.{option_map}
 use Rattle.std.proofs.lemmas.Bool.{cases_eq}

@@ -1,4 +1,4 @@
--- An object added at a free address keeps the arrangement sound.
+-- For the law `a_malloc_keeps_soundness`: an object added at a free address keeps the arrangement sound.
 use Rattle.std.proofs.Common.{◌≡◌, ◌≢◌, ℕ, ◌+◌, ◌<◌, ◌≤◌, Some, None, length, replicate, arith, sym, ◌∙◌, inl, inr}
 use Rattle.std.specs.Prelude.{◌⊎◌}
 use Rattle.std.proofs.lemmas.List.{length-replicate}

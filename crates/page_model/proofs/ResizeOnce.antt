@@ -1,4 +1,4 @@
--- A resize that follows an order has one outcome.
+-- For the law `an_order_leaves_no_choice`: a resize that follows an order has one outcome.
 use Rattle.std.proofs.Common.{◌≡◌, ℕ, Some, sym, ◌∙◌, ap, subst, inl, inr}
 use Rattle.std.specs.FinMap.{get, insert}
 use Rattle.cf_lemmas.proofs.Maps.{found_once, get_inserted}

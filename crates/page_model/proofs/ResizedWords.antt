@@ -1,4 +1,4 @@
--- The words after a resize to another class.
+-- For the law `words_after_a_resize`: the words after a resize to another class.
 use Rattle.std.proofs.Common.{◌≡◌, ◌≢◌, ℕ, ◌+◌, ◌*◌, ◌<◌, ◌≤◌, List, Some, None, length, get_or, take, drop, arith, sym, ◌∙◌, subst, inl, inr, ap, length-drop}
 use Rattle.std.proofs.lemmas.List.{length-take, get_or-take, get_or-drop}
 use Rattle.std.specs.FinMap.{get, insert, remove}

@@ -1,4 +1,4 @@
--- A resize keeps the arrangement sound, within the class and to another one.
+-- For the laws `a_resize_keeps_soundness` and `a_resize_in_two_steps`: a resize, within the class and to another one.
 use Rattle.std.proofs.Common.{◌≡◌, ◌≢◌, ℕ, ◌-◌, List, Option, Some, None, length, take, replicate, arith, sym, ◌∙◌, inl, inr, ap, refl, subst, length-append}
 use Rattle.std.proofs.lemmas.List.{length-replicate, length-take}
 use Rattle.std.proofs.lemmas.Bool.{cases_eq}

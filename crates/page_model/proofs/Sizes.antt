@@ -1,4 +1,4 @@
--- The slot sizes of the rule rise from 4 words to the page. The class of a request.
+-- For the laws of `classes.rt`: the slot sizes of the rule rise from 4 words to the page, and each request that fits a page has a class.
 use Rattle.std.proofs.Common.{◌≡◌, ℕ, Bool, true, false, ◌-◌, ◌*◌, ◌/◌, ◌<◌, ◌≤◌, List, Some, None, length, get_or, arith, sym, ◌∙◌, inl, inr, refl}
 use Rattle.std.specs.Prelude.{IsTrue, nat_le, nat_lt}
 use Rattle.std.specs.List.{position_or_len}

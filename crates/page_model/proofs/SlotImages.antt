@@ -1,4 +1,4 @@
--- The image of a sound arrangement, by whole slots, after each step.
+-- For the laws of `words.rt`: the words of a sound arrangement, by whole slots, after a malloc, a write, a free and a move.
 use Rattle.std.proofs.Common.{◌≡◌, ◌≢◌, ℕ, ◌+◌, ◌*◌, ◌/◌, ◌%◌, ◌<◌, ◌≤◌, List, Some, None, length, get_or, set, replicate, arith, sym, ◌∙◌, subst, inl, inr, ap}
 use Rattle.std.proofs.lemmas.List.{length-replicate}
 use Rattle.std.proofs.lemmas.Bool.{cases_eq, cases_lt, cases_order}

@@ -1,4 +1,4 @@
--- The objects of a class are the sum over its pages, and a page has at most one object for each slot.
+-- For every proof about counts of pages: the objects of a class are the sum over its pages, and a page has at most one object for each slot.
 use Rattle.std.proofs.Common.{◌≡◌, ◌≢◌, ℕ, Bool, true, false, ◌+◌, ◌*◌, ◌/◌, ◌%◌, ◌<◌, ◌≤◌, List, [], ◌∷◌, Some, None, length, arith, sym, ◌∙◌, inl, inr, ap}
 use Rattle.std.proofs.Common.{refl}
 use Rattle.std.specs.Prelude.{sum_by, count_by, ◌&&◌, nat_eq}

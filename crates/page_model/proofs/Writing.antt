@@ -1,4 +1,4 @@
--- Bytes in words: reading one, writing some, and the word of eight bytes.
+-- For the laws of bytes in `words.rt`: reading one byte, writing some, and the word of eight bytes.
 use Rattle.std.proofs.Common.{◌≡◌, ℕ, zero, suc, ◌+◌, ◌-◌, ◌*◌, ◌/◌, ◌%◌, ◌^◌, ◌<◌, ◌≤◌, List, [], ◌∷◌, ◌++◌, Option, Some, None, length, get_or, replicate}
 use Rattle.std.proofs.Common.{take, drop, arith, lit<, sym, ◌∙◌, subst, inl, inr, ap, refl, length-append, length-drop}
 use Rattle.std.proofs.lemmas.List.{length-take, length-replicate, get_or-take, get_or-drop, get_or_append_left, get_or-append_right, get_or_past}

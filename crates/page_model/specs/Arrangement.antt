@@ -1,4 +1,5 @@
--- The addresses that objects may have, and the pages that they use.
+-- The addresses that objects may have, which arrangements are sound, and counts of objects and pages. `p` holds the pages and the classes, `m` the objects with
+-- their addresses, and c is a class: an index into the slot sizes.
 use Rattle.std.specs.Prelude.{◌≡◌, ◌≢◌, ℕ, Bool, ◌&&◌, ◌+◌, ◌-◌, ◌%◌, ◌≤◌, ◌<◌, Some, length, filter, not, nat_lt, nat_eq, count_by, sum_by, cond}
 use Rattle.std.specs.List.{range_with_len}
 use Rattle.std.specs.FinMap.{get, values}
@@ -6,51 +7,51 @@ use Rattle.page_model.specs.Held.{Held, Objects, Placed}
 use Rattle.page_model.specs.Paging.{Paging, classes, slot_words, slots_of, bound_of, class_for, page_of}
 use Rattle.page_model.specs.Counts.{ceil_div, most_pages}
 
--- the class of an object
+-- the class of object x, by its length
 abbrev pub class_at : Paging → Placed → ℕ
 class_at p x = class_for p (length x.bytes)
 
--- how many objects have class c
+-- how many of the objects are of class c; `p` holds the slot sizes
 unfoldable pub live : Paging → Objects → ℕ → ℕ
 live p objects c = count_by (λ v. nat_eq (class_for p (length v)) c) (values objects)
 
--- whether x is of class c and on the page
+-- whether object x is of class c and on the page
 abbrev pub is_on : Paging → ℕ → ℕ → Placed → Bool
 is_on p c page x = nat_eq (page_of p x.place) page && nat_eq (class_at p x) c
 
--- how many objects of class c are on the page
+-- how many objects of the arrangement m are of class c and on the page
 unfoldable pub objects_on : Paging → Held → ℕ → ℕ → ℕ
 objects_on p m c page = count_by (is_on p c page) (values m)
 
--- how many objects of any class are on the page
+-- how many objects of the arrangement m, of any class, are on the page
 unfoldable pub count_on : Paging → Held → ℕ → ℕ
 count_on p m page = count_by (λ (x : Placed). nat_eq (page_of p x.place) page) (values m)
 
--- how many pages hold an object of class c
+-- how many of the pages p hold an object of class c of the arrangement m
 unfoldable pub home_pages : Paging → Held → ℕ → ℕ
 home_pages p m c = count_by (λ page. nat_lt 0 (objects_on p m c page)) (range_with_len 0 p.pages)
 
--- how many pages hold an object of class c but fewer than they have slots
+-- how many of the pages p are partly full with class c: they hold an object of class c, but fewer than they have slots
 unfoldable pub not_full_pages : Paging → Held → ℕ → ℕ
 not_full_pages p m c = count_by (λ page. nat_lt 0 (objects_on p m c page) && nat_lt (objects_on p m c page) (slots_of p c)) (range_with_len 0 p.pages)
 
--- the pages in use: the home pages of all classes
+-- how many of the pages p are in use by the arrangement m: the pages with an object of a class, summed over the classes
 unfoldable pub used_pages : Paging → Held → ℕ
 used_pages p m = sum_by (home_pages p m) (range_with_len 0 (classes p))
 
--- the pages that are not in use
+-- how many of the pages p are not in use by the arrangement m
 abbrev pub free_pages : Paging → Held → ℕ
 free_pages p m = p.pages - used_pages p m
 
--- the pages that `count c` objects of each class c need: the count over the slots of a page, rounded up
+-- how many pages suffice for `count c` objects of each class c: `count c` over the slots of a page, rounded up, summed over the classes
 abbrev pub pages_for : Paging → (ℕ → ℕ) → ℕ
 pages_for p count = sum_by (λ c. ceil_div (count c) (slots_of p c)) (range_with_len 0 (classes p))
 
--- the pages that the objects need: for each class its objects over the slots of a page, rounded up
+-- how many pages the objects need at least: for each class its objects over the slots of a page, rounded up, summed over the classes
 unfoldable pub pages_needed : Paging → Objects → ℕ
 pages_needed p objects = pages_for p (live p objects)
 
--- the pages that the objects and one more of n bytes need
+-- how many pages the objects and one more of n bytes need at least
 unfoldable pub pages_needed_with : Paging → Objects → ℕ → ℕ
 pages_needed_with p objects n = pages_for p (λ c. live p objects c + cond (nat_eq (class_for p n) c) 1 0)
 
@@ -59,15 +60,15 @@ unfoldable pub most_pages_besides : Paging → Objects → ℕ → ℕ
 most_pages_besides p objects c = sum_by (λ d. most_pages (live p objects d) (slots_of p d) (bound_of p d))
     (filter (λ d. not (nat_eq d c)) (range_with_len 0 (classes p)))
 
--- a slot of class c begins at the address
+-- a slot of class c begins at address a: its page exists, it begins a whole number of slots after the page's first word, and it ends within the page
 pub record IsSlotAt (p : Paging) (c a : ℕ) : Type 0 where
   pub class : c < classes p
   pub page : page_of p a < p.pages
   pub aligned : a % p.page_words % slot_words p c ≡ 0
   pub fits : a % p.page_words + slot_words p c ≤ p.page_words
 
--- each object is in a slot of its class, and no two are at one address; the objects of a page are of one class; no class has more partly full pages than its
--- bound
+-- each object is in a slot of its class (`slots`), and no two are at one address (`own_place`); the objects of a page are of one class; no class has more
+-- partly full pages than its bound
 pub record IsSound (p : Paging) (m : Held) : Type 0 where
   pub slots : (h : ℕ) (x : Placed) → get m h ≡ Some x → IsSlotAt p (class_at p x) x.place
   pub own_place : (h : ℕ) (x : Placed) (q : ℕ) (y : Placed) → get m h ≡ Some x → get m q ≡ Some y → q ≢ h → x.place ≢ y.place
@@ -75,7 +76,7 @@ pub record IsSound (p : Paging) (m : Held) : Type 0 where
       → class_at p x ≡ class_at p y
   pub few_not_full : (c : ℕ) → c < classes p → not_full_pages p m c ≤ bound_of p c
 
--- class c has no slot left: none of its pages is partly full, and every page holds an object
+-- class c has no slot left in the arrangement m on the pages p: none of its pages is partly full, and every page holds an object
 pub record LacksRoom (p : Paging) (m : Held) (c : ℕ) : Type 0 where
   pub full : not_full_pages p m c ≡ 0
   pub taken : (page : ℕ) → page < p.pages → 0 < count_on p m page

@@ -13,30 +13,31 @@ use Rattle.page_model.specs.Steps.{Leaves}
 abbrev pub first_frames : ℕ → List ℕ
 first_frames n = range_with_len 0 n
 
--- the numbers below the list's length, in any order
+-- `frames` contains each number below its length once, in any order
 abbrev pub IsPermuted : List ℕ → Type 0
 IsPermuted frames = IsPermutation (first_frames (length frames)) frames
 
--- an object moved from y to z: the blocks of its old slot have changed places with those of its new one
+-- the block table after an object moved from y to z: the blocks of its old slot and of its new one have changed places; without an object nothing changes
 abbrev pub frames_moved : Paging → Option Placed → Option Placed → List ℕ → List ℕ
 frames_moved p None z frames = frames
 frames_moved p (Some y) None frames = frames
 frames_moved p (Some y) (Some z) frames = exchanged frames (y.place / 4) (z.place / 4) (slot_words p (class_at p y) / 4)
 
--- the object under a number, if there is one
+-- the object of m that has this number, if a number is given and an object has it
 abbrev pub found : Held → Option ℕ → Option Placed
 found m None = None
 found m (Some q) = get m q
 
--- the block table after a free or a resize: it changes only if an object moved
+-- the block table after a free or a resize that turned the objects `old` into `after`: it changes only if another object moved
 abbrev pub frames_after : Paging → Held → Leaves → List ℕ → List ℕ
 frames_after p old after frames = frames_moved p (found old after.moved) (found after.held after.moved) frames
 
--- the physical block of block i of an object at an address
+-- the physical block of block i of the object at address a
 abbrev pub block_of : List ℕ → ℕ → ℕ → ℕ
 block_of frames a i = slice_index frames (a / 4 + i)
 
--- word 4v+j of the region is word j of physical block `frames[v]`
+-- `physical` are the words of the region as they lie there, `words` the same words as objects see them: word 4v+j of `words` is word j of physical block
+-- `frames[v]`
 pub record IsPhysical (frames words physical : List ℕ) : Type 0 where
   pub count : length physical ≡ 4 * length frames
   pub word : (v j : ℕ) → v < length frames → j < 4 → slice_index physical (4 * slice_index frames v + j) ≡ slice_index words (4 * v + j)
@@ -46,7 +47,7 @@ pub record AreBlocks (p : Paging) : Type 0 where
   pub page : p.page_words % 4 ≡ 0
   pub slot : (c : ℕ) → slot_words p c % 4 ≡ 0
 
--- a sound arrangement in whole blocks, and frames for all blocks of the region, each number once
+-- the arrangement m is sound, in whole blocks, and `frames` contains each block of the region once
 pub record AreFramed (p : Paging) (m : Held) (frames : List ℕ) : Type 0 where
   pub paged : IsPaging p
   pub blocks : AreBlocks p

@@ -5,7 +5,7 @@ use Rattle.std.specs.FinMap.{FinMap}
 use Rattle.std.specs.Coded.{Coded, code_by, coded×, coded_ℕ, coded_list}
 use Rattle.cf_lemmas.specs.Maps.{map_values}
 
--- an object: the word where its slot begins, and its bytes
+-- an object: its address, which is the word where its slot or block begins, and its bytes
 pub record Placed : Type 0 where
   pub place : ℕ
   pub bytes : List ℕ
@@ -22,10 +22,10 @@ Objects = FinMap nat_cmp (List ℕ)
 abbrev pub objects : Held → Objects
 objects m = map_values (λ (x : Placed). x.bytes) m
 
--- the addresses by number, in words
+-- the addresses of an arrangement by number, in words
 abbrev pub places : Held → FinMap nat_cmp ℕ
 places m = map_values (λ (x : Placed). x.place) m
 
--- the encoding of an object, as a pair, that a map of objects needs
+-- an object encoded as the pair of its address and its bytes: a finite map needs such an encoding of its values
 abbrev pub placed_code : Coded Placed
 placed_code = code_by (ℕ × List ℕ) (coded× coded_ℕ (coded_list coded_ℕ)) (λ x. (x.place, x.bytes)) (λ p. record { place = p.0; bytes = p.1 }) (λ _. refl)

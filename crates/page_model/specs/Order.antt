@@ -1,4 +1,5 @@
--- The order in which a manager uses pages, slots and numbers, the calls that follow it, and what they cost in steps.
+-- The order in which a manager uses pages, slots and numbers, when a call follows it, and what such a call costs in steps. A call that follows an order turns
+-- the order `old` into `new`.
 use Rattle.std.specs.Prelude.{◌≡◌, ℕ, ◌+◌, ◌<◌, ◌⊎◌, ◌↔◌, List, [], ◌∷◌, Option, Some, None, length, slice_index_or, slice_set, nat_eq, not, replicate, if◌then◌else◌}
 use Rattle.std.specs.List.{Contains, IsDistinct, filter, range_with_len}
 use Rattle.std.specs.FinMap.{get, len}
@@ -9,26 +10,27 @@ use Rattle.page_model.specs.Paging.{Paging, classes, class_for, slots_of, page_o
 use Rattle.page_model.specs.Arrangement.{class_at, objects_on, count_on}
 use Rattle.page_model.specs.Steps.{Leaves, Request, resized_at}
 
--- what a manager uses next: the free pages, the partly full pages of each class, and the numbers that no object has; each list begins with the next one
+-- what a manager uses next: the free pages (`pool`), the partly full pages of each class (`not_full`), and the numbers that no object has (`spare`); each list
+-- begins with the one used next
 pub record Order : Type 0 where
   pub pool : List ℕ
   pub not_full : List (List ℕ)
   pub spare : List ℕ
 
--- the partly full pages of class c
+-- the partly full pages of class c in the order o, the next one first
 abbrev pub not_full_in : Order → ℕ → List ℕ
 not_full_in o c = slice_index_or o.not_full c []
 
--- the order with this list of partly full pages for class c
+-- the order o with this list of partly full pages for class c
 abbrev pub with_not_full : Order → ℕ → List ℕ → Order
 with_not_full o c pages = record o { not_full = slice_set o.not_full c pages }
 
--- the page is partly full, with objects of class c
+-- the page is partly full with class c: it has an object of class c, but fewer than it has slots
 abbrev pub IsPartlyFull : Paging → Held → ℕ → ℕ → Type 0
 IsPartlyFull p m c page = (0 < objects_on p m c page) × (objects_on p m c page < slots_of p c)
 
--- an order of this arrangement, with numbers below a limit: it lists the pages without objects, the partly full pages of each class, and the numbers without an
--- object, each once
+-- o is an order of the arrangement m with numbers below `limit`: it lists the pages without objects, the partly full pages of each class, and the numbers
+-- without an object, each once
 pub record IsOrderOf (p : Paging) (m : Held) (limit : ℕ) (o : Order) : Type 0 where
   pub pool : (page : ℕ) → Contains o.pool page ↔ ((page < p.pages) × (count_on p m page ≡ 0))
   pub pool_once : IsDistinct nat_eq o.pool
@@ -39,25 +41,26 @@ pub record IsOrderOf (p : Paging) (m : Held) (limit : ℕ) (o : Order) : Type 0 
   pub spare_once : IsDistinct nat_eq o.spare
   pub spare_all : length o.spare + len m ≡ limit
 
--- the order of an empty heap: pages and numbers in rising order
+-- the order of an empty heap with numbers below `limit`: pages and numbers in rising order
 abbrev pub first_order : Paging → ℕ → Order
 first_order p limit = record { pool = range_with_len 0 p.pages; not_full = replicate (classes p) []; spare = range_with_len 0 limit }
 
--- an object is at the address
+-- an object of m is at address a
 abbrev pub IsTaken : Held → ℕ → Type 0
 IsTaken m a = (q : ℕ) × (x : Placed) × (get m q ≡ Some x) × (x.place ≡ a)
 
--- the slot of the page is free, and each lower slot is taken
+-- the slot is the lowest free one of the page, if the page is cut into slots of class c: it is free, and each lower slot is taken
 pub record IsLeastFree (p : Paging) (m : Held) (c page slot : ℕ) : Type 0 where
   pub free : ¬ IsTaken m (address_of p c page slot)
   pub least : (s : ℕ) → s < slot → IsTaken m (address_of p c page s)
 
--- the slot of the page is taken, and each lower slot is free
+-- the slot is the lowest taken one of the page, if the page is cut into slots of class c: it is taken, and each lower slot is free
 pub record IsLeastTaken (p : Paging) (m : Held) (c page slot : ℕ) : Type 0 where
   pub taken : IsTaken m (address_of p c page slot)
   pub least : (s : ℕ) → s < slot → ¬ IsTaken m (address_of p c page s)
 
--- a call takes the lowest free slot, at address a, of the first partly full page of class c; if that fills the page, the page leaves its list
+-- a call takes a slot of class c on a partly full page: the lowest free one, at address a, of the first such page; if that fills the page, the page leaves the
+-- list of the class
 pub record TakesOnOpenPage (p : Paging) (m : Held) (old : Order) (c a : ℕ) (new : Order) : Type 0 where
   pub page : ℕ
   pub slot : ℕ
@@ -67,8 +70,8 @@ pub record TakesOnOpenPage (p : Paging) (m : Held) (old : Order) (c a : ℕ) (ne
   pub least : IsLeastFree p m c page slot
   pub left : new ≡ (if nat_eq (objects_on p m c page + 1) (slots_of p c) then with_not_full old c rest else old)
 
--- no page of class c is partly full, and a call takes slot 0, at address a, of the first free page; unless that fills the page, it becomes the only one in the
--- class's list
+-- a call takes a slot of class c on a free page, since none of the class is partly full: slot 0, at address a, of the first free page; unless that fills the
+-- page, it becomes the only page in the list of the class
 pub record TakesOnFreePage (p : Paging) (old : Order) (c a : ℕ) (new : Order) : Type 0 where
   pub page : ℕ
   pub rest : List ℕ
@@ -77,17 +80,17 @@ pub record TakesOnFreePage (p : Paging) (old : Order) (c a : ℕ) (new : Order) 
   pub front : old.pool ≡ page ∷ rest
   pub left : new ≡ record (if nat_eq (slots_of p c) 1 then old else with_not_full old c (page ∷ [])) { pool = rest }
 
--- a call takes the next slot of class c, at address a
+-- a call takes the next slot of class c, at address a: on the first partly full page, or, if there is none, on the first free one
 abbrev pub TakesNext : Paging → Held → Order → ℕ → ℕ → Order → Type 0
 TakesNext p m old c a new = TakesOnOpenPage p m old c a new ⊎ TakesOnFreePage p old c a new
 
--- a malloc uses the first spare number and takes the next slot of its class
+-- a malloc (`asked`) follows the order: it uses the first spare number and takes the next slot of its class, at `place`
 pub record MallocFollows (p : Paging) (m : Held) (asked : Request) (place : ℕ) (old new : Order) : Type 0 where
   pub rest : List ℕ
   pub number : old.spare ≡ asked.number ∷ rest
   pub taken : TakesNext p m (record old { spare = rest }) (class_for p asked.length) place new
 
--- the order after a slot of class c on the page becomes free: if the page is then empty, it leaves its list and becomes the first free page; if it was full, it
+-- the order o after a slot of class c on the page becomes free: a page that is then empty leaves its list and becomes the first free page; a page that was full
 -- becomes the first partly full one
 abbrev pub slot_freed : Paging → Held → Order → ℕ → ℕ → Order
 slot_freed p m o c page =
@@ -95,7 +98,7 @@ slot_freed p m o c page =
     else if nat_eq (objects_on p m c page) (slots_of p c) then with_not_full o c (page ∷ not_full_in o c)
     else o
 
--- y is at the lowest taken slot of the first partly full page of class c
+-- object y is the next one of class c to move by the order o: it is at the lowest taken slot of the first partly full page of the class
 pub record IsNextToMove (p : Paging) (m : Held) (o : Order) (c : ℕ) (y : Placed) : Type 0 where
   pub page : ℕ
   pub slot : ℕ
@@ -104,13 +107,14 @@ pub record IsNextToMove (p : Paging) (m : Held) (o : Order) (c : ℕ) (y : Place
   pub least : IsLeastTaken p m c page slot
   pub address : y.place ≡ address_of p c page slot
 
--- x is removed: its slot becomes free, or the next object to move, q, moves there and the old slot of q becomes free
+-- the order after object x is removed: without a move the slot of x becomes free; if object q moves into it, q was the next one to move, and its old slot
+-- becomes free
 abbrev pub SlotFollows : Paging → Held → Placed → Option ℕ → Order → Order → Type 0
 SlotFollows p m x None old new = new ≡ slot_freed p m old (class_at p x) (page_of p x.place)
 SlotFollows p m x (Some q) old new = (y : Placed) × (get m q ≡ Some y) × IsNextToMove p m old (class_at p x) y
     × (new ≡ slot_freed p m old (class_at p x) (page_of p y.place))
 
--- if a free moves an object, it is the next one to move; the freed number becomes the first spare one
+-- a free of object h follows the order: if it moves an object (`moved`), that is the next one to move; the number h becomes the first spare one
 pub record FreeFollows (p : Paging) (m : Held) (h : ℕ) (moved : Option ℕ) (old new : Order) : Type 0 where
   pub object : Placed
   pub found : get m h ≡ Some object
@@ -118,7 +122,8 @@ pub record FreeFollows (p : Paging) (m : Held) (h : ℕ) (moved : Option ℕ) (o
   pub slot : SlotFollows p m object moved old between
   pub number : new ≡ record between { spare = h ∷ between.spare }
 
--- a resize to another class takes the next slot there, then frees the old one; within the class it changes nothing
+-- a resize (`asked`, with the result `after`) follows the order: to another class it takes the next slot there, then frees the old one; within the class the
+-- order stays
 pub record ResizeFollows (p : Paging) (m : Held) (asked : Request) (after : Leaves) (old new : Order) : Type 0 where
   pub object : Placed
   pub found : get m asked.number ≡ Some object
@@ -128,14 +133,14 @@ pub record ResizeFollows (p : Paging) (m : Held) (asked : Request) (after : Leav
       × TakesNext p m old (class_for p asked.length) place between
       × SlotFollows p m object after.moved between new
 
--- the steps of reading or writing a word: one, and with a block table one more to read its entry
+-- the steps of reading or writing one word, by kind: one, and for the non-moving kind one more to read the block table
 abbrev pub word_steps : Kind → ℕ
 word_steps Moving = 1
 word_steps NonMoving = 2
 word_steps Tlsf = 1
 word_steps HalfFit = 1
 
--- the steps of taking a slot on a page of n slots, `used` of them taken: more if that fills the page
+-- the steps of taking a slot on a partly full page of n slots of which `used` are taken: more if that fills the page
 abbrev pub open_steps : ℕ → ℕ → ℕ
 open_steps used n = if nat_eq (used + 1) n then 13 else 5
 
@@ -143,22 +148,22 @@ open_steps used n = if nat_eq (used + 1) n then 13 else 5
 abbrev pub new_page_steps : ℕ
 new_page_steps = 11
 
--- the steps of freeing a slot on a page of n slots, `used` of them taken: more if that empties the page, or if it was full
+-- the steps of freeing a slot on a page of n slots of which `used` were taken: more if that empties the page, or if it was full
 abbrev pub drop_steps : ℕ → ℕ → ℕ
 drop_steps used n = if nat_eq used 1 then 10 else if nat_eq used n then 13 else 5
 
--- the steps of finding the lowest taken slot of a partly full page with `used` taken slots, and freeing it: more if that empties the page
+-- the steps of finding the lowest taken slot of a partly full page with `used` taken slots, and of freeing it: more if that empties the page
 abbrev pub fill_steps : ℕ → ℕ
 fill_steps used = if nat_eq used 1 then 12 else 7
 
--- the steps of taking the next slot of class c
+-- the steps of taking the next slot of class c by the order o: on the first partly full page, or, if there is none, on a free page
 abbrev pub steps_to_take : Paging → Held → Order → ℕ → ℕ
 steps_to_take p m o c = elim (not_full_in o c) [ [] ↦ new_page_steps | page ∷ rest ↦ open_steps (objects_on p m c page) (slots_of p c) ]
 
--- the steps of freeing a slot of class c on the page
+-- the steps of freeing a slot of class c on the page, whose objects are counted before the free
 abbrev pub steps_to_drop : Paging → Held → ℕ → ℕ → ℕ
 steps_to_drop p m c page = drop_steps (objects_on p m c page) (slots_of p c)
 
--- the steps of freeing the slot of the next object of class c to move
+-- the steps of finding and freeing the slot of the object of class c that is next to move by the order o; 0 if no page of the class is partly full
 abbrev pub steps_to_fill : Paging → Held → Order → ℕ → ℕ
 steps_to_fill p m o c = elim (not_full_in o c) [ [] ↦ 0 | page ∷ rest ↦ fill_steps (objects_on p m c page) ]

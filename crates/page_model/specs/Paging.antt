@@ -6,55 +6,56 @@ use Rattle.cf_base.specs.Classes.{need, sizes, slots}
 use Rattle.cf_base.specs.Rising.{AreSizes}
 use Rattle.cf_base.specs.declared.kind.Layout.{Layout}
 
--- the number of pages, the words of a page, the words of a slot by class, and the bound of each class: how many of its pages may be partly full
+-- the pages and classes of a heap: how many pages, the words of a page, and by class the words of a slot (`sizes`) and the bound (`bounds`); the bound is how
+-- many pages of the class may be partly full
 pub record Paging : Type 0 where
   pub pages : ℕ
   pub page_words : ℕ
   pub sizes : List ℕ
   pub bounds : List ℕ
 
--- the pages of a heap with these settings and bounds
+-- the pages of a heap with the settings s, the slot sizes of the layout, and these bounds
 abbrev pub paging_of : Profile → Layout → List ℕ → Paging
 paging_of s layout bounds = record { pages = s.pages; page_words = s.page_words; sizes = sizes s.page_words layout; bounds = bounds }
 
--- every class has the bound k of the settings
+-- the bounds of a newly opened heap: each class of the layout has the bound k of the settings s
 abbrev pub first_bounds : Profile → Layout → List ℕ
 first_bounds s layout = replicate (length (sizes s.page_words layout)) s.k
 
--- the number of classes
+-- how many classes the pages p have
 abbrev pub classes : Paging → ℕ
 classes p = length p.sizes
 
--- the words of a slot of class c
+-- how many words a slot of class c has
 abbrev pub slot_words : Paging → ℕ → ℕ
 slot_words p c = slice_index p.sizes c
 
--- the slots of class c on a page
+-- how many slots a page of class c has
 abbrev pub slots_of : Paging → ℕ → ℕ
 slots_of p c = slots p.page_words p.sizes c
 
--- how many pages of class c may be partly full
+-- the bound of class c: how many of its pages may be partly full
 abbrev pub bound_of : Paging → ℕ → ℕ
 bound_of p c = slice_index p.bounds c
 
--- the class of an object of n bytes; the number of classes if none holds it
+-- the class of an object of n bytes: the first whose slots hold it; if there is none, the number of classes, which is no class
 unfoldable pub class_for : Paging → ℕ → ℕ
 class_for p n = position_or_len (λ s. nat_le (need n) s) p.sizes
 
--- the page of an address
+-- the number of the page that contains address a
 abbrev pub page_of : Paging → ℕ → ℕ
 page_of p a = a / p.page_words
 
--- the address of a slot of class c, by its page and its number on the page
+-- the address of a slot of class c, by the number of its page and its number on the page
 abbrev pub address_of : Paging → ℕ → ℕ → ℕ → ℕ
 address_of p c page slot = page * p.page_words + slot * slot_words p c
 
--- the slot sizes have the properties of `AreSizes`, and each class has a bound of at least 1
+-- the slot sizes rise and end with the page (`AreSizes`), and each class has a bound of at least 1
 pub record IsPaging (p : Paging) : Type 0 where
   pub sized : AreSizes p.page_words p.sizes
   pub bounded : length p.bounds ≡ length p.sizes
   pub some : (c : ℕ) → c < classes p → 1 ≤ bound_of p c
 
--- in each class at most one page may be partly full
+-- in each class at most one page may be partly full: every bound is 1
 abbrev pub AreOne : Paging → Type 0
 AreOne p = (c : ℕ) → c < classes p → bound_of p c ≡ 1

@@ -1,4 +1,6 @@
-//! The blocks of objects in the non-moving manager.
+//! Laws of the non-moving manager's block table. `frames` lists the physical block of each virtual
+//! block, and a block is four words. `old` are the objects before a call; `after` are those that it
+//! leaves, and which other object moved.
 ghost use Rattle.std.specs.Prelude.{ℕ, ◌≡◌, ◌≢◌, ◌+◌, ◌*◌, ◌/◌, ◌%◌, ◌<◌, List, Some, length, slice_index};
 ghost use Rattle.std.specs.FinMap.{get};
 ghost use Rattle.page_model.specs.Frames.{IsPermuted, IsPhysical, AreFramed, block_of, first_frames, frames_after};
@@ -7,8 +9,9 @@ ghost use Rattle.page_model.specs.Image.{IsSlotImage, object_word, slot_for};
 ghost use Rattle.page_model.specs.Paging.{Paging};
 ghost use Rattle.page_model.specs.Steps.{RemovesObject, RefitsObject, Leaves, Request, ResizesInPlace};
 
-/// The block table (`frames`) of an empty heap contains the number of each block once. It still
-/// does after a free and after a resize.
+/// The block table (`frames`) of an empty heap with `n` blocks contains the number of each block
+/// once. It still does after a free of object `h`, and after a resize (`asked`), which turn the
+/// objects `old` on the pages `p` into `after`.
 pub fn frames_stay_permuted()
     ensures first { (n : ℕ) → IsPermuted (first_frames n) × (length (first_frames n) ≡ n) }
     ensures free { (p : Paging) (old : Held) (frames : List ℕ) (h : ℕ) (after : Leaves)
@@ -19,9 +22,11 @@ pub fn frames_stay_permuted()
         → AreFramed p after.held (frames_after p old after frames) }
 {}
 
-/// Each physical block of an object stays the same while other objects are freed or resized, even
-/// if the object moves. It also stays while the object is resized within its class. A malloc has no
-/// clause here, since it moves no object.
+/// A free of object `h`, or a resize (`asked`), keeps each physical block of every other object
+/// `q`, even if `q` moves (clauses `free`, `resize`). A resize within the class also keeps the
+/// blocks of its own object (`same_class`). `y` is the object before the call, `z` the same one
+/// after it, and `i` a block of its slot. `frames` is the block table before the call. A malloc has
+/// no clause here, since it moves no object.
 pub fn blocks_of_others_stay()
     ensures free { (p : Paging) (old : Held) (frames : List ℕ) (h : ℕ) (after : Leaves)
         → AreFramed p old frames → RemovesObject p old h after
@@ -42,7 +47,8 @@ pub fn blocks_of_others_stay()
         ≡ block_of frames y.place i }
 {}
 
-/// No two live objects share a block.
+/// No two objects `x` and `y` of the arrangement `m` share a physical block. `frames` is the block
+/// table.
 pub fn live_objects_share_no_block()
     ensures { (p : Paging) (m : Held) (frames : List ℕ) → AreFramed p m frames
         → (h q : ℕ) (x y : Placed) → get m h ≡ Some x → get m q ≡ Some y → q ≢ h
@@ -50,8 +56,9 @@ pub fn live_objects_share_no_block()
         → block_of frames x.place i ≢ block_of frames y.place j }
 {}
 
-/// Word i of an object's slot is word i modulo 4 of its block i / 4. So a step that keeps an
-/// object's blocks and bytes keeps its physical words.
+/// The table (`frames`) names a physical block for block i / 4 of the slot of object `x`. Word `i`
+/// of the slot is word i modulo 4 of that block. So a call that keeps an object's blocks and bytes
+/// keeps its words in the region (`physical`).
 pub fn slots_stand_in_their_blocks()
     ensures { (p : Paging) (m : Held) (frames words physical : List ℕ) → AreFramed p m frames
         → IsSlotImage p m words → IsPhysical frames words physical

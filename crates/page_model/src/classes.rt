@@ -1,4 +1,5 @@
-//! The sizes of slots, the class of a request, and the addresses of slots.
+//! Laws of the sizes of slots, the class of a request, and the addresses of slots. In the clauses
+//! `p` holds the pages and the classes; a class `c` is the index of its slot size.
 ghost use Rattle.std.specs.Prelude.{ℕ, ◌≡◌, ◌*◌, ◌/◌, ◌%◌, ◌<◌, ◌≤◌, IsTrue, List, None, Some, length, slice_index};
 ghost use Rattle.cf_base.specs.Classes.{class_of, need, sizes};
 ghost use Rattle.cf_base.specs.Limits.{is_page_size};
@@ -9,8 +10,9 @@ ghost use Rattle.page_model.specs.Frames.{AreBlocks};
 ghost use Rattle.page_model.specs.Paging.{AreOne, IsPaging, Paging, address_of, class_for, classes, first_bounds, page_of, paging_of, slot_words, slots_of};
 ghost use Rattle.page_model.specs.Arrangement.{IsSlotAt};
 
-/// The slot sizes of a page, in words and in blocks, rise from at least 4 words to the page. Each
-/// class has a bound: that of the settings, or another one of at least 1.
+/// The slot sizes of a page, in words or in whole blocks (`layout`), rise from at least 4 words to
+/// the page. `first`: each class has the bound of the settings `s`. `bounded`: the same holds with
+/// other bounds of at least 1, one for each class.
 pub fn slot_sizes_rise()
     ensures first { (s : Profile) (layout : Layout) → IsTrue (is_page_size s.page_words) → 1 ≤ s.k
         → IsPaging (paging_of s layout (first_bounds s layout)) }
@@ -21,8 +23,9 @@ pub fn slot_sizes_rise()
         → IsPaging (paging_of s layout bounds) }
 {}
 
-/// If k is 1 in the settings, every class has the bound 1. Pages of whole blocks have slots of
-/// whole blocks. A page has at most one slot for every four words.
+/// If k is 1 in the settings `s`, every class has the bound 1 (`ones`). If the sizes are in blocks
+/// of four words, pages and slots are whole blocks (`blocks`). A page has at most one slot of class
+/// `c` for every four words (`few`).
 pub fn slots_are_few_and_in_blocks()
     ensures ones { (s : Profile) (layout : Layout) → s.k ≡ 1
         → AreOne (paging_of s layout (first_bounds s layout)) }
@@ -32,8 +35,8 @@ pub fn slots_are_few_and_in_blocks()
         → 4 * slots_of p c ≤ p.page_words }
 {}
 
-/// A request that fits a page has a class: the least whose slots hold it. One that doesn't fit has
-/// none.
+/// A request of `n` bytes that fits a page of the paging `p` has a class: the least class `c` whose
+/// slots hold it. A request that doesn't fit a page has none.
 pub fn a_class_holds_its_requests()
     ensures fits { (p : Paging) (n : ℕ) → IsPaging p → need n ≤ p.page_words
         → class_for p n < classes p }
@@ -47,7 +50,9 @@ pub fn a_class_holds_its_requests()
         → class_of p.sizes n ≡ None }
 {}
 
-/// The addresses of a class's slots are those of the slot numbers, from 0, on each page.
+/// A slot of class `c` has an address, by its page and its number on the page (`address_of`). The
+/// page and the number follow from the address (`slot`), and each address of a slot is made so
+/// (`address`). `p` holds the pages and the classes.
 pub fn slots_have_addresses()
     ensures slot { (p : Paging) (c page slot : ℕ) → IsPaging p → c < classes p
         → page < p.pages → slot < slots_of p c

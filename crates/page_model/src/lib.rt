@@ -1,6 +1,7 @@
-//! Arrangements of objects on pages, as in Compact-fit (2008): what a sound arrangement is, and how
-//! a malloc, a free and a resize change it, its words and its blocks. The public functions do
-//! nothing; each contract is a law of these definitions.
+//! Arrangements of objects on pages, as in Compact-fit (2008). An arrangement maps the number of
+//! each object to its address and its bytes. The model defines when one is sound, and how a malloc,
+//! a free and a resize change it, its words and its blocks. The public functions do nothing; each
+//! contract is a law of these definitions.
 #![tactic(auto)]
 
 mod blocks;

@@ -1,5 +1,5 @@
-//! Laws of the order in which a manager uses pages, slots and numbers: the order leaves a call no
-//! choice, and each call that may succeed can follow it.
+//! Laws of the order in which a manager uses pages, slots and numbers (`Order`). The order leaves a
+//! call no choice, and each call that may succeed can follow it.
 ghost use Rattle.std.specs.Prelude.{ℕ, ◌≡◌, ◌≢◌, ◌<◌, Option, Some, None};
 ghost use Rattle.std.specs.FinMap.{get, insert, len};
 ghost use Rattle.page_model.specs.Arrangement.{IsSound, LacksRoom, class_at};
@@ -8,9 +8,10 @@ ghost use Rattle.page_model.specs.Order.{FreeFollows, IsOrderOf, MallocFollows, 
 ghost use Rattle.page_model.specs.Paging.{IsPaging, Paging, class_for, classes};
 ghost use Rattle.page_model.specs.Steps.{IsFreePlace, Leaves, Moves, RefitsObject, RemovesObject, Request, without, zeros_at};
 
-/// Two mallocs of the same length that follow the same order use the same number and address, and
-/// leave the same order. Two frees of the same object that follow the same order leave the same
-/// objects and the same order. So do two resizes of the same object to the same length.
+/// Two mallocs of the same length that follow the same order `old` use the same number and address,
+/// and leave the same order. Two frees of the same object `h` that follow the same order leave the
+/// same objects and the same order. So do two resizes of the same object to the same length. `m`
+/// are the objects before the calls, `p` the pages.
 pub fn an_order_leaves_no_choice()
     ensures malloc { (p : Paging) (m : Held) (asked other : Request) (place elsewhere : ℕ) (old new next : Order)
         → MallocFollows p m asked place old new → MallocFollows p m other elsewhere old next → asked.length ≡ other.length
@@ -25,8 +26,9 @@ pub fn an_order_leaves_no_choice()
         → (after ≡ other) × (new ≡ next) }
 {}
 
-/// If a number is free and the class of a request has a slot left, a malloc can follow the order: on
-/// the first partly full page, or on the first free one. It leaves an order of the new arrangement.
+/// If a number below `limit` is unused and the class of `n` bytes has a slot left, a malloc can
+/// follow the order `o`. It takes a slot on the first partly full page, or on the first free one,
+/// and leaves an order of the new arrangement. `m` are the objects before, on the pages `p`.
 pub fn a_malloc_can_follow_an_order()
     ensures { (p : Paging) (m : Held) (limit n : ℕ) (o : Order) → IsPaging p → IsSound p m → IsOrderOf p m limit o
         → class_for p n < classes p → len m < limit → (¬ LacksRoom p m (class_for p n))
@@ -35,8 +37,9 @@ pub fn a_malloc_can_follow_an_order()
         × IsOrderOf p (insert m h (zeros_at place n)) limit new }
 {}
 
-/// A free of each live object can follow the order, whether it moves an object or not. It leaves an
-/// order of the arrangement without the object.
+/// A free of each live object `h` can follow the order `o`, whether it moves an object or not. It
+/// leaves an order of the arrangement without the object. `m` are the objects before, on the pages
+/// `p`.
 pub fn a_free_can_follow_an_order()
     ensures { (p : Paging) (m : Held) (limit h : ℕ) (x : Placed) (o : Order) → IsPaging p → IsSound p m → IsOrderOf p m limit o
         → get m h ≡ Some x → h < limit
@@ -44,8 +47,9 @@ pub fn a_free_can_follow_an_order()
         × IsOrderOf p (without m h x.place moved) limit new }
 {}
 
-/// A resize of each live object can follow the order if the new length has a class and, in another
-/// class, a slot is left there. It leaves an order of the new arrangement.
+/// Let the new length have a class, and if this is another class, let a slot of it be left. Then a
+/// resize of a live object can follow the order `o`, and leaves an order of the new arrangement.
+/// `m` are the objects before, on the pages `p`.
 pub fn a_resize_can_follow_an_order()
     ensures { (p : Paging) (m : Held) (limit : ℕ) (asked : Request) (x : Placed) (o : Order) → IsPaging p → IsSound p m → IsOrderOf p m limit o
         → get m asked.number ≡ Some x → class_for p asked.length < classes p

@@ -1,4 +1,5 @@
-//! When a sound arrangement has no slot left for one more object of a class.
+//! Laws of when a sound arrangement has no slot left for one more object of a class. In the clauses
+//! `p` holds the pages and the classes, `m` the objects with their addresses.
 ghost use Rattle.std.specs.Prelude.{ℕ, ◌≡◌, ◌+◌, ◌/◌, ◌%◌, ◌<◌, ◌≤◌, ◌↔◌, List, None, length};
 ghost use Rattle.std.specs.FinMap.{get, insert};
 ghost use Rattle.page_model.specs.Arrangement.{IsSound, LacksRoom, free_pages, live, most_pages_besides, not_full_pages, pages_needed, pages_needed_with};
@@ -6,14 +7,16 @@ ghost use Rattle.page_model.specs.Arrangement.{used_pages};
 ghost use Rattle.page_model.specs.Held.{Held, Objects, objects};
 ghost use Rattle.page_model.specs.Paging.{AreOne, IsPaging, Paging, class_for, classes, slots_of};
 
-/// A class has no slot left if and only if none of its pages is partly full and no page is free.
+/// Let `m` be a sound arrangement on the pages `p`. Class `c` has no slot left (`LacksRoom`) if and
+/// only if none of its pages is partly full and no page is free.
 pub fn lack_of_room_is_no_page_left()
     ensures { (p : Paging) (m : Held) (c : ℕ) → IsSound p m
         → LacksRoom p m c ↔ ((not_full_pages p m c ≡ 0) × (free_pages p m ≡ 0)) }
 {}
 
-/// If a class has no slot left, its objects fill their pages. All other pages hold objects of other
-/// classes, so their number is at most the greatest that those objects can be on.
+/// If class `c` has no slot left in the arrangement `m` on the pages `p`, its objects fill all
+/// slots of their pages. All other pages hold objects of other classes, so they are at most the
+/// pages that those objects can be on (`most_pages_besides`).
 pub fn pages_where_room_is_lacking()
     ensures { (p : Paging) (m : Held) (c : ℕ) → IsPaging p → IsSound p m → c < classes p
         → LacksRoom p m c
@@ -21,22 +24,26 @@ pub fn pages_where_room_is_lacking()
         × (p.pages ≤ live p (objects m) c / slots_of p c + most_pages_besides p (objects m) c) }
 {}
 
-/// Whatever the bounds, the number of pages in use is at least `pages_needed`: for each class its
-/// objects over the slots of a page, rounded up, summed over the classes.
+/// Whatever the bounds, a sound arrangement `m` on the pages `p` uses at least the pages that its
+/// objects need (`pages_needed`): for each class its objects over the slots of a page, rounded up,
+/// summed over the classes.
 pub fn objects_need_no_more_pages()
     ensures { (p : Paging) (m : Held) → IsPaging p → IsSound p m
         → pages_needed p (objects m) ≤ used_pages p m }
 {}
 
-/// If every bound is 1, the number of pages in use is exactly `pages_needed`.
+/// Let each class have at most one partly full page (`AreOne`). Then a sound arrangement `m` on the
+/// pages `p` uses exactly the pages that its objects need (`pages_needed`).
 pub fn pages_are_those_needed_at_bound_one()
     ensures { (p : Paging) (m : Held) → IsPaging p → AreOne p → IsSound p m
         → used_pages p m ≡ pages_needed p (objects m) }
 {}
 
-/// Let every bound be 1. No slot is left for an object if and only if the objects with it need more
-/// pages than there are. This covers a malloc, and a resize to another class, in which the old
-/// object counts too.
+/// Let every bound be 1. In the arrangement `m` on the pages `p` an object of `n` bytes is to be
+/// added. No slot is left for it if and only if the objects with it need more pages than there are
+/// (clause `room`). This covers a malloc, and a resize to another class, in which the old object
+/// counts too. Clause `added`: `pages_needed_with` are the pages that the objects need once it is
+/// added, as `h` with the bytes `v`.
 pub fn lack_of_room_is_arithmetic_at_bound_one()
     ensures room { (p : Paging) (m : Held) (n : ℕ) → IsPaging p → AreOne p → IsSound p m
         → class_for p n < classes p

@@ -1,5 +1,6 @@
 //! Laws of sound arrangements: a malloc, a free and a resize keep an arrangement sound, and change
-//! its counts as stated here.
+//! its counts as stated here. In the clauses `p` holds the pages and the classes, `m` or `old` the
+//! objects with their addresses.
 ghost use Rattle.std.specs.Prelude.{ℕ, ◌≡◌, ◌≢◌, ◌+◌, ◌/◌, ◌<◌, ◌≤◌, ◌&&◌, Option, Some, None, cond, length, nat_lt, replicate};
 ghost use Rattle.std.specs.FinMap.{empty, get, insert, remove};
 ghost use Rattle.page_model.specs.Arrangement.{IsSound, class_at, home_pages, is_on, live, not_full_pages, objects_on};
@@ -9,15 +10,19 @@ ghost use Rattle.page_model.specs.Paging.{IsPaging, Paging, bound_of, class_for,
 ghost use Rattle.page_model.specs.Steps.{ChangesClass, IsFreePlace, RemovesObject, PlacesObject, RefitsObject, MayFill, Moves, MustMove, Leaves, Request};
 ghost use Rattle.page_model.specs.Steps.{resized_at, without, zeros_at};
 
-/// The empty arrangement is sound, whatever the bounds, and uses no page.
+/// The arrangement without objects is sound on all pages `p`, whatever the bounds. No class `c`
+/// uses a page there.
 pub fn nothing_is_a_sound_arrangement()
     ensures sound { (p : Paging) → IsSound p empty }
     ensures pages { (p : Paging) (c : ℕ) → home_pages p empty c ≡ 0 }
     ensures not_full { (p : Paging) (c : ℕ) → not_full_pages p empty c ≡ 0 }
 {}
 
-/// The number of pages of a class is one that its objects can be on, and no page holds more objects
-/// than it has slots.
+/// In a sound arrangement `m` on the pages `p`, the number of pages of class `c` is possible by
+/// arithmetic (`can_hold`): none is empty, and at most the bound of the class are partly full
+/// (`not_full`). So it is at most the live objects of the class over the slots of a page, rounded
+/// down, plus the bound (`few`). No page holds more objects of the class than it has slots
+/// (`slots`).
 pub fn page_counts_of_a_sound_arrangement()
     ensures can_hold { (p : Paging) (m : Held) (c : ℕ) → IsPaging p → IsSound p m → c < classes p
         → CanHold (home_pages p m c) (live p (objects m) c) (slots_of p c) (bound_of p c) }
@@ -30,19 +35,21 @@ pub fn page_counts_of_a_sound_arrangement()
         → objects_on p m c page ≤ slots_of p c }
 {}
 
-/// A malloc keeps an arrangement sound.
+/// A malloc (`asked`) that turns the arrangement `old` into `new` keeps it sound.
 pub fn a_malloc_keeps_soundness()
     ensures { (p : Paging) (old : Held) (asked : Request) (new : Held) → IsPaging p → IsSound p old
         → PlacesObject p old asked new → IsSound p new }
 {}
 
-/// A free keeps an arrangement sound, whether it moves an object or not.
+/// A free of object `h` that turns the arrangement `old` into `after` keeps it sound, whether
+/// another object moves or not.
 pub fn a_free_keeps_soundness()
     ensures { (p : Paging) (old : Held) (h : ℕ) (after : Leaves) → IsPaging p → IsSound p old
         → RemovesObject p old h after → IsSound p after.held }
 {}
 
-/// A resize keeps an arrangement sound, within the class and to another one.
+/// A resize (`asked`) that turns the arrangement `old` into `after` keeps it sound, within the
+/// class and to another one.
 pub fn a_resize_keeps_soundness()
     ensures { (p : Paging) (old : Held) (asked : Request) (after : Leaves) → IsPaging p
         → IsSound p old
@@ -50,9 +57,10 @@ pub fn a_resize_keeps_soundness()
 {}
 
 /// The definition of a resize to another class (`ChangesClass`) first makes a copy under an unused
-/// number, `spare`. The result is simpler: the arrangement after a free of the object, and the resized
-/// object under its own number at a free address. `given`: each such arrangement is the result of a
-/// resize, whatever unused number `spare` is. `taken`: each resize has such a result.
+/// number, `spare`. The result is simpler: the objects after a free of object `h`, and the object
+/// resized to `n` bytes, under the number `h`, at a free address `a`. `given`: each such
+/// arrangement is the result of a resize, whatever unused number `spare` is. `taken`: each resize
+/// has such a result.
 pub fn a_resize_in_two_steps()
     ensures given { (p : Paging) (m : Held) (h n a spare : ℕ) (x : Placed) (moved : Option ℕ)
         → IsPaging p → IsSound p m → get m h ≡ Some x → class_for p n ≢ class_at p x
@@ -67,8 +75,10 @@ pub fn a_resize_in_two_steps()
         (resized_at r.place r.object asked.length)) }
 {}
 
-/// What a malloc and a free do to the map of bytes (`objects`) and to the map of addresses
-/// (`places`).
+/// What a malloc and a free do to the bytes by number (`objects`) and to the addresses by number
+/// (`places`) of the arrangement `m`. A malloc adds the number `h` with `n` zeros and the address
+/// `a`. A free removes the bytes of `h` and no others. It also removes the address of `h`
+/// (`still`); if it moves object `q`, that object gets the freed address (`moved`).
 pub fn objects_after_a_step()
     ensures malloc { (m : Held) (h a n : ℕ)
         → (objects (insert m h (zeros_at a n)) ≡ insert (objects m) h (replicate n 0))
@@ -82,15 +92,17 @@ pub fn objects_after_a_step()
         → places (without m h x.place (Some q)) ≡ insert (remove (places m) h) q x.place }
 {}
 
-/// A malloc adds one to the objects of its class on its page.
+/// Object `x` is added to the arrangement `m` under a new number `h`. If `x` is of class `c` and on
+/// `page`, the count of the objects of this class on this page rises by one. Otherwise it stays.
 pub fn counts_after_a_malloc()
     ensures { (p : Paging) (m : Held) (h c page : ℕ) (x : Placed) → get m h ≡ None
         → objects_on p (insert m h x) c page
         ≡ objects_on p m c page + cond (is_on p c page x) 1 0 }
 {}
 
-/// A free takes one from the objects of its class on one page: that of the freed object, or that of
-/// the object that moved.
+/// Object `x` with the number `h` is freed. If no object moves and `x` was of class `c` and on
+/// `page`, the count of such objects falls by one (`still`). If object `y` moves to the address of
+/// `x`, the count falls if `y` was one of them instead (`moved`). Otherwise it stays.
 pub fn counts_after_a_free()
     ensures still { (p : Paging) (m : Held) (h a c page : ℕ) (x : Placed) → get m h ≡ Some x
         → objects_on p (without m h a None) c page + cond (is_on p c page x) 1 0
@@ -102,8 +114,9 @@ pub fn counts_after_a_free()
         ≡ objects_on p m c page }
 {}
 
-/// If the objects of a class changed on one page alone, the class's counts of pages and of partly
-/// full pages change only by that page.
+/// Let the arrangements `old` and `new` have the same objects of class `c` on each page but `page`.
+/// Then the numbers of pages with an object of the class, and of its partly full pages, differ only
+/// as that page does.
 pub fn page_counts_follow_one_page()
     ensures pages { (p : Paging) (old new : Held) (c page : ℕ) → page < p.pages
         → ((g : ℕ) → g ≢ page → objects_on p new c g ≡ objects_on p old c g)

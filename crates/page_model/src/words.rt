@@ -1,4 +1,5 @@
-//! The words of a region that holds objects, after each step.
+//! Laws of the words of a region with pages: how the objects determine them, how a call changes
+//! them, and how bytes are read back. In the clauses `m` holds the objects with their addresses.
 ghost use Rattle.std.specs.Prelude.{ℕ, ◌≡◌, ◌+◌, ◌*◌, ◌/◌, ◌%◌, ◌^◌, ◌<◌, ◌≤◌, List, Option, Some, None, length, replicate, slice_index, slice_set};
 ghost use Rattle.std.specs.FinMap.{FinMap, empty, get, insert, remove};
 ghost use Rattle.std.specs.Ordering.{nat_cmp};
@@ -9,9 +10,10 @@ ghost use Rattle.page_model.specs.Image.{Clears, IsImage, IsSlotImage, MovesWord
 ghost use Rattle.page_model.specs.Paging.{IsPaging, Paging, class_for};
 ghost use Rattle.page_model.specs.Steps.{IsFreePlace, MayFill, MustMove, resized, without, zeros_at};
 
-/// The objects determine the words of a region; those of an empty region are zeros. Words that are
-/// right for whole slots (`IsSlotImage`) are right for the objects without the rest of their slots
-/// (`IsImage`).
+/// The objects determine the words: two lists `u` and `v` of one length that are right for the same
+/// objects `m` are equal (`one`). The words of an empty region of `n` words are zeros (`empty`).
+/// Words that are right for whole slots (`IsSlotImage`) are right for the objects without the rest
+/// of their slots (`own`).
 pub fn words_are_one_list()
     ensures one { (m : Held) (u v : List ℕ) → length u ≡ length v → IsImage m u → IsImage m v
         → u ≡ v }
@@ -20,8 +22,9 @@ pub fn words_are_one_list()
         → IsSlotImage p m words → IsImage m words }
 {}
 
-/// The words of a free slot are zeros. A malloc writes the object's header there, and no other
-/// word.
+/// Let `h` be a number that no object of `m` has, and `a` an address at which an object of `n`
+/// bytes may be placed. The words of that slot are zeros. A malloc writes the object's header at
+/// `a`, and no other word.
 pub fn words_after_a_malloc()
     ensures zeros { (p : Paging) (m : Held) (words : List ℕ) (h n a : ℕ) → IsPaging p → IsSound p m
         → IsSlotImage p m words → get m h ≡ None → IsFreePlace p m n a
@@ -32,8 +35,10 @@ pub fn words_after_a_malloc()
         → IsSlotImage p (insert m h (zeros_at a n)) (slice_set words a (header_word h n)) }
 {}
 
-/// A write changes only the words of the object that hold one of the written bytes (`bytes`). A
-/// resize within the class rewrites the words of the object's slot (`slot`).
+/// The bytes `bytes` are written into object `h`, which is `x`, from its byte `at` on. Only the
+/// words that hold one of them change from `old` to `new` (clause `bytes`). A resize within the
+/// class rewrites the words of the object's slot (`slot`). Then the words are again those of the
+/// objects.
 pub fn words_after_a_write()
     ensures bytes { (p : Paging) (m : Held) (old new : List ℕ) (h at : ℕ) (x : Placed)
         (bytes : List ℕ)
@@ -52,8 +57,9 @@ pub fn words_after_a_write()
         → IsSlotImage p (insert m h (record { place = x.place; bytes = bytes })) new }
 {}
 
-/// A free clears the object's slot, or moves the words of another object's slot there and clears
-/// them at their old place.
+/// A free of object `h`, which is `x`, changes the words from `old` to `new`. It clears the slot
+/// (`still`). Or it moves the words of the slot of object `q`, which is `y`, there, and clears them
+/// at their old address (`moved`). Then the words are those of the objects that are left.
 pub fn words_after_a_free()
     ensures still { (p : Paging) (m : Held) (old new : List ℕ) (h : ℕ) (x : Placed)
         → IsPaging p → IsSound p m → IsSlotImage p m old → get m h ≡ Some x
@@ -70,9 +76,10 @@ pub fn words_after_a_free()
         → IsSlotImage p (insert (remove m h) q (record { place = x.place; bytes = y.bytes })) new }
 {}
 
-/// A resize to another class writes the new slot while the old one is still there: `mid` are the words
-/// in between. Then it clears the old slot, or moves the words of another object's slot there. `spare`
-/// is any number that no object has: in between, the copy is an object of this number.
+/// A resize of object `h`, which is `x`, to another class writes the new slot, at `a`, while the
+/// old one is still there: `mid` are the words in between. Then it clears the old slot (`still`),
+/// or moves the words of the slot of object `q`, which is `y`, there (`moved`). `spare` is any
+/// number that no object has: in between, the copy is an object of this number.
 pub fn words_after_a_resize()
     ensures still { (p : Paging) (m : Held) (old mid new : List ℕ) (h a spare : ℕ) (x : Placed)
         (bytes : List ℕ)
@@ -101,7 +108,8 @@ pub fn words_after_a_resize()
         new }
 {}
 
-/// The header of an object holds its number and its length.
+/// The word at the address of object `h` is its header. It holds the number `h` in the lower half
+/// and the object's length in bytes in the upper half.
 pub fn headers_show()
     ensures { (m : Held) (words : List ℕ) (h : ℕ) (x : Placed) → IsImage m words → get m h ≡ Some x
         → h < 2 ^ 32
@@ -109,14 +117,16 @@ pub fn headers_show()
         ≡ length x.bytes) }
 {}
 
-/// The words and the addresses determine the objects.
+/// The words of a region and the addresses of its objects by number (`at`) determine the objects
+/// `m`: `held_at` computes them.
 pub fn words_show_what_is_held()
     ensures { (m : Held) (at : FinMap nat_cmp ℕ) (words : List ℕ) → IsImage m words → at ≡ places m
         → AreStorable m → held_at words at ≡ m }
 {}
 
-/// The objects that words and addresses determine (`held_at`) have these addresses and the bytes in
-/// the words, and each number of their contents is a byte.
+/// The objects that `held_at` computes from the words and from the addresses by number (`at`) have
+/// these addresses, and the bytes that the words hold there. Each number of their contents is a
+/// byte.
 pub fn what_stands_at_places()
     ensures places { (words : List ℕ) (at : FinMap nat_cmp ℕ) → places (held_at words at) ≡ at }
     ensures found { (words : List ℕ) (at : FinMap nat_cmp ℕ) (h : ℕ) (x : Placed)
@@ -126,8 +136,9 @@ pub fn what_stands_at_places()
         → get (held_at words at) h ≡ Some x → AreBytes x.bytes }
 {}
 
-/// Adding, moving or removing an object leaves objects that words can represent (`AreStorable`),
-/// and resized or written contents are bytes.
+/// Adding object `h` to the objects `m` (`comes`) or removing it (`goes`, also if another one
+/// moves) leaves objects that words can represent (`AreStorable`). The contents of a new, a resized
+/// and a written object are bytes.
 pub fn objects_stay_storable()
     ensures comes { (m : Held) (h : ℕ) (x : Placed) → AreStorable m → h < 2 ^ 32 → AreBytes x.bytes
         → AreStorable (insert m h x) }
@@ -139,7 +150,8 @@ pub fn objects_stay_storable()
         → AreBytes v → AreBytes bytes → AreBytes (written v at bytes) }
 {}
 
-/// Byte k of an object is byte k modulo 8 of the word k / 8 after its header.
+/// Byte `k` of object `h`, which is `x`, is byte k modulo 8 of the word k / 8 after the object's
+/// header.
 pub fn bytes_are_read_back()
     ensures { (m : Held) (words : List ℕ) (h k : ℕ) (x : Placed) → IsImage m words
         → get m h ≡ Some x
@@ -147,7 +159,8 @@ pub fn bytes_are_read_back()
         → byte_of (k % 8) (slice_index words (x.place + 1 + k / 8)) ≡ slice_index x.bytes k }
 {}
 
-/// Words of 64 bits with the same eight bytes are equal. The words of an object fit 64 bits.
+/// Two words `u` and `v` of 64 bits with the same eight bytes are equal (`same`). Each word `i` of
+/// an object `h` with the bytes `v` fits 64 bits (`fits`).
 pub fn a_word_is_its_bytes()
     ensures same { (u v : ℕ) → u < 2 ^ 64 → v < 2 ^ 64 → ((j : ℕ) → j < 8
         → byte_of j u ≡ byte_of j v) → u ≡ v }
@@ -155,7 +168,8 @@ pub fn a_word_is_its_bytes()
         → object_word h v i < 2 ^ 64 }
 {}
 
-/// Writing over a part of an object's bytes changes that part alone.
+/// Writing `bytes` over the bytes `v` from position `at` on (`written`) changes those positions
+/// alone, and the length stays.
 pub fn a_part_is_written()
     ensures len { (v : List ℕ) (at : ℕ) (bytes : List ℕ) → at + length bytes ≤ length v
         → length (written v at bytes) ≡ length v }

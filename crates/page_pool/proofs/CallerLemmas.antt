@@ -1,4 +1,4 @@
--- Lists of free pages: what other crates' proofs may cite.
+-- What other crates' proofs may cite: lists of free pages without repeats, and how many pages are free.
 use Rattle.std.proofs.Common.{◌≡◌, ℕ, zero, suc, ◌+◌, ◌<◌, ◌≤◌, Bool, true, false, List, [], ◌∷◌, length, arith, refl, inl, inr, ◌⊎◌, eqb, eq-eqb, ◌||◌}
 use Rattle.std.proofs.lemmas.Bool.{eqb-true, ne_eqb}
 use Rattle.std.proofs.lemmas.Map.Steps.{length-le_from_distinct_below}

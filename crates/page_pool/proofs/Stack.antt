@@ -1,4 +1,4 @@
--- The stack of a page pool.
+-- For the calls of `PagePool`: the stack after a page is taken and returned, and that of a new pool.
 use Rattle.std.proofs.Common.{◌≡◌, ℕ, ◌+◌, ◌-◌, ◌^◌, ◌<◌, false, List, ◌∷◌, length, drop, set, get_or, arith, subst, ap, ◌∙◌, add-one}
 use Rattle.std.proofs.Math.Seq.{drop-cons}
 use Rattle.std.proofs.lemmas.List.{drop-set, length-set, length-drop}

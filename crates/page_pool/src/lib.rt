@@ -1,5 +1,5 @@
-//! A pool of free pages, last in, first out. Taking a page costs one step, and returning it costs
-//! one.
+//! A pool of free pages (`PagePool`), last in, first out. Taking a page costs one step, and
+//! returning one costs one.
 #![tactic(auto)]
 
 mod pool;

@@ -1,3 +1,4 @@
+//! `PagePool`, the numbers of the free pages of a region.
 ghost use Rattle.std.specs.Prelude.{◌≡◌, ◌<◌, ◌∷◌, false, length, IfOk};
 ghost use Rattle.std.specs.List.{range_with_len};
 ghost use Rattle.step_ledger.specs.Counting.{RoseBy};
@@ -12,7 +13,9 @@ use step_ledger::Steps;
 /// The free pages of a region. The page that was returned last is taken first.
 #[derive(Drop)]
 pub struct PagePool {
+    /// The free pages are those from index `first` on; the next one to be taken is at `first`.
     stack: Cells<u32>,
+    /// The index of the next page; the number of pages if none is free.
     first: usize,
 }
 
@@ -30,7 +33,8 @@ impl Model for PagePool {
 }
 
 impl PagePool {
-    /// The pages 0 to n - 1, all free, with 0 first. Only this call allocates.
+    /// Makes a pool of the pages 0 to n - 1, all free; page 0 is taken first. Only this call
+    /// allocates. It fails with `OutOfMemory` if the allocation fails.
     pub fn new(alloc: Global, n: u32) -> Result<PagePool, OutOfMemory>
         ensures pool { IfOk result (λ p. p ≡ record { pages = n; free = range_with_len 0 n }) }
         ensures kept { IfOk result (λ p. IsPool p) }
@@ -44,7 +48,7 @@ impl PagePool {
         }
     }
 
-    /// The number of free pages.
+    /// How many pages are free.
     pub fn left(&self) -> u32
         ensures len { result ≡ length self.now.free }
         ensures kept { IsPool self.now }
@@ -60,7 +64,7 @@ impl PagePool {
         ensures kept { IsPool self.new }
     {
         if self.first == self.stack.len() {
-            steps.tick(1); // the look that finds none
+            steps.tick(1); // finding that no page is free
             return None;
         }
         let page = self.stack.get(self.first, steps);
@@ -68,8 +72,8 @@ impl PagePool {
         Some(page)
     }
 
-    /// Adds a page that isn't free to the pool, as the first one: the next `take` returns it. Costs
-    /// one step.
+    /// Adds `page`, which must not be in the pool, to the free pages: the next `take` returns it.
+    /// Costs one step.
     pub fn give(&mut self, page: u32, steps: &mut Steps)
         requires within { page < self.old.pages }
         requires taken { is_in_pool self.old.free page ≡ false }

@@ -1,4 +1,4 @@
--- The bytes of an object, and eight of them as a word.
+-- For `byte_at`, `eight_bytes` and `word_of_object`: the bytes of an object, and eight of them as a word.
 use Rattle.std.proofs.Common.{◌≡◌, ℕ, zero, suc, ◌+◌, ◌-◌, ◌*◌, ◌^◌, ◌<◌, ◌≤◌, List, [], length, get_or, take, drop, arith, sym, ◌∙◌, ap, refl, inl, inr}
 use Rattle.std.specs.Prelude.{replicate}
 use Rattle.std.proofs.lemmas.Bool.{cases_lt}

@@ -1,4 +1,4 @@
--- The class of an object, from what a search of the slot sizes finds.
+-- For `Pages::class_for`: the class of an object, from what a search of the slot sizes finds.
 use Rattle.std.proofs.Common.{◌≡◌, ℕ, ◌≤◌, Bool, true, false, cond, List, length, Some, None, arith, refl}
 use Rattle.std.specs.Prelude.{nat_le, nat_lt}
 use Rattle.std.specs.List.{position_or_len}

@@ -1,4 +1,4 @@
--- The object at an address, searched number by number, and the first page of a list.
+-- For `Plain::number_at` and `PlainOrder`: the object at an address, searched number by number, and the first page of a list.
 use Rattle.std.proofs.Common.{◌≡◌, ◌≢◌, ℕ, ◌+◌, ◌<◌, ◌≤◌, ◌∙◌, List, [], ◌∷◌, Option, Some, None, arith, drop, inl, inr, refl, subst, sym}
 use Rattle.std.specs.Prelude.{if◌then◌else◌, nat_eq, slice_get}
 use Rattle.std.proofs.lemmas.Bool.{cases_lt}

@@ -1,4 +1,4 @@
--- The word of a region, searched object by object.
+-- For `word_at` and `Plain::image`: a word of the region, searched object by object.
 use Rattle.std.proofs.Common.{◌≡◌, ℕ, ◌+◌, ◌*◌, ◌<◌, ◌≤◌, List, [], ◌∷◌, ◌++◌, Option, Some, None, length, get_or, map, arith, sym, ◌∙◌, ap, refl, inl, inr}
 use Rattle.std.proofs.Common.{subst}
 use Rattle.std.specs.Prelude.{option_map}

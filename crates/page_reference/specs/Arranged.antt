@@ -11,17 +11,17 @@ pub record Arranged : Type 0 where
   pub paging : Paging
   pub held : Held
 
--- the encoding of pages and classes as nested pairs
+-- pages and classes encoded as nested pairs, which the model of `Pages` needs
 abbrev pub paging_code : Coded Paging
 paging_code = code_by (ℕ × (ℕ × (List ℕ × List ℕ))) (coded× coded_ℕ (coded× coded_ℕ (coded× (coded_list coded_ℕ) (coded_list coded_ℕ))))
     (λ p. (p.pages, (p.page_words, (p.sizes, p.bounds)))) (λ q. record { pages = q.0; page_words = q.1.0; sizes = q.1.1.0; bounds = q.1.1.1 }) (λ _. refl)
 
--- the encoding of pages and objects as a pair, which the model of `Plain` needs
+-- pages and objects encoded as a pair, which the model of `Plain` needs
 abbrev pub arranged_code : Coded Arranged
 arranged_code = code_by (Paging × Held) (coded× paging_code (map.code coded_ℕ placed_code)) (λ a. (a.paging, a.held)) (λ q. record { paging = q.0; held = q.1 })
     (λ _. refl)
 
--- at most 4,096 pages of at most 16,384 words, with slot sizes that rise to the page and a bound for each
+-- the pages are within the limits of a heap: at most 4,096 of at most 16,384 words, with slot sizes that rise to the page, and a bound for each size
 pub record IsModest (p : Paging) : Type 0 where
   pub few : p.pages ≤ 4096
   pub some : 1 ≤ p.page_words

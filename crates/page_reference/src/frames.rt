@@ -7,21 +7,23 @@ ghost use Rattle.cf_lemmas.specs.Exchanges.{exchanged, partner};
 
 use std::alloc::{AllocError, Global};
 
-/// The table of an empty heap with `blocks` blocks, each at its own number.
+/// The table of an empty heap with `blocks` blocks: virtual block v is physical block v. Fails only
+/// if memory runs out.
 pub fn new_frames(alloc: Global, blocks: u32) -> Result<Vec<u32>, AllocError>
     ensures { IfOk result (λ v. v.items ≡ first_frames blocks) }
 {
     numbers_below(alloc, blocks)
 }
 
-/// The numbers below `n`, in rising order.
+/// The numbers from 0 to n - 1, in rising order. Fails only if memory runs out.
 pub(crate) fn numbers_below(alloc: Global, n: u32) -> Result<Vec<u32>, AllocError>
     ensures { IfOk result (λ v. v.items ≡ range_with_len 0 n) }
 {
     (0..n).collect(alloc)
 }
 
-/// The table after the `n` entries from `a` on changed places with those from `b` on, pair by pair.
+/// The table `frames` after its `n` entries from `a` on changed places with those from `b` on, pair
+/// by pair. Fails only if memory runs out.
 pub fn exchange(
     alloc: Global,
     frames: &[u32],
@@ -58,7 +60,8 @@ fn partner_of(a: u32, b: u32, n: u32, v: u32) -> u32
     }
 }
 
-/// The physical block of block i of an object at an address.
+/// The physical block of block `i` of the object at address `place`, in words, by the table
+/// `frames`.
 pub fn block_of(frames: &[u32], place: u32, i: u32) -> u32
     requires { place / 4 + i < length frames.now }
     ensures { result ≡ physical_block frames.now place i }

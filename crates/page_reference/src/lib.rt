@@ -1,6 +1,6 @@
-//! A slow reference implementation of objects on pages: counts, figures, the pages that objects
-//! need, the words of the region, and what a manager uses next, each computed by its definition.
-//! Tests compare the managers with it.
+//! A slow reference implementation of objects on pages, with which tests compare the managers:
+//! counts, figures, the pages that objects need, the words of the region, and what a manager uses
+//! next. Each is computed from the objects, by its definition.
 #![tactic(auto)]
 
 pub mod frames;

@@ -1,7 +1,7 @@
-//! An object, and the amounts that are summed over objects.
+//! An object of the reference implementation, and what may be summed over objects.
 
-/// An object of `length` bytes. It has the bytes of `bytes`, then zeros up to its length. Its slot
-/// begins at word `place`.
+/// An object of `length` bytes, whose slot begins at word `place`. Its contents are the bytes of
+/// `bytes`, then zeros up to its length.
 #[derive(Drop)]
 pub struct Object {
     pub place: u32,
@@ -9,7 +9,7 @@ pub struct Object {
     pub bytes: Vec<u8>,
 }
 
-/// An amount to sum over objects.
+/// What each object adds to a sum over objects.
 #[derive(Clone, Copy)]
 pub enum Amount {
     /// 1 for each object.

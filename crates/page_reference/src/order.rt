@@ -1,4 +1,6 @@
-//! What a manager uses next, computed by the definitions of its order.
+//! What a manager with pages uses next, computed by the definitions of its order (`page_model`,
+//! `Order`). Tests compare a manager's choices with it. A call fails only if memory runs out; no
+//! clause says what the order is then.
 ghost use Rattle.std.specs.Prelude.{◌≡◌, ◌+◌, ◌<◌, ◌≤◌, ◌⊎◌, ◌∷◌, [], IfNone, IfOk, IfSome, OnOk, Some, drop, if◌then◌else◌, nat_eq, not, slice_get};
 ghost use Rattle.std.specs.List.{filter};
 ghost use Rattle.page_model.specs.Order.{FreeFollows, MallocFollows, TakesNext, TakesOnFreePage, TakesOnOpenPage, first_order, not_full_in, slot_freed, with_not_full};
@@ -10,8 +12,8 @@ use crate::frames::numbers_below;
 use crate::plain::Plain;
 use std::alloc::{AllocError, Global};
 
-/// The pages without objects, the partly full pages of each class, and the numbers without an object.
-/// Each list begins with the one that is used next.
+/// The pages without objects (`pool`), the partly full pages of each class (`not_full`), and the
+/// numbers without an object (`spare`). Each list begins with the one that is used next.
 #[derive(Drop)]
 pub struct PlainOrder {
     pool: Vec<u32>,
@@ -19,14 +21,15 @@ pub struct PlainOrder {
     spare: Vec<u32>,
 }
 
-/// The number that a new object gets, and its address.
+/// What an object has after a malloc: its number, and its address in words.
 #[derive(Clone, Copy, Debug, PartialEq, Eq)]
 pub struct Next {
     pub number: u32,
     pub place: u32,
 }
 
-/// The address that a resized object gets, and the object that moves to its old one, if one does.
+/// What a resize leaves: the address of the resized object, and the object that moves to its old
+/// one, if one does.
 #[derive(Clone, Copy, Debug, PartialEq, Eq)]
 pub struct Refit {
     pub place: u32,
@@ -34,7 +37,7 @@ pub struct Refit {
 }
 
 impl PlainOrder {
-    /// The order of an empty heap with these pages, and numbers below a limit.
+    /// The order of an empty heap with the pages of `plain`, and with numbers below `limit`.
     pub fn first(alloc: Global, plain: &Plain, limit: u32) -> Result<PlainOrder, AllocError>
         ensures { IfOk result (λ o. order_of o ≡ first_order plain.now.paging limit) }
     {
@@ -49,8 +52,9 @@ impl PlainOrder {
         })
     }
 
-    /// Follows a malloc: takes the next number and the next slot of the class, and returns them.
-    /// None if there is no such number or slot.
+    /// Follows a malloc of `bytes` bytes in the heap `plain`: takes the next number and the next
+    /// slot of the class, and returns the number and the slot's address. None if there is no such
+    /// number or slot; no clause says what the order is then.
     pub fn malloc(
         &mut self,
         alloc: Global,
@@ -70,9 +74,9 @@ impl PlainOrder {
         }
     }
 
-    /// Follows a free of the object of this number, and returns the object that moves to its address,
-    /// if one does. The outer result is none if there is no such object, or if one must move and none
-    /// is next.
+    /// Follows a free of the object with this number in the heap `plain`. Returns the object that
+    /// moves to its address: `Some(None)` if none does. Returns `None` if no object has the number,
+    /// or if an object must move and none is next; no clause says what the order is then.
     pub fn free(
         &mut self,
         alloc: Global,
@@ -90,9 +94,10 @@ impl PlainOrder {
         Ok(left)
     }
 
-    /// Follows a resize of the object of this number, and returns the address that it gets, and the
-    /// object that moves to its old one, if one does. None if there is no such object or no slot, or if
-    /// an object must move and none is next.
+    /// Follows a resize of the object with this number to `bytes` bytes in the heap `plain`.
+    /// Returns the address that it gets, and the object that moves to its old one, if one does.
+    /// None if there is no such object or no slot, or if an object must move and none is next; no
+    /// clause says what the order is then.
     pub fn resize(
         &mut self,
         alloc: Global,
@@ -122,7 +127,7 @@ impl PlainOrder {
 
 // The parts of each call.
 impl PlainOrder {
-    /// The partly full pages of a class.
+    /// The partly full pages of class `c`, the next one first; empty if there is no such class.
     pub(crate) fn not_full_in(&self, c: u32) -> &[u32]
         ensures { result.now ≡ not_full_in (order_of self.now) c }
     {
@@ -134,7 +139,7 @@ impl PlainOrder {
         }
     }
 
-    /// Replaces the list of the partly full pages of a class.
+    /// Replaces the list of the partly full pages of class `c`, if there is such a class.
     fn set_not_full(&mut self, c: u32, pages: Vec<u32>)
         ensures value { order_of self.new ≡ with_not_full (order_of self.old) c pages.items }
         ensures spare { self.new.spare ≡ self.old.spare }
@@ -145,7 +150,8 @@ impl PlainOrder {
         }
     }
 
-    /// Takes the next slot of a class, and returns its address; none if the class has no slot left.
+    /// Takes the next slot of class `c` in the heap `plain`, and returns its address; none if the
+    /// class has no slot left.
     fn take(&mut self, alloc: Global, plain: &Plain, c: u32) -> Result<Option<u32>, AllocError>
         ensures next { IfOk result (λ a. IfSome a (λ a. TakesNext plain.now.paging plain.now.held (order_of self.old) c a (order_of self.new))) }
         ensures none { IfOk result (λ a. IfNone a (classes plain.now.paging ≤ c ⊎ HasNoNext plain.now.paging plain.now.held (order_of self.old) c)) }
@@ -159,8 +165,8 @@ impl PlainOrder {
         }
     }
 
-    /// Takes the lowest free slot of the first partly full page of class c, and returns its
-    /// address.
+    /// Takes the lowest free slot of `page`, the first partly full page of class `c` in the heap
+    /// `plain`, and returns its address. None if no slot of the page is free.
     fn take_on_open(
         &mut self,
         alloc: Global,
@@ -180,8 +186,8 @@ impl PlainOrder {
         Ok(Some(plain.address_of(c, page, slot)))
     }
 
-    /// Updates the list after a slot of its first page, a partly full one, is taken: the page
-    /// leaves the list if that fills it.
+    /// Updates the list of class `c` after a slot of `page`, the first page of the list, is taken
+    /// in the heap `plain`: if that fills the page, it leaves the list.
     fn use_slot(
         &mut self,
         alloc: Global,
@@ -200,7 +206,8 @@ impl PlainOrder {
         Ok(())
     }
 
-    /// Takes slot 0 of the first free page, and returns its address; none if no page is free.
+    /// Takes slot 0 of the first free page of the heap `plain` for class `c`, and returns its
+    /// address; none if no page is free.
     fn take_on_free(
         &mut self,
         alloc: Global,
@@ -225,7 +232,8 @@ impl PlainOrder {
         Ok(Some(plain.address_of(c, page, 0)))
     }
 
-    /// Updates the order after a slot of class c on the page becomes free.
+    /// Updates the order after a slot of class `c` on `page` becomes free. `plain` is the heap
+    /// before: its object is still there.
     fn free_slot(
         &mut self,
         alloc: Global,
@@ -249,7 +257,8 @@ impl PlainOrder {
         Ok(())
     }
 
-    /// The next object of a class to move, and its address; none if no page is partly full.
+    /// The number and the address of the next object of class `c` to move in the heap `plain`; none
+    /// if no page of the class is partly full.
     fn next_object(&self, plain: &Plain, c: u32) -> Option<(u32, u32)>
         requires { c < classes plain.now.paging }
         ensures next { IfSome result (λ r. IsNextObject plain.now.paging plain.now.held (order_of self.now) c r.0 r.1) }
@@ -266,10 +275,10 @@ impl PlainOrder {
         }
     }
 
-    /// Updates the order after the object of this number leaves its slot: the slot becomes free, or
-    /// the next object to move moves there and its own slot becomes free. Returns that object, if one
-    /// moves. The outer result is none if there is no object of this number, or if one must move and
-    /// none is next.
+    /// Updates the order after the object with this number leaves its slot in the heap `plain`: the
+    /// slot becomes free, or the next object to move moves there and its own slot becomes free.
+    /// Returns that object: `Some(None)` if none moves. Returns `None` if no object has the number,
+    /// or if an object must move and none is next.
     fn leave(
         &mut self,
         alloc: Global,
@@ -300,7 +309,7 @@ impl PlainOrder {
     }
 }
 
-/// The list without its first entry.
+/// The list without its first entry; empty if it has none.
 fn behind_first(alloc: Global, list: &[u32]) -> Result<Vec<u32>, AllocError>
     ensures { IfOk result (λ rest. rest.items ≡ drop 1 list.now) }
 {
@@ -310,7 +319,7 @@ fn behind_first(alloc: Global, list: &[u32]) -> Result<Vec<u32>, AllocError>
     Vec::from_slice(alloc, &list[1..])
 }
 
-/// This entry, and then the list.
+/// The list that begins with the entry `first` and goes on with the entries of `list`.
 fn with_first(alloc: Global, first: u32, list: &[u32]) -> Result<Vec<u32>, AllocError>
     ensures { IfOk result (λ all. all.items ≡ first ∷ list.now) }
 {
@@ -320,7 +329,7 @@ fn with_first(alloc: Global, first: u32, list: &[u32]) -> Result<Vec<u32>, Alloc
     Ok(all)
 }
 
-/// The list without this entry.
+/// The list without each entry that is `gone`.
 fn without(alloc: Global, list: &[u32], gone: u32) -> Result<Vec<u32>, AllocError>
     ensures { IfOk result (λ rest. rest.items ≡ filter (λ other. not (nat_eq other gone)) list.now) }
 {

@@ -1,4 +1,4 @@
-//! Pages and size classes.
+//! The pages and size classes of the reference implementation, and sums over a table of objects.
 ghost use Rattle.std.specs.Prelude.{◌≡◌, ◌*◌, ◌<◌, ◌≤◌, ◌^◌, IfOk, length, slice_set};
 ghost use Rattle.page_model.specs.Paging.{classes, slot_words, slots_of, bound_of, class_for, page_of, paging_of, first_bounds};
 ghost use Rattle.cf_base.specs.Settings.{profile_of};
@@ -9,7 +9,8 @@ use cf_base::{Layout, OutOfMemory, Settings, class_in, slot_sizes};
 use std::alloc::{AllocError, Global};
 use std::marker::Model;
 
-/// The number of pages, the words of a page, and by class the words of a slot and the bound.
+/// The number of pages, the words of a page, and by class the words of a slot (`sizes`) and the
+/// bound (`bounds`).
 #[derive(Drop)]
 pub struct Pages {
     pages: u32,
@@ -32,7 +33,8 @@ impl Model for Pages {
 }
 
 impl Pages {
-    /// The pages of these settings; each class has their bound k.
+    /// The pages of the settings `s`, with the slot sizes of `layout`; each class has the bound k
+    /// of the settings. Fails only if memory runs out.
     pub fn new(alloc: Global, s: &Settings, layout: Layout) -> Result<Pages, OutOfMemory>
         ensures { IfOk result (λ p. p ≡ paging_of (profile_of s.now) layout (first_bounds (profile_of s.now) layout)) }
     {
@@ -50,7 +52,7 @@ impl Pages {
         })
     }
 
-    /// Changes the bound of a class, if there is such a class.
+    /// Makes `k` the bound of class `c`, if there is such a class.
     pub fn set_bound(&mut self, c: u32, k: u32)
         ensures { self.new ≡ record self.old { bounds = slice_set self.old.bounds c k } }
     {
@@ -59,7 +61,7 @@ impl Pages {
         }
     }
 
-    /// The number of pages.
+    /// How many pages there are.
     pub fn count(&self) -> u32
         ensures value { result ≡ self.now.pages }
         ensures few { result ≤ 4096 }
@@ -75,7 +77,7 @@ impl Pages {
         self.page_words
     }
 
-    /// The number of classes.
+    /// How many classes there are.
     pub fn classes(&self) -> u32
         ensures value { result ≡ classes self.now }
         ensures few { result ≤ 67 }
@@ -83,7 +85,7 @@ impl Pages {
         self.sizes.len() as u32
     }
 
-    /// The words of a slot of a class; 0 if there is no such class.
+    /// The words of a slot of class `c`; 0 if there is no such class.
     pub fn slot_words(&self, c: u32) -> u32
         ensures value { result ≡ slot_words self.now c }
         ensures small { result ≤ 16384 }
@@ -96,7 +98,7 @@ impl Pages {
         }
     }
 
-    /// The slots of a class on a page.
+    /// How many slots a page of class `c` has.
     pub fn slots(&self, c: u32) -> u32
         requires { c < classes self.now }
         ensures value { result ≡ slots_of self.now c }
@@ -106,7 +108,7 @@ impl Pages {
         self.page_words / self.sizes[c as usize]
     }
 
-    /// The bound of a class: how many of its pages may be partly full.
+    /// The bound of class `c`: how many of its pages may be partly full.
     pub fn bound(&self, c: u32) -> u32
         requires { c < classes self.now }
         ensures { result ≡ bound_of self.now c }
@@ -114,7 +116,8 @@ impl Pages {
         self.bounds[c as usize]
     }
 
-    /// The class of an object of `bytes` bytes; the number of classes if none holds it.
+    /// The class of an object of `bytes` bytes: the first whose slots hold it. If there is none,
+    /// the number of classes, which is no class.
     pub fn class_for(&self, bytes: u32) -> u32
         ensures value { result ≡ class_for self.now bytes }
         ensures within { result ≤ classes self.now }
@@ -125,14 +128,14 @@ impl Pages {
         }
     }
 
-    /// The page of an address.
+    /// The number of the page that contains the address `place`, in words.
     pub fn page_of(&self, place: u32) -> u32
         ensures { result ≡ page_of self.now place }
     {
         place / self.page_words
     }
 
-    /// The amount for an object of `length` bytes at an address.
+    /// What one object of `length` bytes at address `place` adds to the sum that `which` chooses.
     pub fn amount(&self, which: Amount, place: u32, length: u32) -> u64
         ensures value { result ≡ amount_of self.now which place length }
         ensures within { result ≤ most_of which }
@@ -149,7 +152,7 @@ impl Pages {
         }
     }
 
-    /// The sum of an amount over the objects of a table.
+    /// The sum that `which` chooses, over the objects of a table. An empty entry adds 0.
     pub fn total(&self, which: Amount, objects: &[Option<Object>]) -> u64
         requires few { length objects.now ≤ 65536 }
         ensures value { result ≡ total_of (amount_of self.now which) objects.now }
@@ -162,7 +165,7 @@ impl Pages {
         sum
     }
 
-    /// The amount of an entry of a table; 0 if it is empty.
+    /// What an entry of a table adds to the sum that `which` chooses; 0 if the entry is empty.
     fn amount_at(&self, which: Amount, entry: &Option<Object>) -> u64
         ensures value { result ≡ amount_in (amount_of self.now which) entry.now }
         ensures within { result ≤ most_of which }

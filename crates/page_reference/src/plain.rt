@@ -1,4 +1,5 @@
-//! Pages with objects on them.
+//! The reference implementation: pages with objects on them, and every count, figure and word
+//! computed from the objects.
 ghost use Rattle.std.specs.Prelude.{◌≡◌, ◌↔◌, ◌+◌, ◌*◌, ◌^◌, ◌&&◌, ◌<◌, ◌≤◌, IfNone, IfOk, IfSome, IsTrue, None, OnOk, OnErr, Some, length, option_map, slice_set, nat_lt, cond};
 ghost use Rattle.std.specs.FinMap as map;
 ghost use Rattle.cf_base.specs.Classes.{need};
@@ -23,8 +24,8 @@ use cf_base::{Figures, Layout, OutOfMemory, Settings, Totals};
 use std::alloc::{AllocError, Global};
 use std::marker::Model;
 
-/// Pages, and objects on them by number. Each result is computed from the objects, by its
-/// definition.
+/// Pages, and a table of objects: the index of an entry is the number of its object. Each result is
+/// computed from the objects, by its definition.
 #[derive(Drop)]
 pub struct Plain {
     pages: Pages,
@@ -46,7 +47,8 @@ impl Model for Plain {
 }
 
 impl Plain {
-    /// The pages of these settings, without objects. Each class has their bound k.
+    /// The pages of the settings `s`, with the slot sizes of `layout` and without objects. Each
+    /// class has the bound k of the settings. Fails only if memory runs out.
     pub fn new(alloc: Global, s: &Settings, layout: Layout) -> Result<Plain, OutOfMemory>
         ensures paging { IfOk result (λ p. p.paging ≡ paging_of (profile_of s.now) layout (first_bounds (profile_of s.now) layout)) }
         ensures held { IfOk result (λ p. p.held ≡ map.empty) }
@@ -58,8 +60,9 @@ impl Plain {
         })
     }
 
-    /// Puts an object of `length` bytes at word `place` under this number. It has the bytes of
-    /// `bytes`, cut to its length, then zeros.
+    /// Puts an object of `length` bytes at word `place` under this number, in place of one that has
+    /// it. Its contents are `bytes`, cut to its length, then zeros. Fails only if memory runs out;
+    /// then the objects stay.
     pub fn put(
         &mut self,
         alloc: Global,
@@ -87,7 +90,7 @@ impl Plain {
         Ok(())
     }
 
-    /// Removes the object under this number.
+    /// Removes the object with this number, if there is one.
     pub fn remove(&mut self, number: u16)
         ensures paging { self.new.paging ≡ self.old.paging }
         ensures held { self.new.held ≡ map.remove self.old.held number }
@@ -97,7 +100,7 @@ impl Plain {
         }
     }
 
-    /// Changes the address of the object under this number, if there is one.
+    /// Makes `place` the address of the object with this number, if there is one.
     pub fn move_to(&mut self, number: u16, place: u32)
         ensures paging { self.new.paging ≡ self.old.paging }
         ensures held { self.new.held ≡ moved_to self.old.held number (map.get self.old.held number) place }
@@ -107,14 +110,15 @@ impl Plain {
         }
     }
 
-    /// Changes the bound of a class, if there is one: how many of its pages may be partly full.
+    /// Makes `k` the bound of class `c`, if there is such a class: how many of its pages may be
+    /// partly full.
     pub fn set_bound(&mut self, c: u32, k: u32)
         ensures { self.new ≡ record self.old { paging = record self.old.paging { bounds = slice_set self.old.paging.bounds c k } } }
     {
         self.pages.set_bound(c, k);
     }
 
-    /// The number of pages.
+    /// How many pages there are.
     pub fn pages(&self) -> u32
         ensures value { result ≡ self.now.paging.pages }
         ensures few { result ≤ 4096 }
@@ -130,7 +134,7 @@ impl Plain {
         self.pages.page_words()
     }
 
-    /// The number of classes.
+    /// How many classes there are.
     pub fn classes(&self) -> u32
         ensures value { result ≡ classes self.now.paging }
         ensures few { result ≤ 67 }
@@ -138,7 +142,7 @@ impl Plain {
         self.pages.classes()
     }
 
-    /// The words of a slot of a class; 0 if there is no such class.
+    /// The words of a slot of class `c`; 0 if there is no such class.
     pub fn slot_words(&self, c: u32) -> u32
         ensures value { result ≡ slot_words self.now.paging c }
         ensures small { result ≤ 16384 }
@@ -146,7 +150,7 @@ impl Plain {
         self.pages.slot_words(c)
     }
 
-    /// The slots of a class on a page.
+    /// How many slots a page of class `c` has.
     pub fn slots(&self, c: u32) -> u32
         requires { c < classes self.now.paging }
         ensures value { result ≡ slots_of self.now.paging c }
@@ -156,21 +160,22 @@ impl Plain {
         self.pages.slots(c)
     }
 
-    /// The class of an object of `bytes` bytes; the number of classes if none holds it.
+    /// The class of an object of `bytes` bytes: the first whose slots hold it. If there is none,
+    /// the number of classes, which is no class.
     pub fn class_for(&self, bytes: u32) -> u32
         ensures { result ≡ class_for self.now.paging bytes }
     {
         self.pages.class_for(bytes)
     }
 
-    /// The number of objects.
+    /// How many objects there are.
     pub fn count(&self) -> u32
         ensures { result ≡ map.len (objects self.now.held) }
     {
         self.pages.total(Amount::One, &self.objects) as u32
     }
 
-    /// How many objects have class c.
+    /// How many objects are of class `c`.
     pub fn live(&self, c: u32) -> u32
         ensures value { result ≡ live self.now.paging (objects self.now.held) c }
         ensures few { result ≤ 65536 }
@@ -219,7 +224,8 @@ impl Plain {
         pages
     }
 
-    /// How many pages hold an object of class c but fewer than they have slots.
+    /// How many pages are partly full with class `c`: they hold an object of it, but fewer than
+    /// they have slots.
     pub fn not_full_pages(&self, c: u32) -> u32
         requires { c < classes self.now.paging }
         ensures { result ≡ not_full_pages self.now.paging self.now.held c }
@@ -232,7 +238,7 @@ impl Plain {
         pages
     }
 
-    /// How many pages are in use: the home pages of all classes.
+    /// How many pages are in use: those with an object of a class, summed over the classes.
     pub fn used_pages(&self) -> u32
         ensures value { result ≡ used_pages self.now.paging self.now.held }
         ensures few { result ≤ 2 ^ 19 }
@@ -252,7 +258,7 @@ impl Plain {
     }
 
     /// How many pages the objects need by arithmetic: for each class, its objects over the slots of
-    /// a page, rounded up.
+    /// a page, rounded up; summed over the classes.
     pub fn pages_needed(&self) -> u32
         ensures { result ≡ pages_needed self.now.paging (objects self.now.held) }
     {
@@ -263,7 +269,7 @@ impl Plain {
         pages
     }
 
-    /// How many pages the objects would need with one more of `bytes` bytes.
+    /// How many pages the objects and one more of `bytes` bytes need by arithmetic.
     pub fn pages_needed_with(&self, bytes: u32) -> u32
         ensures { result ≡ pages_needed_with self.now.paging (objects self.now.held) bytes }
     {
@@ -276,7 +282,7 @@ impl Plain {
         pages
     }
 
-    /// Whether a free of the object under this number, if there is one, moves another: its page is
+    /// Whether a free of the object with this number, if there is one, moves another: its page is
     /// full and has several slots, and its class has reached its bound of partly full pages.
     pub fn must_move(&self, number: u16) -> bool
         ensures { IsTrue result ↔ MovesOne self.now.paging self.now.held (map.get self.now.held number) }
@@ -298,7 +304,7 @@ impl Plain {
         }
     }
 
-    /// Whether a free of this object moves another one.
+    /// Whether a free of this object moves another one into its slot.
     fn leaves_a_hole(&self, object: &Object) -> bool
         ensures { IsTrue result ↔ MustMove self.now.paging self.now.held (placed object.now) }
     {
@@ -318,7 +324,7 @@ impl Plain {
         self.not_full_pages(c) == self.pages.bound(c)
     }
 
-    /// The number of the object at an address; none if no object is there.
+    /// The number of the object whose address is `place`; none if no object is there.
     pub fn number_at(&self, place: u32) -> Option<u32>
         ensures found { IfSome result (λ q. IsAt self.now.held q place) }
         ensures none { IfNone result (¬ IsTaken self.now.held place) }
@@ -331,7 +337,7 @@ impl Plain {
         None
     }
 
-    /// Whether an object is at the address.
+    /// Whether an object's address is `place`.
     fn is_taken(&self, place: u32) -> bool
         ensures { IsTrue result ↔ IsTaken self.now.held place }
     {
@@ -341,7 +347,7 @@ impl Plain {
         }
     }
 
-    /// The address and the length in bytes of the object under this number, if there is one.
+    /// The address and the length in bytes of the object with this number, if there is one.
     pub fn object(&self, number: u16) -> Option<(u32, u32)>
         ensures found { IfSome result (λ r. (x : Placed) × (map.get self.now.held number ≡ Some x) × (x.place ≡ r.0) × (length x.bytes ≡ r.1)) }
         ensures none { IfNone result (map.get self.now.held number ≡ None) }
@@ -355,14 +361,15 @@ impl Plain {
         }
     }
 
-    /// The page of an address.
+    /// The number of the page that contains the address `place`, in words.
     pub fn page_of(&self, place: u32) -> u32
         ensures { result ≡ page_of self.now.paging place }
     {
         self.pages.page_of(place)
     }
 
-    /// The address of a slot of class c.
+    /// The address in words of a slot of class `c`, by the number of its page and its number on the
+    /// page.
     pub fn address_of(&self, c: u32, page: u32, slot: u32) -> u32
         requires page { page < 4096 }
         requires slot { slot < 4096 }
@@ -371,8 +378,8 @@ impl Plain {
         page * self.page_words() + slot * self.slot_words(c)
     }
 
-    /// The lowest free slot of the page, seen as one of class c; none if each slot is taken, or there is
-    /// no such page.
+    /// The lowest free slot of the page, if the page is cut into slots of class `c`. A slot is free
+    /// if no object has its address. None if each slot is taken, or if there is no such page.
     pub fn least_free(&self, c: u32, page: u32) -> Option<u32>
         requires { c < classes self.now.paging }
         ensures least { IfSome result (λ slot. IsLeastFree self.now.paging self.now.held c page slot) }
@@ -390,8 +397,8 @@ impl Plain {
         None
     }
 
-    /// The lowest taken slot of the page, seen as one of class c; none if each slot is free, or there is
-    /// no such page.
+    /// The lowest taken slot of the page, if the page is cut into slots of class `c`. None if each
+    /// slot is free, or if there is no such page.
     pub fn least_taken(&self, c: u32, page: u32) -> Option<u32>
         requires { c < classes self.now.paging }
         ensures least { IfSome result (λ slot. IsLeastTaken self.now.paging self.now.held c page slot) }
@@ -430,7 +437,7 @@ impl Plain {
         true
     }
 
-    /// The words of the region, as the objects determine them.
+    /// All words of the region, as the objects determine them. Fails only if memory runs out.
     pub fn image(&self, alloc: Global) -> Result<Vec<u64>, AllocError>
         ensures len { IfOk result (λ v. length v.items ≡ self.now.paging.pages * self.now.paging.page_words) }
         // Objects that share a word or go beyond the end of the region have no image.
@@ -445,14 +452,15 @@ impl Plain {
         Ok(words)
     }
 
-    /// Word w of the region, as the objects determine it.
+    /// Word `w` of the region, as the objects determine it.
     fn word_at(&self, w: u32) -> u64
         ensures { IsApart need self.now.held → IsWordAt self.now.held w result }
     {
         word_at(&self.objects, w)
     }
 
-    /// The figures of class c.
+    /// The figures of class `c`: the words of a slot, the slots of a page, the objects, the pages
+    /// with one, and those that are partly full.
     pub fn figures(&self, c: u32) -> Figures
         requires { c < classes self.now.paging }
         ensures { result ≡ figures_of self.now.paging self.now.held c }
@@ -466,7 +474,7 @@ impl Plain {
         }
     }
 
-    /// The figures of the whole heap.
+    /// The figures of the whole heap (`Totals` of `cf_base`).
     pub fn totals(&self) -> Totals
         ensures { result ≡ totals_of self.now.paging self.now.held }
     {
@@ -484,7 +492,8 @@ impl Plain {
     }
 }
 
-/// Lengthens the table until it has an entry for this number.
+/// Lengthens the table `objects` by empty entries until it has an entry for this number. Fails only
+/// if memory runs out.
 fn reach(objects: &mut Vec<Option<Object>>, number: usize) -> Result<(), AllocError>
     requires number { number < 65536 }
     requires few { length objects.old.items ≤ 65536 }
@@ -498,7 +507,7 @@ fn reach(objects: &mut Vec<Option<Object>>, number: usize) -> Result<(), AllocEr
     Ok(())
 }
 
-/// Replaces the entry of this number.
+/// Makes `entry` the entry of this number in the table `objects`.
 fn put_entry(objects: &mut Vec<Option<Object>>, number: usize, entry: Option<Object>)
     requires { number < length objects.old.items }
     ensures { objects.new.items ≡ slice_set objects.old.items number entry }
@@ -514,7 +523,7 @@ fn one(test: bool) -> u32
     if test { 1 } else { 0 }
 }
 
-/// Whether the object of this entry, if there is one, is at the address.
+/// Whether the entry has an object, and its address is `place`.
 fn is_at(entry: &Option<Object>, place: u32) -> bool
     ensures { IsTrue result ↔ IsEntryAt (option_map placed entry.now) place }
 {
@@ -524,21 +533,21 @@ fn is_at(entry: &Option<Object>, place: u32) -> bool
     }
 }
 
-/// Whether a page of `slots` slots with `objects` objects is partly full.
+/// Whether a page with `slots` slots and `objects` objects is partly full.
 fn is_part_full(objects: u32, slots: u32) -> bool
     ensures { result ≡ (nat_lt 0 objects && nat_lt objects slots) }
 {
     0 < objects && objects < slots
 }
 
-/// Whether `objects` objects fill all slots of a page that has several.
+/// Whether `objects` objects fill a page of `slots` slots, and it has several slots.
 fn fills_several(objects: u32, slots: u32) -> bool
     ensures { IsTrue result ↔ ((objects ≡ slots) × (1 < slots)) }
 {
     objects == slots && 1 < slots
 }
 
-/// How many pages of `slots` slots `objects` objects need: the quotient, rounded up.
+/// How many pages of `slots` slots `objects` objects need: objects over slots, rounded up.
 fn pages_for(objects: u32, slots: u32) -> u32
     requires some { 1 ≤ slots }
     requires few { objects ≤ 65537 }
@@ -549,7 +558,7 @@ fn pages_for(objects: u32, slots: u32) -> u32
     (objects + (slots - 1)) / slots
 }
 
-/// Changes the address of the object of this entry, if there is one.
+/// Makes `place` the address of the object of this entry, if there is one.
 fn move_entry(entry: &mut Option<Object>, place: u32)
     ensures { entry.new ≡ option_map (at_place place) entry.old }
 {

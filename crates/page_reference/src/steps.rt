@@ -1,4 +1,5 @@
-//! The steps of the parts of a call, by slow code for tests.
+//! The steps of the parts of a call, by slow code for tests: the reference implementation of
+//! `page_model`'s rules of cost.
 ghost use Rattle.std.specs.Prelude.{◌≡◌, ◌*◌, ◌<◌, ◌≤◌};
 ghost use Rattle.page_model.specs.Order.{open_steps as opening, steps_to_drop as dropping, steps_to_fill as filling, steps_to_take as taking, word_steps as word};
 ghost use Rattle.page_model.specs.Arrangement.{objects_on};
@@ -11,7 +12,7 @@ use crate::plain::Plain;
 use cf_base::Kind;
 
 impl PlainOrder {
-    /// The steps of taking the next slot of a class.
+    /// The steps of taking the next slot of class `c` in the heap `plain`.
     pub fn steps_to_take(&self, plain: &Plain, c: u32) -> u64
         requires { c < classes plain.now.paging }
         ensures value { result ≡ taking plain.now.paging plain.now.held (order_of self.now) c }
@@ -23,7 +24,8 @@ impl PlainOrder {
         }
     }
 
-    /// The steps of freeing the slot of the next object of a class to move.
+    /// The steps of finding and freeing the slot of the object of class `c` that is next to move in
+    /// the heap `plain`; 0 if no page of the class is partly full.
     pub fn steps_to_fill(&self, plain: &Plain, c: u32) -> u64
         requires { c < classes plain.now.paging }
         ensures value { result ≡ filling plain.now.paging plain.now.held (order_of self.now) c }
@@ -38,7 +40,7 @@ impl PlainOrder {
 }
 
 impl Plain {
-    /// The steps of taking a slot of a class on the page, which is partly full.
+    /// The steps of taking a slot of class `c` on the page, which is partly full.
     fn steps_to_open(&self, c: u32, page: u32) -> u64
         requires { c < classes self.now.paging }
         ensures value { result ≡ opening (objects_on self.now.paging self.now.held c page) (slots_of self.now.paging c) }
@@ -51,7 +53,7 @@ impl Plain {
         }
     }
 
-    /// The steps of freeing a slot of a class on the page.
+    /// The steps of freeing a slot of class `c` on the page.
     pub fn steps_to_drop(&self, c: u32, page: u32) -> u64
         requires { c < classes self.now.paging }
         ensures value { result ≡ dropping self.now.paging self.now.held c page }
@@ -68,7 +70,8 @@ impl Plain {
     }
 }
 
-/// The steps of reading or writing a word.
+/// The steps of reading or writing one word, by kind: one, and for the non-moving kind one more to
+/// read the block table.
 pub fn word_steps(kind: Kind) -> u64
     ensures value { result ≡ word kind }
     ensures few { result ≤ 2 }
@@ -79,7 +82,7 @@ pub fn word_steps(kind: Kind) -> u64
     }
 }
 
-/// How many blocks the n words from i on are in.
+/// In how many blocks of four words the `n` words from word `i` on are.
 fn blocks_of(i: u32, n: u32) -> u64
     ensures value { result ≡ blocks i n }
     ensures few { result ≤ n }
@@ -88,7 +91,8 @@ fn blocks_of(i: u32, n: u32) -> u64
     n.min((i % 4 + n + 3) / 4)
 }
 
-/// The steps of touching n words from i on.
+/// The steps of reading or writing `n` words from word `i` on, by kind: one each, and for the
+/// non-moving kind one more for each block.
 pub fn run_steps(kind: Kind, i: u32, n: u32) -> u64
     ensures value { result ≡ running kind i n }
     ensures few { result ≤ 2 * n }
@@ -99,7 +103,8 @@ pub fn run_steps(kind: Kind, i: u32, n: u32) -> u64
     }
 }
 
-/// The steps of copying n words from i on.
+/// The steps of copying `n` words from word `i` on, by kind: one each, and for the non-moving kind
+/// two more for each block.
 pub fn copy_steps(kind: Kind, i: u32, n: u32) -> u64
     ensures value { result ≡ copying kind i n }
     ensures few { result ≤ 3 * n }
@@ -110,7 +115,8 @@ pub fn copy_steps(kind: Kind, i: u32, n: u32) -> u64
     }
 }
 
-/// The steps of clearing a slot of n words.
+/// The steps of clearing a slot of `n` words, by kind: one each, and for the non-moving kind one
+/// more for each block.
 pub fn wipe_steps(kind: Kind, n: u32) -> u64
     ensures value { result ≡ wiping kind n }
     ensures few { result ≤ 2 * n }
@@ -121,7 +127,8 @@ pub fn wipe_steps(kind: Kind, n: u32) -> u64
     }
 }
 
-/// The steps of moving a slot of n words.
+/// The steps of moving the words of a slot of `n` words, by kind: one each, and for the non-moving
+/// kind two more for each block.
 pub fn slot_steps(kind: Kind, n: u32) -> u64
     ensures value { result ≡ moving kind n }
     ensures few { result ≤ 2 * n }

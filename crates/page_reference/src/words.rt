@@ -1,4 +1,5 @@
-//! The words of the region, computed from the objects.
+//! The words of the region, computed from the objects of a table. An entry's index in the table is
+//! its object's number.
 ghost use Rattle.std.specs.Prelude.{◌≡◌, ◌*◌, ◌^◌, ◌<◌, ◌≤◌, IfNone, IfSome, Some, drop, length, option_map, slice_index, take};
 ghost use Rattle.cf_base.specs.Classes.{need};
 ghost use Rattle.page_model.specs.Image.{IsApart, object_word, word_of_bytes};
@@ -8,7 +9,7 @@ ghost use Rattle.page_reference.specs.Words.{HasWord, IsWordAt, Misses};
 use crate::object::Object;
 use cf_base::need_of;
 
-/// Byte i of an object; 0 beyond its end.
+/// Byte `i` of an object; 0 behind its end.
 fn byte_at(object: &Object, i: u64) -> u8
     ensures { result ≡ slice_index (placed object.now).bytes i }
 {
@@ -19,7 +20,8 @@ fn byte_at(object: &Object, i: u64) -> u8
     }
 }
 
-/// The eight bytes of an object from byte `from` on as a word, the least significant first.
+/// The eight bytes of an object from byte `from` on as a word, the least significant first. Bytes
+/// behind its end count as 0.
 fn eight_bytes(object: &Object, from: u64) -> u64
     requires { from ≤ 2 ^ 40 }
     ensures { result ≡ word_of_bytes (take 8 (drop from (placed object.now).bytes)) }
@@ -37,7 +39,8 @@ fn eight_bytes(object: &Object, from: u64) -> u64
     u64::from_le_bytes(cell)
 }
 
-/// Word i of the object of this number: its header, then its bytes, eight to a word, then zeros.
+/// Word `i` of the object with this number: its header, then its bytes, eight to a word, then
+/// zeros.
 fn word_of_object(number: u32, object: &Object, i: u32) -> u64
     ensures { result ≡ object_word number (placed object.now).bytes i }
 {
@@ -48,7 +51,8 @@ fn word_of_object(number: u32, object: &Object, i: u32) -> u64
     }
 }
 
-/// Word w of the region, if it is one of the object of this entry; else none.
+/// Word `w` of the region, if an object is in this entry and has that word; else none. `number` is
+/// the object's number.
 fn word_in(number: u32, entry: &Option<Object>, w: u32) -> Option<u64>
     ensures found { IfSome result (λ word. HasWord number (option_map placed entry.now) w word) }
     ensures none { IfNone result (Misses (option_map placed entry.now) w) }
@@ -59,7 +63,7 @@ fn word_in(number: u32, entry: &Option<Object>, w: u32) -> Option<u64>
     }
 }
 
-/// Word w of the region, if it is one of the object's words; else none.
+/// Word `w` of the region, if the object with this number has that word; else none.
 fn word_of(number: u32, object: &Object, w: u32) -> Option<u64>
     ensures found { IfSome result (λ word. HasWord number (Some (placed object.now)) w word) }
     ensures none { IfNone result (Misses (Some (placed object.now)) w) }
@@ -71,7 +75,8 @@ fn word_of(number: u32, object: &Object, w: u32) -> Option<u64>
     }
 }
 
-/// Word w of the region: that of the first object that has it, or 0 if none has.
+/// Word `w` of the region that holds `objects`: that of the first object that has it, or 0 if none
+/// has.
 pub fn word_at(objects: &[Option<Object>], w: u32) -> u64
     requires { length objects.now ≤ 65536 }
     ensures { IsApart need (held_of objects.now) → IsWordAt (held_of objects.now) w result }

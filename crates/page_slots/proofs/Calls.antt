@@ -1,4 +1,4 @@
--- What the bodies of the calls need to know about the tables.
+-- For the calls that take or free a slot: what their code needs of the tables, and what each part of it costs.
 use Rattle.std.proofs.Common.{◌≡◌, ◌≢◌, ℕ, Bool, true, false, not, ◌+◌, ◌*◌, ◌^◌, ◌<◌, ◌≤◌, List, [], ◌∷◌, length, drop, get_or, set, replicate, Some, None, arith, inl, inr}
 use Rattle.std.proofs.Common.{refl, sym, ◌∙◌, ap, subst}
 use Rattle.std.specs.Prelude.{slice_get, if◌then◌else◌, is_some, nat_eq}

@@ -1,4 +1,4 @@
--- How many pages a list has, counted over all pages.
+-- For `NextSlots` and `PageNumbers`: how many pages a list has, counted over all pages.
 use Rattle.std.proofs.Common.{◌≡◌, ℕ, zero, suc, Bool, true, false, ◌+◌, ◌<◌, ◌≤◌, List, [], ◌∷◌, length, arith, refl, sym, ◌∙◌, ap, inl, inr}
 use Rattle.std.specs.Prelude.{nat_eq, count_by}
 use Rattle.std.specs.List.{Contains, IsDistinct, range_with_len}

@@ -1,4 +1,4 @@
--- The slot that is taken is the next one in the order of the tables.
+-- For the laws of `following`: the slots that the tables take and free, and the object that moves, are the next ones in their order.
 use Rattle.std.proofs.Common.{◌≡◌, ◌≢◌, ℕ, Bool, true, false, ◌+◌, ◌*◌, ◌<◌, List, [], ◌∷◌, length, drop, get_or, set, replicate, Some, arith, refl, sym, ◌∙◌, ap, subst, inl, inr}
 use Rattle.std.specs.Prelude.{◌↔◌, None, not, nat_eq, slice_get, if◌then◌else◌}
 use Rattle.std.specs.FinMap.{get, len}

@@ -1,4 +1,4 @@
--- What follows if objects occupy the used slots.
+-- For `OccupiedAfterTake`, `OccupiedAfterFree`, `PageNumbers` and `NextSlots`: what follows if objects are at the used slots of the tables (`Occupies`).
 use Rattle.std.proofs.Common.{◌≡◌, ℕ, true, ◌<◌, List, Some, None, arith, refl, sym, ◌∙◌, ap, subst, inl, inr}
 use Rattle.std.proofs.lemmas.Bool.{cases_eq, cases_lt}
 use Rattle.std.proofs.lemmas.Option.{slice_get_within}

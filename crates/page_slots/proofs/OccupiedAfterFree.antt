@@ -1,4 +1,4 @@
--- The objects after a slot became free, without the one that was there.
+-- For callers that free a slot: the objects without the freed one are at the used slots of the tables afterwards.
 use Rattle.std.proofs.Common.{◌≡◌, ◌≢◌, ℕ, true, false, ◌+◌, ◌<◌, length, Some, arith, refl, sym, ◌∙◌, ap, subst, inl, inr}
 use Rattle.std.specs.Prelude.{slice_get}
 use Rattle.std.proofs.lemmas.Bool.{cases_eq}

@@ -1,4 +1,4 @@
--- The objects after a slot was taken for a new one.
+-- For callers that take a slot: the objects with a new one in it are at the used slots of the tables afterwards.
 use Rattle.std.proofs.Common.{◌≡◌, ◌≢◌, ℕ, true, false, ◌<◌, length, Some, None, arith, refl, sym, ◌∙◌, ap, subst, inl, inr}
 use Rattle.std.specs.Prelude.{◌⊎◌, slice_get}
 use Rattle.std.proofs.lemmas.Bool.{cases_eq}

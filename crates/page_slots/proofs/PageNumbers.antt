@@ -1,4 +1,4 @@
--- The numbers of pages, by the lengths of the lists and of the pool.
+-- For callers' figures: how many pages are free, of a class, or partly full, by the lengths of the pool and of the lists.
 use Rattle.std.proofs.Common.{◌≡◌, ℕ, Bool, true, false, ◌+◌, ◌<◌, ◌≤◌, [], length, arith, refl, sym, ◌∙◌, ap, subst, inl, inr}
 use Rattle.std.specs.Prelude.{nat_lt, count_by}
 use Rattle.std.specs.List.{Contains, range_with_len}

@@ -1,4 +1,4 @@
--- What the tables show of one page, and that a change of another page keeps it.
+-- For all calls: what the tables show of one page, and that a change of another page keeps it.
 use Rattle.std.proofs.Common.{◌≡◌, ◌≢◌, ℕ, Bool, true, false, ◌<◌, ◌≤◌, List, [], ◌∷◌, length, get_or, set, arith, refl, sym, ◌∙◌, ap, subst, inl, inr, eqb}
 use Rattle.std.specs.List.{Contains}
 use Rattle.std.proofs.lemmas.Bool.{cases_eq, true≢false, ne_eqb}

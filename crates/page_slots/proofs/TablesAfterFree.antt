@@ -1,4 +1,4 @@
--- The tables after a slot became free.
+-- For `drop_slot` and `fill_slot`: the tables keep their rules after a slot became free.
 use Rattle.std.proofs.Common.{◌≡◌, ◌≢◌, ℕ, true, false, ◌+◌, ◌<◌, length, set, Some, arith, refl, sym, ◌∙◌, ap, subst, inl, inr}
 use Rattle.std.specs.Prelude.{◌⊎◌, slice_get}
 use Rattle.std.specs.List.{Contains}

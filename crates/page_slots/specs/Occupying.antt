@@ -1,4 +1,4 @@
--- Objects at the used slots of the tables.
+-- When tables fit the pages and classes of a heap, and when objects are at their used slots.
 use Rattle.std.specs.Prelude.{◌≡◌, ℕ, Some}
 use Rattle.std.specs.FinMap.{get}
 use Rattle.size_classes.specs.Table.{ClassTable}
@@ -7,21 +7,22 @@ use Rattle.page_model.specs.Paging.{Paging, page_of, address_of}
 use Rattle.page_model.specs.Arrangement.{class_at, objects_on}
 use Rattle.page_slots.specs.Tables.{Tables, AreTables, IsOf, IsUsed, NoneForeign, slot_at, slots_on, used_in}
 
--- the class table of a paging
+-- the page size and the slot sizes of p as a class table
 abbrev pub class_table : Paging → ClassTable
 class_table p = record { page_words = p.page_words; sizes = p.sizes }
 
--- the tables are for this paging; other owners may share its pages
+-- the tables t have the pages and classes of p; some pages may be foreign
 pub record ServePart (p : Paging) (t : Tables) : Type 0 where
   pub tables : AreTables (class_table p) t
   pub pages : t.pool.pages ≡ p.pages
 
--- the tables are for this paging, and no page is foreign
+-- the tables t have the pages and classes of p, and no page is foreign
 pub record Serve (p : Paging) (t : Tables) : Type 0 where
   pub part : ServePart p t
   pub whole : NoneForeign t
 
--- each object is at a used slot of its class, and each used slot has an object; so a page of a class has one object of it for each used slot
+-- The objects m are at the used slots of the tables t: each object is at a used slot of its class, and each used slot has an object. So a page of a class has
+-- as many objects of that class as used slots.
 pub record Occupies (p : Paging) (m : Held) (t : Tables) : Type 0 where
   pub stands : (h : ℕ) (x : Placed) → get m h ≡ Some x → IsUsed t (class_at p x) (page_of p x.place) (slot_at (class_table p) (class_at p x) x.place)
   pub filled : (c page slot : ℕ) → IsUsed t c page slot → (h : ℕ) × (x : Placed) × (get m h ≡ Some x) × (class_at p x ≡ c)

@@ -1,4 +1,4 @@
--- Freeing a used slot.
+-- What freeing a used slot does to the tables, which object moves into a freed slot, and the steps. `old` are the tables before, `new` those after.
 use Rattle.std.specs.Prelude.{◌≡◌, ◌≢◌, ℕ, Bool, true, false, ◌<◌, List, [], ◌∷◌, length, Some, nat_eq, slice_get, slice_index_or, slice_set, if◌then◌else◌}
 use Rattle.std.specs.List.{Contains, position}
 use Rattle.size_classes.specs.Table.{ClassTable}
@@ -8,14 +8,14 @@ use Rattle.class_lists.specs.PageLists.{PageLists, pages_in}
 use Rattle.page_model.specs.Order.{drop_steps, fill_steps}
 use Rattle.page_slots.specs.Tables.{Tables, JoinsList, LeavesList, address_in, slots_on, used_in}
 
--- a page that was full joins the partly full pages
+-- a page of class c moves from the full pages to the partly full ones, of which it becomes the first
 pub record OpensPage (old : PageLists) (c page : ℕ) (new : PageLists) : Type 0 where
   pub between : PageLists
   pub leaves : LeavesList old c Full page between
   pub joins : JoinsList between c NotFull page new
 
--- a used slot of a page of class c becomes free; if the page is then empty, it leaves its list and becomes the first page of the pool; if it was full, it
--- becomes the first partly full page
+-- The used slot number `slot` of a page of class c becomes free. If the page is then empty, it leaves its list and becomes the first page of the pool; if it
+-- was full, it becomes the first partly full page; else lists and pool stay.
 pub record Vacates (old : Tables) (c page slot : ℕ) (new : Tables) : Type 0 where
   pub which : Which
   pub listed : Contains (pages_in old.lists c which) page
@@ -27,7 +27,7 @@ pub record Vacates (old : Tables) (c page slot : ℕ) (new : Tables) : Type 0 wh
   pub still : used_in (slots_on new page) ≢ 0 → which ≡ NotFull → new.lists ≡ old.lists
   pub kept : used_in (slots_on new page) ≢ 0 → new.pool ≡ old.pool
 
--- the object at address a moves into a freed slot of class c: its slot is the lowest used one of the first partly full page of the class
+-- the object at address a is the one that moves into a freed slot of class c: its slot is the lowest used one of the first partly full page of the class
 pub record IsFiller (k : ClassTable) (maps : List (List Bool)) (lists : PageLists) (c a : ℕ) : Type 0 where
   pub page : ℕ
   pub slot : ℕ
@@ -36,12 +36,12 @@ pub record IsFiller (k : ClassTable) (maps : List (List Bool)) (lists : PageList
   pub least : position (λ used. used) (slice_index_or maps page []) ≡ Some slot
   pub used : slice_get (slice_index_or maps page []) slot ≡ Some true
 
--- the page has a used slot
+-- `maps` has a map of this page, and the page has a used slot
 pub record HasUsedSlot (maps : List (List Bool)) (page : ℕ) : Type 0 where
   pub within : page < length maps
   pub some : 0 < used_in (slice_index_or maps page [])
 
--- the object at address a moves into a freed slot of class c, and its own slot becomes free
+-- the object at address a is chosen to move into a freed slot of class c, as by `IsFiller`, and its own slot becomes free
 pub record FillsFrom (k : ClassTable) (old : Tables) (c a : ℕ) (new : Tables) : Type 0 where
   pub page : ℕ
   pub slot : ℕ
@@ -50,20 +50,21 @@ pub record FillsFrom (k : ClassTable) (old : Tables) (c a : ℕ) (new : Tables) 
   pub least : position (λ used. used) (slots_on old page) ≡ Some slot
   pub vacates : Vacates old c page slot new
 
--- a free on a page with these slots moves an object: the page is full and has several slots, and the class has reached its bound of partly full pages
+-- a free of a slot must move an object: its page, whose slots these are (true for used), is full and has several slots; and its class has `not_full` partly
+-- full pages, as many as its bound
 pub record MovesObject (slots : List Bool) (not_full bound : ℕ) : Type 0 where
   pub full : used_in slots ≡ length slots
   pub several : 1 < length slots
   pub many : not_full ≡ bound
 
--- the steps of freeing a slot of the page
+-- the steps of `drop_slot`: freeing a used slot of the page
 abbrev pub steps_to_drop : Tables → ℕ → ℕ
 steps_to_drop t page = drop_steps (used_in (slots_on t page)) (length (slots_on t page))
 
--- the steps of freeing a slot of a page in this list with `used` used slots, without the step that finds the list
+-- the steps of `vacate`: freeing a slot of a page that is in this list and has `used` used slots, without the step that finds the list
 abbrev pub steps_to_vacate : Which → ℕ → ℕ
 steps_to_vacate which used = if nat_eq used 1 then 9 else elim which [ Full ↦ 12 | NotFull ↦ 4 ]
 
--- the steps of freeing the slot of the object that moves into a freed slot of class c
+-- the steps of `fill_slot`: finding and freeing the slot of the object that moves into a freed slot of class c
 abbrev pub steps_to_fill : Tables → ℕ → ℕ
 steps_to_fill t c = elim (pages_in t.lists c NotFull) [ [] ↦ 0 | page ∷ rest ↦ fill_steps (used_in (slots_on t page)) ]

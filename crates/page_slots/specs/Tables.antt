@@ -1,4 +1,4 @@
--- The tables of pages, which show the used slots of each page.
+-- The tables of pages, which show the used slots of each page and the pages of each class: what they mean, and their rules.
 use Rattle.std.specs.Prelude.{◌≡◌, ℕ, Bool, true, false, ◌+◌, ◌*◌, ◌/◌, ◌%◌, ◌^◌, ◌<◌, ◌⊎◌, List, [], ◌∷◌, length, Some, count_by, slice_get, slice_index}
 use Rattle.std.specs.Prelude.{slice_index_or}
 use Rattle.std.specs.List.{Contains}
@@ -10,7 +10,8 @@ use Rattle.class_lists.specs.declared.Which.TheVariants.{Full, NotFull}
 use Rattle.class_lists.specs.PageLists.{PageLists, AreApart, IsUnlisted, KeepsOthers, pages_in, with_list}
 use Rattle.page_pool.specs.Pool.{Pool, IsPool, is_in_pool}
 
--- the slots of each page, true for used; the pages of each class; and the free pages
+-- The tables of all pages as one owner sees them: `maps` has the slots of each page, true for used; `lists` the full and the partly full pages of each class
+-- of this owner; `pool` the free pages.
 pub record Tables : Type 0 where
   pub maps : List (List Bool)
   pub lists : PageLists
@@ -20,15 +21,15 @@ pub record Tables : Type 0 where
 abbrev pub tables : List (List Bool) → PageLists → Pool → Tables
 tables maps lists pool = record { maps = maps; lists = lists; pool = pool }
 
--- the slots of a page
+-- the slots of a page, true for used
 abbrev pub slots_on : Tables → ℕ → List Bool
 slots_on t page = slice_index_or t.maps page []
 
--- the number of used slots
+-- the number of used slots among these
 abbrev pub used_in : List Bool → ℕ
 used_in all = count_by (λ used. used) all
 
--- the slots of class c on a page
+-- the number of slots of class c on a page
 abbrev pub slots_in : ClassTable → ℕ → ℕ
 slots_in k c = slots k.page_words k.sizes c
 
@@ -36,24 +37,24 @@ slots_in k c = slots k.page_words k.sizes c
 abbrev pub address_in : ClassTable → ℕ → ℕ → ℕ → ℕ
 address_in k c page slot = page * k.page_words + slot * slice_index k.sizes c
 
--- the page of an address
+-- the number of the page that holds the address a
 abbrev pub page_at : ClassTable → ℕ → ℕ
 page_at k a = a / k.page_words
 
--- the number, on its page, of the slot of class c at an address
+-- the number, on its page, of the slot of class c that holds the address a
 abbrev pub slot_at : ClassTable → ℕ → ℕ → ℕ
 slot_at k c a = a % k.page_words / slice_index k.sizes c
 
--- the page is of class c
+-- the page is of class c: it is in one of the two lists of that class
 abbrev pub IsOf : Tables → ℕ → ℕ → Type 0
 IsOf t c page = Contains (pages_in t.lists c Full) page ⊎ Contains (pages_in t.lists c NotFull) page
 
--- a slot of a page of class c is used
+-- the page is of class c, and its slot number `slot` is used
 pub record IsUsed (t : Tables) (c page slot : ℕ) : Type 0 where
   pub of : IsOf t c page
   pub used : slice_get (slots_on t page) slot ≡ Some true
 
--- a page of this list may have `used` of its n slots used: all, or some but not all
+-- a page in this list has `used` of its n slots used: all of them if it is in the list of full pages, else some but not all
 abbrev pub HasUsed : Which → ℕ → ℕ → Type 0
 HasUsed Full used n = used ≡ n
 HasUsed NotFull used n = (0 < used) × (used < n)
@@ -64,7 +65,7 @@ pub record IsFreePage (t : Tables) (page : ℕ) : Type 0 where
   pub unlisted : IsUnlisted t.lists page
   pub unused : used_in (slots_on t page) ≡ 0
 
--- the page is in this list of class c, has the slots of the class, and has all of them used, or some but not all, as in `HasUsed`
+-- the page is in this list of class c, has as many slots as a page of the class, and has all of them used, or some but not all, as `HasUsed` says
 pub record IsPageOf (k : ClassTable) (t : Tables) (page c : ℕ) (which : Which) : Type 0 where
   pub taken : is_in_pool t.pool.free page ≡ false
   pub listed : Contains (pages_in t.lists c which) page
@@ -81,7 +82,8 @@ pub record IsForeign (t : Tables) (page : ℕ) : Type 0 where
 abbrev pub IsPlaced : ClassTable → Tables → ℕ → Type 0
 IsPlaced k t page = IsFreePage t page ⊎ (IsForeign t page ⊎ ((c : ℕ) × (which : Which) × IsPageOf k t page c which))
 
--- each page is free, foreign, or in one list of one class; in a list it has the slots of the class, all of them used or some but not all
+-- The rules of the tables: each page is free, foreign, or in one list of one class; in a list it has the slots of the class, all of them used or some but not
+-- all.
 pub record AreTables (k : ClassTable) (t : Tables) : Type 0 where
   pub table : IsClassTable k.page_words k.sizes
   pub small : t.pool.pages * k.page_words < 2 ^ 32
@@ -92,26 +94,26 @@ pub record AreTables (k : ClassTable) (t : Tables) : Type 0 where
   pub lists : AreApart t.lists
   pub placed : (page : ℕ) → page < t.pool.pages → IsPlaced k t page
 
--- no page is foreign
+-- no page is foreign: each is free or in a list of this owner
 abbrev pub NoneForeign : Tables → Type 0
 NoneForeign t = (page : ℕ) → page < t.pool.pages → ¬ IsForeign t page
 
--- foreign pages stay foreign, and their slots stay
+-- each page that is foreign before (`old`) is foreign afterwards (`new`), with the same used slots
 pub record KeepsForeign (old new : Tables) : Type 0 where
   pub still : (page : ℕ) → IsForeign old page → IsForeign new page
   pub slots : (page : ℕ) → IsForeign old page → slots_on new page ≡ slots_on old page
 
--- lists of another owner, who shares the maps and the pool: each of its pages is foreign for these tables
+-- `others` are the lists of another owner, who shares the maps and the pool: each page in them is foreign for the tables t
 abbrev pub AreOthers : Tables → PageLists → Type 0
 AreOthers t others = (c page : ℕ) (which : Which) → Contains (pages_in others c which) page → IsForeign t page
 
--- the page becomes the head of the list
+-- the page becomes the first of this list of class c, and all other lists stay
 pub record JoinsList (old : PageLists) (c : ℕ) (which : Which) (page : ℕ) (new : PageLists) : Type 0 where
   pub value : new ≡ with_list old c which (page ∷ pages_in old c which)
   pub list : pages_in new c which ≡ page ∷ pages_in old c which
   pub others : KeepsOthers old new c which
 
--- the page leaves the list
+-- the page leaves this list of class c, and all other lists stay
 pub record LeavesList (old : PageLists) (c : ℕ) (which : Which) (page : ℕ) (new : PageLists) : Type 0 where
   pub value : new ≡ with_list old c which (without_number page (pages_in old c which))
   pub list : pages_in new c which ≡ without_number page (pages_in old c which)

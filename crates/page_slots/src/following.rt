@@ -1,5 +1,6 @@
-//! Laws of the order in which the tables use slots (`order_of`). The functions do nothing; each
-//! contract is a law.
+//! Laws of the order in which the tables use slots (`order_of`). `p` describes the pages and their
+//! classes, and `m` are the objects in the used slots. `spare` are the numbers without an object,
+//! which these calls leave unchanged. The functions do nothing; each contract is a law.
 ghost use Rattle.std.specs.Prelude.{ℕ, ◌≡◌, ◌+◌, ◌<◌, List, None, Some, length, nat_eq, slice_get};
 ghost use Rattle.std.specs.List.{Contains, IsDistinct};
 ghost use Rattle.std.specs.FinMap.{get, len};
@@ -15,7 +16,8 @@ ghost use Rattle.page_slots.specs.Take.{TakesAt, steps_to_take};
 ghost use Rattle.class_lists.specs.declared.Which.TheVariants.{NotFull};
 ghost use Rattle.class_lists.specs.PageLists.{pages_in};
 
-/// The slot that the tables take is the next one in their order.
+/// When the tables take a slot of class c, at address a, it is the next one in their order, and the
+/// order afterwards is the one that the model computes.
 pub fn the_next_slot_is_taken()
     ensures { (p : Paging) (m : Held) (old new : Tables) (c a : ℕ) (spare : List ℕ)
         → IsPaging p → ServePart p old → Occupies p m old → AreTables (class_table p) new → c < classes p
@@ -23,7 +25,8 @@ pub fn the_next_slot_is_taken()
         → TakesNext p m (order_of (classes p) old spare) c a (order_of (classes p) new spare) }
 {}
 
-/// After a slot is freed, the order of the tables is `slot_freed` of the old one.
+/// After a slot of a page of class c is freed, the order of the tables is the one that the model
+/// computes (`slot_freed`).
 pub fn a_freed_slot_follows_the_order()
     ensures { (p : Paging) (m : Held) (old new : Tables) (c page slot : ℕ) (spare : List ℕ)
         → IsPaging p → ServePart p old → Occupies p m old → AreTables (class_table p) new → c < classes p
@@ -31,7 +34,8 @@ pub fn a_freed_slot_follows_the_order()
         → order_of (classes p) new spare ≡ slot_freed p m (order_of (classes p) old spare) c page }
 {}
 
-/// The object that moves into a freed slot is the next one to move in the order of the tables.
+/// The object y that the tables choose to move into a freed slot of class c is the next one to move
+/// in their order.
 pub fn the_filler_is_next_to_move()
     ensures { (p : Paging) (m : Held) (t : Tables) (c a : ℕ) (y : Placed) (spare : List ℕ)
         → IsPaging p → ServePart p t → Occupies p m t → c < classes p
@@ -53,7 +57,9 @@ pub fn steps_follow_the_order()
         → steps_to_fill t c ≡ Order.steps_to_fill p m (order_of (classes p) t spare) c }
 {}
 
-/// The order of the tables is an order of the arrangement.
+/// The order of the tables, with the free numbers below `limit`, is an order of the objects: it
+/// lists the free pages, the partly full pages of each class, and the numbers without an object,
+/// each once.
 pub fn the_order_is_of_the_arrangement()
     ensures { (p : Paging) (m : Held) (t : Tables) (limit : ℕ) (spare : List ℕ)
         → IsPaging p → Serve p t → Occupies p m t

@@ -1,4 +1,4 @@
-//! The tables of a region's pages.
+//! `PageTables`: the size classes, the used slots and the free pages of a region.
 ghost use Rattle.std.specs.Prelude.{IfOk};
 ghost use Rattle.page_slots.specs.PageTables.{AreFirst};
 
@@ -8,8 +8,9 @@ use size_classes::Classes;
 use slot_bitmap::{SlotMap, free_maps};
 use std::alloc::Global;
 
-/// What all owners of a region's pages share: the size classes, a map of the slots of each page, and
-/// the pool of free pages. The pages of each class are in lists beside it, one set for each owner.
+/// What all owners of a region's pages share: the size classes, a map of the slots of each page,
+/// and the pool of free pages. Which pages have which class is not in it: each owner has its own
+/// `ClassLists`.
 #[derive(Drop)]
 pub struct PageTables {
     pub classes: Classes,
@@ -18,8 +19,8 @@ pub struct PageTables {
 }
 
 impl PageTables {
-    /// Tables in which all pages of the settings are free, with slot sizes of this layout. Only this
-    /// call allocates.
+    /// Returns tables in which all pages of the settings are free, with slot sizes of this layout.
+    /// Only this call allocates.
     pub fn new(alloc: Global, s: &Settings, layout: Layout) -> Result<PageTables, OutOfMemory>
         ensures { IfOk result (λ t. AreFirst s.now layout t) }
     {

@@ -1,11 +1,11 @@
-//! Addresses of slots, in words.
+//! From addresses to slots and back. Addresses count words.
 ghost use Rattle.std.specs.Prelude.{◌≡◌, ◌+◌, ◌*◌, ◌^◌, ◌<◌, ◌≤◌, length};
 ghost use Rattle.size_classes.specs.Table.{IsClassTable};
 ghost use Rattle.page_slots.specs.Tables.{address_in, page_at, slot_at, slots_in};
 
 use size_classes::Classes;
 
-/// The number, on its page, of the slot of class c at an address.
+/// The number, on its page, of the slot of class c that holds an address.
 pub(crate) fn slot_of(classes: &Classes, c: u32, address: u32) -> u32
     requires { c < length classes.now.sizes }
     ensures { result ≡ slot_at classes.now c address }

@@ -1,4 +1,5 @@
-//! Frees a used slot.
+//! Frees a used slot of a page; or chooses the object that moves into it, and frees that object's
+//! slot.
 ghost use Rattle.std.specs.Prelude.{◌≡◌, ◌≢◌, ℕ, ◌<◌, ◌≤◌, [], ◌↔◌, IsTrue, length, false, true, slice_get, slice_index_or};
 ghost use Rattle.std.specs.List.{Contains, position};
 ghost use Rattle.step_ledger.specs.Counting.{RoseAtMost, RoseBy};
@@ -17,8 +18,9 @@ use slot_bitmap::SlotMap;
 use step_ledger::Steps;
 
 impl PageTables {
-    /// Returns whether a free of the slot at this address must move an object: the page is full and
-    /// has several slots, and its class has reached its bound of partly full pages. Costs one step.
+    /// Returns whether a free of the slot of class c at the address `at` must move an object: its
+    /// page is full and has several slots, and the class has reached `bound` partly full pages.
+    /// Costs one step.
     pub fn must_move(
         &self,
         lists: &ClassLists,
@@ -39,8 +41,8 @@ impl PageTables {
         used == map.len() && used > 1 && lists.len(c, Which::NotFull) == bound
     }
 
-    /// Frees the used slot of class c at this address, without a move. A page that is then empty
-    /// returns to the pool. A page that was full becomes the first partly full page.
+    /// Frees the used slot of class c at the address `at`, without a move. A page that is then
+    /// empty returns to the pool. A page that was full becomes the first partly full page.
     #[inline(always)]
     pub fn drop_slot(&mut self, lists: &mut ClassLists, c: u32, at: u32, steps: &mut Steps)
         requires tables { AreTables self.old.classes (tables_with self.old lists.old) }
@@ -93,7 +95,7 @@ impl PageTables {
         address
     }
 
-    /// The first partly full page of class c, and its lowest used slot.
+    /// Returns the first partly full page of class c, and the number of its lowest used slot.
     fn filling_slot(&self, lists: &ClassLists, c: u32, steps: &mut Steps) -> (u32, u32)
         requires class { c < lists.now.classes }
         requires some { 1 ≤ length (pages_in lists.now c Which.NotFull) }
@@ -112,8 +114,9 @@ impl PageTables {
         (page, slot)
     }
 
-    /// Frees a used slot of a page in this list of class c. A page that is then empty leaves the
-    /// list and returns to the pool; a page that was full joins the partly full pages.
+    /// Frees the used slot number `slot` of a page that is in the list `which` of class c. A page
+    /// that is then empty leaves the list and returns to the pool; a page that was full joins the
+    /// partly full pages.
     #[inline(always)]
     fn vacate(
         &mut self,
@@ -150,7 +153,8 @@ impl PageTables {
     }
 }
 
-/// The list of a page with this map: that of the full pages if all slots are used. Costs one step.
+/// Returns which list a page with this map of its slots is in: that of the full pages if all slots
+/// are used. Costs one step.
 fn list_of(map: &SlotMap, steps: &mut Steps) -> Which
     ensures full { used_in map.now ≡ length map.now → result ≡ Which.Full }
     ensures not_full { used_in map.now ≢ length map.now → result ≡ Which.NotFull }
@@ -163,7 +167,8 @@ fn list_of(map: &SlotMap, steps: &mut Steps) -> Which
     }
 }
 
-/// If `which` is the list of full pages, moves the page from there to the partly full pages.
+/// If the page is in the list of full pages of class c, moves it to the partly full pages; else
+/// does nothing. `which` is the list that it is in.
 fn open_if_full(lists: &mut ClassLists, c: u32, which: Which, page: u32, steps: &mut Steps)
     requires class { c < lists.old.classes }
     requires apart { AreApart lists.old }

@@ -1,4 +1,4 @@
-//! Takes a free slot.
+//! Takes a free slot of a class.
 ghost use Rattle.std.specs.Prelude.{◌≡◌, ◌≢◌, ◌<◌, [], if◌then◌else◌, is_some, length, nat_eq, not, false, true, slice_get, slice_set};
 ghost use Rattle.std.specs.List.{Contains, position};
 ghost use Rattle.step_ledger.specs.Counting.{RoseAtMost, RoseBy};
@@ -40,8 +40,8 @@ impl PageTables {
         }
     }
 
-    /// Takes the first slot of the first page of the pool, which becomes a page of class c. Returns
-    /// none if no page is free.
+    /// Takes the first slot of the first page of the pool, which becomes a page of class c, and
+    /// returns its address. Returns none if no page is free; then nothing changes.
     #[inline(always)]
     fn take_on_free_page(
         &mut self,
@@ -69,7 +69,8 @@ impl PageTables {
     }
 }
 
-/// Takes the lowest free slot of a page.
+/// Marks the lowest free slot in the map of a page as used, and returns its number. At least one
+/// slot must be free.
 #[inline(always)]
 fn take_least(map: &mut SlotMap, steps: &mut Steps) -> u32
     requires { used_in map.old < length map.old }
@@ -84,8 +85,8 @@ fn take_least(map: &mut SlotMap, steps: &mut Steps) -> u32
     slot
 }
 
-/// Moves a page of class c with this map from the partly full pages to the full ones, if all its
-/// slots are used.
+/// If all slots in the map of a page of class c are used, moves the page from the partly full pages
+/// to the full ones.
 #[inline(always)]
 fn leave_if_filled(map: &SlotMap, lists: &mut ClassLists, c: u32, page: u32, steps: &mut Steps)
     requires class { c < lists.old.classes }

@@ -1,4 +1,4 @@
--- The object at a live number's address, by its header.
+-- For `free_inner` and `resize_inner`: the object at a live number's address, as its header shows it.
 use Rattle.std.proofs.Common.{◌≡◌, ℕ, ◌/◌, ◌^◌, ◌<◌, length, get_or, Some, None, Result, Ok, Err, arith, sym, ◌∙◌, ap, subst}
 use Rattle.std.specs.FinMap.{get}
 use Rattle.cf_base.specs.Classes.{class_of}

@@ -1,4 +1,4 @@
--- What follows from an open heap's invariant: its paging, its tables, and the rules.
+-- For all calls: what follows from an open heap's invariant: its paging, its tables, and the rules of a manager.
 use Rattle.std.proofs.Common.{◌≡◌, ℕ, ◌<◌, ◌≤◌, length, take, get_or, Option, Some, None, arith, refl, sym, ◌∙◌, ap, subst, inl, inr}
 use Rattle.std.specs.Prelude.{IsSome, IsTrue, is_some, option_map}
 use Rattle.std.proofs.lemmas.Bool.{cases_lt, false≢true}

@@ -1,4 +1,4 @@
--- With a block table, each slot begins and ends at the border of a block.
+-- For reads, writes and moves with a block table: each slot begins and ends at the border of a block.
 use Rattle.std.proofs.Common.{◌≡◌, ℕ, List, length, Some}
 use Rattle.std.specs.Prelude.{IsTrue, take}
 use Rattle.std.specs.FinMap.{get}

@@ -17,23 +17,25 @@ use Rattle.virtual_words.specs.Words.{run_steps, slot_steps}
 abbrev pub malloc_steps : Kind → ℕ
 malloc_steps kind = 16 + word_steps kind
 
--- a free: 20 + s moving, 22 + s + s / 2 non-moving
+-- a free: 20 + s moving, 22 + s + s / 2 non-moving, for a slot of s words
 -- (two headers, the tables of two pages, two proxies, and the s words of the slot that moves or is cleared; refused, the proxy)
 abbrev pub free_steps : Kind → Result Freed NotLive → ℕ
 free_steps kind (Ok freed) = 18 + 2 * word_steps kind + slot_steps kind freed.slot_words
 free_steps kind (Err e) = 1
 
--- a resize to n bytes that stays in its slot of s words: 6 moving, 9 non-moving, and the words of the slot after the one that byte n is in, with their blocks
+-- a resize to n bytes that stays in its slot of s words: 6 moving, 9 non-moving, and those of the words after the one that byte n is in,
+-- with a block table also of their blocks
 -- (the proxy, two classes, two headers, the word of byte n, and the words after it)
 abbrev pub stay_steps : Kind → ℕ → ℕ → ℕ
 stay_steps kind n s = 3 + 3 * word_steps kind + run_steps kind (2 + n / 8) (s - 2 - n / 8)
 
--- a resize to another class: 34 + s + t moving, 38 + 3 (s + t) / 2 non-moving; s are the words of the old slot, and t those of the smaller one
+-- a resize to another class: 34 + s + t moving, 38 + 3 (s + t) / 2 non-moving; s are the words of the old slot, and t those of the smaller
+-- of the two slots
 -- (three headers, the tables of three pages, two proxies, the words that stay, and the slot that moves or is cleared)
 abbrev pub change_steps : Kind → ℕ → ℕ → ℕ
 change_steps kind old new = 30 + 4 * word_steps kind + slot_steps kind old + slot_steps kind (min old new)
 
--- a resize to n bytes
+-- the most steps of a resize to n bytes, by its result: one that stays in its slot, or goes to another class; those of a refused one are exact
 abbrev pub resize_steps : Kind → ℕ → Result Resized ResizeFault → ℕ
 resize_steps kind n (Ok done) =
     if nat_eq done.slot_words done.old_slot_words then stay_steps kind n done.slot_words else change_steps kind done.old_slot_words done.slot_words
@@ -42,13 +44,13 @@ resize_steps kind n (Err resize.Kind) = 0
 resize_steps kind n (Err resize.Size) = 2
 resize_steps kind n (Err resize.Space) = 4 + word_steps kind
 
--- a read or a write that is refused: the proxy, and the header of a number that is live
+-- the exact steps of a read or a write that is refused: the proxy, and if the number is live the header
 abbrev pub fault_steps : Kind → AccessFault → ℕ
 fault_steps kind access.Unknown = 1
 fault_steps kind access.Range = 1 + word_steps kind
 
--- a read or write of `count` bytes from byte `from` on: 2 + t moving, for t words; non-moving 3 + t, and one for each block
--- (the proxy, the header, and the words that hold one of the bytes)
+-- a read or a write of `count` bytes from byte `from` on: 2 + t moving, for t words; non-moving 3 + t, and one for each block
+-- (exact: the proxy, the header, and the words that hold one of the bytes, with their blocks)
 abbrev pub access_steps : Kind → ℕ → ℕ → Result Unit AccessFault → ℕ
 access_steps kind from count (Ok u) = 1 + word_steps kind + run_steps kind (1 + from / 8) (words_touched from count)
 access_steps kind from count (Err e) = fault_steps kind e

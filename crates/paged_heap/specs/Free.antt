@@ -1,4 +1,5 @@
--- What a free knows of its object, and what moving another object to the freed slot does. No public clause cites this module.
+-- For `free` and `resize`: what they know of their object, when another object must move to its slot, and what that move does. No public clause cites this
+-- module.
 use Rattle.std.specs.Prelude.{◌≡◌, ℕ, ◌/◌, ◌<◌, Some, length, slice_index}
 use Rattle.std.specs.FinMap.{get}
 use Rattle.page_model.specs.Bytes.{bytes_at}
@@ -13,22 +14,23 @@ use Rattle.page_slots.specs.Tables.{page_at, slots_on}
 use Rattle.paged_heap.specs.Heap.{Heap}
 use Rattle.paged_heap.specs.Layout.{paging_at, tables_in}
 
--- the object of number q is at this address and has this many bytes, in class c
+-- the live object of number q has the address `place` and `bytes` bytes, and c is its class
 pub record IsObjectAt (h : Heap) (q place bytes c : ℕ) : Type 0 where
   pub known : get h.proxies.places q ≡ Some place
   pub long : length (bytes_at h.words place) ≡ bytes
   pub class : class_for (paging_at h) bytes ≡ c
   pub in_range : c < classes (paging_at h)
 
--- the object at an address, with the bytes that its header and its words hold
+-- the object at the address a, with the bytes that its header and its words hold
 abbrev pub placed_at : Heap → ℕ → Placed
 placed_at h a = record { place = a; bytes = bytes_at h.words a }
 
--- a free of the object of class c at this address must move another object to its slot
+-- if the object of class c at the address `place` leaves its slot, another object must move there
 abbrev pub IsMoving : Heap → ℕ → ℕ → Type 0
 IsMoving h place c = MovesObject (slots_on (tables_in h) (page_at h.classes place)) (length (pages_in h.lists c NotFull)) (slice_index h.bounds c)
 
--- the slot of n words at b moves to a: objects see its words at a; with a block table, its blocks are exchanged with those at a
+-- the object of the slot of n words at b moves to the slot at a, from the heap `old` to `new`: its words are copied to a, and those at b become zeros; with a
+-- block table the two slots exchange their blocks
 pub record MovesSlot (old new : Heap) (b a n : ℕ) : Type 0 where
   pub long : length new.words ≡ length old.words
   pub words : MovesWords old.words new.words (record { from = b; count = n }) a

@@ -1,4 +1,4 @@
--- The state that contracts show of an open heap, and the heap's invariant.
+-- For the clauses of `OpenHeap`: the state of a manager (`HeapState`) that an open heap shows, and the heap's invariant.
 use Rattle.std.specs.Prelude.{◌≡◌, ℕ, ◌*◌, ◌≤◌, ◌<◌, [], true, Option, Some, None, length, take, slice_index}
 use Rattle.cf_base.specs.Settings.{profile_of}
 use Rattle.cf_base.specs.declared.kind.Kind.{Kind}
@@ -25,15 +25,15 @@ use Rattle.paged_heap.specs.Heap.{Heap, seen}
 abbrev pub held_in : Heap → Held
 held_in h = held_at h.words h.proxies.places
 
--- the heap's tables of used slots, page lists and free pages
+-- the tables of the heap as `page_slots` sees them: the used slots of each page, the page lists, and the free pages
 abbrev pub tables_in : Heap → Tables
 tables_in h = tables h.maps h.lists h.pool
 
--- the order: what the tables and the spare numbers list next
+-- the order of the heap: the pages that its tables use next, and its free numbers, the next one first
 abbrev pub order_in : Heap → Order
 order_in h = order_of (length h.classes.sizes) (tables_in h) h.proxies.free
 
--- the state of an open heap in the model of all managers
+-- the state of a manager whose open heap is h
 abbrev pub state_of : Heap → HeapState
 state_of h = record {
   kind = h.kind;
@@ -48,57 +48,65 @@ state_of h = record {
   cost = h.cost;
 }
 
--- the heap's page size, number of pages, slot sizes and bounds
+-- the number and size of the pages of the heap, its slot sizes and its bounds
 abbrev pub paging_at : Heap → Paging
 paging_at h = paging_in (state_of h)
 
--- the block table is a permutation: it maps each block of four words once
+-- the block table is a permutation of the blocks of four words that the region has
 pub record AreMapped (h : Heap) : Type 0 where
   pub count : 4 * length h.frames ≡ length h.words
   pub permuted : IsPermuted h.frames
 
--- the non-moving kind has a block table, and the moving kind none; kinds with blocks have no such heap
+-- the heap has the block table that its kind needs: the non-moving kind has one, the moving kind none; kinds with blocks have no such heap
 abbrev pub IsFramed : Kind → Heap → Type 0
 IsFramed Moving h = h.frames ≡ []
 IsFramed NonMoving h = AreMapped h
 IsFramed Tlsf h = ⊥
 IsFramed HalfFit h = ⊥
 
--- The invariant of an open heap: its classes are those of its pages; the words are the image of the objects, whose arrangement is sound; the tables
--- hold the slots that they occupy; each number is below the proxies' limit; each class has a bound from 1 to 64; the counts are those of the objects.
+-- The invariant of an open heap.
 pub record IsValid (h : Heap) : Type 0 where
+  -- the block table, if the kind has one
   pub framed : IsFramed h.kind h
+  -- the size classes are those of the pages and of the kind
   pub table : h.classes ≡ table_of h.settings.page_words (layout_of h.kind)
   pub words_long : length h.words ≡ h.settings.pages * h.settings.page_words
+  -- the words are those of the objects, and zeros elsewhere
   pub image : IsSlotImage (paging_at h) (held_in h) h.words
+  -- the arrangement is sound: each object is in a slot of its class, and no class has more partly full pages than its bound
   pub sound : IsSound (paging_at h) (held_in h)
+  -- the tables are for these pages and classes
   pub serve : Serve (paging_at h) (tables_in h)
+  -- the used slots of the tables are those of the objects
   pub occupied : Occupies (paging_at h) (held_in h) (tables_in h)
+  -- the numbers of the objects are below the number of proxies
   pub numbers : h.proxies.limit ≡ h.settings.proxies
   pub handles : AreBelowLimit h.proxies
+  -- each class has a bound from 1 to 64
   pub bounds_long : length h.bounds ≡ 128
   pub some_bound : (c : ℕ) → c < 128 → 1 ≤ slice_index h.bounds c
   pub low_bound : (c : ℕ) → c < 128 → slice_index h.bounds c ≤ 64
+  -- the counts are those of the objects: how many each class has, their bytes, and those of their slots
   pub live_long : length h.live ≡ 128
   pub counted : (c : ℕ) → c < classes (paging_at h) → slice_index h.live c ≡ live (paging_at h) (objects (held_in h)) c
   pub asked_all : h.asked ≡ asked_bytes (objects (held_in h))
   pub taken_all : h.taken ≡ taken_bytes (paging_at h) (objects (held_in h))
 
--- the invariant of an open heap in memory: its region holds the words as this kind lays them, and the heap is valid
+-- the invariant of an open heap in memory: its region and block table fit its kind, and the `Heap` of it keeps the invariant
 pub record Holds (kind : Kind) (h : OpenHeap) : Type 0 where
   pub laid : AreLaid kind h.blocks h.region
   pub kept : IsValid (seen kind h)
 
--- the model's state of an open heap in memory
+-- the state of a manager whose heap h is open
 abbrev pub state_at : Kind → OpenHeap → HeapState
 state_at kind h = state_of (seen kind h)
 
--- the model's state of a heap that may be closed
+-- the state of a manager whose heap is open, or closed (`None`)
 abbrev pub state_in : Kind → Option OpenHeap → HeapState
 state_in kind None = closed_state kind
 state_in kind (Some h) = state_at kind h
 
--- the invariant of a heap that may be closed
+-- the invariant of a manager's heap, which is open, or closed (`None`): then nothing is required
 abbrev pub IsValidIn : Kind → Option OpenHeap → Type 0
 IsValidIn kind None = Unit {0}
 IsValidIn kind (Some h) = Holds kind h

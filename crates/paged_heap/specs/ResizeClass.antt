@@ -1,4 +1,5 @@
--- A resize to a length of another class. No public clause cites this module.
+-- For `resize_class`: the parts of a resize to a length of another class, and their steps. In these definitions x describes the resize. No public clause cites
+-- this module.
 use Rattle.std.specs.Prelude.{◌≡◌, ◌≢◌, ℕ, ◌+◌, ◌-◌, ◌*◌, ◌/◌, ◌≤◌, ◌<◌, min, max, length, List, Option, Some, None, Result, Ok, Err, slice_index, slice_set}
 use Rattle.cf_base.specs.Classes.{need}
 use Rattle.cf_base.specs.declared.answers.Resized.{Resized}
@@ -27,15 +28,16 @@ pub record IsChange (h : Heap) (x : Change) : Type 0 where
   pub in_range : x.to < classes (paging_at h)
   pub other : x.to ≢ x.class
 
--- the words of a slot of the object's old class
+-- the number of words of a slot of the object's old class
 abbrev pub old_words : Heap → Change → ℕ
 old_words h x = slice_index h.classes.sizes x.class
 
--- the number of words that hold the bytes that both lengths have
+-- the number of words that hold the bytes that both lengths have, without the header
 abbrev pub kept_words : Change → ℕ
 kept_words x = (min x.length x.bytes + 7) / 8
 
--- The kept words are copied to the slot at b, the bytes from the new length on are cleared, and the header is written before them.
+-- What `copy_to_slot` does to the words: the kept ones are copied to the slot at b and cleared at their old place (`moved`); if the object becomes shorter,
+-- its bytes from the new length on are cleared (`cut`); and its header is written at b.
 pub record Carries (old new : List ℕ) (x : Change) (b : ℕ) : Type 0 where
   pub moved : List ℕ
   pub moves : MovesWords old moved (record { from = x.place + 1; count = kept_words x }) (b + 1)
@@ -45,7 +47,8 @@ pub record Carries (old new : List ℕ) (x : Change) (b : ℕ) : Type 0 where
   pub as_long : 8 * kept_words x ≤ x.bytes → cut ≡ moved
   pub whole : new ≡ slice_set cut b (header_word x.handle.0 x.bytes)
 
--- the state between the copy and the freeing of the old slot: the object is at b, in a slot of its new class, and its old slot is still used
+-- The heap n results from the heap h by the copy to the slot at b, before the old slot is freed: the object has the address b, in a slot of its new class, and
+-- its old slot is still used. Settings, classes, bounds and block table stay, and the counts are those after the resize.
 pub record EntersAt (h : Heap) (x : Change) (b : ℕ) (n : Heap) : Type 0 where
   pub settings : n.settings ≡ h.settings
   pub classes : n.classes ≡ h.classes
@@ -62,18 +65,18 @@ pub record EntersAt (h : Heap) (x : Change) (b : ℕ) (n : Heap) : Type 0 where
   pub asked : n.asked ≡ h.asked - x.length + x.bytes
   pub all_taken : n.taken ≡ h.taken - 8 * old_words h x + 8 * slice_index h.classes.sizes x.to
 
--- no slot of the object's new class is free, and nothing has changed
+-- no slot of the object's new class is free in the heap h, and the heap n is unchanged
 pub record FindsNoRoom (h : Heap) (x : Change) (n : Heap) : Type 0 where
   pub lacking : LacksRoom (paging_at h) (held_in h) x.to
   pub tables : tables_in n ≡ tables_in h
   pub rest : n ≡ record h { maps = n.maps; lists = n.lists; pool = n.pool }
 
--- what `enter_class` does: it copies the object to the slot at b, or finds no free slot
+-- what `enter_class` does to the heap h: it copies the object to the slot at b (`Some`), or finds no free slot (`None`)
 abbrev pub Enters : Heap → Change → Option ℕ → Heap → Type 0
 Enters h x None n = FindsNoRoom h x n
 Enters h x (Some b) n = EntersAt h x b n
 
--- the most steps of a change of class, by the kind and the slot sizes
+-- the most steps of a change of class in the heap h, by the kind, the kept words and the words of the old slot; none if refused
 abbrev pub changing_steps : Kind → Heap → Change → Result Resized ResizeFault → ℕ
 changing_steps kind h x (Ok done) = 27 + 3 * word_steps kind + copy_steps kind 1 (kept_words x) + slot_steps kind (old_words h x)
 changing_steps kind h x (Err e) = 0

@@ -1,4 +1,4 @@
--- When class c has a free slot, and a malloc's result without the handle.
+-- For `malloc` and `has_room`: when class c has a free slot, and a malloc's result without the handle.
 use Rattle.std.specs.Prelude.{ℕ, ◌+◌, ◌≤◌, Result, Ok, Err, length}
 use Rattle.cf_base.specs.declared.answers.Handle.{Handle}
 use Rattle.cf_base.specs.declared.answers.Refusal.{Refusal}
@@ -6,7 +6,7 @@ use Rattle.class_lists.specs.PageLists.{PageLists, pages_in}
 use Rattle.class_lists.specs.declared.Which.TheVariants.{NotFull}
 use Rattle.page_pool.specs.Pool.{Pool}
 
--- class c has a free slot, on a partly full page or on a free one
+-- class c has a free slot: on one of its partly full pages, or on a free page
 abbrev pub HasSlot : PageLists → Pool → ℕ → Type 0
 HasSlot lists pool c = 1 ≤ length (pages_in lists c NotFull) + length pool.free
 

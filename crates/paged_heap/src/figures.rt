@@ -1,4 +1,4 @@
-//! Shows the figures of an open heap.
+//! The figures of an open heap: counts of live objects, bytes, pages and slots.
 ghost use Rattle.std.specs.Prelude.{◌≡◌, ◌*◌, ◌<◌, ◌≤◌, if◌then◌else◌, nat_eq, nat_lt, Some, None};
 ghost use Rattle.page_model.specs.Arrangement.{home_pages, not_full_pages, free_pages};
 ghost use Rattle.page_model.specs.Figures.{figures_of, totals_of};
@@ -21,7 +21,7 @@ impl OpenHeap {
         self.tables.classes.len()
     }
 
-    /// The number of pages with slots of class c.
+    /// The number of pages of class c, full or partly full.
     pub fn pages_of<A: Mapping>(&self, c: u32) -> u32
         requires kept { Holds A.kind self.now }
         requires class { c < classes (paging_at (seen A.kind self.now)) }
@@ -61,7 +61,7 @@ impl OpenHeap {
         }
     }
 
-    /// The figures of class c, which is one of the heap's.
+    /// The figures of class c, which must be one of the heap's classes.
     fn figures_of<A: Mapping>(&self, c: u32) -> Figures
         requires kept { Holds A.kind self.now }
         requires class { c < classes (paging_at (seen A.kind self.now)) }
@@ -94,7 +94,7 @@ impl OpenHeap {
         }
     }
 
-    /// The bytes of `pages` pages.
+    /// The number of bytes that `pages` pages of the heap have.
     fn bytes_of<A: Mapping>(&self, pages: u32) -> u64
         requires kept { Holds A.kind self.now }
         requires few { pages ≤ self.now.settings.pages }

@@ -1,4 +1,4 @@
-//! Frees an object.
+//! `free` of an open heap: it clears the object's slot, or another object moves into it.
 ghost use Rattle.std.specs.Prelude.{◌≡◌, ◌≢◌, ◌+◌, ◌-◌, ◌*◌, ◌/◌, ◌^◌, ◌<◌, ◌≤◌, None, Some, IfOk, IsSome, length, slice_index, slice_set};
 ghost use Rattle.std.specs.FinMap as map;
 ghost use Rattle.step_ledger.specs.Counting.{RoseAtMost, RoseBy};
@@ -23,9 +23,11 @@ use virtual_words::Mapping;
 use word_bytes::Header;
 
 impl OpenHeap {
-    /// Frees an object; fails if the handle is not live. If too many pages of its class would then be
-    /// partly full, the object that the order lists next moves to the freed slot. The next malloc uses
-    /// the freed number. Sets `cost` to the steps of this call, which the order and the result determine.
+    /// Frees an object; fails if the handle is not live, and then changes only `cost`. If its page
+    /// is full and has several slots, and its class already has as many partly full pages as its
+    /// bound, the object that the order lists next moves to the freed slot. The next malloc uses
+    /// the freed number. Sets `cost` to the steps of this call, which the order and the result
+    /// determine.
     pub fn free<A: Mapping>(&mut self, h: Handle, steps: &mut Steps) -> Result<Freed, NotLive>
         requires kept { Holds A.kind self.old }
         requires room { steps.old ≤ 2 ^ 63 }
@@ -42,7 +44,8 @@ impl OpenHeap {
         result
     }
 
-    /// Does what `free` does, but leaves `cost` unchanged.
+    /// Frees an object as `free` does, with or without a move of another one; fails if the handle
+    /// is not live. Leaves `cost` unchanged.
     fn free_inner<A: Mapping>(&mut self, h: Handle, steps: &mut Steps) -> Result<Freed, NotLive>
         requires { Holds A.kind self.old }
         ensures step { IsFreeStep (state_at A.kind self.old) h.0 result (state_at A.kind self.new) }
@@ -67,7 +70,8 @@ impl OpenHeap {
         }
     }
 
-    /// Frees an object of class c with `length` bytes at `place`, and moves no other object.
+    /// Frees the object h of class c, which has `length` bytes and the address `place`, and moves
+    /// no other object.
     fn free_alone<A: Mapping>(
         &mut self,
         h: Handle,
@@ -97,7 +101,8 @@ impl OpenHeap {
         }
     }
 
-    /// Frees an object of class c with `length` bytes at `place`, and moves another object to its slot.
+    /// Frees the object h of class c, which has `length` bytes and the address `place`, and moves
+    /// another object of the class to its slot.
     fn free_and_fill<A: Mapping>(
         &mut self,
         h: Handle,
@@ -129,7 +134,8 @@ impl OpenHeap {
         }
     }
 
-    /// Releases the number of the object at an address, and clears the words of its slot.
+    /// Releases the number h, and clears the `slot_words` words of its object's slot at `place`.
+    /// The slot stays used in the tables.
     fn erase<A: Mapping>(&mut self, h: Handle, place: u32, slot_words: u32, steps: &mut Steps)
         requires laid { AreLaid A.kind self.old.blocks self.old.region }
         requires live { IsSome (map.get self.old.proxies.places h.0) }
@@ -149,8 +155,8 @@ impl OpenHeap {
         A::clear(&mut self.region, &self.blocks, place, slot_words, steps);
     }
 
-    /// Moves object h from the slot at `from` to the slot at `to`, both of `slot_words` words, and points
-    /// its proxy there.
+    /// Moves the object h from the slot at `from` to the slot at `to`, both of `slot_words` words,
+    /// and changes its address in its proxy. The words of its old slot become zeros.
     pub(crate) fn move_to<A: Mapping>(
         &mut self,
         h: Handle,
@@ -190,8 +196,8 @@ impl OpenHeap {
         self.proxies.rebind(h, to, steps);
     }
 
-    /// Subtracts an object of `bytes` bytes from the live objects of class c, and from the bytes asked and
-    /// taken.
+    /// Takes an object of `bytes` bytes out of the counts: the live objects of class c, the bytes
+    /// asked, and the bytes taken, which are those of its slot. Costs no step.
     pub(crate) fn count_out(&mut self, c: u32, bytes: u32)
         requires class { c < length self.old.tables.classes.sizes }
         requires listed { c < length self.old.live }

@@ -1,4 +1,5 @@
-//! Makes objects.
+//! `malloc` of an open heap, and `has_room`, which returns beforehand whether a malloc would be
+//! refused.
 ghost use Rattle.std.specs.Prelude.{◌≡◌, ◌≢◌, ◌+◌, ◌*◌, ◌^◌, ◌<◌, ◌≤◌, ◌∷◌, IfErr, IfOk, IsFalse, IsTrue, None, Result, Some, length, slice_index, slice_set};
 ghost use Rattle.std.specs.FinMap as map;
 ghost use Rattle.step_ledger.specs.Counting.{RoseAtMost, RoseBy};
@@ -28,9 +29,10 @@ use virtual_words::Mapping;
 use word_bytes::Header;
 
 impl OpenHeap {
-    /// Makes an object of `bytes` bytes, all zero, with the number and in the slot of its class that the
-    /// order lists next. Refused, with the objects unchanged, if it is larger than a page, or no number or
-    /// no slot is free. Sets `cost` to the steps of this call, which the order and the result determine.
+    /// Makes an object of `bytes` bytes, all zero, under the number and in the slot of its class
+    /// that the order lists next. Refused, in this order: `Size` if it needs more than a page,
+    /// `Proxy` if no number is free, `Space` if no slot is free; then only `cost` changes. Sets
+    /// `cost` to the steps of this call, which the order and the result determine.
     pub fn malloc<A: Mapping>(&mut self, bytes: u32, steps: &mut Steps) -> Result<Handle, Refusal>
         requires kept { Holds A.kind self.old }
         requires room { steps.old ≤ 2 ^ 63 }
@@ -47,7 +49,8 @@ impl OpenHeap {
         result
     }
 
-    /// Does what `malloc` does, but leaves `cost` unchanged.
+    /// Makes an object as `malloc` does, or refuses it for the same causes. Leaves `cost`
+    /// unchanged.
     fn malloc_inner<A: Mapping>(&mut self, bytes: u32, steps: &mut Steps) -> Result<Handle, Refusal>
         requires { Holds A.kind self.old }
         ensures step { IsMallocStep (state_at A.kind self.old) bytes result (state_at A.kind self.new) }
@@ -66,7 +69,8 @@ impl OpenHeap {
         Ok(handle)
     }
 
-    /// What a malloc of `bytes` bytes would return now: its refusal, or `Ok` if no refusal has a cause.
+    /// Returns what a malloc of `bytes` bytes would return now, without the handle: `Ok`, or its
+    /// refusal. Changes nothing, and costs one step.
     pub fn has_room<A: Mapping>(&self, bytes: u32, steps: &mut Steps) -> Result<(), Refusal>
         requires { Holds A.kind self.now }
         ensures ok { IfOk result (λ u. (e : Refusal) → ¬ IsRefusedBy (state_at A.kind self.now) bytes e) }
@@ -81,8 +85,8 @@ impl OpenHeap {
         }
     }
 
-    /// Returns the class of an object of `bytes` bytes, if a number and a slot of this class are free.
-    /// Else fails with the refusal that a malloc returns.
+    /// Returns the class of an object of `bytes` bytes, if a number and a slot of this class are
+    /// free. Else fails with the refusal that a malloc of it returns.
     fn class_with_room<A: Mapping>(&self, bytes: u32, steps: &mut Steps) -> Result<u32, Refusal>
         requires { Holds A.kind self.now }
         ensures class { IfOk result (λ c. Some c ≡ class_of self.now.tables.classes.sizes bytes) }
@@ -104,8 +108,8 @@ impl OpenHeap {
         }
     }
 
-    /// Returns whether class c has a free slot, on a partly full page or on a free one, by the numbers of
-    /// such pages.
+    /// Returns whether class c has a free slot: whether it has a partly full page, or a page is
+    /// free. Costs no step.
     pub(crate) fn has_slot(&self, c: u32) -> bool
         requires { c < self.now.lists.classes }
         ensures some { IsTrue result → HasSlot self.now.lists self.now.tables.pool c }
@@ -114,8 +118,8 @@ impl OpenHeap {
         self.lists.len(c, Which::NotFull) > 0 || self.tables.pool.left() > 0
     }
 
-    /// Binds the next free number to an address, writes the header of an object of `bytes` bytes there,
-    /// and returns the number.
+    /// Binds the next free number to the address `place`, writes the header of an object of `bytes`
+    /// bytes there, and returns the number.
     fn bind<A: Mapping>(&mut self, place: u32, bytes: u32, steps: &mut Steps) -> Handle
         requires laid { AreLaid A.kind self.old.blocks self.old.region }
         requires some { map.len self.old.proxies.places ≢ self.old.proxies.limit }
@@ -143,7 +147,8 @@ impl OpenHeap {
         handle
     }
 
-    /// Adds an object of `bytes` bytes to the live objects of class c, and to the bytes asked and taken.
+    /// Adds an object of `bytes` bytes to the counts: the live objects of class c, the bytes asked,
+    /// and the bytes taken, which are those of its slot. Costs no step.
     pub(crate) fn count_in(&mut self, c: u32, bytes: u32)
         requires class { c < length self.old.tables.classes.sizes }
         requires listed { c < length self.old.live }

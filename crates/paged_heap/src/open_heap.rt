@@ -1,4 +1,4 @@
-//! An open heap: its tables, and the words of its region.
+//! `OpenHeap`, the heap of the managers with pages while it is open, and how it is opened.
 ghost use Rattle.std.specs.Prelude.{◌≡◌, ◌*◌, length, replicate, IfOk};
 ghost use Rattle.cf_base.specs.declared.kind.Layout.{Layout};
 ghost use Rattle.cf_model.specs.State.{layout_of};
@@ -18,13 +18,14 @@ use region::Region;
 use std::alloc::Global;
 use virtual_words::Mapping;
 
-/// The length of the arrays by class. No heap has more size classes.
+/// The length of the arrays that have an entry for each size class. No heap has more classes.
 pub const CLASSES: usize = 128;
 
-/// An open heap. For each class, `bounds` has the bound k of its partly full pages, and `live` the
-/// number of its live objects; `asked` and `taken` are the bytes of all objects and of their slots.
-/// `cost` is the steps of the last malloc, free or resize. Only the non-moving manager has a table of
-/// blocks.
+/// An open heap. By class, `bounds` is how many pages may be partly full, and `live` the number of
+/// live objects. `asked` and `taken` are the bytes of all objects and of their slots. `cost` is the
+/// steps of the last malloc, free or resize. `blocks` maps the words of `region`; only the
+/// non-moving manager has it. `tables` and `lists` show the used slots of each page, the free pages
+/// and those of each class, and `proxies` has the objects' addresses by number.
 #[derive(Drop)]
 pub struct OpenHeap {
     pub settings: Settings,
@@ -41,8 +42,9 @@ pub struct OpenHeap {
 }
 
 impl OpenHeap {
-    /// Opens a heap without objects, with the slot sizes of this layout and this table of blocks. Of the
-    /// functions here it alone allocates; fails if out of memory.
+    /// Opens a heap without objects, with the settings s, the slot sizes of this layout, and this
+    /// block table, if the kind has one. Of the functions here it alone allocates; fails if out of
+    /// memory.
     pub fn new<A: Mapping>(
         alloc: Global,
         s: &Settings,

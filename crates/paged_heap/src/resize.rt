@@ -1,4 +1,4 @@
-//! Resizes an object.
+//! `resize` of an open heap, and the resize of an object that stays in its slot.
 ghost use Rattle.std.specs.Prelude.{◌≡◌, ◌+◌, ◌-◌, ◌*◌, ◌/◌, ◌^◌, ◌<◌, ◌≤◌, IfOk, length, slice_index};
 ghost use Rattle.step_ledger.specs.Counting.{RoseAtMost, RoseBy};
 ghost use Rattle.page_model.specs.Order.{word_steps};
@@ -24,10 +24,11 @@ use virtual_words::Mapping;
 use word_bytes::Header;
 
 impl OpenHeap {
-    /// Changes an object's length to `bytes` bytes; added bytes are zeros. If its class changes, it moves
-    /// to the next slot of the new class, and its old slot is freed as `free` does. Fails if the handle is
-    /// not live, the length is larger than a page, or the new class has no free slot. Sets `cost` to the
-    /// steps of this call, which the order and the result determine.
+    /// Changes an object's length to `bytes` bytes; added bytes are zeros. If its class changes, it
+    /// moves to the next slot of the new class, and its old slot is freed as `free` does. Fails, in
+    /// this order, if the handle is not live, the length needs more than a page, or the class
+    /// changes and the new one has no free slot; then only `cost` changes. Sets `cost` to the steps
+    /// of this call, which the order and the result determine.
     pub fn resize<A: Mapping>(
         &mut self,
         h: Handle,
@@ -49,7 +50,8 @@ impl OpenHeap {
         result
     }
 
-    /// Does what `resize` does, but leaves `cost` unchanged.
+    /// Changes an object's length as `resize` does, within its class or to another one; fails for
+    /// the same causes. Leaves `cost` unchanged.
     fn resize_inner<A: Mapping>(
         &mut self,
         h: Handle,
@@ -89,7 +91,8 @@ impl OpenHeap {
         self.resize_to_class::<A>(change, steps)
     }
 
-    /// Resizes an object of class c from `length` to `bytes` bytes, also of class c: it stays in its slot.
+    /// Resizes the object h of class c at the address `place` from `length` to `bytes` bytes, which
+    /// is a length of class c too: it stays in its slot.
     pub(crate) fn resize_in_place<A: Mapping>(
         &mut self,
         h: Handle,
@@ -126,7 +129,9 @@ impl OpenHeap {
         }
     }
 
-    /// Clears bytes `keep` to `bytes` - 1 after the header at `place`; nothing if `keep` is `bytes` or more.
+    /// Of the first `bytes` bytes of an object, clears those from byte `keep` on, and the rest of
+    /// their last word. The object's header is the word `place`. Does nothing if `keep` is `bytes`
+    /// or more.
     pub(crate) fn zero_tail<A: Mapping>(
         &mut self,
         place: u32,

@@ -1,4 +1,4 @@
-//! Resizes an object to a length of another class.
+//! The resize of an object to a length of another class: it moves to a slot of that class.
 ghost use Rattle.std.specs.Prelude.{◌≡◌, ◌+◌, ◌-◌, ◌*◌, ◌/◌, ◌^◌, ◌<◌, ◌≤◌, IfErr, IfOk, IsNone, IsSome, length};
 ghost use Rattle.std.specs.FinMap as map;
 ghost use Rattle.step_ledger.specs.Counting.{RoseAtMost, RoseBy};
@@ -20,8 +20,8 @@ use step_ledger::Steps;
 use virtual_words::Mapping;
 use word_bytes::Header;
 
-/// A resize to another class: the object's slot of class `class` begins at word `place`, and it has
-/// `length` bytes; its new length is `bytes`, of class `to`.
+/// A resize of the object `handle` to a length of another class. Its slot begins at word `place`.
+/// It has `length` bytes now, of class `class`, and gets `bytes` bytes, of class `to`.
 #[derive(Clone, Copy)]
 pub(crate) struct Change {
     pub(crate) handle: Handle,
@@ -33,7 +33,7 @@ pub(crate) struct Change {
 }
 
 impl Change {
-    /// The number of words that hold the bytes that the resize keeps.
+    /// The number of words that hold the bytes that the resize keeps, without the header.
     fn words(self) -> u32
         ensures { result ≡ kept_words self }
     {
@@ -42,8 +42,8 @@ impl Change {
 }
 
 impl OpenHeap {
-    /// Moves an object to a slot of its new class and frees its old slot. Fails with `Space`, with the
-    /// objects unchanged, if the new class has no free slot.
+    /// Does the resize x: moves the object to a slot of its new class, and frees its old slot.
+    /// Fails with `Space`, with the objects unchanged, if the new class has no free slot.
     pub(crate) fn resize_to_class<A: Mapping>(
         &mut self,
         x: Change,
@@ -70,7 +70,8 @@ impl OpenHeap {
         }
     }
 
-    /// Does what `resize_to_class` does, if no other object must move to the old slot.
+    /// Does the resize x, if no other object must move to the old slot: it is cleared and becomes
+    /// free. Fails as `resize_to_class` does.
     fn resize_class_alone<A: Mapping>(
         &mut self,
         x: Change,
@@ -102,7 +103,8 @@ impl OpenHeap {
         })
     }
 
-    /// Does what `resize_to_class` does, and moves another object of the old class to the old slot.
+    /// Does the resize x, if another object of the old class must move to the old slot: that
+    /// object's own slot becomes free. Fails as `resize_to_class` does.
     fn resize_class_and_fill<A: Mapping>(
         &mut self,
         x: Change,
@@ -134,8 +136,9 @@ impl OpenHeap {
         })
     }
 
-    /// Takes a slot of the new class, copies the object there, and returns the address. None if no slot of
-    /// this class is free.
+    /// Takes a slot of the new class, copies the object there, and returns the new address; the old
+    /// slot stays used in the tables. Returns none if no slot of this class is free; then nothing
+    /// changes.
     fn enter_class<A: Mapping>(&mut self, x: Change, steps: &mut Steps) -> Option<u32>
         requires kept { Holds A.kind self.old }
         requires change { IsChange (seen A.kind self.old) x }
@@ -158,8 +161,9 @@ impl OpenHeap {
         Some(to)
     }
 
-    /// Copies an object with its new length to the slot at `to`, whose words are zeros. The caller clears
-    /// or fills its old slot.
+    /// Copies the kept bytes of the object to the slot at the address `to`, whose words are zeros,
+    /// clears their words in the old slot, writes a header with the new length at `to`, and changes
+    /// the address in the proxy. The caller clears or fills the old slot.
     fn copy_to_slot<A: Mapping>(&mut self, x: Change, to: u32, steps: &mut Steps)
         requires laid { AreLaid A.kind self.old.blocks self.old.region }
         requires live { IsSome (map.get self.old.proxies.places x.handle.0) }
@@ -198,7 +202,7 @@ impl OpenHeap {
         self.proxies.rebind(x.handle, to, steps);
     }
 
-    /// Clears the words of a slot.
+    /// Clears the `slot_words` words of the slot at the address `place`, and changes nothing else.
     fn wipe<A: Mapping>(&mut self, place: u32, slot_words: u32, steps: &mut Steps)
         requires laid { AreLaid A.kind self.old.blocks self.old.region }
         requires within { place + slot_words ≤ length self.old.region }

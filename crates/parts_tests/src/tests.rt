@@ -1,3 +1,4 @@
+//! The tests, a module for each part or for what it does.
 mod admitted;
 mod arrangements;
 mod bytes_in_words;

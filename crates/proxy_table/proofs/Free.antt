@@ -1,4 +1,4 @@
--- The free numbers of a stack, the topmost first.
+-- For the calls of `ProxyTable`: the free numbers, by the stack that holds them.
 use Rattle.std.proofs.Common.{◌≡◌, ◌≢◌, ℕ, zero, suc, ◌+◌, ◌-◌, ◌<◌, ◌≤◌, List, ◌∷◌, Option, None, length, get_or, set, arith, refl, sym, ◌∙◌, ap, eqb, cond}
 use Rattle.std.specs.Prelude.{not}
 use Rattle.std.specs.List.{Contains, IsDistinct, range_with_len}

@@ -1,4 +1,4 @@
--- What the calls do to the stack of free numbers.
+-- For the calls of `ProxyTable`: the stack of free numbers after each call.
 use Rattle.std.proofs.Common.{◌≡◌, ◌≢◌, ℕ, zero, suc, ◌+◌, ◌-◌, ◌^◌, ◌<◌, List, Option, Some, None, length, get_or, set, cond, arith, sym, ◌∙◌, inl, inr, ap}
 use Rattle.std.proofs.Common.{refl}
 use Rattle.std.specs.Prelude.{count_by, is_some, IsSome}

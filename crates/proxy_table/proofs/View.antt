@@ -1,4 +1,4 @@
--- How changes to the list of addresses change the proxies that it represents.
+-- For the calls of `ProxyTable`: the proxies that its fields represent, after an address is changed, added or removed.
 use Rattle.std.proofs.Common.{◌≡◌, ◌≢◌, ℕ, zero, suc, ◌+◌, ◌-◌, ◌<◌, List, ◌∷◌, Option, Some, None, length, get_or, set, arith, refl, sym, ◌∙◌, ap, subst}
 use Rattle.std.specs.Prelude.{IsSome, is_some, count_by}
 use Rattle.std.proofs.lemmas.List.{length-set, length-replicate}

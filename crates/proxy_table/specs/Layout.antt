@@ -1,23 +1,24 @@
--- How a proxy table lays out its numbers. No public clause cites this module.
+-- How a proxy table keeps its numbers in memory. No public clause cites this module.
 use Rattle.std.specs.Prelude.{◌≡◌, ◌≢◌, ℕ, zero, suc, ◌+◌, ◌-◌, ◌^◌, ◌<◌, List, [], ◌∷◌, Option, None, length, slice_index, slice_index_or, count_by, is_some}
 use Rattle.cf_lemmas.specs.Maps.{numbered}
 use Rattle.proxy_table.specs.Proxies.{Proxies}
 
--- the first `left` numbers of a stack, the topmost first
+-- the first `left` entries of a stack, the last of them first: in the order in which they are taken
 abbrev pub top_down : List ℕ → ℕ → List ℕ
 top_down stack zero = []
 top_down stack (suc left) = slice_index stack left ∷ top_down stack left
 
--- the proxies with this list of addresses by number, whose free numbers are the first `left` of a stack
+-- the proxies that the fields represent: `places` has the address of each number, if it has one, and the first `left` entries of the stack are the free
+-- numbers
 abbrev pub proxies_of : List (Option ℕ) → List ℕ → ℕ → Proxies
 proxies_of places stack left = record { limit = length places; places = numbered 0 places; free = top_down stack left }
 
--- the numbers below n, the greatest first
+-- the list has all numbers below n, the greatest first
 pub record IsFalling (n : ℕ) (numbers : List ℕ) : Type 0 where
   pub long : length numbers ≡ n
   pub falls : (i : ℕ) → i < length numbers → slice_index numbers i ≡ n - 1 - i
 
--- the first `left` numbers of the stack are those that are not live, each once
+-- the invariant of `ProxyTable`: the first `left` entries of the stack are the numbers without an address, each once
 pub record IsValid (places : List (Option ℕ)) (stack : List ℕ) (left : ℕ) : Type 0 where
   pub as_long : length stack ≡ length places
   pub counted : left + count_by is_some places ≡ length places

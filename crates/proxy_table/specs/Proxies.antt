@@ -6,22 +6,22 @@ use Rattle.std.specs.FinMap as map
 use Rattle.std.specs.Coded.{Coded, code_by, coded×, coded_list, coded_ℕ}
 use Rattle.cf_lemmas.specs.Lists.{without_number}
 
--- how many numbers there are, the address of each live one, and the free ones, the next first
+-- how many numbers there are (`limit`), the address of each live one in words, and the free ones, the next to be used first
 pub record Proxies : Type 0 where
   pub limit : ℕ
   pub places : map.FinMap nat_cmp ℕ
   pub free : List ℕ
 
--- no number is live; number 0 is the next
+-- `limit` numbers, none of them live; number 0 is used first
 abbrev pub no_proxies : ℕ → Proxies
 no_proxies limit = record { limit = limit; places = map.empty; free = range_with_len 0 limit }
 
--- the number becomes live with this address, and isn't free
+-- the proxies after the number got the address `place`: it is live, and no longer free
 abbrev pub with_place : Proxies → ℕ → ℕ → Proxies
 with_place proxies number place =
     record proxies { places = map.insert proxies.places number place; free = without_number number proxies.free }
 
--- the number is no longer live, and is the first free one
+-- the proxies after the number was released: it is no longer live, and is the first free one
 abbrev pub without_place : Proxies → ℕ → Proxies
 without_place proxies number = record proxies { places = map.remove proxies.places number; free = number ∷ proxies.free }
 
@@ -34,7 +34,7 @@ pub record AreBelowLimit (proxies : Proxies) : Type 0 where
   pub once : IsDistinct nat_eq proxies.free
   pub counted : length proxies.free + map.len proxies.places ≡ proxies.limit
 
--- the encoding of a proxy table, as a tuple, that its model needs
+-- the encoding of `Proxies` as the tuple of their fields; a value that contracts see needs one
 abbrev pub proxies_code : Coded Proxies
 proxies_code =
     code_by (ℕ × (map.FinMap nat_cmp ℕ × List ℕ)) (coded× coded_ℕ (coded× (map.code coded_ℕ coded_ℕ) (coded_list coded_ℕ)))

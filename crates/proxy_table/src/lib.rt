@@ -1,5 +1,5 @@
-//! The table from the numbers of objects to their addresses. A move changes an object's address
-//! here and nowhere else.
+//! The table from the numbers of objects to their addresses (`ProxyTable`). A move of an object
+//! changes its address here and nowhere else.
 #![tactic(auto)]
 
 ghost use Rattle.std.specs.Prelude.{◌≡◌, ◌∷◌, ◌<◌, ◌↔◌, IfNone, IfOk, IfSome, IsNone, IsSome, None, Some, if◌then◌else◌, is_some};
@@ -15,12 +15,16 @@ use std::alloc::{AllocError, Global};
 use std::marker::Model;
 use step_ledger::Steps;
 
-/// A finite map from numbers below a limit to addresses in words. `bind` uses the free number that
-/// was released last; in a new table it uses number 0 first.
+/// A finite map from numbers below a limit to addresses in words. A number is live if it has an
+/// address, else free. `bind` uses the free number that was released last; in a new table it uses
+/// number 0 first.
 #[derive(Drop)]
 pub struct ProxyTable {
+    /// The address of each number; none if it is free.
     places: Cells<Option<u32>>,
+    /// The first `left` entries are the free numbers; the last of these is used next.
     free: Cells<u32>,
+    /// How many numbers are free.
     left: u32,
 }
 
@@ -39,7 +43,8 @@ impl Model for ProxyTable {
 }
 
 impl ProxyTable {
-    /// A table of n numbers, none of them live.
+    /// Makes a table of `n` numbers, all free. Only this call allocates. It fails with
+    /// `OutOfMemory` if an allocation fails.
     pub fn new(alloc: Global, n: u32) -> Result<ProxyTable, OutOfMemory>
         ensures none { IfOk result (λ table. table ≡ no_proxies n) }
         ensures kept { IfOk result AreBelowLimit }
@@ -65,7 +70,7 @@ impl ProxyTable {
         self.places.len() as u32 - self.left
     }
 
-    /// The address of a number; none if it isn't live. Costs one step.
+    /// Returns the address of number `h`; none if it isn't live. Costs one step.
     pub fn lookup(&self, h: Handle, steps: &mut Steps) -> Option<u32>
         ensures found { result ≡ map.get self.now.places h.0 }
         ensures kept { AreBelowLimit self.now }
@@ -75,13 +80,14 @@ impl ProxyTable {
         if number < self.places.len() {
             self.places.get(number, steps)
         } else {
-            steps.tick(1); // the look that finds no such number
+            steps.tick(1); // finding that there is no such number
             None
         }
     }
 
-    /// Binds the first free number to the address and returns the number; none if every number is
-    /// live. Costs two steps, or one if it returns none.
+    /// Gives the first free number the address `addr`, which makes it live, and returns the number;
+    /// none if every number is live, and then nothing changes. Costs two steps, or one if it
+    /// returns none.
     pub fn bind(&mut self, addr: u32, steps: &mut Steps) -> Option<Handle>
         ensures none { IsNone result ↔ (map.len self.old.places ≡ self.old.limit) }
         ensures fresh { IfSome result (λ h. map.get self.old.places h.0 ≡ None) }
@@ -96,7 +102,7 @@ impl ProxyTable {
         ensures steps { RoseBy steps.old steps.new (if is_some result then 2 else 1) }
     {
         if self.left == 0 {
-            steps.tick(1); // the look that finds no free number
+            steps.tick(1); // finding that no number is free
             return None;
         }
         self.left -= 1;
@@ -105,7 +111,7 @@ impl ProxyTable {
         Some(Handle(number))
     }
 
-    /// Changes the address of a live number. Costs one step.
+    /// Changes the address of number `h`, which must be live, to `addr`. Costs one step.
     pub fn rebind(&mut self, h: Handle, addr: u32, steps: &mut Steps)
         requires live { IsSome (map.get self.old.places h.0) }
         ensures places { self.new ≡ with_place self.old h.0 addr }
@@ -116,7 +122,7 @@ impl ProxyTable {
         self.places.set(h.0 as usize, Some(addr), steps);
     }
 
-    /// Releases a live number; the next `bind` uses it. Costs two steps.
+    /// Makes number `h`, which must be live, free; the next `bind` uses it. Costs two steps.
     pub fn release(&mut self, h: Handle, steps: &mut Steps)
         requires live { IsSome (map.get self.old.places h.0) }
         ensures places { self.new ≡ without_place self.old h.0 }
@@ -129,14 +135,14 @@ impl ProxyTable {
     }
 }
 
-/// n numbers without an address.
+/// Returns a list of `n` entries without an address.
 fn vacancies(alloc: Global, n: u32) -> Result<Vec<Option<u32>>, AllocError>
     ensures { IfOk result (λ places. places.items ≡ vacant n) }
 {
     vec![in alloc; None; n as usize]
 }
 
-/// The numbers below n, the greatest first.
+/// Returns the numbers below `n`, the greatest first.
 fn falling(alloc: Global, n: u32) -> Result<Vec<u32>, AllocError>
     ensures { IfOk result (λ numbers. IsFalling n numbers.items) }
 {

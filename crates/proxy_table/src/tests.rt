@@ -1,4 +1,4 @@
-//! The fields of a table.
+//! A test of the fields of `ProxyTable`.
 use super::ProxyTable;
 use counted_cells::Cells;
 use std::test::Fail;

@@ -50,7 +50,7 @@ module _ (g : SharedPages) (k : ArePages g) (t : ℕ) (x : Task) (i : IsTask g t
       (ep ∙ sym (home_pages_are (paging_at g) (paging_ok g) (held_of g x) (tables_of g x) i.serve i.occupied c))
       (en ∙ sym (not_full_pages_are (paging_at g) (paging_ok g) (held_of g x) (tables_of g x) i.serve i.occupied c))
 
--- as above, in terms of the state that contracts show
+-- the figures that the code returns are those of the state that contracts show
 pub figures_seen : (h : OpenTasks) (k : IsValid h) (t : ℕ) (x : Task) (at : IsTaskIn h t x) (c : ℕ) (f : Figures)
     → f ≡ figures_of (paging_at h.shared_pages) (held_of h.shared_pages x) c → f ≡ figures_of (paging_at h.shared_pages) (held_by (state_of h) t) c
 figures_seen h k t x at c f e = e ∙ ap (λ m. figures_of (paging_at h.shared_pages) m c) (sym (part_is h k t x at))

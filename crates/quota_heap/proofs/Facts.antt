@@ -1,4 +1,4 @@
--- What follows from the invariants of the shared pages and of one task on them.
+-- For all other files here: what follows from the invariants of the shared pages (`ArePages`) and of one task on them (`IsTask`).
 use Rattle.std.proofs.Common.{◌≡◌, ℕ, ◌+◌, ◌/◌, ◌<◌, ◌≤◌, length, get_or, Some, None, arith, sym, ◌∙◌, ap, subst, inl, inr}
 use Rattle.std.specs.Prelude.{option_map}
 use Rattle.std.proofs.lemmas.Bool.{cases_lt}
@@ -46,7 +46,7 @@ module _ (g : SharedPages) where
     pub size_is : (c : ℕ) → get_or g.tables.classes.sizes c 0 ≡ slot_words (paging_at g) c
     size_is c = ap (λ xs. get_or xs c 0) sizes_are
 
-    -- a request that has a class fits, and it is that of the model
+    -- if the class table has a class for `bytes` bytes, an object of this length fits a page, and the class is that of the model
     pub class_is : (bytes c : ℕ) → Some c ≡ class_of g.tables.classes.sizes bytes → (need bytes ≤ g.settings.page_words) × (class_for (paging_at g) bytes ≡ c)
         × (c < classes (paging_at g))
     class_is bytes c e =
@@ -105,7 +105,7 @@ module _ (g : SharedPages) (k : ArePages g) (t : ℕ) (x : Task) (i : IsTask g t
   pub used_is : used_pages (paging_at g) (held_of g x) ≡ x.pages
   used_is = used_at_one (paging_at g) (paging_ok g) (at_one g) (held_of g x) i.sound ∙ sym i.pages
 
-  -- an object's slot is in the region, and holds it
+  -- the slot of an object is in the region and is long enough for the object
   module _ (q a : ℕ) (some : get x.proxies.places q ≡ Some a) where
     abbrev pub there : Placed
     there = record { place = a; bytes = bytes_at g.region a }

@@ -13,7 +13,7 @@ use Rattle.quota_heap.specs.declared.task.Task.{Task}
 use Rattle.quota_heap.proofs.Facts.{place_known}
 use Rattle.quota_heap.proofs.FreeKinds.{filled_account, is_other, number_shown, other, slots_apart, source_in}
 
--- the number in the header at b, and its address
+-- w, the key in the header at address b, is that of a live object of task t (in g and x) other than object q, and b is that object's address
 pub record IsFiller (g : SharedPages) (x : Task) (t q b w : ℕ) : Type 0 where
   pub above : t * 65536 ≤ w
   pub there : get x.proxies.places (w - t * 65536) ≡ Some b

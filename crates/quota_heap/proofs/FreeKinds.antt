@@ -39,7 +39,7 @@ use Rattle.quota_heap.proofs.PagesAfter.{used_after}
 use Rattle.quota_heap.proofs.Preserved.{Becomes, places_are}
 use Rattle.quota_heap.proofs.Tasks.{length_map, map_set, numbers, part_is, places_here}
 
--- after the object's slot is freed: facts of the shared pages and of the task alone
+-- the tables `new` after the slot of object q of task t is freed: they still serve the task
 module _ {g : SharedPages} (k : ArePages g) {t : ℕ} {x : Task} (i : IsTask g t x) {q a size c : ℕ} (o : IsObjectAt g x q a size c) (new : Tables)
     (tables : AreTables g.tables.classes new) where
   of_table : AreTables (class_table (paging_at g)) new
@@ -53,14 +53,14 @@ module _ {g : SharedPages} (k : ArePages g) {t : ℕ} {x : Task} (i : IsTask g t
     vacated_occupies = vacated_occupied (paging_ok g) i.serve i.occupied of_table i.sound q (it_found k i o) v (it_class k i o) (page_same k i o)
         (slot_same k i o)
 
-    -- the pool has no more than its pages before and those of the task
+    -- the pool now has at most the free pages of before and the pages of the task
     pub vacated_account : length new.pool.free ≤ x.pages + length g.tables.pool.free
     vacated_account =
         let e = used_after g k t x i c o.in_range (remove (held_of g x) q) new vacated_serves vacated_occupies
         (vacate_accounts g.tables.classes (tables_of g x) (tables_ok g k t x i) c new (page_at g.tables.classes a) (slot_at g.tables.classes c a) v) in
         omega arith
 
-  -- after the slot of another object, which fills the freed one, is freed
+  -- the tables `new` after another object, at address b, moved to the freed slot, and its own slot was freed
   module _ (b : ℕ) (moves : IsMoving g x a c) (f : FillsFrom g.tables.classes (tables_of g x) c b new) where
     pub due : MustMove (paging_at g) (held_of g x) (it k i o)
     due = must k i o moves
@@ -94,7 +94,7 @@ module _ {g : SharedPages} (k : ArePages g) {t : ℕ} {x : Task} (i : IsTask g t
           (fill_accounts g.tables.classes (tables_of g x) (tables_ok g k t x i) c new b f) in
           omega arith
 
-      -- the words of the filler's slot are in the region, and apart from those of the freed slot
+      -- the words of the slot of the object that moves are in the region, and no word of the freed slot is among them
       pub source_in : b + get_or g.tables.classes.sizes c 0 ≤ length g.region
       source_in = (
           let s = slot_there g k t x i r y.place (place_known g k t x i r y there) in
@@ -117,7 +117,7 @@ module _ {g : SharedPages} (k : ArePages g) {t : ℕ} {x : Task} (i : IsTask g t
           let e = same_slot in let f = it_slot k i o in let p = at in
           elim d [ inl l ↦ inl (omega arith) | inr l ↦ inr (omega arith) ]
 
-      -- the filler's header holds its number
+      -- the header of the object that moves holds its key
       pub number_shown : t < 16 → (get_or g.region b 0 % 2 ^ 32 ≡ key_of t r)
       number_shown lt =
           let e = i.headed r y there in
@@ -128,7 +128,7 @@ module _ {g : SharedPages} (k : ArePages g) {t : ℕ} {x : Task} (i : IsTask g t
           low : (v l : ℕ) → v < 2 ^ 32 → header_word v l % 2 ^ 32 ≡ v
           low v l lt = omega arith
 
--- a free that moves no other object
+-- a free of task t from heap h to heap n, which moves no other object
 module _ (h n : OpenTasks) (k : IsValid h) (t : ℕ) (x x' : Task) (at : IsTaskIn h t x) (tasks : n.tasks.items ≡ set h.tasks.items t x')
     (granted : n.granted ≡ h.granted) (q a size c : ℕ)
     (o : IsObjectAt h.shared_pages x q a size c) (still : IsMoving h.shared_pages x a c → ⊥) (go : Goes h.shared_pages x q a c n.shared_pages x') where
@@ -169,7 +169,7 @@ module _ (h n : OpenTasks) (k : IsValid h) (t : ℕ) (x x' : Task) (at : IsTaskI
       → FreesOfTask (state_of h) t q freed (state_of n)
   alone_freed freed words is = goes_freed h n k t x x' at tasks granted q a size c o None stays becomes freed words is
 
--- a free that moves another object to the freed slot
+-- a free of task t from heap h to heap n, which moves object r to the freed slot
 module _ (h n : OpenTasks) (k : IsValid h) (t : ℕ) (x x' : Task) (at : IsTaskIn h t x) (tasks : n.tasks.items ≡ set h.tasks.items t x')
     (granted : n.granted ≡ h.granted) (q a size c r : ℕ)
     (o : IsObjectAt h.shared_pages x q a size c) (moves : IsMoving h.shared_pages x a c) (fi : Fills h.shared_pages x q a c r n.shared_pages x') where
@@ -251,7 +251,7 @@ module _ (h n : OpenTasks) (k : IsValid h) (t : ℕ) (x x' : Task) (at : IsTaskI
       → FreesOfTask (state_of h) t q freed (state_of n)
   filled_freed freed words is = goes_freed h n k t x x' at tasks granted q a size c o (Some r) mover becomes' freed words is
 
--- both kinds of a free in one statement, by the object that moved, if one did
+-- a free of task t from heap h to heap n, whether or not another object moved
 module _ (h n : OpenTasks) (k : IsValid h) (t : ℕ) (x x' : Task) (at : IsTaskIn h t x) (tasks : n.tasks.items ≡ set h.tasks.items t x')
     (granted : n.granted ≡ h.granted) (q a size c : ℕ) (o : IsObjectAt h.shared_pages x q a size c) where
   pub removed_kept : (moved : Option ℕ) → IsRemoved h.shared_pages x q a c moved n.shared_pages x' → IsValid n

@@ -100,7 +100,7 @@ module _ {g : SharedPages} (k : ArePages g) {t : ℕ} {x : Task} (i : IsTask g t
   bound_same : 1 ≡ bound_of (paging_at g) (class_at (paging_at g) it)
   bound_same = sym (at_one g (class_at (paging_at g) it) (let e = it_class in let lt = o.in_range in omega arith))
 
-  -- the test of a move is the model's
+  -- the condition that the code tests (`IsMoving`) holds if and only if the freed object's slot must be filled in the model (`MustMove`)
   pub must : IsMoving g x a c → MustMove (paging_at g) (held_of g x) it
   must v = (moves_is (paging_ok g) i.serve i.occupied q it_found).0 (along _ _ _ _ _ _ (sym page_same) (sym it_class) bound_same v)
 
@@ -112,7 +112,7 @@ module _ {g : SharedPages} (k : ArePages g) {t : ℕ} {x : Task} (i : IsTask g t
       let l = moves_some (paging_ok g) i.serve i.occupied q it_found (must v) (let e = it_class in let lt = o.in_range in omega arith) in
       subst (λ d. 1 ≤ length (pages_in x.lists d NotFull)) it_class l
 
--- what a free leaves, by the other object that moves
+-- the objects of task t and of all tasks after the free, if `moved` is the object that moved
 module _ (h n : OpenTasks) (k : IsValid h) (t : ℕ) (x x' : Task) (at : IsTaskIn h t x) (tasks : n.tasks.items ≡ set h.tasks.items t x')
     (granted : n.granted ≡ h.granted) (q a size c : ℕ)
     (o : IsObjectAt h.shared_pages x q a size c) (moved : Option ℕ) (mv : Moves (paging_at h.shared_pages) (held_of h.shared_pages x) (it k.shared_pages (k.task t x at) o) moved) where

@@ -49,7 +49,7 @@ use Rattle.quota_model.specs.Shared.{IsShared}
 use Rattle.quota_heap.specs.State.{QuotaState}
 use Rattle.quota_heap.specs.Steps.{with_held}
 
--- A slot of class c of the task is taken: what is known of the shared pages and the task alone.
+-- The tables `new` after task t took the slot of class c at address a: they still serve the task.
 module _ (g : SharedPages) (k : ArePages g) (t : ℕ) (x : Task) (i : IsTask g t x) (c : ℕ) (lt : c < classes (paging_at g)) (a : ℕ) (new : Tables)
     (taken : TakesAt g.tables.classes (tables_of g x) c a new) (tables : AreTables g.tables.classes new) where
   abbrev at_table : TakesAt (class_table (paging_at g)) (tables_of g x) c a new
@@ -68,7 +68,7 @@ module _ (g : SharedPages) (k : ArePages g) (t : ℕ) (x : Task) (i : IsTask g t
       → Occupies (paging_at g) (insert (held_of g x) q y) new
   taken_occupies q y none at class = taken_occupied (paging_ok g) i.serve i.occupied of_table lt at_table q y none at class
 
-  -- the address is in the region
+  -- the slot's address is in the region
   pub taken_inside : (n : ℕ) → class_for (paging_at g) n ≡ c → a < length g.region
   taken_inside n class =
       let free = taken_free n class in
@@ -77,7 +77,7 @@ module _ (g : SharedPages) (k : ArePages g) (t : ℕ) (x : Task) (i : IsTask g t
       let long = k.words_long in
       omega arith
 
-  -- the pool has no more than its pages before and those of the task
+  -- the pool now has at most the free pages of before and the pages of the task
   pub taken_account : (q n : ℕ) → get x.proxies.places q ≡ None → class_for (paging_at g) n ≡ c → length new.pool.free ≤ x.pages + length g.tables.pool.free
   taken_account q n unused class =
       let e = used_after g k t x i c lt (insert (held_of g x) q (zeros_at a n)) new taken_serves
@@ -117,7 +117,7 @@ module _ (h n : OpenTasks) (k : IsValid h) (t : ℕ) (x x' : Task) (at : IsTaskI
   occupied_own = taken_occupies h.shared_pages k.shared_pages t x i c lt co.place (tables_of n.shared_pages x') co.taken co.rest.tables q (zeros_at co.place bytes) unused refl
       (class_of_zeros (paging_at h.shared_pages) co.place bytes c class)
 
-  -- the new object's page is listed by the task
+  -- the page of the new object is in a list of the task
   listed : IsOf (tables_of n.shared_pages x') c (page_of (paging_at h.shared_pages) co.place)
   listed = subst (λ d. IsOf (tables_of n.shared_pages x') d (page_of (paging_at h.shared_pages) co.place)) (class_of_zeros (paging_at h.shared_pages) co.place bytes c class)
       (occupied_own.stands q (zeros_at co.place bytes) (get_inserted (held_of h.shared_pages x) q (zeros_at co.place bytes))).of

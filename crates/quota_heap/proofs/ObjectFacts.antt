@@ -1,4 +1,4 @@
--- The object at a live number's address, and how full the pool may be.
+-- For `object`: the object at the address of a live number has a class; and the pool has at most 4,096 pages.
 use Rattle.std.proofs.Common.{◌≡◌, ℕ, ◌/◌, ◌^◌, ◌≤◌, length, get_or, Some, None, arith, sym, ◌∙◌, ap}
 use Rattle.std.specs.FinMap.{get}
 use Rattle.cf_base.specs.Classes.{class_of}

@@ -54,7 +54,7 @@ range_long : (a n : ℕ) → length (range_with_len a n) ≡ n
 range_long a zero = refl
 range_long a (suc n) = ap suc (range_long (a + 1) n)
 
--- no task has an address
+-- if no task has an object, no number of a task has an address
 none_numbered : (n : ℕ) → AreNumbers (replicate n (empty {X = ℕ} {R = nat_cmp}))
 none_numbered n t h a f = absurd (
     let e : places_at (replicate n (empty {X = ℕ} {R = nat_cmp})) t ≡ empty = none_at n t in

@@ -1,4 +1,4 @@
--- The pages that a task uses, and those of the pool, before and after a slot is taken or freed.
+-- For the field `accounted` of the invariant: the pages that a task uses and those of the pool have the same sum before and after a slot is taken or freed.
 use Rattle.std.proofs.Common.{◌≡◌, ◌≢◌, ℕ, ◌+◌, ◌<◌, length, arith, refl, sym, ◌∙◌, ap}
 use Rattle.std.proofs.Common.{inl, inr, subst}
 use Rattle.std.specs.List.{Contains}
@@ -19,11 +19,11 @@ use Rattle.page_slots.specs.Take.{TakesAt, TakesOnFreePage, TakesOnOpenPage}
 use Rattle.page_slots.proofs.CallerLemmas.{home_pages_are, front_listed}
 use Rattle.cf_lemmas.proofs.Ranges.{sum_changed}
 
--- the number of pages of a class, partly full or full
+-- the number of pages of class c in the lists l, partly full or full
 abbrev paged : PageLists → ℕ → ℕ
 paged l c = length (pages_in l c Full) + length (pages_in l c NotFull)
 
--- the other classes have as many pages as before
+-- each class other than c has as many pages as before
 abbrev KeepsClasses : PageLists → PageLists → ℕ → Type 0
 KeepsClasses old new c = (d : ℕ) → d ≢ c → paged new d ≡ paged old d
 
@@ -65,7 +65,7 @@ leaves_paged old c NotFull page new apart there l =
       λ d ne. (let x = ap length (l.others d Full (inl ne)) in let y = ap length (l.others d NotFull (inl ne)) in omega arith),
     )
 
--- pages move only between the pool and class c, so the sum of both is unchanged
+-- the pages of class c and those of the pool sum to the same as before, and each other class has as many pages as before
 pub record Accounts (old new : Tables) (c : ℕ) : Type 0 where
   pub here : paged new.lists c + length new.pool.free ≡ paged old.lists c + length old.pool.free
   pub others : (d : ℕ) → d ≢ c → paged new.lists d ≡ paged old.lists d
@@ -136,7 +136,7 @@ module _ (k : ClassTable) (old : Tables) (a : AreTables k old) (c : ℕ) (new : 
   pub fill_accounts : (at : ℕ) → FillsFrom k old c at new → Accounts old new c
   fill_accounts at f = vacate_accounts f.page f.slot f.vacates
 
--- the sum of the pages that the task uses and those of the pool is unchanged
+-- the pages that the task uses and those of the pool sum to the same before and after, if its objects were m and are m'
 pub used_accounts : (p : Paging) → IsPaging p → (m m' : Held) (old new : Tables) → ServePart p old → Occupies p m old → ServePart p new → Occupies p m' new
     → (c : ℕ) → c < classes p → Accounts old new c → used_pages p m' + length new.pool.free ≡ used_pages p m + length old.pool.free
 unfolding used_pages

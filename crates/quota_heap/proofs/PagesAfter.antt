@@ -21,7 +21,7 @@ module _ (g : SharedPages) (k : ArePages g) (t : ℕ) (x : Task) (i : IsTask g t
       let f = used_is g k t x i in
       omega arith
 
-  -- a number of pages with that sum is what the task's objects need
+  -- if `pages` and the pool's pages have that sum, `pages` is the number of pages that the task's objects m need
   pub pages_after : IsSound (paging_at g) m → (pages : ℕ) → pages + length new.pool.free ≡ x.pages + length g.tables.pool.free
       → pages ≡ pages_needed (paging_at g) (objects m)
   pages_after s pages account =

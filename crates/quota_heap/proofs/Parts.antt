@@ -41,14 +41,14 @@ module _ (h : OpenTasks) (k : IsValid h) (t : ℕ) (x : Task) (at : IsTaskIn h t
   abbrev i : IsTask h.shared_pages t x
   i = k.task t x at
 
-  -- the object at an address, as callers see it
+  -- the object at the address of a live number, as contracts show it
   pub object_by : (q a : ℕ) → get x.proxies.places q ≡ Some a → get (held_by (state_of h) t) q ≡ Some (record { place = a; bytes = bytes_at h.shared_pages.region a })
   object_by q a e = ap (λ m. get m q) (part_is h k t x at) ∙ has_place h.shared_pages k.shared_pages t x i q a e
 
   pub no_object : (q : ℕ) → get x.proxies.places q ≡ None → get (held_by (state_of h) t) q ≡ None
   no_object q e = ap (λ m. get m q) (part_is h k t x at) ∙ no_place h.shared_pages k.shared_pages t x i q e
 
-  -- why there is no part
+  -- the cause of a fault of `find`, as contracts show it
   pub fault_is : (part : Part) (count : ℕ) (e : AccessFault) → IsMissing h.shared_pages x part count e → IsFault (state_of h) t part count e
   fault_is part count Unknown none = no_object part.number none
   fault_is part count Range p = record {
@@ -57,7 +57,7 @@ module _ (h : OpenTasks) (k : IsValid h) (t : ℕ) (x : Task) (at : IsTaskIn h t
     past = p.past;
   }
 
-  -- what was found for the task holds for the heap
+  -- what `find` of the shared pages returns for the task is right for the heap
   pub found_in : (part : Part) (count : ℕ) (r : Result ℕ AccessFault) → IsFound h.shared_pages x part count r → IsFoundIn h t part count r
   found_in part count (Ok place) l = λ y e. (
       let z : Some x ≡ Some y = sym at ∙ e in
@@ -73,7 +73,7 @@ pub some_to : {X : Type 0} {P Q : X → Type 0} (r : Option X) → ((x : X) → 
 some_to None f p = p
 some_to (Some x) f p = f x p
 
--- the words of a part are in the region
+-- the words that hold the `count` bytes of a found object are in the region
 module _ (h : OpenTasks) (k : IsValid h) (t : ℕ) (x : Task) (at : IsTaskIn h t x) (part : Part) (count a : ℕ) (l : Lies h.shared_pages x part count a) where
   abbrev task : IsTask h.shared_pages t x
   task = k.task t x at
@@ -94,7 +94,7 @@ module _ (h : OpenTasks) (k : IsValid h) (t : ℕ) (x : Task) (at : IsTaskIn h t
   pub count_few : count ≤ 131072
   count_few = (let f = bytes_few h.shared_pages k.shared_pages t x task part.number a l.found in let w = l.within in omega arith)
 
-  -- the bytes that were read
+  -- the bytes that the code reads are those of the object
   pub read_is : (out : List ℕ) → length out ≡ count
       → ((j : ℕ) → j < length out → get_or out j 0 ≡ byte_from h.shared_pages.region (a + 1 + part.from / 8) (part.from % 8 + j))
       → ReadsOfTask (state_of h) t part count out
@@ -115,11 +115,11 @@ module _ (h : OpenTasks) (k : IsValid h) (t : ℕ) (x : Task) (at : IsTaskIn h t
         ∙ sym (get_or-take count (drop part.from (bytes_at h.shared_pages.region a)) j 0 (omega arith)));
   }
 
-  -- nothing is read
+  -- a read of no bytes
   pub reads_nothing : (out : List ℕ) → length out ≡ count → count ≡ 0 → ReadsOfTask (state_of h) t part count out
   reads_nothing out long none = read_is out long (λ j less. absurd (omega arith))
 
--- the bytes of a part are written
+-- a write of `bytes` to the found object at address a, after which the region has the words `words`
 module _ (h : OpenTasks) (k : IsValid h) (t : ℕ) (x : Task) (at : IsTaskIn h t x) (part : Part) (a : ℕ) (bytes : List ℕ)
     (l : Lies h.shared_pages x part (length bytes) a) (each : AreBytes bytes) (words : List ℕ)
     (w : Overwrites h.shared_pages.region words (record { from = a + 1 + part.from / 8; count = (part.from % 8 + length bytes + 7) / 8 }) (part.from % 8) bytes) where
@@ -296,7 +296,7 @@ module _ (h : OpenTasks) (k : IsValid h) (t : ℕ) (x : Task) (at : IsTaskIn h t
     whole = becomes_state h left k t x x changed becomes;
   }
 
--- to write no bytes changes nothing
+-- a write of no bytes changes nothing
 pub wrote_nothing : (h : OpenTasks) (k : IsValid h) (t : ℕ) (x : Task) (at : IsTaskIn h t x) (part : Part) (a : ℕ) (bytes : List ℕ) → length bytes ≡ 0
     → Lies h.shared_pages x part (length bytes) a → WritesForTask (state_of h) t part bytes (state_of h)
 wrote_nothing h k t x at part a [] none l =

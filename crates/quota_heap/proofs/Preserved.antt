@@ -1,4 +1,4 @@
--- An open heap keeps its invariant if one task, and the shared pages with it, changed.
+-- For each call that changes a heap: if it changed only one task and the shared pages, and both still fit each other, the heap keeps its invariant.
 use Rattle.std.proofs.Common.{◌≡◌, ◌≢◌, ℕ, ◌+◌, ◌<◌, length, get_or, set, Some, arith, sym, ◌∙◌, ap, subst, inl, inr}
 use Rattle.std.specs.Prelude.{slice_get, sum}
 use Rattle.std.proofs.lemmas.Bool.{cases_eq}
@@ -31,7 +31,7 @@ use Rattle.quota_heap.proofs.Facts.{paging_ok, table_is}
 use Rattle.quota_heap.proofs.Sums.{sum_set}
 use Rattle.quota_heap.proofs.Tasks.{length_map, map_set, map_set_same, mapped_here, numbers, part_is, set_here, set_there}
 
--- In n the tasks have the objects m. Only task t differs from h: it was x and is x'.
+-- Heap h becomes heap n, in which the tasks have the objects m. Of the tasks only t differs: it was x and is x'.
 pub record Becomes (h n : OpenTasks) (t : ℕ) (x x' : Task) (m : Held) : Type 0 where
   pub at : IsTaskIn h t x
   pub tasks : n.tasks.items ≡ set h.tasks.items t x'
@@ -51,14 +51,14 @@ pub record Becomes (h n : OpenTasks) (t : ℕ) (x x' : Task) (m : Held) : Type 0
   pub counted : (c : ℕ) → c < classes (paging_at h.shared_pages) → get_or x'.live c 0 ≡ live (paging_at h.shared_pages) (objects (part_of m t)) c
   pub pages : x'.pages ≡ pages_needed (paging_at h.shared_pages) (objects (part_of m t))
 
--- n with these settings and classes in place of its own
+-- heap n with these settings and classes in place of its own
 abbrev pub with_rest : OpenTasks → Settings → ClassTable → OpenTasks
 with_rest n s classes = record n {
   shared_pages = record n.shared_pages { settings = s; tables = record n.shared_pages.tables { classes = classes } };
 }
 
 module _ (h n : OpenTasks) (k : IsValid h) (t : ℕ) (x x' : Task) (m : Held) (b : Becomes h n t x x' m) where
-  -- n with the settings and classes of h, which no call changes
+  -- heap n with the settings and classes of h; it equals n, as no call changes them
   abbrev w : OpenTasks
   w = with_rest n h.shared_pages.settings h.shared_pages.tables.classes
 
@@ -93,7 +93,7 @@ module _ (h n : OpenTasks) (k : IsValid h) (t : ℕ) (x x' : Task) (m : Held) (b
       long_places : length (places_of h.tasks.items) ≡ length h.tasks.items
       long_places = length_map (λ (y : Task). y.proxies.places) h.tasks.items
 
-  -- each task's objects are its part
+  -- the objects of each task are its part of m
   part_here : (u : ℕ) (y : Task) → IsTaskIn w u y → held_of w.shared_pages y ≡ part_of m u
   part_here u y e = sym (
       part_joined n.shared_pages.region (places_of n.tasks.items) new_numbers u
@@ -111,7 +111,7 @@ module _ (h n : OpenTasks) (k : IsValid h) (t : ℕ) (x x' : Task) (m : Held) (b
       let at0 : z.place + 0 ≡ z.place = omega arith in
       sym (ap (λ i. get_or n.shared_pages.region i 0) at0) ∙ b.image.held (key_of u q) z (found_whole m u q z there) 0 (omega arith)
 
-  -- the changed task
+  -- the changed task keeps its invariant
   own_task : IsTask w.shared_pages t x'
   own_task =
       let e = part_here t x' own_in in record {
@@ -126,7 +126,7 @@ module _ (h n : OpenTasks) (k : IsValid h) (t : ℕ) (x x' : Task) (m : Held) (b
         pages = b.pages ∙ ap (λ a. pages_needed (paging_at h.shared_pages) (objects a)) (sym e);
       }
 
-  -- the tables of the changed task, in the terms of the classes
+  -- the tables of the changed task keep their rules, with the classes of h
   new_tables : AreTables h.shared_pages.tables.classes (tables_of n.shared_pages x')
   new_tables = b.rest.tables
 

@@ -43,7 +43,7 @@ module _ (h : OpenTasks) (k : IsValid h) (t : ℕ) (x : Task) (at : IsTaskIn h t
   abbrev i : IsTask h.shared_pages t x
   i = k.task t x at
 
-  -- the task's objects and quota, as callers see them
+  -- the objects and the quota of task t, as contracts show them, are those of its record x
   pub objects_same : objects_by (state_of h) t ≡ objects_of h.shared_pages x
   objects_same = ap objects (part_is h k t x at)
 
@@ -53,7 +53,7 @@ module _ (h : OpenTasks) (k : IsValid h) (t : ℕ) (x : Task) (at : IsTaskIn h t
   abbrev pub reason : ℕ → Option Refusal
   reason n = malloc_refusal (profile_of h.shared_pages.settings) (quota_of (state_of h) t) (objects_by (state_of h) t) n
 
-  -- a request without a class is too large
+  -- an object of n bytes that is larger than a page is refused as `Size`
   pub size_refused : (n : ℕ) → h.shared_pages.settings.page_words < need n → reason n ≡ Some Size
   size_refused n more = picks_size _ _ (lt_yes h.shared_pages.settings.page_words (need n) more)
 
@@ -107,7 +107,7 @@ module _ (h : OpenTasks) (k : IsValid h) (t : ℕ) (x : Task) (at : IsTaskIn h t
     pub has_proxy : None ≡ reason n → len x.proxies.places ≢ h.shared_pages.settings.proxies
     has_proxy none all = absurd (let z : None ≡ Some Proxy = none ∙ proxy_refused all in cc)
 
-    -- a page is left if no page of the class is partly full
+    -- if the malloc isn't refused and no page of the class is partly full, the pool has a page
     pub has_room : None ≡ reason n → pages_in x.lists c NotFull ≡ [] → h.shared_pages.tables.pool.free ≡ [] → ⊥
     has_room none no_part empty = elim (cases_lt x.pages x.quota) [
       | inr le ↦ absurd (let z : None ≡ Some Space = none ∙ space_refused (has_proxy none) (ap length no_part) le in cc)

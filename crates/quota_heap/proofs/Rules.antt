@@ -29,7 +29,7 @@ pub pages_used : (s : QuotaState) → KeepsTasks s → (task : ℕ)
     → used_pages (task_paging s.profile) (held_by s task) ≡ pages_needed (task_paging s.profile) (objects_by s task)
 pages_used s k task = used_at_one (task_paging s.profile) (tasks_paged s.profile k.page_size) (tasks_at_one s.profile) (held_by s task) (k.shared.sound task)
 
--- as above, for a heap that may be closed
+-- a heap that is open and valid keeps the rules that callers see
 pub open_rules : (o : Option OpenTasks) → IsValidIn o → is_some o ≡ true → KeepsTasks (state_in o)
 open_rules None k is = absurd (false≢true is)
 open_rules (Some h) k is = rules h k

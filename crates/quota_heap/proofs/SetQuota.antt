@@ -25,7 +25,7 @@ use Rattle.quota_heap.specs.declared.task.Task.{Task}
 use Rattle.quota_heap.proofs.Sums.{sum_set}
 use Rattle.quota_heap.proofs.Tasks.{map_set, map_set_same, set_here, set_there}
 
--- a sum in which one number is replaced
+-- the sum of a list in which number i is replaced by n
 sum_changed_at : (xs : List ℕ) (i n : ℕ) → i < length xs → sum (set xs i n) + get_or xs i 0 ≡ sum xs + n
 sum_changed_at [] i n lt = absurd (omega arith)
 sum_changed_at (x ∷ xs) zero n lt =
@@ -51,14 +51,14 @@ module _ (h : OpenTasks) (k : IsValid h) (t : ℕ) (sixteen : t < 16) (n : ℕ) 
   abbrev pub fault : Option QuotaFault
   fault = quota_refusal (profile_of h.shared_pages.settings) (quotas_of h.tasks.items) t n (objects_by (state_of h) t)
 
-  -- what the quotas would sum to
+  -- the sum that the quotas would have with the new quota n of task t
   pub sum_is : sum (set (quotas_of h.tasks.items) t n) + quota_of (state_of h) t ≡ h.granted + n
   sum_is = (
       let s = sum_changed_at (quotas_of h.tasks.items) t n (let m = k.quotas.many in omega arith) in
       let g = k.granted in
       omega arith)
 
-  -- a quota is a part of their sum
+  -- the quota of a task is at most the sum of all
   pub quota_within : quota_of (state_of h) t ≤ h.granted
   quota_within = (
       let s = sum_changed_at (quotas_of h.tasks.items) t 0 (let m = k.quotas.many in omega arith) in
@@ -78,7 +78,7 @@ module _ (h : OpenTasks) (k : IsValid h) (t : ℕ) (sixteen : t < 16) (n : ℕ) 
     pub quota_granted : pages_needed (paging_at h.shared_pages) (objects_by (state_of h) t) ≤ n → fault ≡ None
     quota_granted le = picks_neither _ _ no_sum (lt_no n (pages_needed (paging_at h.shared_pages) (objects_by (state_of h) t)) le)
 
-  -- the quota of one task is another, and nothing else
+  -- after the quota of task t became n, and nothing else changed
   module _ (x : Task) (at : IsTaskIn h t x) (fits : fault ≡ None) (new : OpenTasks) (shared_pages : new.shared_pages ≡ h.shared_pages)
       (tasks : new.tasks.items ≡ set h.tasks.items t (record x { quota = n })) (sums : new.granted + quota_of (state_of h) t ≡ h.granted + n) where
     abbrev x' : Task
@@ -93,7 +93,7 @@ module _ (h : OpenTasks) (k : IsValid h) (t : ℕ) (sixteen : t < 16) (n : ℕ) 
     lt : t < length h.tasks.items
     lt = slice_get_within h.tasks.items t x at
 
-    -- a task of the new ones was one of the old ones but for its quota
+    -- each task is as before, but for its quota
     was : (u : ℕ) (y : Task) → IsTaskIn left u y → (z : Task) × IsTaskIn h u z × (y ≡ record z { quota = y.quota })
     was u y e = elim (cases_eq u t) [
       | inl is ↦ (

@@ -1,9 +1,9 @@
--- Sums over a list: with one element changed, and compared element by element.
+-- For the sum of the quotas and that of the tasks' pages: a sum over a list with one element changed, and two sums compared element by element.
 use Rattle.std.proofs.Common.{◌≡◌, ℕ, zero, suc, ◌+◌, ◌<◌, ◌≤◌, List, [], ◌∷◌, set, Some, arith, ap, refl, sym}
 use Rattle.std.specs.Prelude.{slice_get, sum_by}
 use Rattle.std.proofs.lemmas.List.Sums.{sum_by-cons}
 
--- one element changes
+-- the sum of f over a list whose element i becomes y
 pub sum_set : {X : Type 0} (f : X → ℕ) (xs : List X) (i : ℕ) (x y : X) → slice_get xs i ≡ Some x → sum_by f (set xs i y) + f x ≡ sum_by f xs + f y
 sum_set f [] i x y e = absurd (let z : Some x ≡ slice_get [] i = sym e in cc)
 sum_set f (w ∷ xs) zero x y e =
@@ -18,7 +18,7 @@ sum_set f (w ∷ xs) (suc i) x y e =
     let rest = sum_set f xs i x y e in
     omega arith
 
--- if each is at most another number, and one is less, the sum is less
+-- if f is at most g at each element, so is the sum; if f is also less than g at one element, the sum is less
 pub sum_below : {X : Type 0} (f g : X → ℕ) (xs : List X) → ((i : ℕ) (x : X) → slice_get xs i ≡ Some x → f x ≤ g x) → sum_by f xs ≤ sum_by g xs
 sum_below f g [] le = omega arith
 sum_below f g (w ∷ xs) le =
@@ -46,7 +46,7 @@ sum_less f g (w ∷ xs) (suc i) x e le lt =
     let rest = sum_less f g xs i x e (λ j y e. le (suc j) y e) lt in
     omega arith
 
--- a sum is at least each term
+-- each term is at most the sum
 pub sum_has : {X : Type 0} (f : X → ℕ) (xs : List X) (i : ℕ) (x : X) → slice_get xs i ≡ Some x → f x ≤ sum_by f xs
 sum_has f [] i x e = absurd (let z : Some x ≡ slice_get [] i = sym e in cc)
 sum_has f (w ∷ xs) zero x e =

@@ -1,4 +1,4 @@
--- The tasks of an open heap, one by one and together.
+-- For all other files here: what the invariant of an open heap says of task t, and which part of the common map of objects is the task's own.
 use Rattle.std.proofs.Common.{◌≡◌, ◌≢◌, ℕ, zero, suc, ◌<◌, ◌≤◌, List, [], ◌∷◌, length, get_or, set, map, Option, Some, None, arith, refl, sym, ◌∙◌, ap, subst}
 use Rattle.std.proofs.Common.{inl, inr}
 use Rattle.std.specs.Prelude.{slice_get}
@@ -15,7 +15,7 @@ use Rattle.quota_heap.specs.declared.task.Task.{Task}
 use Rattle.quota_heap.proofs.Facts.{number_small}
 use Rattle.quota_heap.proofs.Sums.{sum_has}
 
--- element i of a mapped list is the function's value at element i
+-- element i of a mapped list is the value of f at element i of the list; past the end there is none
 pub mapped_here : {X Y : Type 0} (f : X → Y) (xs : List X) (i : ℕ) (x : X) (d : Y) → slice_get xs i ≡ Some x → get_or (map f xs) i d ≡ f x
 mapped_here f [] i x d e = absurd (let z : Some x ≡ slice_get [] i = sym e in cc)
 mapped_here f (y ∷ xs) zero x d e = (let z : Some y ≡ Some x = e in let is : y ≡ x = cc in ap f is)
@@ -26,7 +26,7 @@ mapped_past f [] i d e = refl
 mapped_past f (y ∷ xs) zero d e = absurd (let z : Some y ≡ None = e in cc)
 mapped_past f (y ∷ xs) (suc i) d e = mapped_past f xs i d e
 
--- element i after it was set is the new one; below, the others are unchanged
+-- if element i is set to y, it is y; below, each other element is as before
 pub set_here : {X : Type 0} (xs : List X) (i : ℕ) (y : X) → i < length xs → slice_get (set xs i y) i ≡ Some y
 set_here [] i y lt = absurd (omega arith)
 set_here (x ∷ xs) zero y lt = refl
@@ -39,7 +39,7 @@ set_there (x ∷ xs) zero (suc j) y ne = refl
 set_there (x ∷ xs) (suc i) zero y ne = refl
 set_there (x ∷ xs) (suc i) (suc j) y ne = set_there xs i j y (λ e. ne (ap suc e))
 
--- setting an element to one with the same value of f leaves the mapped list unchanged
+-- if an element is set to one with the same value of f, the mapped list is as before
 pub map_set_same : {X Y : Type 0} (f : X → Y) (xs : List X) (i : ℕ) (x y : X) → slice_get xs i ≡ Some x → f y ≡ f x → map f (set xs i y) ≡ map f xs
 map_set_same f [] i x y e same = refl
 map_set_same f (w ∷ xs) zero x y e same = (let z : Some w ≡ Some x = e in let is : w ≡ x = cc in ap (λ v. v ∷ map f xs) (same ∙ sym (ap f is)))
@@ -67,7 +67,7 @@ module _ (h : OpenTasks) (k : IsValid h) where
           let z : Some a ≡ None = sym f ∙ ap (λ m. get m q) m ∙ get-empty nat_cmp q in cc)
       by (Some x) e = number_small h.shared_pages k.shared_pages t x (k.task t x e) q a (sym (ap (λ m. get m q) (places_here t x e)) ∙ f)
 
-  -- a task's part of all objects is its own
+  -- of the map of all tasks' objects, the part of task t is the objects in its own record x
   pub part_is : (t : ℕ) (x : Task) → IsTaskIn h t x → part_of (held_in h) t ≡ held_of h.shared_pages x
   part_is t x at = part_joined h.shared_pages.region (places_of h.tasks.items) numbers t ∙ ap (held_at h.shared_pages.region) (places_here t x at)
 
@@ -80,7 +80,7 @@ module _ (h : OpenTasks) (k : IsValid h) where
   pub quota_here : (t : ℕ) (x : Task) → IsTaskIn h t x → get_or (quotas_of h.tasks.items) t 0 ≡ x.quota
   quota_here t x at = mapped_here (λ (y : Task). y.quota) h.tasks.items t x 0 at
 
-  -- a property of the task that the code read is one of task t of the heap
+  -- what holds of the element t of the code's list of tasks holds of task t
   pub of_task : (t : ℕ) → t < 16 → (x : Task) → x ≡ get_or h.tasks.items t x → (P : Task → Type 0) → P x → (y : Task) → IsTaskIn h t y → P y
   of_task t lt x is P p y e =
       let a = task_there t lt x is in

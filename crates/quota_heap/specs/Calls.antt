@@ -1,4 +1,5 @@
--- What a call of a task does to the pages that tasks share, and to the task. No public clause cites this module.
+-- What a call of one task does to the pages that tasks share, and to the task: g and x are both before the call, g' and x' after it. No public clause
+-- cites this module.
 use Rattle.std.specs.Prelude.{◌≡◌, ℕ, ◌+◌, ◌-◌, ◌<◌, ◌≤◌, Option, Some, None, Result, Ok, Err, length, slice_get, slice_index, slice_set}
 use Rattle.std.specs.FinMap.{get}
 use Rattle.class_lists.specs.PageLists.{pages_in}
@@ -20,7 +21,8 @@ use Rattle.quota_heap.specs.declared.shared_pages.SharedPages.{SharedPages}
 use Rattle.quota_heap.specs.declared.open_tasks.OpenTasks.{OpenTasks}
 use Rattle.quota_heap.specs.declared.task.Task.{Task}
 
--- what a malloc and a free leave unchanged: settings, classes, quota, tables of foreign pages, and the sum of the task's pages and the free ones
+-- what a malloc or a free of task x leaves unchanged: settings, classes, the task's quota, the tables of foreign pages, and the sum of the task's pages and
+-- the free ones; the tables and the proxies keep their own rules
 pub record KeepsRest (g : SharedPages) (x : Task) (g' : SharedPages) (x' : Task) : Type 0 where
   pub settings : g'.settings ≡ g.settings
   pub classes : g'.tables.classes ≡ g.tables.classes
@@ -30,7 +32,7 @@ pub record KeepsRest (g : SharedPages) (x : Task) (g' : SharedPages) (x' : Task)
   pub handles : AreBelowLimit x'.proxies
   pub account : x'.pages + length g'.tables.pool.free ≡ x.pages + length g.tables.pool.free
 
--- what `malloc_inner` does: it adds an object of `bytes` bytes in a free slot of class c, under number q
+-- what `malloc_inner` does: it adds an object of `bytes` bytes to task x, whose number is t; the object gets a free slot of class c and the number q
 pub record IsAdded (g : SharedPages) (x : Task) (t c bytes q : ℕ) (g' : SharedPages) (x' : Task) : Type 0 where
   pub rest : KeepsRest g x g' x'
   pub place : ℕ
@@ -41,18 +43,18 @@ pub record IsAdded (g : SharedPages) (x : Task) (t c bytes q : ℕ) (g' : Shared
   pub words : g'.region ≡ slice_set g.region place (header_word (key_of t q) bytes)
   pub live : x'.live ≡ slice_set x.live c (slice_index x.live c + 1)
 
--- object q of the task has this address and length, in class c
+-- object q of task x is live, has the address `place` and `bytes` bytes, and is of class c
 pub record IsObjectAt (g : SharedPages) (x : Task) (q place bytes c : ℕ) : Type 0 where
   pub known : get x.proxies.places q ≡ Some place
   pub long : length (bytes_at g.region place) ≡ bytes
   pub class : class_for (paging_at g) bytes ≡ c
   pub in_range : c < classes (paging_at g)
 
--- a free of the object of class c at this address must move another object to its slot
+-- a free of task x's object at the address `place`, of class c, must move another object to its slot
 abbrev pub IsMoving : SharedPages → Task → ℕ → ℕ → Type 0
 IsMoving g x place c = MovesObject (slots_on (tables_of g x) (page_at g.tables.classes place)) (length (pages_in x.lists c NotFull)) 1
 
--- what `free_alone` does: it removes object q at this address, and frees and clears its slot of class c
+-- what `free_alone` does: it removes object q from task x, and frees and clears its slot, at the address `place` and of class c
 pub record Goes (g : SharedPages) (x : Task) (q place c : ℕ) (g' : SharedPages) (x' : Task) : Type 0 where
   pub rest : KeepsRest g x g' x'
   pub vacated : Vacates (tables_of g x) c (page_at g.tables.classes place) (slot_at g.tables.classes c place) (tables_of g' x')
@@ -61,7 +63,8 @@ pub record Goes (g : SharedPages) (x : Task) (q place c : ℕ) (g' : SharedPages
   pub words_long : length g'.region ≡ length g.region
   pub live : x'.live ≡ slice_set x.live c (slice_index x.live c - 1)
 
--- what `free_and_fill` does: it removes object q, moves object r from the address `from` to the freed slot, and frees the slot of r
+-- what `free_and_fill` does: it removes object q, whose slot of class c is at `place`; moves object r of task x from the address `from` to that slot; and
+-- frees the slot that r leaves
 pub record Fills (g : SharedPages) (x : Task) (q place c r : ℕ) (g' : SharedPages) (x' : Task) : Type 0 where
   pub rest : KeepsRest g x g' x'
   pub from : ℕ
@@ -72,28 +75,28 @@ pub record Fills (g : SharedPages) (x : Task) (q place c r : ℕ) (g' : SharedPa
   pub words_long : length g'.region ≡ length g.region
   pub live : x'.live ≡ slice_set x.live c (slice_index x.live c - 1)
 
--- object `part.number` has this address, and `count` bytes from byte `part.from` on
+-- object `part.number` of task x has the address `place`, and `count` bytes from byte `part.from` on
 pub record Lies (g : SharedPages) (x : Task) (part : Part) (count place : ℕ) : Type 0 where
   pub found : get x.proxies.places part.number ≡ Some place
   pub within : part.from + count ≤ length (bytes_at g.region place)
 
--- object `part.number` is live, but has fewer than `count` bytes from byte `part.from` on
+-- object `part.number` of task x is live, but has fewer than `count` bytes from byte `part.from` on
 pub record Passes (g : SharedPages) (x : Task) (part : Part) (count : ℕ) : Type 0 where
   pub place : ℕ
   pub found : get x.proxies.places part.number ≡ Some place
   pub past : length (bytes_at g.region place) < part.from + count
 
--- the cause of each fault of `find`
+-- the cause of each fault of `find`: the object is not live, or the bytes pass its end
 abbrev pub IsMissing : SharedPages → Task → Part → ℕ → AccessFault → Type 0
 IsMissing g x part count Unknown = get x.proxies.places part.number ≡ None
 IsMissing g x part count Range = Passes g x part count
 
--- what `find` returns: the address of the object, or the fault
+-- what `find` returns for the object `part.number` of task x: its address, or the fault, whose cause holds
 abbrev pub IsFound : SharedPages → Task → Part → ℕ → Result ℕ AccessFault → Type 0
 IsFound g x part count (Ok place) = Lies g x part count place
 IsFound g x part count (Err e) = IsMissing g x part count e
 
--- what `free_inner` does: it removes object q, and moves object r to the freed slot exactly if the slot must be filled
+-- what `free_inner` does to the object q of class c at the address `place`: it removes the object; exactly if the slot must be filled, it moves object r there
 abbrev pub IsRemoved : SharedPages → Task → ℕ → ℕ → ℕ → Option ℕ → SharedPages → Task → Type 0
 IsRemoved g x q place c None g' x' = (IsMoving g x place c → ⊥) × Goes g x q place c g' x'
 IsRemoved g x q place c (Some r) g' x' = IsMoving g x place c × Fills g x q place c r g' x'

@@ -1,4 +1,4 @@
--- The most steps of each call on a heap that tasks share, each reached.
+-- The most steps that each call on a heap of tasks costs. For each there is a call that costs as many.
 use Rattle.std.specs.Prelude.{ℕ, ◌+◌, Option, Some, None, Result, Ok, Err}
 use Rattle.cf_base.specs.declared.answers.AccessFault.{AccessFault}
 use Rattle.cf_base.specs.declared.answers.AccessFault.TheVariants.{Unknown, Range}
@@ -16,26 +16,26 @@ most_of_malloc = 17
 abbrev pub most_of_free : ℕ → ℕ
 most_of_free slot_words = 20 + slot_words
 
--- a read or a write: the proxy (1), the header (1), and each word that holds one of the bytes
+-- a read or a write of `count` bytes from byte `from` on: the proxy (1), the header (1), and each word that holds one of the bytes
 abbrev pub most_of_access : ℕ → ℕ → ℕ
 most_of_access from count = 2 + words_touched from count
 
--- a malloc by its result; a refused one reads the class alone
+-- the most steps of a malloc with this result; a refused one only looks up the class
 abbrev pub malloc_steps : Result Handle Refusal → ℕ
 malloc_steps (Ok h) = most_of_malloc
 malloc_steps (Err e) = 1
 
--- a free by its result; a refused one reads the proxy alone
+-- the most steps of a free with this result; a refused one only reads the proxy
 abbrev pub free_steps : Result Freed NotLive → ℕ
 free_steps (Ok freed) = most_of_free freed.slot_words
 free_steps (Err e) = 1
 
--- a refused read or write reads the proxy and, if the handle is live, the header
+-- the steps of a refused read or write: it reads the proxy and, if the handle is live, the header
 abbrev pub fault_steps : AccessFault → ℕ
 fault_steps Unknown = 1
 fault_steps Range = 2
 
--- a read or a write by its result
+-- the most steps of a read or a write with this result, of `count` bytes from byte `from` on
 abbrev pub access_steps : Result Unit AccessFault → ℕ → ℕ → ℕ
 access_steps (Ok done) from count = most_of_access from count
 access_steps (Err e) from count = fault_steps e

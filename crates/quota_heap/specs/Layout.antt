@@ -1,4 +1,4 @@
--- The state of an open heap of tasks, by its parts, and its invariant. No public clause cites this module.
+-- The state that contracts show of an open heap of tasks, computed from the heap's fields, and the heap's invariant. No public clause cites this module.
 use Rattle.std.specs.Prelude.{◌≡◌, ◌≢◌, ℕ, ◌+◌, ◌*◌, ◌<◌, List, true, Option, Some, None, length, map, replicate, slice_get, slice_index, sum, sum_by}
 use Rattle.std.specs.Ordering.{nat_cmp}
 use Rattle.std.specs.FinMap.{FinMap, get}
@@ -41,13 +41,13 @@ held_of g x = held_at g.region x.proxies.places
 abbrev pub objects_of : SharedPages → Task → Objects
 objects_of g x = objects (held_of g x)
 
--- the class table is that of the page size, and the region has the words of all pages
+-- the shared pages keep their own rules: the class table is that of the page size, and the region has the words of all pages
 pub record ArePages (g : SharedPages) : Type 0 where
   pub table : g.tables.classes ≡ table_of g.settings.page_words Words
   pub words_long : length g.region ≡ g.settings.pages * g.settings.page_words
 
--- The invariant of task t: its objects are a sound arrangement; its tables hold the slots that they use; the header of each holds the object's key and
--- length; the task's proxies and counts are those of its objects.
+-- The invariant of the task x, whose number is t: its objects are a sound arrangement; its tables hold the slots that the objects use; the header of each
+-- object holds its key, made of t and its number, and its length; the task's proxies and counts are those of its objects.
 pub record IsTask (g : SharedPages) (t : ℕ) (x : Task) : Type 0 where
   pub sound : IsSound (paging_at g) (held_of g x)
   pub serve : ServePart (paging_at g) (tables_of g x)
@@ -59,7 +59,7 @@ pub record IsTask (g : SharedPages) (t : ℕ) (x : Task) : Type 0 where
   pub counted : (c : ℕ) → c < classes (paging_at g) → slice_index x.live c ≡ live (paging_at g) (objects_of g x) c
   pub pages : x.pages ≡ pages_needed (paging_at g) (objects_of g x)
 
--- x is task t of a heap
+-- x is task t of the heap h
 abbrev pub IsTaskIn : OpenTasks → ℕ → Task → Type 0
 IsTaskIn h t x = slice_get h.tasks.items t ≡ Some x
 
@@ -75,7 +75,7 @@ quotas_of tasks = map (λ (x : Task). x.quota) tasks
 abbrev pub pages_of : List Task → ℕ
 pages_of tasks = sum_by (λ (x : Task). x.pages) tasks
 
--- the objects of all tasks, under their keys
+-- the objects of all tasks in one map, each under the key made of its task and its number
 abbrev pub held_in : OpenTasks → Held
 held_in h = held_at h.shared_pages.region (joined (places_of h.tasks.items))
 
@@ -89,8 +89,9 @@ state_of h = record {
   words = h.shared_pages.region;
 }
 
--- The invariant of an open heap of sixteen tasks: each task keeps its own invariant; no page is used by two tasks; the words are the image of all tasks'
--- objects; the quotas are valid; and each page is free or used by a task.
+-- The invariant of an open heap of sixteen tasks. `task`: each task keeps its own invariant. `others`: the pages of one task are foreign to each other one.
+-- `shared`: no page has objects of two tasks. `image`: the words are those of all tasks' objects, and zeros elsewhere. `quotas` and `granted`: the quotas
+-- are valid, and their sum is kept. `accounted`: the free pages and those that tasks use are all pages of the region.
 pub record IsValid (h : OpenTasks) : Type 0 where
   pub shared_pages : ArePages h.shared_pages
   pub many : length h.tasks.items ≡ 16
@@ -102,12 +103,12 @@ pub record IsValid (h : OpenTasks) : Type 0 where
   pub granted : h.granted ≡ sum (quotas_of h.tasks.items)
   pub accounted : length h.shared_pages.tables.pool.free + pages_of h.tasks.items ≡ h.shared_pages.settings.pages
 
--- the state of a heap that may be closed
+-- the state that contracts show of a heap, open or closed
 abbrev pub state_in : Option OpenTasks → QuotaState
 state_in None = closed_state
 state_in (Some h) = state_of h
 
--- the invariant of a heap that may be closed
+-- the invariant of a heap, open or closed
 abbrev pub IsValidIn : Option OpenTasks → Type 0
 IsValidIn None = Unit {0}
 IsValidIn (Some h) = IsValid h
@@ -118,7 +119,7 @@ pub record AreFirstPages (s : Settings) (g : SharedPages) : Type 0 where
   pub tables : AreFirst s Words g.tables
   pub region : g.region ≡ replicate (s.pages * s.page_words) 0
 
--- a task without objects, whose quota is 0
+-- a task without objects, whose quota is 0, with tables for this number of classes, pages and proxies
 abbrev pub first_task : ℕ → ℕ → ℕ → Task
 first_task classes pages proxies = record {
   quota = 0;

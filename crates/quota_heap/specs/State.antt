@@ -1,4 +1,4 @@
--- The state of a heap of tasks that contracts show.
+-- The state of a heap of tasks that public contracts show, and the rules that it keeps while open.
 use Rattle.std.specs.Prelude.{◌≡◌, ℕ, ◌≤◌, Bool, true, false, List, [], IsTrue, length, replicate, slice_index, refl}
 use Rattle.std.specs.FinMap as map
 use Rattle.std.specs.Coded.{Coded, code_by, coded×, coded_ℕ, coded_list, coded_bool}
@@ -23,15 +23,15 @@ pub record QuotaState : Type 0 where
 abbrev pub closed_state : QuotaState
 closed_state = record { is_open = false; profile = no_profile; quotas = []; held = map.empty; words = [] }
 
--- the state of a heap that was just opened: no task has an object, all quotas are 0, and all words are 0
+-- the state of a heap that was just opened with the settings p: no task has an object, all quotas are 0, and all words are 0
 abbrev pub empty_state : Profile → QuotaState
 empty_state p = record { is_open = true; profile = p; quotas = replicate 16 0; held = map.empty; words = replicate (region_words p) 0 }
 
--- the objects of a task, with their addresses
+-- the objects of a task by their numbers in it, each with its address and its bytes
 abbrev pub held_by : QuotaState → ℕ → Held
 held_by s task = part_of s.held task
 
--- the objects of a task, by their bytes alone
+-- the objects of a task by their numbers in it, each as its bytes alone
 abbrev pub objects_by : QuotaState → ℕ → Objects
 objects_by s task = objects (held_by s task)
 

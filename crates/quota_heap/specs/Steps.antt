@@ -1,4 +1,4 @@
--- What each call does to the state of a heap of tasks.
+-- What each call of a task does to the state of a heap of tasks: `old` is the state before the call, `new` after it.
 use Rattle.std.specs.Prelude.{◌≡◌, ℕ, ◌+◌, ◌<◌, ◌≤◌, List, Option, Some, None, Result, Ok, Err, length, take, drop, if◌then◌else◌, nat_lt, slice_set}
 use Rattle.std.specs.FinMap.{get, insert}
 use Rattle.cf_base.specs.declared.answers.AccessFault.{AccessFault}
@@ -21,17 +21,17 @@ use Rattle.quota_model.specs.Shared.{PlacesForTask, RemovesForTask}
 use Rattle.quota_model.specs.declared.answers.QuotaFault.{QuotaFault}
 use Rattle.quota_heap.specs.State.{QuotaState, held_by, objects_by, quota_of}
 
--- the state s with the objects m and these words
+-- the state s with the objects m and these words in place of its own
 abbrev pub with_held : QuotaState → Held → List ℕ → QuotaState
 with_held s m words = record s { held = m; words = words }
 
--- setting a quota to n pages: it is set if it has no refusal; else the call fails with the refusal and changes nothing
+-- to set the quota of a task to n pages: it is set, and nothing else changes, if there is no refusal; else the call fails with the refusal and changes nothing
 abbrev pub IsQuotaStep : QuotaState → ℕ → ℕ → Result Unit QuotaFault → QuotaState → Type 0
 IsQuotaStep old task n (Ok done) new = (quota_refusal old.profile old.quotas task n (objects_by old task) ≡ None)
     × (new ≡ record old { quotas = slice_set old.quotas task n })
 IsQuotaStep old task n (Err e) new = (quota_refusal old.profile old.quotas task n (objects_by old task) ≡ Some e) × (new ≡ old)
 
--- a malloc of a task that is not refused adds an object of zeros
+-- a malloc of a task that is not refused: it adds an object of zeros with the number and the length of `asked`, and changes only the objects and the words
 pub record GivesTask (old : QuotaState) (task : ℕ) (asked : Request) (new : QuotaState) : Type 0 where
   pub granted : malloc_refusal old.profile (quota_of old task) (objects_by old task) asked.length ≡ None
   pub placed : PlacesForTask old.profile old.held task asked new.held
@@ -42,7 +42,8 @@ abbrev pub IsMallocStep : QuotaState → ℕ → ℕ → Result Handle Refusal �
 IsMallocStep old task n (Ok h) new = GivesTask old task (record { number = h.0; length = n }) new
 IsMallocStep old task n (Err e) new = (malloc_refusal old.profile (quota_of old task) (objects_by old task) n ≡ Some e) × (new ≡ old)
 
--- a free of a live object of a task removes it, and moves another object of the task if it must
+-- a free of the live object h of a task: it removes h, and moves another object of the task to its slot if it must; `freed` has the words of the slot and
+-- the number of the object that moved, if one did
 pub record FreesOfTask (old : QuotaState) (task h : ℕ) (freed : Freed) (new : QuotaState) : Type 0 where
   pub removed : RemovesForTask old.profile old.held task h (number_of freed.moved) new.held
   pub slot : freed.slot_words ≡ slot_for (task_paging old.profile) (length (removed.freed).bytes)
@@ -59,12 +60,12 @@ pub record PassesEnd (s : QuotaState) (task : ℕ) (part : Part) (count : ℕ) :
   pub found : get (held_by s task) part.number ≡ Some object
   pub past : length object.bytes < part.from + count
 
--- the cause of each refusal of a read or a write
+-- the cause of each refusal of a read or a write of `count` bytes: the task has no such object, or the bytes pass its end
 abbrev pub IsFault : QuotaState → ℕ → Part → ℕ → AccessFault → Type 0
 IsFault s task part count Unknown = get (held_by s task) part.number ≡ None
 IsFault s task part count Range = PassesEnd s task part count
 
--- a write that is not refused changes these bytes of the task's object
+-- a write that is not refused: the task's object `part.number` has these bytes from byte `part.from` on, and no other object changes
 pub record WritesForTask (old : QuotaState) (task : ℕ) (part : Part) (bytes : List ℕ) (new : QuotaState) : Type 0 where
   pub object : Placed
   pub found : get (held_by old task) part.number ≡ Some object
@@ -72,7 +73,7 @@ pub record WritesForTask (old : QuotaState) (task : ℕ) (part : Part) (bytes : 
   pub whole : new ≡ with_held old
       (insert old.held (key_of task part.number) (record { place = object.place; bytes = written object.bytes part.from bytes })) new.words
 
--- a write changes bytes of the task's object, or fails and changes nothing
+-- a write changes bytes of the task's object, or fails for its cause and changes nothing
 abbrev pub IsWriteStep : QuotaState → ℕ → Part → List ℕ → Result Unit AccessFault → QuotaState → Type 0
 IsWriteStep old task part bytes (Ok done) new = WritesForTask old task part bytes new
 IsWriteStep old task part bytes (Err e) new = IsFault old task part (length bytes) e × (new ≡ old)
@@ -84,7 +85,7 @@ pub record ReadsOfTask (s : QuotaState) (task : ℕ) (part : Part) (count : ℕ)
   pub within : part.from + count ≤ length object.bytes
   pub value : out ≡ take count (drop part.from object.bytes)
 
--- a read fills the caller's bytes, or fails and leaves them unchanged
+-- a read makes the caller's bytes `old` the bytes `out` of the task's object, or fails for its cause and leaves them unchanged
 abbrev pub IsReadAnswer : QuotaState → ℕ → Part → List ℕ → Result Unit AccessFault → List ℕ → Type 0
 IsReadAnswer s task part old (Ok done) out = ReadsOfTask s task part (length old) out
 IsReadAnswer s task part old (Err e) out = IsFault s task part (length old) e × (out ≡ old)

@@ -1,4 +1,4 @@
-//! Frees an object of a task.
+//! A free of a task, on the pages that all tasks share.
 ghost use Rattle.std.specs.Prelude.{◌≡◌, ◌+◌, ◌*◌, ◌<◌, ◌≤◌, IfSome, IsSome, None, slice_index};
 ghost use Rattle.step_ledger.specs.Counting.{RoseAtMost};
 ghost use Rattle.cf_model.specs.Steps.{number_of};
@@ -12,8 +12,9 @@ use step_ledger::Steps;
 use word_bytes::Header;
 
 impl SharedPages {
-    /// Frees the object h of task t, which is at x. If its page was full and another page of its class
-    /// is partly full, moves an object of that page to the freed slot.
+    /// Frees object `h` of task `t`, which `object` found as `x`. If its page was full and the task has a
+    /// partly full page of the class, moves an object of that page to the freed slot. Returns the words of
+    /// the slot, and which object moved.
     pub(crate) fn free_inner(
         &mut self,
         task: &mut Task,
@@ -41,7 +42,8 @@ impl SharedPages {
         }
     }
 
-    /// Does what `free_inner` does, if no other object must move.
+    /// Does what `free_inner` does when no other object must move: frees and clears the slot, and releases
+    /// the proxy.
     fn free_alone(
         &mut self,
         task: &mut Task,
@@ -73,7 +75,8 @@ impl SharedPages {
         }
     }
 
-    /// Does what `free_inner` does, and moves another object of the task to the freed slot.
+    /// Does what `free_inner` does when another object must move: moves the object at the lowest used slot
+    /// of the task's first partly full page of the class to the freed slot, and frees the slot it leaves.
     fn free_and_fill(
         &mut self,
         task: &mut Task,

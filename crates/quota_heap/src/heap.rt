@@ -1,4 +1,4 @@
-//! The heap of sixteen tasks, closed or open, with its public calls.
+//! The heap of sixteen tasks, closed or open, with its public calls. All the work is done in `OpenTasks`.
 ghost use Rattle.std.specs.Prelude.{◌≡◌, ◌+◌, ◌^◌, ◌<◌, ◌≤◌, IsTrue, IfErr, IfOk, false, length, slice_get, sum};
 ghost use Rattle.step_ledger.specs.Counting.{RoseAtMost};
 ghost use Rattle.cf_base.specs.Settings.{profile_of};
@@ -16,8 +16,10 @@ use std::alloc::Global;
 use std::marker::Model;
 use step_ledger::Steps;
 
-/// Sixteen tasks on one region, each with a quota of pages. All calls but `closed` and `open_heap`
-/// are made on an open heap.
+/// A heap of sixteen tasks, numbered from 0 to 15, each with a quota of pages. All calls but `closed`,
+/// `open_heap` and `is_open` need an open heap. A call adds its steps to the ledger `steps`, which must
+/// have counted at most 2^63 before. `inner` is none while the heap is closed, and `alloc` is where open
+/// heaps allocate.
 #[derive(Drop)]
 pub struct QuotaHeap {
     alloc: Global,
@@ -46,9 +48,9 @@ impl QuotaHeap {
         QuotaHeap { alloc, inner: None }
     }
 
-    /// Opens the heap with these settings; an open heap is closed before. No task has an object, all
-    /// quotas are 0, and each task has as its own the number of proxies in the settings. Fails if out of
-    /// memory; the heap is closed then.
+    /// Opens the heap with the settings `s`; an open heap is closed first. No task has an object, and all
+    /// quotas are 0. Each task gets as many proxies of its own as `s` has. Each class of a task has bound
+    /// 1, whatever bound `s` has. Fails if out of memory; the heap is closed then.
     pub fn open_heap(&mut self, s: &Settings) -> Result<(), OutOfMemory>
         ensures opened { IfOk result (λ done. self.new ≡ empty_state (profile_of s.now)) }
         ensures kept { IfOk result (λ done. KeepsTasks self.new) }
@@ -59,8 +61,8 @@ impl QuotaHeap {
         Ok(())
     }
 
-    /// Returns whether the heap is open. In an open heap no page has objects of two tasks, and each task
-    /// is within its quota.
+    /// Returns whether the heap is open. In an open heap no page has objects of two tasks, and no task
+    /// uses more pages than its quota (`KeepsTasks`).
     pub fn is_open(&self) -> bool
         ensures value { result ≡ self.now.is_open }
         ensures rules { IsTrue result → KeepsTasks self.now }
@@ -68,7 +70,7 @@ impl QuotaHeap {
         self.inner.is_some()
     }
 
-    /// A task's quota in pages.
+    /// A task's quota: the most pages that it may use.
     pub fn quota(&self, task: u32) -> u32
         requires opened { IsTrue self.now.is_open }
         requires sixteen { task < 16 }
@@ -80,7 +82,7 @@ impl QuotaHeap {
         }
     }
 
-    /// The number of pages that hold objects of a task; it is at most the quota.
+    /// The number of pages that hold objects of a task; it is at most the task's quota.
     pub fn pages(&self, task: u32) -> u32
         requires opened { IsTrue self.now.is_open }
         requires sixteen { task < 16 }
@@ -94,7 +96,7 @@ impl QuotaHeap {
         }
     }
 
-    /// The number of the region's pages that are in no task's quota.
+    /// The number of the region's pages less the sum of all quotas.
     pub fn unassigned(&self) -> u32
         requires opened { IsTrue self.now.is_open }
         ensures { result + sum self.now.quotas ≡ self.now.profile.pages }
@@ -106,7 +108,8 @@ impl QuotaHeap {
     }
 
     /// Sets the quota of a task to `pages` pages. Fails, with nothing changed, with `Sum` if the quotas of
-    /// all tasks would sum to more pages than the region has, else with `Used` if the task uses more.
+    /// all tasks would sum to more pages than the region has, else with `Used` if the task already uses
+    /// more than `pages` pages.
     pub fn set_quota(&mut self, task: u32, pages: u32) -> Result<(), QuotaFault>
         requires opened { IsTrue self.old.is_open }
         requires sixteen { task < 16 }
@@ -119,9 +122,10 @@ impl QuotaHeap {
         }
     }
 
-    /// Makes an object of `bytes` bytes, all zero, for a task. Fails, with nothing changed, with `Size` if
-    /// it is larger than a page, else with `Proxy` if the task's proxies are all in use, else with `Space`
-    /// if the task's objects with this one need more pages than its quota.
+    /// Makes an object of `bytes` bytes, all zero, for a task, under a handle that was not live in this
+    /// task. Fails, with nothing changed, with `Size` if it is larger than a page, else with `Proxy` if
+    /// the task's proxies are all in use, else with `Space` if the task's objects with this one need more
+    /// pages than its quota.
     pub fn malloc(&mut self, task: u32, bytes: u32, steps: &mut Steps) -> Result<Handle, Refusal>
         requires opened { IsTrue self.old.is_open }
         requires sixteen { task < 16 }
@@ -137,8 +141,9 @@ impl QuotaHeap {
         }
     }
 
-    /// Frees an object of a task; another object of the task may move to its slot. Fails, with nothing
-    /// changed, if the handle is not live in this task.
+    /// Frees object `h` of a task. If its page was full and the task has a partly full page of the same
+    /// class, an object of that page moves to the freed slot. Returns the words of the slot, and which
+    /// object moved. Fails, with nothing changed, if the handle is not live in this task.
     pub fn free(&mut self, task: u32, h: Handle, steps: &mut Steps) -> Result<Freed, NotLive>
         requires opened { IsTrue self.old.is_open }
         requires sixteen { task < 16 }
@@ -154,7 +159,7 @@ impl QuotaHeap {
         }
     }
 
-    /// Writes `bytes` into an object of a task from byte `at` on. Fails, with nothing changed, with
+    /// Writes `bytes` into object `h` of a task from byte `at` on. Fails, with nothing changed, with
     /// `Unknown` if the handle is not live in this task, else with `Range` if the bytes pass the object's
     /// end.
     pub fn write(
@@ -179,8 +184,9 @@ impl QuotaHeap {
         }
     }
 
-    /// Fills `out` with the bytes of an object of a task from byte `at` on. Fails as `write` does; `out` is
-    /// unchanged then.
+    /// Fills `out` with the bytes of object `h` of a task from byte `at` on. Fails, with `out` unchanged,
+    /// with `Unknown` if the handle is not live in this task, else with `Range` if the object has fewer
+    /// bytes from there on than `out`.
     pub fn read(
         &self,
         task: u32,
@@ -202,7 +208,8 @@ impl QuotaHeap {
         }
     }
 
-    /// The figures of class c of a task; none if there is no such class.
+    /// The figures of class `c` of a task: the slot's words, the slots of a page, the task's live objects,
+    /// its pages, and those of them that are partly full. `None` if the heap has no such class.
     pub fn figures(&self, task: u32, c: u32) -> Option<Figures>
         requires opened { IsTrue self.now.is_open }
         requires sixteen { task < 16 }
@@ -214,7 +221,7 @@ impl QuotaHeap {
         }
     }
 
-    /// Reads a word of the region; none past its end.
+    /// Returns the word of the region with the number `word`, or `None` past the region's end.
     pub fn peek(&self, word: u32, steps: &mut Steps) -> Option<u64>
         requires opened { IsTrue self.now.is_open }
         requires room { steps.old ≤ 2 ^ 63 }

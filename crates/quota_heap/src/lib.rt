@@ -1,6 +1,6 @@
-//! A moving heap for sixteen tasks on one region, by the rules of Compact-fit (2008). Each task has its
-//! own objects, numbers, page lists and quota of pages. A free moves only objects of its own task, and
-//! no page has objects of two tasks.
+//! The heap of mode `quota`: a moving heap that sixteen tasks share, by the rules of Compact-fit (2008).
+//! Each task has its own objects, handles, page lists and quota, the most pages that it may use. A free
+//! moves only objects of its own task, and no page has objects of two tasks.
 #![tactic(auto)]
 
 mod free;

@@ -1,4 +1,4 @@
-//! Makes an object of a task.
+//! A malloc of a task that is not refused, on the pages that all tasks share.
 ghost use Rattle.std.specs.Prelude.{◌≡◌, ◌≢◌, ◌+◌, ◌<◌, ◌≤◌, [], length};
 ghost use Rattle.std.specs.FinMap.{get, len};
 ghost use Rattle.step_ledger.specs.Counting.{RoseAtMost};
@@ -15,8 +15,9 @@ use step_ledger::Steps;
 use word_bytes::Header;
 
 impl SharedPages {
-    /// Makes an object of `bytes` zeros, of class c, for task t. The task must have a free number, and the
-    /// class a free slot.
+    /// Makes an object of `bytes` zeros, of class `c`, for task `t`, and returns its handle. The task must
+    /// have a free proxy. It must also have a partly full page of the class, or the pool a free page. The
+    /// header holds `t` and the handle in one number: t · 65,536 plus the handle.
     pub(crate) fn malloc_inner(
         &mut self,
         task: &mut Task,

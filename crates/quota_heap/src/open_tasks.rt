@@ -1,4 +1,4 @@
-//! An open heap of sixteen tasks.
+//! The body of an open heap of sixteen tasks: each call finds its task and works on the shared pages.
 ghost use Rattle.std.specs.Prelude.{◌≡◌, ℕ, ◌+◌, ◌<◌, ◌≤◌, None, Some, IfErr, IfNone, IfOk, IfSome, length, slice_get, slice_set, sum};
 ghost use Rattle.std.specs.FinMap.{get};
 ghost use Rattle.step_ledger.specs.Counting.{RoseAtMost};
@@ -25,7 +25,8 @@ use std::alloc::Global;
 use step_ledger::Steps;
 use word_bytes::{read_run, words_with, write_run};
 
-/// The tasks, the pages that they share, and in `granted` the sum of their quotas in pages.
+/// The pages that the tasks share, the sixteen tasks, and in `granted` the sum of their quotas in pages.
+/// In each call `t` is the number of the calling task, from 0 to 15.
 #[derive(Drop)]
 pub(crate) struct OpenTasks {
     pub(crate) shared_pages: SharedPages,
@@ -34,8 +35,8 @@ pub(crate) struct OpenTasks {
 }
 
 impl OpenTasks {
-    /// Opens a heap of sixteen tasks without objects, whose quotas are 0. Of the functions here it alone
-    /// allocates; fails if out of memory.
+    /// Opens a heap of sixteen tasks without objects, whose quotas are 0, with the settings `s`. Of the
+    /// functions of `OpenTasks` it alone allocates. Fails if out of memory.
     pub(crate) fn new(alloc: Global, s: &Settings) -> Result<OpenTasks, OutOfMemory>
         ensures kept { IfOk result IsValid }
         ensures empty { IfOk result (λ h. state_of h ≡ empty_state (profile_of s.now)) }
@@ -49,7 +50,7 @@ impl OpenTasks {
         })
     }
 
-    /// A task's quota in pages.
+    /// The quota of task `t` in pages.
     pub(crate) fn quota(&self, t: u32) -> u32
         requires kept { IsValid self.now }
         requires sixteen { t < 16 }
@@ -59,8 +60,8 @@ impl OpenTasks {
         task.quota
     }
 
-    /// Sets the quota of a task to `pages` pages. Fails, with nothing changed, if the quotas would sum to
-    /// more pages than the region has, else if the task uses more pages.
+    /// Sets the quota of task `t` to `pages` pages. Fails, with nothing changed, with `Sum` if the quotas
+    /// would sum to more pages than the region has, else with `Used` if the task uses more than `pages`.
     pub(crate) fn set_quota(&mut self, t: u32, pages: u32) -> Result<(), QuotaFault>
         requires kept { IsValid self.old }
         requires sixteen { t < 16 }
@@ -78,7 +79,7 @@ impl OpenTasks {
         Ok(())
     }
 
-    /// The number of pages that a task uses.
+    /// The number of pages that hold objects of task `t`.
     pub(crate) fn pages(&self, t: u32) -> u32
         requires kept { IsValid self.now }
         requires sixteen { t < 16 }
@@ -88,7 +89,7 @@ impl OpenTasks {
         task.pages
     }
 
-    /// The number of pages that are in no task's quota.
+    /// The number of the region's pages less the sum of all quotas.
     pub(crate) fn unassigned(&self) -> u32
         requires kept { IsValid self.now }
         ensures { result + sum (state_of self.now).quotas ≡ self.now.shared_pages.settings.pages }
@@ -96,7 +97,8 @@ impl OpenTasks {
         self.shared_pages.settings.pages - self.granted
     }
 
-    /// Sets the quota of a task to `pages` pages, and the sum of all quotas to `granted`.
+    /// Sets the quota of task `t` to `pages` pages, and the field `granted` to the parameter, which must be
+    /// the sum of all quotas then.
     fn grant(&mut self, t: u32, pages: u32, granted: u32)
         requires kept { IsValid self.old }
         requires sixteen { t < 16 }
@@ -110,8 +112,9 @@ impl OpenTasks {
         self.granted = granted;
     }
 
-    /// Makes an object of `bytes` bytes, all zero, for a task. Refused, with nothing changed, if it is
-    /// larger than a page, the task's proxies are all in use, or the quota is too small.
+    /// Makes an object of `bytes` bytes, all zero, for task `t`, and returns its handle. Refused, with
+    /// nothing changed, with `Size` if it is larger than a page, else with `Proxy` if the task's proxies
+    /// are all in use, else with `Space` if the task would need more pages than its quota.
     pub(crate) fn malloc(
         &mut self,
         t: u32,
@@ -135,7 +138,8 @@ impl OpenTasks {
         Ok(self.shared_pages.malloc_inner(task, t, c, bytes, steps))
     }
 
-    /// Returns the refusal of a malloc of class c by the task; none if it isn't refused.
+    /// Returns the cause for which a malloc of class `c` by task `t` is refused, `Proxy` or `Space`; `None`
+    /// if it isn't refused.
     fn refusal(&self, t: u32, c: u32) -> Option<Refusal>
         requires kept { IsValid self.now }
         requires sixteen { t < 16 }
@@ -153,7 +157,8 @@ impl OpenTasks {
         None
     }
 
-    /// Frees an object of a task; fails, with nothing changed, if the handle is not live in this task.
+    /// Frees object `h` of task `t`, as `free_inner` does. Fails, with nothing changed, if the handle is not
+    /// live in this task.
     pub(crate) fn free(&mut self, t: u32, h: Handle, steps: &mut Steps) -> Result<Freed, NotLive>
         requires kept { IsValid self.old }
         requires sixteen { t < 16 }
@@ -169,7 +174,8 @@ impl OpenTasks {
         Ok(self.shared_pages.free_inner(owner, t, h, x, steps))
     }
 
-    /// Looks up an object of a task by its handle; none if the handle is not live in this task.
+    /// Looks up object `h` of task `t`: its address, length and class. `None` if the handle is not live in
+    /// this task.
     fn object(&self, t: u32, h: Handle, steps: &mut Steps) -> Option<Found>
         requires kept { IsValid self.now }
         requires sixteen { t < 16 }
@@ -183,8 +189,8 @@ impl OpenTasks {
         self.shared_pages.object(task, h, steps)
     }
 
-    /// Returns the address of an object of a task. Fails if the handle is not live in this task, or if the
-    /// object has fewer than `count` bytes from byte `at` on.
+    /// Returns the address of object `h` of task `t`. Fails with `Unknown` if the handle is not live in
+    /// this task, and with `Range` if the object has fewer than `count` bytes from byte `at` on.
     fn find(
         &self,
         t: u32,
@@ -203,8 +209,8 @@ impl OpenTasks {
         self.shared_pages.find(task, h, at, count, steps)
     }
 
-    /// Writes `bytes` into an object of a task from byte `at` on. Fails, with nothing changed, as `find`
-    /// does.
+    /// Writes `bytes` into object `h` of task `t` from byte `at` on. Fails as `find` does, with nothing
+    /// changed.
     pub(crate) fn write(
         &mut self,
         t: u32,
@@ -232,8 +238,8 @@ impl OpenTasks {
         Ok(())
     }
 
-    /// Fills `out` with the bytes of an object of a task from byte `at` on. Fails as `find` does; `out` is
-    /// unchanged then.
+    /// Fills `out` with the bytes of object `h` of task `t` from byte `at` on. Fails as `find` does, with
+    /// `out` unchanged.
     pub(crate) fn read(
         &self,
         t: u32,
@@ -260,7 +266,7 @@ impl OpenTasks {
         Ok(())
     }
 
-    /// The figures of a class of a task; none if there is no such class.
+    /// The figures of class `c` of task `t`; `None` if the heap has no such class.
     pub(crate) fn figures(&self, t: u32, c: u32) -> Option<Figures>
         requires kept { IsValid self.now }
         requires sixteen { t < 16 }
@@ -273,7 +279,8 @@ impl OpenTasks {
         }
     }
 
-    /// The figures of class c of a task, where c is one of the heap's classes.
+    /// The figures of class `c` of task `t`, where c is one of the heap's classes: in `live` the task's
+    /// objects, in `pages` its pages, in `not_full` those of them that are partly full.
     fn figures_of(&self, t: u32, c: u32) -> Figures
         requires kept { IsValid self.now }
         requires sixteen { t < 16 }
@@ -291,7 +298,7 @@ impl OpenTasks {
         }
     }
 
-    /// Reads a word of the region; none past its end.
+    /// Returns the word of the region with the number `word`, or `None` past the region's end.
     pub(crate) fn peek(&self, word: u32, steps: &mut Steps) -> Option<u64>
         ensures value { result ≡ slice_get self.now.shared_pages.region word }
         ensures bound { RoseAtMost steps.old steps.new 1 }

@@ -1,4 +1,4 @@
-//! The pages that the tasks share.
+//! The pages of the region, which all tasks share, and what a call of one task reads or changes there.
 ghost use Rattle.std.specs.Prelude.{◌≡◌, ℕ, ◌*◌, ◌+◌, ◌<◌, ◌≤◌, false, length, replicate, slice_get, slice_index, None, IfErr, IfNone, IfOk, IfSome};
 ghost use Rattle.std.specs.List.{range_with_len};
 ghost use Rattle.std.specs.FinMap.{get};
@@ -16,7 +16,8 @@ use std::alloc::Global;
 use step_ledger::Steps;
 use word_bytes::Header;
 
-/// The region of all tasks and the tables of its pages. Pages that no task uses are in the pool.
+/// The words of the region, and in `tables` the size classes, the used slots of each page, and the pool.
+/// Pages that no task uses are in the pool.
 #[derive(Drop)]
 pub(crate) struct SharedPages {
     pub(crate) settings: Settings,
@@ -24,7 +25,8 @@ pub(crate) struct SharedPages {
     pub(crate) tables: PageTables,
 }
 
-/// An object of a task: the first word of its slot, its length in bytes, and its class.
+/// A task's object that was looked up: in `place` its address, the first word of its slot; its length in
+/// bytes; and the number of its size class.
 #[derive(Clone, Copy)]
 pub(crate) struct Found {
     pub(crate) place: u32,
@@ -33,7 +35,7 @@ pub(crate) struct Found {
 }
 
 impl SharedPages {
-    /// Allocates the region and the tables; all pages are free. Fails if out of memory.
+    /// Allocates the region and the tables for the settings `s`; all pages are free. Fails if out of memory.
     pub(crate) fn new(alloc: Global, s: &Settings) -> Result<SharedPages, OutOfMemory>
         ensures { IfOk result (λ g. AreFirstPages s.now g) }
     {
@@ -44,7 +46,8 @@ impl SharedPages {
         })
     }
 
-    /// Looks up an object of a task by its handle; none if the handle is not live in this task.
+    /// Looks up object `h` of a task: its address, length and class. `None` if the handle is not live in
+    /// this task.
     pub(crate) fn object(&self, task: &Task, h: Handle, steps: &mut Steps) -> Option<Found>
         requires shared_pages { ArePages self.now }
         requires kept { (t : ℕ) × IsTask self.now t task.now }
@@ -67,8 +70,8 @@ impl SharedPages {
         })
     }
 
-    /// Returns the address of an object of a task. Fails if the handle is not live in this task, or if the
-    /// object has fewer than `count` bytes from byte `at` on.
+    /// Returns the address of object `h` of a task. Fails with `Unknown` if the handle is not live in this
+    /// task, and with `Range` if the object has fewer than `count` bytes from byte `at` on.
     pub(crate) fn find(
         &self,
         task: &Task,
@@ -94,7 +97,7 @@ impl SharedPages {
     }
 }
 
-/// Clears the words of a slot.
+/// Clears the `slot_words` words of the slot at `place`; each becomes 0.
 pub(crate) fn wipe(region: &mut Region, place: u32, slot_words: u32, steps: &mut Steps)
     requires within { place + slot_words ≤ length region.old }
     ensures words { Clears region.old region.new (record { from = place; count = slot_words }) }
@@ -104,7 +107,7 @@ pub(crate) fn wipe(region: &mut Region, place: u32, slot_words: u32, steps: &mut
     region.clear(place, slot_words, steps);
 }
 
-/// Moves the words of the slot at `from` to the slot at `to`, and leaves zeros behind.
+/// Moves the `slot_words` words of the slot at `from` to the slot at `to`, and leaves zeros at `from`.
 pub(crate) fn shift(region: &mut Region, from: u32, to: u32, slot_words: u32, steps: &mut Steps)
     requires source { from + slot_words ≤ length region.old }
     requires target { to + slot_words ≤ length region.old }

@@ -1,4 +1,4 @@
-//! The tables and counts that each task has as its own.
+//! One task of the heap: its quota, and the tables and counts that it shares with no other task.
 ghost use Rattle.std.specs.Prelude.{◌≡◌, IfOk, replicate};
 ghost use Rattle.proxy_table.specs.Proxies.{AreBelowLimit, no_proxies};
 ghost use Rattle.quota_heap.specs.Layout.{first_task};
@@ -11,22 +11,27 @@ use std::alloc::Global;
 /// The number of tasks.
 pub(crate) const TASKS: u32 = 16;
 
-/// The length of the array by class. No heap has more size classes.
+/// The length of the array `live` of a task, with a count for each size class. No heap has more classes.
 pub(crate) const CLASSES: usize = 128;
 
-/// A task: its quota in pages, the number of pages that it uses, the number of live objects of each
-/// class, and the tables of its pages and of its numbers.
+/// A task.
 #[derive(Drop)]
 pub(crate) struct Task {
+    /// The most pages that the task may use.
     pub(crate) quota: u32,
+    /// The number of pages that hold its objects.
     pub(crate) pages: u32,
+    /// The number of its live objects of each class.
     pub(crate) live: [u32; CLASSES],
+    /// Its full and its partly full pages, by class.
     pub(crate) lists: ClassLists,
+    /// The addresses of its objects, by their numbers in this task.
     pub(crate) proxies: ProxyTable,
 }
 
 impl Task {
-    /// Makes a task without objects, whose quota is 0. Fails if out of memory.
+    /// Makes a task without objects, whose quota is 0. Its tables are for this number of size classes, of
+    /// pages in the region, and of proxies. Fails if out of memory.
     pub(crate) fn new(
         alloc: Global,
         classes: u32,
@@ -48,7 +53,8 @@ impl Task {
     }
 }
 
-/// Makes sixteen tasks without objects, whose quotas are 0. Fails if out of memory.
+/// Makes sixteen tasks without objects, whose quotas are 0. The tables of each are for this number of
+/// size classes, of pages in the region, and of proxies. Fails if out of memory.
 pub(crate) fn first_tasks(
     alloc: Global,
     classes: u32,

@@ -1,4 +1,6 @@
-//! Worked calls of two tasks, their calls in every order, and a long run of drawn calls of all sixteen.
+//! Tests of `QuotaHeap`: calls whose results (`rows`) and steps (`costs`) were worked out by hand, the
+//! calls of two tasks in every order (`interleaved`), and random calls of all sixteen tasks (`drawn`).
+//! `calls` makes the calls.
 mod calls;
 mod costs;
 mod drawn;

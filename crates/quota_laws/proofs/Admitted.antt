@@ -1,4 +1,4 @@
--- A task that was admitted is refused no malloc while it stays within what it declared.
+-- For `an_admitted_task_is_served`: after `yes`, no malloc of the task is refused while it stays within what it declared. Also: `admit` has one result.
 use Rattle.std.proofs.Common.{◌≡◌, ℕ, suc, Bool, true, false, ◌+◌, ◌≤◌, List, [], ◌∷◌, ◌++◌, Option, Some, None, Err, length, drop, get_or}
 use Rattle.std.proofs.Common.{arith, ap, sym, ◌∙◌, refl, inl, inr, subst}
 use Rattle.std.specs.Prelude.{◌⊎◌, codes, nat_eq, nat_lt}

@@ -1,4 +1,4 @@
--- A reply follows from the settings, the quota and the objects of the task.
+-- For `a_reply_follows_from_the_task_alone`: the reply and what it leaves follow from the settings, the quota and the objects of the task.
 use Rattle.std.proofs.Common.{◌≡◌, ℕ, ap, refl, slice_index, cond}
 use Rattle.page_model.specs.Arrangement.{live, pages_needed_with}
 use Rattle.page_model.specs.Held.{Objects}

@@ -1,4 +1,4 @@
--- The replies to a task are the same without the other tasks.
+-- For `tasks_are_isolated` and `tasks_are_isolated_in_a_script`: step by step, the replies to a task are the same without the lines of the other tasks.
 use Rattle.std.proofs.Common.{◌≡◌, ◌≢◌, ℕ, suc, Bool, true, false, cond, ◌<◌, ◌≤◌, List, [], ◌∷◌, Option, Some, None, length, get_or, set}
 use Rattle.std.proofs.Common.{arith, ap, sym, ◌∙◌, refl, inl, inr, subst}
 use Rattle.std.specs.Prelude.{◌&&◌, nat_eq, nat_lt, not, sum}

@@ -1,4 +1,4 @@
--- The replies to the calls of a task are the same without the calls of the other tasks.
+-- For `tasks_are_isolated`: over a list of calls and quota lines, the replies to a task are the same without the others' calls and quota lines.
 use Rattle.std.proofs.Common.{◌≡◌, ℕ, Bool, true, false, cond, ◌<◌, List, [], ◌∷◌, ap, sym, ◌∙◌, refl, inl, inr}
 use Rattle.std.specs.Prelude.{◌&&◌, nat_eq}
 use Rattle.std.proofs.lemmas.Bool.{cases_eq}

@@ -1,4 +1,4 @@
--- While no line sets the quota of a task, the replies to the task are those of a heap of its own.
+-- For `a_task_has_a_heap_of_its_own`: while no line sets the quota of a task, the replies to the task are those of a heap of its own.
 use Rattle.std.proofs.Common.{◌≡◌, ◌≢◌, ℕ, true, false, cond, List, [], ◌∷◌, Option, Some, None, ap, sym, ◌∙◌, refl, inl, inr}
 use Rattle.std.specs.Prelude.{nat_eq, codes}
 use Rattle.std.proofs.lemmas.Bool.{cases_eq}

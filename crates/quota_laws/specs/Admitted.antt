@@ -8,7 +8,7 @@ use Rattle.script_reader.specs.declared.command.Command.TheVariants.{Malloc}
 use Rattle.quota_laws.specs.Own.{present_in}
 use Rattle.quota_laws.specs.Transcript.{TaskState, state_in}
 
--- the state after the items, from a state on; None before the `heap` line
+-- the state after the items, from state `s` on; None before the `heap` line
 abbrev pub states_in : Option TaskState → List Item → Option TaskState
 states_in s [] = s
 states_in s (item ∷ rest) = states_in (state_in s item) rest

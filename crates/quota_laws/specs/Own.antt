@@ -1,4 +1,5 @@
--- The lines of a script that concern one task, and the replies to the commands of that task.
+-- For isolation in a script: the lines that concern one task, and the replies to the commands of that task. `task` is that task's number, `present` the number
+-- of the present task, whose objects the calls are about: the task that the last `t` named, 0 before the first.
 use Rattle.std.specs.Prelude.{ℕ, Bool, false, ◌&&◌, List, [], ◌∷◌, Option, Some, if◌then◌else◌, nat_eq, not}
 use Rattle.run_model.specs.Texts.{Reply}
 use Rattle.script_reader.specs.Items.{Item, asks, bad, starts}
@@ -8,7 +9,8 @@ use Rattle.quota_laws.specs.Runs.{is_accepted}
 use Rattle.quota_laws.specs.Tasks.{set_refusal}
 use Rattle.quota_laws.specs.Transcript.{TaskState, present_after, state_in}
 
--- true if the command is the task's own: a `need` or `admit` that names the task, or a call (such as `m` or `r`) while the task is present
+-- true if the command is the task's own: a `need` or `admit` that names the task (`u` is the task named), or a call (such as `m` or `r`) while the task is
+-- present
 abbrev pub is_own : ℕ → ℕ → Command → Bool
 is_own task present (Task u) = false
 is_own task present (Quota u pages) = false

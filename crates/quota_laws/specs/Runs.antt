@@ -1,4 +1,4 @@
--- Lists of calls and quota lines of many tasks, and the part of such a list that concerns one task.
+-- For isolation of calls: lists of calls and quota lines of many tasks (`TaskItem`), the part of such a list that concerns one task, and the replies to it.
 use Rattle.std.specs.Prelude.{◌≡◌, ◌≢◌, ⊤, ℕ, Bool, true, false, ◌&&◌, List, [], ◌∷◌, Option, Some, None, if◌then◌else◌, nat_eq}
 use Rattle.quota_model.specs.declared.answers.QuotaFault.{QuotaFault}
 use Rattle.run_model.specs.Texts.{Reply}

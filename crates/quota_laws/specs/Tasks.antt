@@ -19,7 +19,7 @@ pub record Tasks : Type 0 where
   pub quotas : List ℕ
   pub objects : ℕ → Objects
 
--- the sixteen tasks after the `heap` line: no objects, and all quotas 0
+-- the sixteen tasks after the `heap` line with the settings `s`: no objects, and all quotas 0
 abbrev pub no_tasks : Profile → Tasks
 no_tasks s = record { profile = s; quotas = replicate 16 0; objects = λ task. empty }
 
@@ -36,15 +36,15 @@ is_for_task (Read id at count) = true
 is_for_task Walk = true
 is_for_task command = false
 
--- the reply to a command of a task: for a command on its objects the reply of its own heap, else `none`
+-- in state `s`, the reply to a command of a task: for a command on its objects the reply of its own heap, else `none`
 abbrev pub task_reply : Tasks → ℕ → Command → Reply
 task_reply s task command = if is_for_task command then reply_by_id (own_heap s task) command else said (codes "none")
 
--- the objects of the task after one of its commands
+-- the objects by id of the task after one of its commands in state `s`
 abbrev pub task_leaves : Tasks → ℕ → Command → Objects
 task_leaves s task command = if is_for_task command then objects_after (own_heap s task) command else s.objects task
 
--- a call of a task, or a line that sets the quota of a task
+-- an item of a list: `calls`, a command of a task, or `sets`, a line that sets the quota of a task to some pages
 pub data TaskItem : Type 0 where
   calls : (task : ℕ) → Command → TaskItem
   sets : (task pages : ℕ) → TaskItem
@@ -64,12 +64,12 @@ abbrev pub quotas_after : Option QuotaFault → List ℕ → ℕ → ℕ → Lis
 quotas_after (Some e) quotas task pages = quotas
 quotas_after None quotas task pages = slice_set quotas task pages
 
--- the reply to a call or to a quota line
+-- the reply to a call or to a quota line in state `s`
 abbrev pub item_reply : Tasks → TaskItem → Reply
 item_reply s (calls task command) = task_reply s task command
 item_reply s (sets task pages) = said (quota_text (set_refusal s task pages))
 
--- the state after an item: a call changes the objects of its own task alone, a quota line one quota
+-- the state after an item in state `s`: a call changes the objects of its own task alone, a quota line one quota
 abbrev pub after_item : Tasks → TaskItem → Tasks
 after_item s (calls task command) = record s { objects = λ u. if nat_eq u task then task_leaves s task command else s.objects u }
 after_item s (sets task pages) = record s { quotas = quotas_after (set_refusal s task pages) s.quotas task pages }

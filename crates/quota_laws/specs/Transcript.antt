@@ -26,7 +26,7 @@ first_state p = record { present = 0; tasks = no_tasks (at_bound_one p); needs =
 abbrev pub need_text : List Need → List ℕ
 need_text needs = if nat_lt (length needs) 64 then codes "ok" else codes "full"
 
--- the entries with one more at the end, if there are fewer than 64
+-- the entries with `entry` added at the end; unchanged if there are 64 already
 abbrev pub one_more : List Need → Need → List Need
 one_more needs entry = if nat_lt (length needs) 64 then needs ++ entry ∷ [] else needs
 
@@ -37,15 +37,16 @@ admission_text Proxies = codes "proxies"
 admission_text (No nth) = with_number (codes "no ") nth
 admission_text Yes = codes "yes"
 
--- The result of `admit`, by three tests in turn. `Size`: this entry declares objects longer than a page. `Proxies`: more objects are declared than there are
--- proxies. `No`: of the declared mallocs, made in order, this one is the first refused for space, counted from 1. Else `Yes`.
+-- The result of `admit`, by the results of three tests. `entry` is the first entry that declares objects longer than a page: then `Size`. `exceeds`: more
+-- objects are declared than there are proxies: then `Proxies`. `short` is the first of the declared mallocs, made in order and counted from 1, that is refused
+-- for space: then `No`. Else `Yes`.
 abbrev pub admission_by : Option ℕ → Bool → Option ℕ → Admission
 admission_by (Some entry) exceeds short = Size entry
 admission_by None true short = Proxies
 admission_by None false (Some nth) = No nth
 admission_by None false None = Yes
 
--- the result of `admit` for a task with this share that declared these needs
+-- the result of `admit` for a task with the share `t` (settings and quota) that declared these needs
 abbrev pub admission : Share → List Need → Admission
 admission t needs =
     admission_by (first_large t.profile needs) (nat_lt t.profile.proxies (declared_in_all needs)) (first_short t empty 0 (in_order needs))
@@ -54,7 +55,7 @@ admission t needs =
 abbrev pub share_of : Tasks → ℕ → Share
 share_of s task = record { profile = s.profile; quota = slice_index s.quotas task }
 
--- the reply to a command in this state
+-- the reply to a command in state `s`
 abbrev pub command_reply : TaskState → Command → Reply
 command_reply s (command.Task task) = said (codes "ok")
 command_reply s (command.Quota task pages) = said (quota_text (set_refusal s.tasks task pages))
@@ -70,7 +71,7 @@ item_of present (command.Need task bytes count) = None
 item_of present (command.Admit task) = None
 item_of present command = Some (calls present command)
 
--- the tasks after a call or a quota line; unchanged if there is neither
+-- the tasks `s` after a call or a quota line; unchanged if there is neither
 abbrev pub after_if : Tasks → Option TaskItem → Tasks
 after_if s None = s
 after_if s (Some item) = after_item s item
@@ -80,13 +81,13 @@ abbrev pub present_after : ℕ → Command → ℕ
 present_after present (command.Task task) = task
 present_after present command = present
 
--- the entries that task u has declared after a command
+-- the entries that task `u` has declared after a command
 abbrev pub needs_after : (ℕ → List Need) → Command → ℕ → List Need
 needs_after needs (command.Need task bytes count) u =
     if nat_eq u task then one_more (needs u) (record { bytes = bytes; count = count }) else needs u
 needs_after needs command u = needs u
 
--- the state after a command
+-- the state after a command in state `s`
 abbrev pub state_after : TaskState → Command → TaskState
 state_after s command = record {
   present = present_after s.present command;
@@ -94,25 +95,25 @@ state_after s command = record {
   needs = needs_after s.needs command;
 }
 
--- the reply to an item; before the `heap` line a command has none
+-- the reply to an item in state `s`; before the `heap` line a command has a reply without lines
 abbrev pub reply_in : Option TaskState → Item → Reply
 reply_in s (starts p) = said (codes "ok")
 reply_in None (asks command) = []
 reply_in (Some s) (asks command) = command_reply s command
 reply_in s (bad n) = said (bad_line n)
 
--- the state after an item
+-- the state after an item in state `s`; None before the `heap` line
 abbrev pub state_in : Option TaskState → Item → Option TaskState
 state_in s (starts p) = Some (first_state p)
 state_in None (asks command) = None
 state_in (Some s) (asks command) = Some (state_after s command)
 state_in s (bad n) = s
 
--- the replies to the items from a state on, one each
+-- the replies to the items, one each, from state `s` on
 abbrev pub task_replies : Option TaskState → List Item → List Reply
 task_replies s [] = []
 task_replies s (item ∷ rest) = reply_in s item ∷ task_replies (state_in s item) rest
 
--- the claim: the replies to a script are those of `task_replies`
+-- the claim of mode `quota`: the replies to a script are those of `task_replies`
 abbrev pub MeetsTasks : List Item → List Reply → Type 0
 MeetsTasks items replies = replies ≡ task_replies None items

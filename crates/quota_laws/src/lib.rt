@@ -1,6 +1,6 @@
-//! Tasks that share the pages of a region don't see one another: the replies to a task depend on the
-//! settings, its quota and its own objects alone. The public functions do nothing: each one's contract
-//! is a law of the definitions of tasks.
+//! What is claimed of every script in mode `quota` (`MeetsTasks`), and theorems on it: tasks that share the
+//! pages of a region don't see one another, and an admitted task is served. The public functions do nothing:
+//! the contract of each is a theorem.
 #![tactic(auto)]
 
 ghost use Rattle.std.specs.Prelude.{◌≡◌, ℕ, ◌+◌, ◌<◌, ◌++◌, true, codes, drop, length, List, [], ◌∷◌, None, Some, slice_index, slice_index_or};
@@ -20,9 +20,10 @@ ghost use Rattle.quota_laws.specs.Runs.{AreTaskCommands, LeaveQuota, commands_of
 ghost use Rattle.quota_laws.specs.Tasks.{TaskItem, Tasks, no_tasks, own_heap, task_leaves, task_reply};
 ghost use Rattle.quota_laws.specs.Transcript.{MeetsTasks, TaskState};
 
-/// If two states have the same settings, and a task has the same quota and the same objects by id in
-/// both, a command of the task has the same reply in both and leaves the task the same objects. Clause
-/// `refusal`: the task's own heap refuses a malloc for the reason in `malloc_refusal`.
+/// If two states have the same settings, and a task has the same quota and the same objects by id in both,
+/// then a command of the task has the same reply in both (`reply`) and leaves the task the same objects
+/// (`left`). `refusal`: the cause of a refused malloc in these replies is the one of `malloc_refusal`, the
+/// definition for the heap of tasks.
 pub fn a_reply_follows_from_the_task_alone()
     ensures reply { (one other : Tasks) (task : ℕ) (command : Command)
         → other.profile ≡ one.profile
@@ -73,10 +74,12 @@ pub fn an_admitted_task_is_served()
         → AreServed task admitted.present later (drop (length before + 1) replies) }
 {}
 
-/// Wrong replies violate the claim. On two pages of 64 words, with a quota of one for task 0, it fails
-/// for: a refusal of every command; `refused space`, no line, no reply, or one reply too many after a
-/// malloc that fits; `ok` for a malloc beyond the quota; the bytes of another task; `yes` for two objects
-/// that need a page each; and `ok` for quotas of three pages.
+/// Wrong replies violate the claim, so it isn't empty. The scripts have two pages of 64 words and a quota of
+/// one page for task 0. The claim fails for a refusal of both commands (`refused`); for a malloc that fits,
+/// with `refused space` (`room`), a reply without a line (`silent`), no reply (`missing`) or one reply too
+/// many (`over`); for `ok` to a malloc beyond the quota (`beyond`); for the bytes of another task
+/// (`foreign`); for `yes` to two objects that need a page each (`admitted`); and for `ok` to quotas of three
+/// pages (`sum`).
 pub fn wrong_task_replies_fall_short()
     ensures refused { ¬ MeetsTasks (items (codes "heap 2 512 1 8\nquota 0 1\nm 1 176\n") true)
         (said (codes "ok") ∷ said (codes "refused sum") ∷ said (codes "refused space") ∷ []) }

@@ -1,4 +1,5 @@
--- For the laws of `admitting.rt`.
+-- For the laws of `admitting.rt`: a quota is enough if and only if the pages suffice for all declared objects, and which malloc is the first that is
+-- refused.
 use Rattle.std.proofs.Common.{◌≡◌, ℕ, zero, suc, Bool, ◌-◌, ◌<◌, ◌≤◌, List, [], ◌∷◌, Option, Some, None, length, take}
 use Rattle.std.proofs.Common.{arith, ap, sym, ◌∙◌, inl, inr, refl, subst}
 use Rattle.std.specs.Prelude.{◌↔◌, count_by, nat_eq}

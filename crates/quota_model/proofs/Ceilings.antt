@@ -1,4 +1,4 @@
--- The pages that counts need by arithmetic grow with the counts.
+-- The pages that objects need, counted by class and rounded up, grow with the counts. For the laws of `admitting.rt` and those on quotas.
 use Rattle.std.proofs.Common.{◌≡◌, ◌≢◌, ℕ, zero, suc, Bool, cond, ◌+◌, ◌-◌, ◌<◌, ◌≤◌, List, [], ◌∷◌, ◌++◌, length, arith, ap, refl, inl, inr}
 use Rattle.std.specs.Prelude.{count_by, nat_eq, sum_by}
 use Rattle.std.specs.List.{range_with_len}

@@ -1,4 +1,4 @@
--- A list that has each number at most as often as another one has at most as many entries of each kind.
+-- If a list has each number at most as often as another list, it also has at most as many numbers with any property. For `a_quota_is_enough_by_ceilings`.
 use Rattle.std.proofs.Common.{◌≡◌, ℕ, Bool, cond, ◌+◌, ◌<◌, ◌≤◌, List, [], ◌∷◌, arith, ap, inl, inr, refl}
 use Rattle.std.specs.Prelude.{count_by, nat_eq}
 use Rattle.std.proofs.lemmas.Bool.{cases_eq}

@@ -1,4 +1,4 @@
--- The numbers of declared objects, and the list of the declared mallocs in order.
+-- How many objects of each length are declared, and the list of the declared mallocs in order. For the laws of `admitting.rt`.
 use Rattle.std.proofs.Common.{◌≡◌, ℕ, zero, suc, Bool, true, false, cond, ◌*◌, ◌<◌, ◌≤◌, List, [], ◌∷◌, ◌++◌, Some, None, length, get_or, replicate}
 use Rattle.std.proofs.Common.{arith, ap, sym, ◌∙◌, inl, inr, refl}
 use Rattle.std.specs.Prelude.{⊤, nat_eq, nat_lt, position}

@@ -1,4 +1,5 @@
--- If the declared objects together need no more pages than the quota has, no call within the needs is refused for space.
+-- For `a_quota_is_enough_by_ceilings`: if the declared objects together need at most the quota's pages, no call within what is declared is refused for
+-- space.
 use Rattle.std.proofs.Common.{◌≡◌, ℕ, Bool, true, false, cond, ◌+◌, ◌<◌, ◌≤◌, List, [], ◌∷◌, Option, Some, None, length, map, replicate}
 use Rattle.std.proofs.Common.{arith, ap, sym, ◌∙◌, inl, inr, refl}
 use Rattle.std.specs.Prelude.{IsSome, count_by, nat_eq, nat_lt}

@@ -1,4 +1,4 @@
--- The declared mallocs in order: which of them is the first that is refused for space.
+-- For the laws of `admitting.rt`: which of the declared mallocs, made in order, is the first that is refused for space.
 use Rattle.std.proofs.Common.{◌≡◌, ◌≢◌, ℕ, suc, Bool, true, false, cond, ◌+◌, ◌<◌, ◌≤◌, List, [], ◌∷◌, ◌++◌, Option, Some, None, length, replicate, take}
 use Rattle.std.proofs.Common.{arith, ap, sym, ◌∙◌, inl, inr, refl, subst}
 use Rattle.std.specs.Prelude.{count_by, nat_eq, nat_lt, ◌⊎◌}

@@ -1,4 +1,4 @@
--- For `a_free_keeps_tasks_apart`.
+-- For `a_free_keeps_tasks_apart`: the objects of all tasks and the pages of each after a free of one task.
 use Rattle.std.proofs.Common.{◌≡◌, ◌≢◌, ℕ, ◌<◌, ◌≤◌, List, Option, Some, None, get_or, arith, ap, sym, ◌∙◌, refl, inl, inr, subst}
 use Rattle.std.specs.Prelude.{IsTrue, option_map}
 use Rattle.std.proofs.lemmas.Bool.{cases_eq}

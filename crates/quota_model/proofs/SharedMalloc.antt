@@ -1,4 +1,4 @@
--- For `a_malloc_keeps_tasks_apart`.
+-- For `a_malloc_keeps_tasks_apart`: the objects of all tasks and the pages of each after a malloc of one task.
 use Rattle.std.proofs.Common.{◌≡◌, ◌≢◌, ℕ, Bool, true, false, cond, ◌+◌, ◌<◌, ◌≤◌, List, Some, None, length, get_or, replicate}
 use Rattle.std.proofs.Common.{arith, ap, sym, ◌∙◌, refl, inl, inr, subst}
 use Rattle.std.specs.Prelude.{IsTrue, nat_eq, nat_lt}

@@ -1,4 +1,4 @@
--- The objects of one task (`part_of`), as a part of the map of all tasks' objects. A key there holds the task and the object's number.
+-- For the laws of `sharing.rt`: the objects of one task (`part_of`), as a part of the map of all tasks' objects, before and after a change of one object.
 use Rattle.std.proofs.Common.{◌≡◌, ◌≢◌, ℕ, true, false, cond, ◌<◌, ◌≤◌, List, [], ◌∷◌, Some, None, map, arith, ap, sym, ◌∙◌, refl, inl, inr}
 use Rattle.std.specs.Prelude.{filter, nat_eq}
 use Rattle.std.proofs.lemmas.Bool.{cases_eq, cases_lt}

@@ -1,4 +1,4 @@
--- The objects of all tasks are one sound arrangement, in which any number of pages of a class may be partly full.
+-- For the laws of `images.rt`: the objects of all tasks are one sound arrangement, if any number of pages of a class may be partly full.
 use Rattle.std.proofs.Common.{◌≡◌, ℕ, ◌+◌, ◌≤◌, List, Some, length, get_or, arith, ap, sym, ◌∙◌, refl, inl, inr}
 use Rattle.std.specs.Prelude.{IsTrue}
 use Rattle.std.proofs.lemmas.Bool.{cases_eq}

@@ -1,4 +1,5 @@
--- Admission: the objects that a task declares before it runs, and whether a quota is enough for them.
+-- Admission: the objects that a task declares before it runs, and whether a quota is enough for them. In these definitions o is the map of the task's
+-- objects, from numbers to bytes.
 use Rattle.std.specs.Prelude.{◌≡◌, ⊤, ℕ, Bool, true, false, ◌+◌, ◌<◌, ◌≤◌, ◌⊎◌, List, [], ◌∷◌, ◌++◌, Option, Some, None, IsSome, count_by, if◌then◌else◌}
 use Rattle.std.specs.Prelude.{length, nat_eq, nat_lt}
 use Rattle.std.specs.Prelude.{position, replicate, sum_by}
@@ -15,7 +16,7 @@ use Rattle.quota_model.specs.declared.answers.Admission.{Admission}
 use Rattle.quota_model.specs.declared.answers.Admission.TheVariants.{Yes, No, Size, Proxies}
 use Rattle.quota_model.specs.declared.answers.Need.{Need}
 
--- the settings of the region, and a task's quota in pages
+-- a task's share of the region: the settings of the region, and the task's quota in pages
 pub record Share : Type 0 where
   pub profile : Profile
   pub quota : ℕ
@@ -25,12 +26,12 @@ pub data Call : Type 0 where
   asks : (h n : ℕ) → Call
   frees : (h : ℕ) → Call
 
--- the objects after a malloc of n bytes with this refusal, or with none
+-- the objects o after a malloc of n bytes: unchanged if there is a cause of refusal, else with an object of n zeros under number h
 abbrev pub granted : Option Refusal → Objects → ℕ → ℕ → Objects
 granted (Some e) o h n = o
 granted None o h n = insert o h (replicate n 0)
 
--- the objects after a call
+-- the objects o of a task after a call; a malloc that the task's quota or the settings refuse changes nothing
 abbrev pub after : Share → Objects → Call → Objects
 after t o (asks h n) = granted (malloc_refusal t.profile t.quota o n) o h n
 after t o (frees h) = remove o h
@@ -40,63 +41,64 @@ abbrev pub IsShort : Share → Objects → Call → Type 0
 IsShort t o (asks h n) = malloc_refusal t.profile t.quota o n ≡ Some refusal.Space
 IsShort t o (frees h) = ⊥
 
--- one of the calls, made one after the other, is refused for space
+-- if the calls are made one after the other, beginning with the objects o, one of them is a malloc that is refused for space
 abbrev pub RunsShort : Share → Objects → List Call → Type 0
 RunsShort t o [] = ⊥
 RunsShort t o (call ∷ rest) = IsShort t o call ⊎ RunsShort t (after t o call) rest
 
--- the number of objects of n bytes that all entries declare together
+-- how many objects of n bytes the entries declare: the counts of all entries for this length, added up
 abbrev pub declared : List Need → ℕ → ℕ
 declared needs n = sum_by (λ (e : Need). if nat_eq e.bytes n then e.count else 0) needs
 
--- the number of live objects of n bytes
+-- how many of the objects o have n bytes
 abbrev pub live_of : Objects → ℕ → ℕ
 live_of o n = count_by (λ v. nat_eq (length v) n) (values o)
 
--- A call is within the needs: a malloc of n bytes uses a number that isn't live, and with its object at most the declared number of objects of n bytes are
+-- A call is within what is declared: a malloc of n bytes uses a free number, and with its object at most the declared number of objects of n bytes are
 -- live; a free is of a live object.
 abbrev pub IsWithin : Share → List Need → Objects → Call → Type 0
 IsWithin t needs o (asks h n) = (get o h ≡ None) × (h < t.profile.proxies) × (live_of o n + 1 ≤ declared needs n)
 IsWithin t needs o (frees h) = IsSome (get o h)
 
--- the calls, made one after the other, are within what is declared
+-- each of the calls, made one after the other, beginning with the objects o, is within what is declared
 abbrev pub AreWithin : Share → List Need → Objects → List Call → Type 0
 AreWithin t needs o [] = ⊤
 AreWithin t needs o (call ∷ rest) = IsWithin t needs o call × AreWithin t needs (after t o call) rest
 
--- The quota is enough: no list of calls within the needs, begun without objects, has a malloc that is refused for space.
+-- The quota is enough for the declared objects: no list of calls within what is declared, begun without objects, has a malloc that is refused for space.
 abbrev pub IsEnough : Share → List Need → Type 0
 IsEnough t needs = (calls : List Call) → AreWithin t needs empty calls → ¬ RunsShort t empty calls
 
--- the lengths of all declared objects: entry by entry, each length repeated by its count
+-- the lengths of all declared objects, in bytes: entry by entry, each length as often as its count
 abbrev pub in_order : List Need → List ℕ
 in_order [] = []
 in_order (e ∷ es) = replicate e.count e.bytes ++ in_order es
 
--- mallocs of these lengths, numbered from k on
+-- the mallocs of objects of these lengths, one after the other, under the numbers k, k + 1 and so on
 abbrev pub mallocs : ℕ → List ℕ → List Call
 mallocs k [] = []
 mallocs k (n ∷ ns) = asks k n ∷ mallocs (k + 1) ns
 
--- whether a malloc was refused for space
+-- whether a malloc with this cause of refusal, or with none, was refused for space
 abbrev pub is_short : Option Refusal → Bool
 is_short None = false
 is_short (Some refusal.Size) = false
 is_short (Some refusal.Proxy) = false
 is_short (Some refusal.Space) = true
 
--- the number of the first of these mallocs that is refused for space, if there is one; the first malloc has number k + 1
+-- The number of the first malloc that is refused for space, if one is, when objects of these lengths are allocated one after the other, beginning with the
+-- objects o. The mallocs are counted from k + 1 on.
 abbrev pub first_short : Share → Objects → ℕ → List ℕ → Option ℕ
 first_short t o k [] = None
 first_short t o k (n ∷ ns) =
     if is_short (malloc_refusal t.profile t.quota o n) then Some (k + 1)
     else first_short t (granted (malloc_refusal t.profile t.quota o n) o k n) (k + 1) ns
 
--- the number of these lengths that are of class c
+-- how many of these lengths are of class c
 abbrev pub count_of_class : Paging → List ℕ → ℕ → ℕ
 count_of_class p ns c = count_by (λ n. nat_eq (class_for p n) c) ns
 
--- the pages that objects of these lengths need by arithmetic: the sum over all classes of the count divided by the slots of a page, rounded up
+-- the pages that objects of these lengths need: for each class the number of objects is divided by the slots of a page and rounded up, and these are summed
 abbrev pub pages_of : Paging → List ℕ → ℕ
 pages_of p ns = pages_for p (count_of_class p ns)
 
@@ -104,17 +106,17 @@ pages_of p ns = pages_for p (count_of_class p ns)
 abbrev pub first_large : Profile → List Need → Option ℕ
 first_large s needs = position (λ (e : Need). nat_lt s.page_words (need e.bytes)) needs
 
--- the number of objects that all entries declare together, of any length
+-- the number of objects, of any length, that all entries declare together
 abbrev pub declared_in_all : List Need → ℕ
 declared_in_all needs = sum_by (λ (e : Need). e.count) needs
 
--- Each declared object fits a page, and the proxies are enough for all of them.
+-- each declared object fits a page, and the proxies are enough for all of them
 pub record CanBeAsked (s : Profile) (needs : List Need) : Type 0 where
   pub none_large : first_large s needs ≡ None
   pub few : declared_in_all needs ≤ s.proxies
 
--- The meaning of each admission: an entry's object is larger than a page; else the proxies are too few; else the quota is enough, or malloc `nth` of the
--- declared ones in order is the first that is refused for space.
+-- What each result of the test means: `Size`, the first entry whose objects are larger than a page; else `Proxies`, that more objects are declared than
+-- there are proxies; else `Yes`, that the quota is enough, or `No`, which of the declared mallocs, in order, is the first that is refused for space.
 abbrev pub IsAdmission : Share → List Need → Admission → Type 0
 IsAdmission t needs (Size entry) = first_large t.profile needs ≡ Some entry
 IsAdmission t needs Proxies = (first_large t.profile needs ≡ None) × (t.profile.proxies < declared_in_all needs)

@@ -1,4 +1,4 @@
--- The refusals of a task's malloc, and of a change of its quota.
+-- Why a task's malloc is refused, and why a new quota for a task is refused.
 use Rattle.std.specs.Prelude.{ℕ, List, Option, Some, None, if◌then◌else◌, nat_eq, nat_lt, slice_set, sum}
 use Rattle.std.specs.FinMap.{len}
 use Rattle.cf_base.specs.Classes.{need}
@@ -12,20 +12,20 @@ use Rattle.page_model.specs.Paging.{Paging, first_bounds, paging_of}
 use Rattle.quota_model.specs.declared.answers.QuotaFault.{QuotaFault}
 use Rattle.quota_model.specs.declared.answers.QuotaFault.TheVariants.{Sum, Used}
 
--- the pages and classes for each task: every class has bound 1, whatever bound the settings have
+-- the pages and classes of the region as each task sees them: every class has bound 1, whatever bound the settings have
 abbrev pub task_paging : Profile → Paging
 task_paging s = paging_of s Words (first_bounds (record s { k = 1 }) Words)
 
--- the refusal, if there is one, of a malloc of n bytes of a task with these objects: the object is larger than a page; else all proxies are in use; else
--- the task would need more pages than its quota
+-- Why a malloc of n bytes is refused to a task with these objects and this quota of pages; none if it isn't. The object is larger than a page; else all
+-- proxies are in use; else the task's objects with the new one need more pages than its quota.
 abbrev pub malloc_refusal : Profile → ℕ → Objects → ℕ → Option Refusal
 malloc_refusal s quota o n =
     if nat_lt s.page_words (need n) then Some Size
     else (if nat_eq (len o) s.proxies then Some Proxy
     else (if nat_lt quota (pages_needed_with (task_paging s) o n) then Some Space else None))
 
--- the refusal, if there is one, of n pages as the quota of a task with these objects: the quotas would sum to more pages than the region has; else the
--- task needs more than n pages
+-- Why n pages are refused as the new quota of a task with these objects; none if they aren't. The quotas would sum to more pages than the region has; else
+-- the task's objects need more than n pages.
 abbrev pub quota_refusal : Profile → List ℕ → ℕ → ℕ → Objects → Option QuotaFault
 quota_refusal s quotas task n o =
     if nat_lt s.pages (sum (slice_set quotas task n)) then Some Sum

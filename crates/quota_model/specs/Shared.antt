@@ -1,4 +1,5 @@
--- Sixteen tasks on the pages of one region: the rules for their objects and quotas, and a malloc and a free of one task.
+-- Sixteen tasks on the pages of one region: the rules for their objects and quotas, and what a malloc and a free of one task do. A map m or `old` has the
+-- objects of all tasks by their keys.
 use Rattle.std.specs.Prelude.{◌≡◌, ℕ, ◌<◌, ◌≤◌, List, Option, Some, None, length, option_map, slice_index, sum}
 use Rattle.std.specs.FinMap.{get, insert}
 use Rattle.cf_base.specs.Settings.{Profile}
@@ -9,8 +10,8 @@ use Rattle.page_model.specs.Steps.{IsFreePlace, Moves, Request, without, zeros_a
 use Rattle.quota_model.specs.Parts.{key_of, number_of, part_of, task_of}
 use Rattle.quota_model.specs.Refusals.{task_paging}
 
--- The rules for the objects of all tasks. The objects of each task are a sound arrangement with bound 1: at most one page of each of its classes is partly
--- full. No page has objects of two tasks.
+-- The rules for the objects of all tasks. There are sixteen tasks, and each object's number in its task is below the number of proxies. The objects of each
+-- task are a sound arrangement with bound 1: at most one page of each of its classes is partly full. No page has objects of two tasks.
 pub record IsShared (s : Profile) (m : Held) : Type 0 where
   pub tasks : (key : ℕ) (x : Placed) → get m key ≡ Some x → task_of key < 16
   pub numbers : (key : ℕ) (x : Placed) → get m key ≡ Some x → number_of key < s.proxies
@@ -18,14 +19,14 @@ pub record IsShared (s : Profile) (m : Held) : Type 0 where
   pub apart : (key : ℕ) (x : Placed) (other : ℕ) (y : Placed) → get m key ≡ Some x → get m other ≡ Some y
       → page_of (task_paging s) x.place ≡ page_of (task_paging s) y.place → task_of key ≡ task_of other
 
--- The quotas of the sixteen tasks in pages: their sum is at most the region's pages, and no task needs more than its quota.
+-- The quotas of the sixteen tasks, in pages, are valid: their sum is at most the region's pages, and no task needs more pages than its quota.
 pub record AreQuotas (s : Profile) (quotas : List ℕ) (m : Held) : Type 0 where
   pub many : length quotas ≡ 16
   pub all : sum quotas ≤ s.pages
   pub enough : (task : ℕ) → pages_needed (task_paging s) (objects (part_of m task)) ≤ slice_index quotas task
 
--- A malloc of a task: it adds an object of zeros in a free slot of the task's arrangement, on a page of its own or a free one, under a number that the
--- task wasn't using.
+-- A malloc of a task adds the object `asked`, all zeros, under a number that the task wasn't using. Its slot is one that the task's own arrangement lets it
+-- use, on a page that no other task uses.
 pub record PlacesForTask (s : Profile) (old : Held) (task : ℕ) (asked : Request) (new : Held) : Type 0 where
   pub place : ℕ
   pub in_range : asked.number < s.proxies
@@ -34,7 +35,8 @@ pub record PlacesForTask (s : Profile) (old : Held) (task : ℕ) (asked : Reques
   pub own : (key : ℕ) (y : Placed) → get old key ≡ Some y → page_of (task_paging s) y.place ≡ page_of (task_paging s) place → task_of key ≡ task
   pub placed : new ≡ insert old (key_of task asked.number) (zeros_at place asked.length)
 
--- A free of a task: it removes the task's object h, and moves another object of the task to the freed slot if it must.
+-- A free of a task removes its object h. If the task's class would then have two partly full pages, another object of the task, number `moved`, moves to
+-- the freed slot.
 pub record RemovesForTask (s : Profile) (old : Held) (task h : ℕ) (moved : Option ℕ) (new : Held) : Type 0 where
   pub freed : Placed
   pub found : get (part_of old task) h ≡ Some freed

@@ -1,31 +1,35 @@
-//! Arguments and results of the calls that set or test a quota.
+//! Arguments and results of the calls that set a task's quota, or test whether one is enough.
 
-/// Why a quota was refused, in the order in which the causes are tested.
+/// Why a new quota for a task is refused. The causes are tested in this order, and the first that
+/// holds is returned.
 #[derive(Clone, Copy, Debug, PartialEq, Eq)]
 pub enum QuotaFault {
-    /// The quotas of all tasks would sum to more pages than the region has.
+    /// With the new quota, the quotas of all tasks would sum to more pages than the region has.
     Sum,
-    /// The task uses more pages than the quota asked for.
+    /// The task already uses more pages than the new quota has.
     Used,
 }
 
-/// What a task declares before it runs: at most `count` objects of `bytes` bytes at one time.
+/// One entry of what a task declares before it runs: at any time, at most `count` of its live
+/// objects have `bytes` bytes. Entries of the same length add up.
 #[derive(Clone, Copy, Debug, PartialEq, Eq)]
 pub struct Need {
     pub bytes: u32,
     pub count: u32,
 }
 
-/// The result of the test whether a quota is enough for every history of a task within its needs.
+/// The result of the test whether a quota is enough for a task, whatever it allocates and frees
+/// within the numbers that it declares.
 #[derive(Clone, Copy, Debug, PartialEq, Eq)]
 pub enum Admission {
-    /// No malloc within the needs is refused for space.
+    /// The quota is enough: no malloc within the declared numbers is refused for space.
     Yes,
-    /// If the declared objects are allocated in the order of the entries, the `nth` malloc, counted
-    /// from 1, is the first that is refused for space.
+    /// The quota is not enough. If the declared objects are allocated in the order of the entries,
+    /// the `nth` malloc, counted from 1, is the first that is refused for space.
     No { nth: u32 },
-    /// An object of this entry, counted from 0, is larger than a page; it is the first such entry.
+    /// An object of entry number `entry`, counted from 0, is larger than a page; it is the first
+    /// such entry.
     Size { entry: u32 },
-    /// The counts sum to more than the proxies.
+    /// The task declares more objects in all than it has proxies.
     Proxies,
 }

@@ -1,4 +1,5 @@
-//! Laws on the words of a region that tasks share, after a call of one of them.
+//! Laws on the words of a region that tasks share: after a call of one task they still hold the
+//! objects of all tasks. An object's key is its task times 65,536, plus its number in the task.
 ghost use Rattle.std.specs.Prelude.{ℕ, ◌≡◌, ◌≢◌, ◌+◌, ◌*◌, ◌/◌, ◌%◌, ◌<◌, ◌≤◌, IsTrue, List, None, Option, Some, length, option_map, slice_set};
 ghost use Rattle.std.specs.Ordering.{nat_cmp};
 ghost use Rattle.std.specs.FinMap.{FinMap, get, insert};
@@ -15,8 +16,9 @@ ghost use Rattle.quota_model.specs.Parts.{key_of, part_of};
 ghost use Rattle.quota_model.specs.Refusals.{task_paging};
 ghost use Rattle.quota_model.specs.Shared.{AreQuotas, IsShared, PlacesForTask, RemovesForTask};
 
-/// The map of all tasks' addresses has each object's address under its key. Of the objects at these
-/// addresses, those of one task (`part_of`) are the objects at the task's own addresses.
+/// `all` has for each task the addresses of its objects by number, and `joined` makes one map of
+/// them. That map has each address under the object's key. If the objects are read from the words
+/// at these addresses, those of one task are the objects at the task's own addresses.
 pub fn addresses_are_found_by_key()
     ensures found { (all : List (FinMap nat_cmp ℕ)) (task h : ℕ) → AreNumbers all → h < 65536
         → get (joined all) (key_of task h) ≡ get (places_at all task) h }
@@ -24,15 +26,16 @@ pub fn addresses_are_found_by_key()
         → part_of (held_at words (joined all)) task ≡ held_at words (places_at all task) }
 {}
 
-/// Words that are an image of the objects' whole slots (`IsSlotImage`) are an image of the objects
-/// (`IsImage`).
+/// If each object's slot holds its words, filled up with zeros, and all other words are zeros
+/// (`IsSlotImage`), then the words are those of the objects, and zeros elsewhere (`IsImage`).
 pub fn words_are_those_of_the_objects()
     ensures { (s : Profile) (m : Held) (words : List ℕ) → IsTrue (is_page_size s.page_words)
         → IsShared s m → IsSlotImage (task_paging s) m words → IsImage m words }
 {}
 
-/// If a malloc of a task writes just the header, whose number is the key (task and number), the words
-/// are an image of all tasks' objects afterwards.
+/// Let the words be an image of all tasks' objects. If a malloc of a task writes just the new
+/// object's header, with the object's key and length, they are an image of all tasks' objects
+/// again.
 pub fn words_after_a_malloc_of_a_task()
     ensures { (s : Profile) (old : Held) (words : List ℕ) (task : ℕ) (asked : Request) (new : Held)
         (step : PlacesForTask s old task asked new)
@@ -43,8 +46,9 @@ pub fn words_after_a_malloc_of_a_task()
         (slice_set words step.place (header_word (key_of task asked.number) asked.length)) }
 {}
 
-/// If a free of a task clears the object's slot, or moves another object's slot into it and clears that
-/// object's old slot, the words are an image of all tasks' objects afterwards.
+/// Let the words be an image of all tasks' objects. If a free of a task clears the object's slot,
+/// or moves another object's slot into it and clears that object's old slot, they are an image of
+/// all tasks' objects again.
 pub fn words_after_a_free_of_a_task()
     ensures still { (s : Profile) (old : Held) (words left : List ℕ) (task h : ℕ) (new : Held)
         (step : RemovesForTask s old task h None new)
@@ -67,8 +71,8 @@ pub fn words_after_a_free_of_a_task()
         → IsSlotImage (task_paging s) new left }
 {}
 
-/// If a write of a task rewrites just the words of the object that hold one of the written bytes, the
-/// words are an image of all tasks' objects afterwards.
+/// Let the words be an image of all tasks' objects. If a write of a task rewrites just the words of
+/// the object that hold one of the written bytes, they are an image of all tasks' objects again.
 pub fn words_after_a_write_of_a_task()
     ensures { (s : Profile) (old : Held) (words left : List ℕ) (task h at : ℕ) (x : Placed)
         (bytes : List ℕ)
@@ -82,8 +86,8 @@ pub fn words_after_a_write_of_a_task()
         (record { place = x.place; bytes = written x.bytes at bytes })) left }
 {}
 
-/// A write that leaves an object in its class leaves the tasks on pages of their own and within their
-/// quotas, and changes no object of another task.
+/// If an object of a task gets other bytes and stays in its class, each page still has objects of
+/// one task alone, each task is still within its quota, and no object of another task changes.
 pub fn a_write_keeps_tasks_apart()
     ensures shared { (s : Profile) (old : Held) (task h : ℕ) (x : Placed) (bytes : List ℕ)
         → IsShared s old → get (part_of old task) h ≡ Some x

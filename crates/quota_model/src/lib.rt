@@ -1,7 +1,7 @@
-//! The model of tasks that share the pages of one region, each with a quota of pages: the causes of
-//! refusals, whether a quota is enough for the objects that a task declares, the rules of an arrangement
-//! of all tasks, and the words of the region after a call. The public functions do nothing: each one's
-//! contract is a law of these definitions.
+//! The model of sixteen tasks that share the pages of one region, each with a quota of pages: the
+//! causes of refusals, whether a quota is enough for the objects that a task declares, the rules
+//! for the objects of all tasks, and the words of the region after a call. The public functions do
+//! nothing: each one's contract is a law of these definitions.
 #![tactic(auto)]
 
 mod admitting;

@@ -1,4 +1,4 @@
--- The replies for a task follow from its objects by id.
+-- The replies for a task follow from its settings, its quota and its objects by id: for `OwnTask`.
 use Rattle.std.proofs.Common.{◌≡◌, ℕ, ◌-◌, ◌<◌, List, cond, Some, None}
 use Rattle.std.proofs.Common.{map, arith, sym, ◌∙◌, ap, refl}
 use Rattle.std.specs.Prelude.{◌++◌, nat_eq, nat_lt, not}

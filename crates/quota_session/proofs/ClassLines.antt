@@ -1,4 +1,4 @@
--- The pages of the classes of a task, counted class by class.
+-- The lines of a task's classes and the pages that these use, class by class: for the loop of `put_classes`.
 use Rattle.std.proofs.Common.{◌≡◌, ◌∙◌, ℕ, ◌+◌, ◌≤◌, ◌<◌, ◌++◌, List, [], ◌∷◌, Some, None, ap, arith}
 use Rattle.std.proofs.lemmas.List.Sums.{sum_by-cons}
 use Rattle.std.specs.Prelude.{sum_by}

@@ -1,4 +1,4 @@
--- A run over tasks with quotas begins.
+-- How a run over tasks with quotas begins, and that it is then in progress: for `open` and the law `each_command_has_its_turn`.
 use Rattle.std.proofs.Common.{◌≡◌, ℕ, zero, suc, List, [], Some, length, get_or, replicate, arith, sym, ◌∙◌, ap, refl, subst, lit<}
 use Rattle.std.proofs.lemmas.List.{length-replicate}
 use Rattle.std.specs.FinMap.{empty}

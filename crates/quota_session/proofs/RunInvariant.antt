@@ -1,4 +1,4 @@
--- A run over tasks with quotas is in progress after each command.
+-- A run over tasks with quotas is in progress after each command: for clause `going` of `answer_ref` and the law `each_command_has_its_turn`.
 use Rattle.std.proofs.Common.{◌≡◌, ◌≢◌, ℕ, ◌<◌, ◌≤◌, List, [], ◌∷◌, ◌++◌, Some, cond, length, arith, sym}
 use Rattle.std.proofs.Common.{◌∙◌, ap, subst, inl, inr}
 use Rattle.std.specs.Prelude.{IsTrue, Option, Result, Ok, Err}

@@ -1,4 +1,4 @@
--- The tasks of a session, with their objects by the ids of a script instead of by handle.
+-- What the replies to a task depend on: the settings, the task's quota, and its objects by the ids of a script instead of by handle.
 use Rattle.std.specs.Prelude.{◌≡◌, ℕ}
 use Rattle.quota_heap.specs.State.{objects_by, quota_of}
 use Rattle.quota_laws.specs.Tasks.{Tasks}
@@ -6,11 +6,11 @@ pub use Rattle.quota_laws.specs.Transcript.{after_if, item_of, present_after}
 use Rattle.transcript_laws.specs.Histories.{objects_by_id}
 use Rattle.quota_session.specs.QuotaRun.{QuotaRun, ids_of}
 
--- the settings, quotas and objects of all tasks in a run, the objects by id: without handles and addresses
+-- the settings of a run, and for each task its quota and its objects by id: without handles and addresses
 abbrev pub tasks_of : QuotaRun → Tasks
 tasks_of s = record { profile = s.heap.profile; quotas = s.heap.quotas; objects = λ task. objects_by_id (ids_of s.session task) (objects_by s.heap task) }
 
--- Two runs are alike for a task: the task is present in both, and the settings, its quota and its objects by id are equal.
+-- The two runs `one` and `other` are alike for a task: the task is present in both, and the settings, its quota and its objects by id are equal.
 pub record AreAlikeFor (task : ℕ) (one other : QuotaRun) : Type 0 where
   pub here : one.session.present ≡ task
   pub there : other.session.present ≡ task

@@ -1,4 +1,4 @@
--- The most steps of a command on a heap that tasks share.
+-- The most steps that a command of a session over tasks takes on the heap.
 use Rattle.std.specs.Prelude.{ℕ, Option, Some, None, if◌then◌else◌, is_some, length}
 use Rattle.std.specs.FinMap.{get}
 use Rattle.id_table.specs.Ids.{Ids}
@@ -20,12 +20,12 @@ id_malloc_steps ids id = if is_some (get ids id) then 0 else most_of_malloc
 abbrev pub id_access_steps : Ids → ℕ → ℕ → ℕ → ℕ
 id_access_steps ids id from count = if is_some (get ids id) then most_of_access from count else 0
 
--- the most steps of a free, by the words of the object's slot; 0 if there is no object
+-- the most steps of a free of the object x, by the words of its slot; 0 if there is no object
 abbrev pub object_free_steps : QuotaState → Option Placed → ℕ
 object_free_steps s None = 0
 object_free_steps s (Some x) = most_of_free (slot_for (task_paging s.profile) (length x.bytes))
 
--- the most steps of a command of a task
+-- the most steps of a command of one task; all but `m`, `f`, `w` and `r` take none
 abbrev pub task_steps : TaskRun → Command → ℕ
 task_steps s (Malloc id bytes) = id_malloc_steps s.ids id
 task_steps s (Free id) = object_free_steps s.heap (task_object s id)
@@ -33,6 +33,6 @@ task_steps s (Write id from bytes) = id_access_steps s.ids id from (length bytes
 task_steps s (Read id from count) = id_access_steps s.ids id from count
 task_steps s command = 0
 
--- the most steps of any command; all but `m`, `f`, `w` and `r` take none
+-- the most steps of any command of a run: `m`, `f`, `w` and `r` are those of the present task
 abbrev pub most_steps : QuotaRun → Command → ℕ
 most_steps s command = task_steps (present_run s.session s.heap) command

@@ -1,4 +1,4 @@
--- The mode handler of a session over a heap that tasks share.
+-- Mode `quota` for the script loop: how a run over a heap of tasks begins, its runs over a script, and what is left if an allocation fails.
 use Rattle.std.specs.Prelude.{◌≡◌, ⊤, List, Option, Some, codes, false}
 use Rattle.cf_base.specs.Settings.{Profile, at_bound_one}
 use Rattle.cf_io.specs.Texts.{Reply, said}
@@ -9,7 +9,7 @@ use Rattle.script_reader.specs.Items.{Item}
 use Rattle.script_loop.specs.Applying.{TurnsInPart}
 use Rattle.quota_session.specs.QuotaRun.{IsGoingQuotas, QuotaRun, QuotaStep, first_session}
 
--- the run after the `heap` line: the heap has no objects and the settings of the line with the bound 1, and the session is new
+-- the run `new` after a `heap` line with the settings p: the heap has no objects and the settings p, but always the bound 1, and the session is new
 pub record BeginsQuotas (p : Profile) (new : QuotaRun) : Type 0 where
   pub settings : new.settings ≡ Some (at_bound_one p)
   pub session : new.session ≡ first_session
@@ -24,7 +24,7 @@ BeginsAtOne p reply new = BeginsQuotas p new × (reply ≡ said (codes "ok"))
 abbrev pub RunsQuotas : Option QuotaRun → List Item → List Reply → Option QuotaRun → Type 0
 RunsQuotas = PlayRun BeginsAtOne QuotaStep
 
--- an allocation failed: the heap is closed, and the session is unchanged
+-- an allocation failed at the `heap` line: the heap is closed, and the settings and the session are unchanged
 pub record LacksQuotas (old new : QuotaRun) : Type 0 where
   pub closed : new.heap.is_open ≡ false
   pub settings : new.settings ≡ old.settings

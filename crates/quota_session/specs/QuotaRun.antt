@@ -1,4 +1,4 @@
--- A session over a heap that tasks share, and what each command does there.
+-- A session over a heap that sixteen tasks share: its state, and for each command the reply and the state after it.
 use Rattle.std.specs.Prelude.{◌≡◌, ℕ, ◌<◌, ◌≤◌, IsTrue, List, [], Option, Some, codes, length, replicate, refl}
 use Rattle.std.specs.Prelude.{slice_index_or, slice_set}
 use Rattle.std.specs.Coded.{Coded, code_by, coded×, coded_ℕ, coded_list}
@@ -21,7 +21,8 @@ use Rattle.script_reader.specs.declared.command.Command.TheVariants as command
 use Rattle.id_table.specs.Ties.{AreTiedTo}
 use Rattle.quota_session.specs.TaskRun.{TaskRun, TaskStep, task_run}
 
--- for each task its live ids with the handles that they name, and the entries that it declared; and the number of the present task
+-- a session: for each task, by its number, its live ids with the handles that they name, and the entries that it declared with `need`; and the number of
+-- the present task
 pub record TaskSession : Type 0 where
   pub ids : List Ids
   pub needs : List (List Need)
@@ -55,12 +56,13 @@ session_code = code_by (List Ids × (List (List Need) × ℕ)) (coded× (coded_l
 abbrev pub AreTasksTied : TaskSession → QuotaState → Type 0
 AreTasksTied session heap = (task : ℕ) → task < 16 → AreTiedTo (ids_of session task) (objects_by heap task)
 
--- the settings of the `heap` line, None before it; the session; and the heap
+-- a run over tasks at one moment: the settings of the `heap` line, None before it; the session; and the heap
 pub record QuotaRun : Type 0 where
   pub settings : Option Profile
   pub session : TaskSession
   pub heap : QuotaState
 
+-- the run with these settings, this session and this heap
 abbrev pub quota_run : Option Profile → TaskSession → QuotaState → QuotaRun
 quota_run settings session heap = record { settings = settings; session = session; heap = heap }
 
@@ -76,11 +78,12 @@ pub record IsGoingQuotas (s : QuotaRun) : Type 0 where
 abbrev pub present_run : TaskSession → QuotaState → TaskRun
 present_run session heap = task_run session.present (ids_of session session.present) heap
 
--- the session after the present task's ids became `ids`
+-- the session s, but the present task's ids are `ids`
 abbrev pub with_ids : TaskSession → Ids → TaskSession
 with_ids s ids = record s { ids = slice_set s.ids s.present ids }
 
--- the step of a command of the present task; the ids of the other tasks stay the same
+-- A command of the present task leads from the run `old` to `new`, with this reply: it does a step of that task (`TaskStep`), whose ids are then `ids`.
+-- The rest of the session and the settings stay the same.
 pub record StepsPresent (old : QuotaRun) (command : Command) (reply : Reply) (new : QuotaRun) : Type 0 where
   pub ids : Ids
   pub step : TaskStep (present_run old.session old.heap) command reply (task_run old.session.present ids new.heap)
@@ -90,7 +93,7 @@ pub record StepsPresent (old : QuotaRun) (command : Command) (reply : Reply) (ne
 abbrev pub with_present : QuotaRun → ℕ → QuotaRun
 with_present s task = record s { session = record s.session { present = task } }
 
--- why the line that sets the task's quota to `pages` is refused; None if it is accepted
+-- why `quota`, which sets the task's quota to `pages` pages, is refused; None if it is accepted
 abbrev pub quota_fault : QuotaState → ℕ → ℕ → Option QuotaFault
 quota_fault s task pages = quota_refusal s.profile s.quotas task pages (objects_by s task)
 
@@ -100,7 +103,7 @@ pub record SetsQuota (old : QuotaRun) (task pages : ℕ) (reply : Reply) (new : 
   pub rules : KeepsTasks new.heap
   pub reply_is : reply ≡ said (quota_text (quota_fault old.heap task pages))
 
--- the session after `need`: the task has one more entry, if it had fewer than 64
+-- the session s after `need` for the task: the task has declared this entry too, if it had fewer than 64
 abbrev pub with_need : TaskSession → ℕ → Need → TaskSession
 with_need s task entry = record s { needs = slice_set s.needs task (one_more (needs_of s task) entry) }
 
@@ -110,7 +113,7 @@ pub record Admits (s : QuotaRun) (task : ℕ) (reply : Reply) : Type 0 where
   pub meets : IsAdmission (record { profile = s.heap.profile; quota = quota_of s.heap task }) (needs_of s.session task) answer
   pub reply_is : reply ≡ said (admission_text answer)
 
--- One command: its reply, and the state after it.
+-- One command: the run before it, its reply, and the run after it.
 abbrev pub QuotaStep : QuotaRun → Command → Reply → QuotaRun → Type 0
 QuotaStep old (command.Task task) reply new = (reply ≡ said (codes "ok")) × (new ≡ with_present old task)
 QuotaStep old (command.Quota task pages) reply new = SetsQuota old task pages reply new

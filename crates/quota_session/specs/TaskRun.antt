@@ -1,4 +1,4 @@
--- One task of a session, and what each of its commands does.
+-- One task of a session over tasks, and what each command that names no task does for it.
 use Rattle.std.specs.Prelude.{◌≡◌, ℕ, ◌-◌, ◌++◌, List, Option, Some, None, Result, codes, filter, map, nat_eq, not}
 use Rattle.std.specs.List.{range_with_len}
 use Rattle.std.specs.Option.{MatchOption}
@@ -24,12 +24,13 @@ use Rattle.run_model.specs.Steps.{ids_given}
 use Rattle.script_reader.specs.declared.command.Command.{Command}
 use Rattle.script_reader.specs.declared.command.Command.TheVariants.{Malloc, Free, Write, Read, Walk}
 
--- a task, its live ids with the handles that they name, and the heap of all tasks
+-- the number of a task, its live ids with the handles that they name, and the heap of all tasks
 pub record TaskRun : Type 0 where
   pub task : ℕ
   pub ids : Ids
   pub heap : QuotaState
 
+-- the task with this number and these live ids, on the heap of all tasks
 abbrev pub task_run : ℕ → Ids → QuotaState → TaskRun
 task_run task ids heap = record { task = task; ids = ids; heap = heap }
 
@@ -68,7 +69,7 @@ pub record MallocsForTask (old : TaskRun) (id bytes : ℕ) (reply : Reply) (new 
   pub task : new.task ≡ old.task
   pub reply_is : reply ≡ said (malloc_text answer)
 
--- a free of a live id: the heap removes the object, and the id is no longer live
+-- a free of a live id, which names h: the heap removes the object h of the task, and the id is no longer live; the reply is `ok`
 pub record FreesIdOfTask (old : TaskRun) (id h : ℕ) (reply : Reply) (new : TaskRun) : Type 0 where
   pub freed : Freed
   pub step : FreesOfTask old.heap old.task h freed new.heap
@@ -77,7 +78,7 @@ pub record FreesIdOfTask (old : TaskRun) (id h : ℕ) (reply : Reply) (new : Tas
   pub task : new.task ≡ old.task
   pub reply_is : reply ≡ said (codes "ok")
 
--- a write into a live object: the heap replaces the bytes, or refuses; the reply shows which
+-- a write into a live object, which `part` names by its handle and its first byte: the heap replaces the bytes, or refuses; the reply shows which
 pub record WritesIdOfTask (old : TaskRun) (part : Part) (bytes : List ℕ) (reply : Reply) (new : TaskRun) : Type 0 where
   pub answer : Result Unit AccessFault
   pub step : IsWriteStep old.heap old.task part bytes answer new.heap
@@ -86,13 +87,13 @@ pub record WritesIdOfTask (old : TaskRun) (part : Part) (bytes : List ℕ) (repl
   pub task : new.task ≡ old.task
   pub reply_is : reply ≡ said (write_text answer)
 
--- the reply to a command that changes nothing; `none` to a command of another mode
+-- the reply to a command that changes nothing: to `r` bytes of the object, to `walk` the report; `none` to a command of another mode
 abbrev pub task_look : TaskRun → Command → Reply
 task_look s (Read id at count) = said (read_text (task_object s id) at count)
 task_look s Walk = task_report s.heap s.task
 task_look s command = said (codes "none")
 
--- One command of a task: its reply, and the state after it.
+-- One command of a task: the task before it, its reply, and the task after it.
 abbrev pub TaskStep : TaskRun → Command → Reply → TaskRun → Type 0
 TaskStep old (Malloc id bytes) reply new = MatchOption (get old.ids id) (MallocsForTask old id bytes reply new) (λ h. StaysTask old (codes "live") reply new)
 TaskStep old (Free id) reply new = MatchOption (get old.ids id) (StaysTask old (codes "unknown") reply new) (λ h. FreesIdOfTask old id h reply new)

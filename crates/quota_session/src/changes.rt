@@ -1,5 +1,6 @@
-//! The commands `m`, `f`, `w` and `r` of one task on its objects. The first three return their reply; `r`
-//! writes its reply on the line.
+//! The commands `m`, `f`, `w` and `r` of one task on its objects, which a script names by ids. The first three
+//! return their reply; `r` builds its reply in `line`. `task` is the task's number, 0 to 15, and `ids` maps its
+//! live ids to handles.
 ghost use Rattle.std.specs.Prelude.{◌≡◌, ◌^◌, ◌<◌, ◌≤◌, [], IsTrue, length};
 ghost use Rattle.step_ledger.specs.Counting.{RoseAtMost};
 ghost use Rattle.cf_io.specs.Lines.{line_room};
@@ -19,8 +20,8 @@ use id_table::IdTable;
 use quota_heap::QuotaHeap;
 use step_ledger::Steps;
 
-/// `m`: makes an object of `bytes` bytes for an id that isn't live. The reply is `live` if the id is live,
-/// or names the heap's refusal.
+/// `m`: makes an object of `bytes` zero bytes for an id of the task that isn't live. The reply is `ok`; or
+/// `live` if the id is live, or the name of the heap's refusal, and then nothing changes.
 pub(crate) fn malloc(
     ids: &mut IdTable,
     heap: &mut QuotaHeap,
@@ -47,7 +48,8 @@ pub(crate) fn malloc(
     }
 }
 
-/// `f`: frees the object of a live id. The reply is `unknown` if the id isn't live.
+/// `f`: frees the object of a live id of the task. The reply is `ok`; or `unknown` if the id isn't live, and
+/// then nothing changes.
 pub(crate) fn free(
     ids: &mut IdTable,
     heap: &mut QuotaHeap,
@@ -72,8 +74,8 @@ pub(crate) fn free(
     Short::Done
 }
 
-/// `w`: writes bytes into the object of a live id, from byte `at` on. The reply is `unknown` if the id
-/// isn't live, or names the heap's fault if the bytes pass the object's end.
+/// `w`: writes these bytes into the object of a live id of the task, from byte `at` on. The reply is `ok`; or
+/// `unknown` if the id isn't live, or `range` if the bytes pass the object's end, and then nothing changes.
 pub(crate) fn write(
     ids: &IdTable,
     heap: &mut QuotaHeap,
@@ -98,9 +100,9 @@ pub(crate) fn write(
     }
 }
 
-/// `r`: fills `buffer` with bytes of a live id's object, from byte `at` on, and writes them on the line in
-/// hexadecimal. The reply is `unknown` if the id isn't live, or names the heap's fault if the bytes pass
-/// the object's end.
+/// `r`: reads as many bytes as `buffer` holds from the object of a live id of the task, from byte `at` on. The
+/// reply in `line` is `=` and the bytes in hexadecimal; or `unknown` if the id isn't live, or `range` if the
+/// bytes pass the object's end.
 pub(crate) fn read(
     ids: &IdTable,
     heap: &QuotaHeap,

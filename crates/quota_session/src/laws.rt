@@ -1,5 +1,5 @@
-//! Laws of a session over tasks. Each function's contract is a law; its body calls the laws that the proof
-//! uses.
+//! Laws of a session over tasks. Each function changes nothing, and its contract is a law; its body calls the
+//! laws that the proof uses.
 ghost use Rattle.std.specs.Prelude.{◌≡◌, ℕ, ◌++◌, Bool, List, [], None, Option, true};
 ghost use Rattle.cf_base.specs.Settings.{Profile};
 ghost use Rattle.cf_io.specs.Texts.{Reply, text_of};
@@ -20,10 +20,10 @@ ghost use Rattle.quota_session.specs.TaskBytes.{AreReadsOfTasks};
 use quota_laws::a_reply_follows_from_the_task_alone;
 use quota_model::a_page_is_there_for_each_quota;
 
-/// The reply to a call of the present task depends on the settings, its quota and its objects by id
-/// alone: it is the reply of a heap of its own, with its quota as the number of pages. A command changes
-/// the objects by id of no task but the present one, and the quota of no task but the one that it names.
-/// So two runs that are alike for a task give its calls the same replies.
+/// Clause `reply`: the reply to a call of the present task depends on the settings, its quota and its objects
+/// by id alone. It is the reply of a heap of its own, with its quota as the number of pages. Clause `after`: a
+/// command changes the objects by id of no task but the present one, and the quota of no task but the one that
+/// it names. Clause `alike`: so two runs that are alike for a task give its calls the same replies.
 pub fn a_task_is_answered_from_its_own()
     ensures reply { (old new : QuotaRun) (command : Command) (reply : Reply) → IsGoingQuotas old
         → is_for_task command ≡ true → QuotaStep old command reply new
@@ -52,8 +52,8 @@ pub fn reads_give_what_was_written()
     a_task_is_answered_from_its_own();
 }
 
-/// One transcript: the replies to every script are a function of its lines, one for each item and none
-/// over. Handles, addresses and choices of the heap change no reply.
+/// The replies to every script are a function of its lines, exactly one reply for each item. No handle,
+/// address or choice of the heap changes a reply.
 pub fn one_transcript_of_tasks()
     ensures run { (items : List Item) (replies : List Reply) (new : Option QuotaRun)
         → AreSayable items → RunsQuotas None items replies new → MeetsTasks items replies }

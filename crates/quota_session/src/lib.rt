@@ -1,5 +1,5 @@
-//! A session over a heap that sixteen tasks share. It keeps the present task, and for each task its ids
-//! and its declared needs. `run_quotas` runs a script on it.
+//! A session over a heap that sixteen tasks share. It keeps for each task its ids and its declared needs, and
+//! the present task, whose ids `m`, `f`, `w` and `r` use. `run_quotas` runs a script on it.
 #![tactic(auto)]
 
 mod changes;

@@ -1,4 +1,5 @@
-//! The declared needs of a task.
+//! `Needs`: the objects that one task declared with `need`, as entries. An entry is a number of objects of one
+//! length in bytes. `admit` tests whether the task's quota is enough for them.
 ghost use Rattle.std.specs.Prelude.{◌≡◌, ◌<◌, ◌≤◌, [], IsTrue, length, nat_lt};
 ghost use Rattle.quota_model.specs.declared.answers.Need.{Need as ANeed};
 ghost use Rattle.quota_session.specs.QuotaRun.{one_more};
@@ -9,7 +10,7 @@ use std::marker::Model;
 /// The most entries that a task can declare.
 const MOST: usize = 64;
 
-/// The entries that one task declared, at most 64: in place, so that `need` allocates nothing.
+/// The entries that one task declared, at most 64. They are stored in place, so that `need` allocates nothing.
 #[derive(Drop)]
 pub(crate) struct Needs {
     entries: [Need; MOST],

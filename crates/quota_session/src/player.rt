@@ -18,14 +18,14 @@ use step_ledger::Meter;
 #[derive(Drop)]
 pub struct QuotaPlayer {
     pub session: QuotaSession,
-    /// The settings of the `heap` line with the bound 1; none before that line.
+    /// The settings of the `heap` line, but always with the bound 1; none before that line.
     pub settings: Option<Settings>,
     meter: Meter,
 }
 
 impl QuotaPlayer {
-    /// A handler with a new session and without settings. Allocates all memory of the session; the result
-    /// is `OutOfMemory` if that fails.
+    /// A handler with a new session and without settings. Allocates all memory of the session, and fails with
+    /// `OutOfMemory` if there is none.
     pub fn start(rt: &HostRuntime, alloc: Global) -> Result<QuotaPlayer, OutOfMemory>
         ensures session { IfOk result (λ p. p.session ≡ first_session) }
         ensures settings { IfOk result (λ p. p.settings ≡ None) }
@@ -47,6 +47,7 @@ impl Player<QuotaHeap> for QuotaPlayer {
 
     ghost semantics = { quota_tasks };
 
+    /// Opens the heap with the settings of the `heap` line, but the bound 1, and writes the reply `ok`.
     fn open<K: Sink>(
         &mut self,
         heap: &mut QuotaHeap,
@@ -66,6 +67,7 @@ impl Player<QuotaHeap> for QuotaPlayer {
         Ok(())
     }
 
+    /// Does the command on the heap and writes its reply. The heap was opened before.
     fn answer<K: Sink>(
         &mut self,
         heap: &mut QuotaHeap,
@@ -81,10 +83,11 @@ impl Player<QuotaHeap> for QuotaPlayer {
     }
 }
 
-/// Answers each line of a script before it takes the next chunk: the `heap` line opens the heap, with the
-/// bound 1 for each class, and each command is done for the present task or the one that it names. It
-/// stops at a bad line, if the source or the sink fails, if an allocation fails at the `heap` line, and
-/// after 268,435,455 bytes.
+/// Runs the script of a source on the heap, and writes the replies to a sink; the status says how it ended.
+/// The `heap` line opens the heap, with the bound 1 for each class; each later command is done for the
+/// present task or for the one that it names. Each complete line has its reply before the next chunk is
+/// taken. The run stops at a bad line, if the source or the sink fails, if an allocation fails at the
+/// `heap` line, and after 268,435,455 bytes.
 pub fn run_quotas<S: Source, K: Sink>(
     player: &mut QuotaPlayer,
     heap: &mut QuotaHeap,

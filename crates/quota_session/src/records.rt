@@ -1,4 +1,4 @@
-//! What a session stores of its tasks.
+//! What a session stores of its sixteen tasks: the ids and the declared needs of each, and which is present.
 ghost use Rattle.std.specs.Prelude.{◌≡◌, IfOk, [], replicate};
 ghost use Rattle.std.specs.FinMap as map;
 ghost use Rattle.quota_session.specs.Layout.{session_of};
@@ -12,7 +12,8 @@ use std::alloc::Global;
 /// The number of tasks.
 pub(crate) const TASKS: u32 = 16;
 
-/// For each task the handles of its live ids and its declared needs; and the number of the present task.
+/// For each task, by its number, the table of its live ids with their handles, and its declared needs; and the
+/// number of the present task, 0 to 15.
 #[derive(Drop)]
 pub(crate) struct Records {
     pub(crate) ids: Vec<IdTable>,
@@ -21,8 +22,8 @@ pub(crate) struct Records {
 }
 
 impl Records {
-    /// Records in which no id is live, no need is declared, and task 0 is present. Allocates all memory;
-    /// the result is `OutOfMemory` if that fails.
+    /// Records in which no id is live, no need is declared, and task 0 is present. Allocates all memory of a
+    /// session, and fails with `OutOfMemory` if there is none.
     pub(crate) fn new(alloc: Global) -> Result<Records, OutOfMemory>
         ensures { IfOk result (λ r. session_of r ≡ first_session) }
     {
@@ -36,7 +37,8 @@ impl Records {
     }
 }
 
-/// Sixteen id tables, one for each task, in which no id is live; `OutOfMemory` if an allocation fails.
+/// Sixteen id tables, one for each task, in which no id is live. Fails with `OutOfMemory` if an allocation
+/// fails.
 fn first_ids(alloc: Global) -> Result<Vec<IdTable>, OutOfMemory>
     ensures { IfOk result (λ ids. ids.items ≡ replicate 16 map.empty) }
 {
@@ -52,7 +54,8 @@ fn first_ids(alloc: Global) -> Result<Vec<IdTable>, OutOfMemory>
     Ok(all)
 }
 
-/// Sixteen lists of needs without entries, one for each task; `OutOfMemory` if the allocation fails.
+/// Sixteen lists of needs without entries, one for each task. Fails with `OutOfMemory` if the allocation
+/// fails.
 fn first_needs(alloc: Global) -> Result<Vec<Needs>, OutOfMemory>
     ensures { IfOk result (λ needs. needs.items ≡ replicate 16 []) }
 {

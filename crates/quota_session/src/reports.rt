@@ -1,4 +1,4 @@
-//! The report of `walk` on the classes of one task.
+//! `walk` for one task: a line for each class with live objects of the task, and a line with its totals.
 ghost use Rattle.std.specs.Prelude.{◌≡◌, ◌<◌, ◌≤◌, [], IfOk, IsTrue, OnErr, OnOk};
 ghost use Rattle.cf_io.specs.Feeds.{Puts, FailsLast};
 ghost use Rattle.cf_io.specs.Texts.{led};
@@ -17,8 +17,9 @@ use quota_heap::QuotaHeap;
 /// The most size classes of a task.
 const CLASSES: u32 = 67;
 
-/// `walk`: writes a line for each class of the task with live objects, and then the line of the totals. If
-/// the sink fails, the result is `Failed`, and a prefix of the report was written.
+/// `walk`: writes a line for each class of the task with live objects, and then the line of the totals: the
+/// task's live objects, its pages in use, and the pages of its quota that it doesn't use. Each line is
+/// built in `line`. If the sink fails, the result is `Failed`, and a prefix of the report was written.
 pub(crate) fn walk<K: Sink>(
     ids: &IdTable,
     heap: &QuotaHeap,
@@ -42,7 +43,8 @@ pub(crate) fn walk<K: Sink>(
 }
 
 /// Writes a line for each class of the task with live objects, in rising order, and returns the number of
-/// pages that the task uses. If the sink fails, the result is `Failed`, and a prefix was written.
+/// pages that the task uses. If the sink fails, the result is `Failed`, and a prefix of these lines was
+/// written.
 fn put_classes<K: Sink>(
     heap: &QuotaHeap,
     task: u32,

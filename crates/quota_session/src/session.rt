@@ -1,4 +1,5 @@
-//! A session over a heap that tasks share.
+//! A session over a heap that sixteen tasks share: it does each command, on the present task or on the one
+//! that the command names, and writes its reply.
 ghost use Rattle.std.specs.Prelude.{◌≡◌, ◌<◌, ◌^◌, ◌≤◌, [], IfOk, IsTrue, OnErr, Option, Some, length, OnOk};
 ghost use Rattle.step_ledger.specs.Counting.{RoseAtMost};
 ghost use Rattle.cf_base.specs.Settings.{Profile, profile_of};
@@ -32,14 +33,14 @@ use std::alloc::Global;
 use std::marker::Model;
 use step_ledger::{Meter, Steps};
 
-/// The most bytes of one read.
+/// The most bytes that one `r` reads.
 const MOST: usize = 4_096;
 
-/// For each task its ids and its declared needs; and the present task.
+/// For each of sixteen tasks its ids and its declared needs; and which task is present.
 #[derive(Drop)]
 pub struct QuotaSession {
     records: Records,
-    /// The line for the reply.
+    /// The line in which a reply is built.
     line: Line,
     /// The buffer for the bytes of a read.
     buffer: [u8; MOST],
@@ -59,8 +60,8 @@ impl Model for QuotaSession {
 }
 
 impl QuotaSession {
-    /// A session in which no id is live, no need is declared, and task 0 is present. Allocates all its
-    /// memory, a table of 65,536 ids for each task; the result is `OutOfMemory` if that fails.
+    /// A new session, in which no id is live, no need is declared, and task 0 is present. Allocates all its
+    /// memory, a table of 65,536 ids for each task among it, and fails with `OutOfMemory` if there is none.
     pub fn start(alloc: Global) -> Result<QuotaSession, OutOfMemory>
         ensures { IfOk result (λ s. s ≡ first_session) }
     {
@@ -71,9 +72,9 @@ impl QuotaSession {
         })
     }
 
-    /// Resets the ledger to 0, does the command on the heap, which is open with the settings `s`, and
-    /// writes its reply. If the sink fails, the result is `Failed`: the command has taken effect, and a
-    /// prefix of its reply was written.
+    /// Resets the ledger to 0, does the command c on the heap, which is open with the settings `s`, and
+    /// writes its reply to the sink `out`. If the sink fails, the result is `Failed`: the command has taken
+    /// effect, and a prefix of its reply was written.
     pub fn apply<K: Sink>(
         &mut self,
         heap: &mut QuotaHeap,
@@ -98,7 +99,7 @@ impl QuotaSession {
         self.apply_ref(heap, s, c.as_ref(), out, meter)
     }
 
-    /// `apply` for a command with borrowed bytes.
+    /// The same as `apply`, for a command whose bytes are borrowed.
     pub fn apply_ref<K: Sink>(
         &mut self,
         heap: &mut QuotaHeap,
@@ -123,8 +124,8 @@ impl QuotaSession {
         self.answer_ref(heap, s, c, out, meter.steps())
     }
 
-    /// `apply_ref` on a ledger that the caller keeps: the call doesn't reset it, and raises it by at most
-    /// the steps of the command.
+    /// The same as `apply_ref`, but on a ledger that the caller keeps: the call doesn't reset it, and
+    /// raises it by at most `most_steps` of the command.
     pub fn answer_ref<K: Sink>(
         &mut self,
         heap: &mut QuotaHeap,
@@ -162,8 +163,9 @@ impl QuotaSession {
     }
 }
 
-/// Does the command on the heap and writes its reply to the sink. If the sink fails, the result is
-/// `Failed`: the command has taken effect, and a prefix of its reply was written.
+/// Does the command c on the heap, which is open with the settings `s`, and writes its reply to the sink
+/// `out`. If the sink fails, the result is `Failed`: the command has taken effect, and a prefix of its
+/// reply was written.
 fn answer<K: Sink>(
     records: &mut Records,
     heap: &mut QuotaHeap,
@@ -199,7 +201,8 @@ fn answer<K: Sink>(
     }
 }
 
-/// Does a command with a reply of one line, and writes its text on the line.
+/// Does a command whose reply is one line, that is, any but `walk`, and builds the text of the reply in
+/// `line`.
 fn speak(
     records: &mut Records,
     heap: &mut QuotaHeap,
@@ -239,7 +242,8 @@ fn speak(
     }
 }
 
-/// Does a command of the present task with a reply of one line, and writes its text on the line.
+/// Does a command that names no task, for the present task, and builds the text of its reply in `line`. The
+/// command isn't `walk`.
 fn speak_present(
     records: &mut Records,
     heap: &mut QuotaHeap,
@@ -267,8 +271,8 @@ fn speak_present(
     speak_task(ids, heap, task, c, buffer, line, steps)
 }
 
-/// Does a command of task `task`, whose ids are `ids`, with a reply of one line, and writes its text on
-/// the line.
+/// Does a command that names no task, for the task `task`, whose ids are `ids`, and builds the text of its
+/// reply in `line`. The command isn't `walk`; the reply to a command of another mode is `none`.
 fn speak_task(
     ids: &mut IdTable,
     heap: &mut QuotaHeap,

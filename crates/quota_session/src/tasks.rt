@@ -1,4 +1,4 @@
-//! The commands `quota`, `need` and `admit`, which name a task.
+//! The commands `quota`, `need` and `admit`, which name a task, 0 to 15, whichever is present.
 ghost use Rattle.std.specs.Prelude.{◌≡◌, ◌<◌, [], IsTrue, length};
 ghost use Rattle.cf_io.specs.Lines.{line_room};
 ghost use Rattle.cf_session.specs.Apply.{outcome_in};
@@ -14,8 +14,9 @@ use cf_io::{Line, push_field, push_text};
 use cf_session::{Outcome, Short};
 use quota_heap::{QuotaFault, QuotaHeap};
 
-/// `quota`: sets the quota of a task to `pages` pages. The heap refuses if the quotas would sum to more
-/// pages than the region has, else if the task needs more than `pages` pages; the reply shows which.
+/// `quota`: sets the quota of a task to `pages` pages. The heap refuses, and nothing changes, if the quotas
+/// would sum to more pages than the region has, else if the task uses more than `pages` pages; the reply shows
+/// which.
 pub(crate) fn set_quota(heap: &mut QuotaHeap, task: u32, pages: u32) -> Short
     requires opened { IsTrue heap.old.is_open }
     requires sixteen { task < 16 }
@@ -45,7 +46,8 @@ pub(crate) fn declare(records: &mut Records, task: u32, entry: Need) -> Short
     }
 }
 
-/// `admit`: writes the result of the admission tests on the line, as the reply.
+/// `admit`: builds the reply in `line`, the result of the admission test: `yes`, `no` and a number,
+/// `proxies` or `size`.
 pub(crate) fn push_admission(line: &mut Line, answer: Admission) -> Outcome
     requires { line.old ≡ [] }
     ensures text { line.new ≡ admission_text answer }

@@ -1,4 +1,4 @@
--- Clearing or moving blocks of four words, one by one.
+-- For `clear_blocks` and `move_blocks`: blocks of four words are cleared or moved, one after the other.
 use Rattle.std.proofs.Common.{◌≡◌, ◌≢◌, ℕ, ◌+◌, ◌*◌, ◌/◌, ◌<◌, ◌≤◌, ◌⊎◌, inl, inr, List, length, slice_index, arith, ap, ◌∙◌}
 use Rattle.std.proofs.lemmas.Bool.{cases_eq, cases_lt}
 use Rattle.region.specs.Words.{AreDistinct, AreOther, ClearsBlocks, MovesBlocks, cleared, moved}

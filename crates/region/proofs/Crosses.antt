@@ -1,4 +1,4 @@
--- A region may go to another thread.
+-- A `Region` may be sent to another thread.
 use denote.Param.Send.{IsSend}
 use Rattle.region.proofs.words.Region.TheSendSync.{the_send}
 use Rattle.region.specs.contracts.words.Region.{the_row}

@@ -1,4 +1,4 @@
--- Splitting a block into its words and the right to free it, and joining them again.
+-- For the calls of `Block`: splitting what a block owns into its words and the right to free them, and joining the two again.
 use Rattle.std.proofs.Common.{◌≡◌, ℕ, ◌+◌, ◌^◌, ◌<◌, List, [], ◌∷◌, ◌++◌, length, refl, sym, ap, ◌∙◌, w64}
 use seplogic.Ra.Ura.{Ura}
 use base.Fraction.{full_share}

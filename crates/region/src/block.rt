@@ -1,4 +1,5 @@
-//! One block of memory of a fixed size. No other file of the crate has a raw pointer.
+//! One block of memory of a fixed size, as `Region` owns it. No other file of the crate has a raw
+//! pointer.
 ghost use Rattle.std.specs.Prelude.{◌≡◌, ℕ, ◌+◌, ◌^◌, ◌<◌, ◌≤◌, List, length, take, drop, replicate, IfSome};
 ghost use Rattle.std.specs.Borrow.{sem, u64, Array, lent_at};
 ghost use Rattle.region.specs.Layout.{block_owns, room_of_words, words_at};
@@ -6,8 +7,9 @@ ghost use Rattle.region.specs.Layout.{block_owns, room_of_words, words_at};
 use std::alloc::{Allocator, Global};
 use std::marker::Model;
 
-/// One block of memory for `len` words of 8 bytes. It doesn't hold its allocator, so its owner must
-/// call `free`: dropping a block leaks its memory.
+/// One block of memory for `len` words of 8 bytes, which begins at `at`. Contracts see its words as
+/// `items`. It doesn't hold its allocator, so its owner must call `free`: dropping a block leaks
+/// its memory.
 pub(crate) struct Block {
     at: *mut u64,
     len: usize,
@@ -27,7 +29,7 @@ unsafe impl Send for Block {}
 impl Block {
     ghost use Rattle.region.specs.BlockLoan.{LendsAll, LendsPartOf};
 
-    /// A block of `len` words, all zero; none if the allocation fails.
+    /// Allocates a block of `len` words, all zero; none if the allocation fails.
     pub(crate) fn new(alloc: &Global, len: usize) -> Option<Block>
         requires { len < 2 ^ 32 }
         ensures { IfSome result (λ b. b.items ≡ replicate len 0) }
@@ -42,13 +44,13 @@ impl Block {
         }
     }
 
-    /// Returns the memory to the allocator.
+    /// Returns the memory to the allocator that it came from.
     pub(crate) fn free(self, alloc: &Global) {
         let Block { at, len } = self;
         unsafe { alloc.deallocate(at as *mut u8, len * 8, 8) }
     }
 
-    /// Borrows the words.
+    /// Borrows all words for reading.
     pub(crate) fn words(&self) -> &[u64]
         ensures value { result.now ≡ self.now.items }
         ensures small { length result.now < 2 ^ 32 }
@@ -56,7 +58,7 @@ impl Block {
         unsafe { std::slice::from_raw_parts(self.at, self.len) }
     }
 
-    /// Borrows the words for writing.
+    /// Borrows all words for writing.
     pub(crate) fn words_mut(&mut self) -> &mut [u64]
         ensures* writes_back { sem 𝓛 (LendsAll self.entry result) }
         ensures value { result.now ≡ self.old.items }
@@ -64,7 +66,7 @@ impl Block {
         unsafe { std::slice::from_raw_parts_mut(self.at, self.len) }
     }
 
-    /// Borrows the `n` words from `i` on for writing.
+    /// Borrows the `n` words from index `i` on for writing.
     pub(crate) fn run_mut(&mut self, i: usize, n: usize) -> &mut [u64]
         requires within { i + n ≤ length self.old.items }
         ensures* writes_back { sem 𝓛 (LendsPartOf self.entry i n result) }

@@ -1,4 +1,4 @@
--- For every call of a heap there are a result and a state after it that keeps the rules: what that means.
+-- The claims that a call of a heap has some result and a state after it that keeps the rules (`HasMalloc` and its like), which the files of answers prove.
 use Rattle.std.proofs.Common.{◌≡◌, ℕ, ◌+◌, ◌*◌, ◌<◌, ◌≤◌, List, Option, Some, None, Result, Ok, arith, sym, ◌∙◌, refl}
 use Rattle.std.proofs.Common.{subst, inl, inr}
 use Rattle.std.specs.Prelude.{option_map}

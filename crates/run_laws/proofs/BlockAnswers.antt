@@ -1,4 +1,4 @@
--- Every call of a heap with blocks has a result, and a state after it that keeps the rules.
+-- For `a_command_is_always_answered`: every call of a heap with blocks has a result, and a state after it that keeps the rules.
 use Rattle.std.proofs.Common.{◌≡◌, ◌≢◌, ℕ, ◌+◌, ◌*◌, ◌<◌, ◌≤◌, List, [], ◌∷◌, Option, Some, None, Ok, Err, length, replicate, arith, sym, ◌∙◌, ap}
 use Rattle.std.proofs.Common.{refl, subst, inl, inr}
 use Rattle.std.specs.Prelude.{IfSome, nat_eq, option_map, slice_index}

@@ -1,4 +1,4 @@
--- What kinds with pages keep of the block table.
+-- The rule of each kind with pages for its block table (`KeepsTable`), kept by steps of a heap.
 use Rattle.std.proofs.Common.{◌≡◌, ℕ, ◌*◌, ◌/◌, Option, Some, None, length, arith, sym, ◌∙◌, refl, subst}
 use Rattle.cf_base.specs.declared.answers.Handle.{Handle}
 use Rattle.cf_base.specs.declared.kind.Kind.{Kind}

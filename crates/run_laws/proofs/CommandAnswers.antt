@@ -1,4 +1,4 @@
--- Every command gets a reply.
+-- For `a_command_is_always_answered`: every valid command has a turn, from the results of the heap's calls.
 use Rattle.std.proofs.Common.{◌≡◌, ℕ, ◌+◌, ◌*◌, List, Option, Some, None, refl}
 use Rattle.std.specs.Prelude.{codes}
 use Rattle.std.specs.FinMap.{get, remove}

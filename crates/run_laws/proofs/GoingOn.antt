@@ -1,4 +1,4 @@
--- A run stays in progress to the end of its items.
+-- For the laws of `runs.rt`: a run on one manager stays in progress, can be continued, and what was written of its first items is a prefix of the whole text.
 use Rattle.std.proofs.Common.{◌≡◌, ℕ, append_assoc, List, [], ◌∷◌, ◌++◌, Option, Some, None, sym, ◌∙◌, ap, refl, subst}
 use Rattle.std.specs.Prelude.{codes}
 use Rattle.cf_base.specs.declared.kind.Kind.{Kind}

@@ -1,4 +1,4 @@
--- There are words for every sound arrangement.
+-- For the calls of a heap with pages: every sound arrangement of objects has words of a region, namely their headers and bytes, and zeros.
 use Rattle.std.proofs.Common.{◌≡◌, ℕ, Bool, true, false, cond, ◌+◌, ◌-◌, ◌*◌, ◌<◌, ◌≤◌, List, Some, length, get_or, map, replicate, arith, sym, ◌∙◌, refl, inl}
 use Rattle.std.proofs.Common.{inr}
 use Rattle.std.specs.Prelude.{◌&&◌, nat_le, nat_lt}

@@ -1,4 +1,4 @@
--- The items that a script can contain.
+-- For `items_can_be_said`: each function of the grammar returns valid commands and settings alone.
 use Rattle.std.proofs.Common.{◌≡◌, ℕ, Bool, true, false, cond, ◌+◌, ◌*◌, ◌/◌, ◌%◌, ◌≤◌, List, [], ◌∷◌, Option, Some, None, Result, Ok, Err, length, arith, sym}
 use Rattle.std.proofs.Common.{ap, refl, subst}
 use Rattle.std.specs.Prelude.{⊤, ◌==◌, codes, nat_le, option_map}

@@ -1,4 +1,4 @@
--- A tiling has words in which word 1 of each free block links it in its list.
+-- For the calls of a heap with blocks: to every tiling and its free lists there are words in which word 1 of each free block links it in its list.
 use Rattle.std.proofs.Common.{◌≡◌, ℕ, zero, suc, ◌+◌, ◌<◌, List, [], ◌∷◌, Option, Some, None, length, get_or, map, cond, arith, refl, sym, ◌∙◌, ap, subst}
 use Rattle.std.proofs.Common.{inl, inr}
 use Rattle.std.specs.Prelude.{if◌then◌else◌, is_none, nat_eq}

@@ -1,5 +1,5 @@
--- What each command does to the ids of a run and to their objects, for any rules and any heap; and that reads then print the bytes that follow from the lines
--- and their replies.
+-- For the laws of reads, of every mode: what each command does to the ids of a run and to their objects, for any rules and any heap; and that reads then print
+-- the bytes that follow from the lines and their replies.
 use Rattle.std.proofs.Common.{◌≡◌, ◌⊎◌, ℕ, Bool, true, false, cond, List, [], ◌∷◌, Option, Some, None, replicate, sym, ◌∙◌, ap, refl, subst, inl, inr}
 use Rattle.std.proofs.lemmas.Bool.{cases_eq}
 use Rattle.std.specs.Ordering.{nat_cmp}
@@ -19,12 +19,12 @@ use Rattle.script_reader.specs.Items.{Item, asks, bad, starts}
 use Rattle.script_reader.specs.declared.command.Command.{Command}
 use Rattle.script_reader.specs.declared.command.Command.TheVariants.{Malloc, Free, Write, Read, Resize}
 
--- the bytes of an id's number, if it has one
+-- the bytes of the object under a number, if there is a number
 abbrev pub through : Objects → Option ℕ → Option (List ℕ)
 through o None = None
 through o (Some h) = get o h
 
--- each id has the bytes that follow from the lines
+-- the map `IdBytes` has for each id the bytes of the object that the id names, and no other ids
 abbrev pub AreBytesOf : Ids → Objects → IdBytes → Type 0
 AreBytesOf ids o m = (q : ℕ) → get m q ≡ through o (get ids q)
 
@@ -75,7 +75,7 @@ pub record Named : Type 0 where
 abbrev pub bytes_of : Named → ℕ → Option (List ℕ)
 bytes_of s id = through s.objects (get s.ids id)
 
--- the ids and the objects are unchanged
+-- the ids and the objects are the same before and after a command
 pub record IsSame (old new : Named) : Type 0 where
   pub ids : new.ids ≡ old.ids
   pub objects : new.objects ≡ old.objects
@@ -217,7 +217,7 @@ no_bad None reply n = tt
 no_bad (Some m) reply n = tt
 
 module _ {S : Type 0} (begins : Profile → Reply → S → Type 0) (turns : S → Command → Reply → S → Type 0) (rules : NamesObjects begins turns) where
-  -- a run, and the bytes that follow from its lines
+  -- a run in progress and the bytes that follow from its lines, which are those of its objects; or neither has begun
   abbrev AreTogether : Option S → Option IdBytes → Type 0
   AreTogether None None = Unit {0}
   AreTogether None (Some m) = ⊥

@@ -1,4 +1,4 @@
--- The exact steps of each call are within its bound.
+-- The exact steps of each call of a heap with pages (`malloc_cost` and its like) are within the bounds 64, 96 + 2s and 160 + 3s.
 use Rattle.std.proofs.Common.{◌≡◌, ℕ, Bool, true, false, ◌+◌, ◌-◌, ◌*◌, ◌/◌, ◌≤◌, List, [], ◌∷◌, Option, Some, None, Ok, length, arith, refl, sym, ap, subst}
 use Rattle.std.specs.Prelude.{if◌then◌else◌, max, min, nat_eq, nat_lt}
 use Rattle.std.specs.FinMap.{get}
@@ -19,7 +19,7 @@ use Rattle.cf_model.specs.Costs.{resize_bound}
 use Rattle.cf_model.specs.ExactCosts.{carrying_cost, free_cost, leaving_cost, malloc_cost, resize_cost, resized_cost, tail_steps}
 use Rattle.cf_model.specs.State.{HeapState, paging_in}
 
--- by kind, the steps of words
+-- the steps of one word, and of several, are bounded for each kind
 word_few : (k : Kind) → word_steps k ≤ 2
 word_few Moving = omega arith
 word_few NonMoving = omega arith

@@ -1,4 +1,4 @@
--- Every write into a heap with pages, and every bound, has a result, and a state after it that keeps the rules.
+-- For `a_command_is_always_answered`: every write into a heap with pages, and every `k`, has a result, and a state after it that keeps the rules.
 use Rattle.std.proofs.Common.{◌≡◌, ℕ, ◌+◌, ◌≤◌, List, Option, Some, None, Ok, Err, length, get_or, set, arith, sym, ◌∙◌, ap, refl}
 use Rattle.std.proofs.Common.{subst, inl, inr}
 use Rattle.std.specs.Prelude.{◌⊎◌, IfSome}
@@ -136,7 +136,7 @@ module _ (old : HeapState) (rules : KeepsRules old) (paged : IsPaged old.kind) w
       );
     }
 
-  -- every bound is set, or no class gets it
+  -- after command `k` the rules hold, whether a class got the bound or none did
   pub bound_done : (slot_words k : ℕ) → 1 ≤ k → k ≤ 64 → KeepsRules (bound_put old (class_to_bound old slot_words) k)
   bound_done slot_words k some low = elim (cases_eq (len old.held) 0) [
     | inl none ↦ go none (class_to_bound old slot_words)

@@ -1,4 +1,4 @@
--- Every free of a live object of a heap with pages succeeds, and the state after it keeps the rules.
+-- For `a_command_is_always_answered`: every free of a live object of a heap with pages succeeds, and the state after it keeps the rules.
 use Rattle.std.proofs.Common.{◌≡◌, ℕ, ◌+◌, ◌*◌, ◌≤◌, List, Option, Some, None, Ok, length, arith, sym, refl, subst}
 use Rattle.std.specs.Prelude.{IfSome}
 use Rattle.std.specs.FinMap.{get}

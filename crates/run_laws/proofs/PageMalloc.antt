@@ -1,4 +1,4 @@
--- Every malloc of a heap with pages has a result, and a state after it that keeps the rules.
+-- For `a_command_is_always_answered`: every malloc of a heap with pages has a result, and a state after it that keeps the rules.
 use Rattle.std.proofs.Common.{◌≡◌, ℕ, ◌<◌, ◌≤◌, List, Option, Some, None, Ok, Err, replicate, arith, sym, ap, refl, subst, inl, inr}
 use Rattle.std.specs.Prelude.{IfSome, option_map}
 use Rattle.std.proofs.lemmas.Bool.{cases_lt}

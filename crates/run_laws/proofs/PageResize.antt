@@ -1,4 +1,4 @@
--- Every resize of a live object of a heap with pages has a result, and a state after it that keeps the rules.
+-- For `a_command_is_always_answered`: every resize of a live object of a heap with pages has a result, and a state after it that keeps the rules.
 use Rattle.std.proofs.Common.{◌≡◌, ◌≢◌, ℕ, ◌+◌, ◌≤◌, List, Option, Some, None, Ok, Err, length, arith, sym, ◌∙◌, ap, refl, subst, inl, inr}
 use Rattle.std.specs.Prelude.{IfSome}
 use Rattle.std.proofs.lemmas.Bool.{cases_eq, cases_lt}

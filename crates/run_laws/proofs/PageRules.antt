@@ -1,4 +1,4 @@
--- The rules of a heap with pages, for other objects in other words, with another order.
+-- For the calls of a heap with pages: the state after a call, with other objects, words, block table, order and cost, keeps the rules if these fit together.
 use Rattle.std.proofs.Common.{◌≡◌, ℕ, ◌≤◌, List, Option, Some, length, refl, subst}
 use Rattle.std.specs.Prelude.{IfSome}
 use Rattle.page_model.specs.Arrangement.{IsSound}
@@ -60,7 +60,7 @@ module _ (old : HeapState) (rules : KeepsRules old) (paged : IsPaged old.kind) w
     );
   }
 
-  -- words for other objects
+  -- there are words with which the state with these objects, block table, order and cost keeps the rules
   pub record Becomes (m : Held) (frames : List ℕ) (order : Option Order) (cost : ℕ) : Type 0 where
     pub words : List ℕ
     pub kept : KeepsRules (record old { held = m; words = words; frames = frames; order = order; cost = cost })

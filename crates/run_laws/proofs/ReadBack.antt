@@ -1,4 +1,4 @@
--- Over a run on one manager, reads print the bytes that follow from the lines before them and their replies.
+-- For `reads_give_what_was_written`: over a run on one manager, reads print the bytes that follow from the lines before them and their replies.
 use Rattle.std.proofs.Common.{◌≡◌, ◌⊎◌, ℕ, false, List, Option, Some, None, Result, Ok, Err, sym, ◌∙◌, ap, refl, inl, inr}
 use Rattle.std.specs.Prelude.{codes, option_map}
 use Rattle.std.specs.FinMap.{get}

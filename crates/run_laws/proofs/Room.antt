@@ -1,4 +1,4 @@
--- If a class of a sound arrangement has a slot left, there is a free place.
+-- For mallocs and resizes with pages: if a class of a sound arrangement has a slot left, there is a free place, and back.
 use Rattle.std.proofs.Common.{◌≡◌, ℕ, ◌<◌, arith, ◌∙◌, ap, inl, inr}
 use Rattle.std.specs.Prelude.{◌⊎◌}
 use Rattle.std.proofs.lemmas.Bool.{cases_eq, cases_lt}
@@ -17,7 +17,7 @@ bare_or_not p m page = elim (cases_lt 0 (count_on p m page)) [
 ]
 
 module _ (p : Paging) (ok : IsPaging p) (m : Held) (s : IsSound p m) where
-  -- on a partly full page
+  -- a partly full page of the class has a free place for the object
   place_beside : (n : ℕ) → class_for p n < classes p → (page : ℕ) → IsOpen p m (class_for p n) page → (a : ℕ) × IsFreePlace p m n a
   place_beside n lt page opened =
       let free = vacant_where_less p ok (class_for p n) lt page opened.within m s opened.some opened.less in
@@ -27,7 +27,7 @@ module _ (p : Paging) (ok : IsPaging p) (m : Held) (s : IsSound p m) where
       let less = opened.less in
       (address_of p (class_for p n) page free.0, record { slot = at.0; unused = free.2; choice = inl (rw on some, rw on less) })
 
-  -- on a page without objects
+  -- a page without objects has a free place for the object, if no page of the class is partly full
   place_alone : (n : ℕ) → class_for p n < classes p → not_full_pages p m (class_for p n) ≡ 0 → (page : ℕ) → page < p.pages → count_on p m page ≡ 0
       → (a : ℕ) × IsFreePlace p m n a
   place_alone n lt none page within bare =

@@ -1,4 +1,4 @@
--- There is a run over the items of any script, for any rules by which runs begin and each command has a step.
+-- For any rules of a mode: if a run begins with any settings in range and each valid command has a step, then there is a run over the items of any script.
 use Rattle.std.proofs.Common.{◌≡◌, ◌++◌, ℕ, List, [], ◌∷◌, Option, Some, None, refl, sym, subst}
 use Rattle.std.specs.Prelude.{⊤, Bool}
 use Rattle.cf_base.specs.Settings.{Profile}

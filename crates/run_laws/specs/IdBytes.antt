@@ -1,4 +1,4 @@
--- The bytes of each id, computed from the lines of a script and their replies alone.
+-- The bytes of each id, computed from the lines of a script and their replies alone; and the claim that every read prints them.
 use Rattle.std.specs.Prelude.{◌≡◌, ℕ, ⊤, Bool, false, ◌+◌, List, [], ◌∷◌, ◌++◌, Option, Some, None, codes, drop, if◌then◌else◌, length, nat_le, replicate, take}
 use Rattle.std.specs.FinMap.{FinMap, empty, get, insert, remove}
 use Rattle.std.specs.Ordering.{nat_cmp}
@@ -11,7 +11,7 @@ use Rattle.script_reader.specs.declared.command.Command.{Command}
 use Rattle.script_reader.specs.declared.command.Command.TheVariants.{Malloc, Free, Write, Read, Resize}
 use Rattle.run_model.specs.Texts.{Reply, said}
 
--- the bytes of each id
+-- a map from each live id to the bytes of its object
 abbrev pub IdBytes : Type 0
 IdBytes = FinMap nat_cmp (List ℕ)
 
@@ -20,11 +20,11 @@ abbrev pub is_ok : Reply → Bool
 is_ok [] = false
 is_ok (text ∷ rest) = bytes_eq text (codes "ok")
 
--- the id's bytes v replaced by `f v`, if the id is live
+-- the map `m` with the bytes `v` of the id replaced by `f v`; `m` itself if the id isn't live
 abbrev pub changed : IdBytes → ℕ → (List ℕ → List ℕ) → IdBytes
 changed m id f = elim (get m id) [ None ↦ m | Some v ↦ insert m id (f v) ]
 
--- the effect of a command with the reply `ok`: a malloc makes zeros, a write replaces bytes, a resize cuts them or adds zeros
+-- the map after a command with the reply `ok`: a malloc makes zeros, a free removes the id, a write replaces bytes, a resize cuts bytes or adds zeros
 abbrev pub done_by : Command → IdBytes → IdBytes
 done_by (Malloc id bytes) m = insert m id (replicate bytes 0)
 done_by (Free id) m = remove m id
@@ -32,24 +32,25 @@ done_by (Write id at bytes) m = changed m id (λ v. written v at bytes)
 done_by (Resize id bytes) m = changed m id (λ v. resized v bytes)
 done_by command m = m
 
--- the bytes after an item and its reply; none before the `heap` line
+-- the map after an item and its reply, from the map before it; a command without `ok` changes nothing; there is no map before the `heap` line
 abbrev pub shown_after : Option IdBytes → Item → Reply → Option IdBytes
 shown_after shown (starts p) reply = Some empty
 shown_after None (asks command) reply = None
 shown_after (Some m) (asks command) reply = Some (if is_ok reply then done_by command m else m)
 shown_after shown (bad n) reply = shown
 
--- the reply to a read: `=` and the id's bytes in hexadecimal; `unknown` if the id isn't live, `range` if the read passes the object's end
+-- the reply to a read of `count` bytes from byte `at` on, for the bytes of its id: `=` and these in hexadecimal; `range` if it passes their end; `unknown` if
+-- the id isn't live
 abbrev pub read_shown : Option (List ℕ) → ℕ → ℕ → List ℕ
 read_shown None at count = codes "unknown"
 read_shown (Some v) at count = if nat_le (at + count) (length v) then codes "=" ++ encode_lower (take count (drop at v)) else codes "range"
 
--- if the item is a read, its reply is `read_shown` of the id's bytes
+-- if the item is a read, its reply is `read_shown` of the bytes that the map has for its id
 abbrev pub IsReadOf : Option IdBytes → Item → Reply → Type 0
 IsReadOf (Some m) (asks (Read id at count)) reply = reply ≡ said (read_shown (get m id) at count)
 IsReadOf shown item reply = ⊤
 
--- the reply to every read has the bytes that follow from the lines before it and their replies
+-- the reply to every read of the items is `read_shown` of the bytes that follow from the lines before it and their replies
 abbrev pub AreReadsOf : Option IdBytes → List Item → List Reply → Type 0
 AreReadsOf shown [] replies = ⊤
 AreReadsOf shown (item ∷ rest) [] = ⊥

@@ -1,4 +1,4 @@
--- The items that a script can contain.
+-- The items that the grammar lets through, which are valid; and a run that is in progress.
 use Rattle.std.specs.Prelude.{◌≡◌, ⊤, List, [], ◌∷◌, Option, Some, None}
 use Rattle.page_model.specs.Bytes.{AreBytes}
 use Rattle.cf_base.specs.declared.kind.Kind.{Kind}
@@ -9,28 +9,28 @@ use Rattle.script_reader.specs.declared.command.Command.{Command}
 use Rattle.script_reader.specs.declared.command.Command.TheVariants.{Write}
 use Rattle.run_model.specs.Sessions.{IsGoing, RunState}
 
--- the payload of a write is bytes
+-- if the command is a write, each of its numbers is a byte: below 256
 abbrev pub HasBytes : Command → Type 0
 HasBytes (Write id at bytes) = AreBytes bytes
 HasBytes command = ⊤
 
--- the command's numbers are in range, and its payload is bytes
+-- the command is valid: its numbers are in range, and a write has bytes
 pub record IsSayable (command : Command) : Type 0 where
   pub formed : IsWellFormed command
   pub bytes : HasBytes command
 
--- the settings of the item are in range, or its command is valid
+-- the item is valid: a `heap` line has settings in range, a command is valid; of a bad line nothing is asked
 abbrev pub IsSayableItem : Item → Type 0
 IsSayableItem (starts p) = AreInRange p
 IsSayableItem (asks command) = IsSayable command
 IsSayableItem (bad n) = ⊤
 
--- settings and numbers in range, payloads of bytes
+-- each item is valid
 abbrev pub AreSayable : List Item → Type 0
 AreSayable [] = ⊤
 AreSayable (item ∷ rest) = IsSayableItem item × AreSayable rest
 
--- a run of this kind is in progress, or hasn't begun
+-- the state is that of a run in progress on a manager of this kind, or there is none, since the run hasn't begun
 abbrev pub IsUnderWay : Kind → Option RunState → Type 0
 IsUnderWay kind None = ⊤
 IsUnderWay kind (Some s) = (s.heap.kind ≡ kind) × IsGoing s

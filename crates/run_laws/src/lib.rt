@@ -1,6 +1,6 @@
-//! Laws of runs over scripts: every run can be continued to the end of its script, and reads print
-//! what was written. The public functions do nothing; each contract is a law of the definitions of
-//! runs.
+//! Theorems on every run over a script (`Run` of `run_model`): a run can always be continued to the end of
+//! its script, and reads print what was written. The public functions do nothing; the contract of each is a
+//! theorem.
 #![tactic(auto)]
 
 mod reads;

@@ -1,4 +1,4 @@
-//! Laws of what reads print.
+//! Theorems on the replies to reads: they follow from the lines before them and the replies to these lines.
 ghost use Rattle.std.specs.Prelude.{ℕ, ◌≡◌, ◌≢◌, ◌+◌, ◌<◌, ◌≤◌, List, Option, Some, None, length, replicate, slice_index};
 ghost use Rattle.std.specs.FinMap.{get};
 ghost use Rattle.page_model.specs.Image.{IsOutside};
@@ -12,15 +12,15 @@ ghost use Rattle.run_laws.specs.IdBytes.{AreReadsOf, IdBytes, done_by};
 
 /// Over a run of any kind, each read of an id prints the bytes last written through it. A byte that
 /// was not written since the malloc or the resize that added it is 0. What was written follows from
-/// the lines before the read and their replies, whatever was moved or freed in between.
+/// the lines before the read and their replies (`shown_after`), whatever was moved or freed in between.
 pub fn reads_give_what_was_written()
     ensures { (kind : Kind) (items : List Item) (replies : List Reply) (new : Option RunState)
         → Run kind None items replies new → AreReadsOf None items replies }
 {}
 
-/// The effect of each command on the bytes of an id. After a malloc all are 0; after a free there
-/// are none. A write changes those in its range; a resize cuts bytes or adds zeros. The bytes of
-/// every other id stay.
+/// What `done_by`, which computes the bytes of each id, does for a command with the reply `ok`. `m` is the
+/// map from each live id to its bytes. After a malloc all bytes are 0; after a free there are none. A write
+/// changes those in its range; a resize cuts bytes or adds zeros. The bytes of every other id stay.
 pub fn bytes_are_told_one_by_one()
     ensures malloc { (m : IdBytes) (id n : ℕ) → get (done_by (Malloc id n) m) id ≡ Some (replicate n 0) }
     ensures free { (m : IdBytes) (id : ℕ) → get (done_by (Free id) m) id ≡ None }

@@ -1,4 +1,5 @@
-//! Laws of runs: every run can be continued to the end of its script.
+//! Theorems on the existence of runs: a run begins, each command gets a reply, and each run can be continued
+//! to the end of its script. So claims on all runs aren't vacuous.
 ghost use Rattle.std.specs.Prelude.{ℕ, ◌≡◌, Bool, List, ◌++◌, Option, None};
 ghost use Rattle.cf_base.specs.Settings.{Profile};
 ghost use Rattle.cf_base.specs.declared.kind.Kind.{Kind};
@@ -10,8 +11,8 @@ ghost use Rattle.run_model.specs.Sessions.{IsGoing, RunState};
 ghost use Rattle.run_model.specs.Texts.{Reply, text_of};
 ghost use Rattle.run_laws.specs.Sayable.{AreSayable, IsSayable, IsUnderWay};
 
-/// A run begins with any settings in range. In each state of a run in progress every valid command
-/// gets a reply, within the bounds.
+/// For any settings in range there is a state in which a run begins. In each state of a run in progress, for
+/// every valid command, there are a reply and a next state that make a `Turn`.
 pub fn a_command_is_always_answered()
     ensures begins { (kind : Kind) (p : Profile) → AreInRange p
         → (new : RunState) × Begins kind p new }
@@ -19,12 +20,13 @@ pub fn a_command_is_always_answered()
         → IsSayable command → (reply : Reply) × (new : RunState) × Turn old command reply new }
 {}
 
-/// The items of any bytes have settings in range, numbers in range, and payloads of bytes.
+/// The grammar lets through valid items only: those of any input have settings and numbers in range, and
+/// writes of bytes. `ended`: no more input follows.
 pub fn items_can_be_said()
     ensures { (given : List ℕ) (ended : Bool) → AreSayable (items given ended) }
 {}
 
-/// A run keeps its kind and stays in progress after each item.
+/// A run keeps its kind and stays in progress over any items.
 pub fn a_run_stays_under_way()
     ensures { (kind : Kind) (old : Option RunState) (done : List Item) (replies : List Reply)
         (new : Option RunState)
@@ -39,8 +41,8 @@ pub fn runs_are_joined()
         → Run kind old (done ++ after) (replies ++ more) new }
 {}
 
-/// There is a run over the items of any bytes, and each run over a prefix of them can be continued
-/// to the end.
+/// There is a run over the items of any input, and each run over a prefix of them can be continued to the
+/// end.
 pub fn a_run_can_always_go_on()
     ensures there { (kind : Kind) (given : List ℕ) (ended : Bool)
         → (replies : List Reply) × (new : Option RunState)
@@ -52,8 +54,9 @@ pub fn a_run_can_always_go_on()
         × Run kind None (items given ended) (replies ++ more) new }
 {}
 
-/// A prefix of the text of a run over a prefix of a script's items is a prefix of the text of a run
-/// over all items.
+/// What was written before a sink failed is a prefix of the output of a run over the whole script. `front`:
+/// if `written` is a prefix of the text of a run over `done`, the first items, then also of the text of some
+/// run over all items. `joined`: the text of two lists of replies in turn is their texts in turn.
 pub fn what_was_written_is_a_front()
     ensures joined { (lead : List ℕ) (replies more : List Reply)
         → text_of lead (replies ++ more) ≡ text_of lead replies ++ text_of lead more }

@@ -1,4 +1,4 @@
--- Every step of a run in progress meets the bound on pages, and refuses mallocs as `RefusesByNeed` asks.
+-- Every step of a run in progress meets `MeetsBounds`: the bound on pages, and when a malloc is refused. So each `Step` is a `Turn`.
 use Rattle.std.proofs.Common.{◌≡◌, ℕ, ◌<◌, ◌≤◌, Option, Some, None, Result, Ok, Err, arith, sym, ◌∙◌, subst, inl, inr, refl}
 use Rattle.std.specs.Prelude.{◌↔◌, codes}
 use Rattle.std.specs.FinMap.{get}
@@ -32,7 +32,7 @@ use Rattle.run_model.proofs.RunInvariant.{step_rules, step_same}
 pub few_pages : (s : HeapState) → IsPaged s.kind → KeepsRules s → HasFewPages s
 few_pages s paged rules = (let k = pages_kept s.kind s paged rules.of_kind in λ c lt. sound_few (paging_in s) k.paging c lt s.held k.sound)
 
--- a heap with pages and every bound 1, and a malloc of `bytes` bytes that fit a page
+-- The premises: a heap `s` with pages whose kind is `k`, every bound 1, and a malloc of `bytes` bytes that fit a page.
 module _ (k : Kind) (paged : IsPaged k) (s : HeapState) (rules : KeepsRules s) (is : s.kind ≡ k) (bytes : ℕ) (ones : AreOne (paging_in s))
     (fits : need bytes ≤ s.profile.page_words) where
   pages : KeepsPages s

@@ -1,4 +1,4 @@
--- The step of a command, by whether its id has a handle.
+-- `Step` for a command that names an id, with `o` in place of the id's handle: `None` if the id isn't live. For proofs by these two cases.
 use Rattle.std.specs.Prelude.{ℕ, List, Option, codes}
 use Rattle.std.specs.Option.{MatchOption}
 use Rattle.page_model.specs.Steps.{Request}

@@ -1,4 +1,4 @@
--- Consecutive runs, for any rules.
+-- Runs (`PlayRun`) for any rules: two consecutive runs joined to one, a run over one item, and a run whose states are mapped.
 use Rattle.std.proofs.Common.{◌≡◌, ◌++◌, ◌∙◌, ℕ, List, [], ◌∷◌, Option, Some, None, refl, sym, ap, subst, append_assoc}
 use Rattle.std.specs.Prelude.{option_map}
 use Rattle.cf_base.specs.Settings.{Profile}
@@ -29,7 +29,7 @@ text_joined lead [] more = refl
 text_joined lead (reply ∷ rest) more = ap (λ t. led lead reply ++ t) (text_joined lead rest more)
     ∙ sym (append_assoc (led lead reply) (text_of lead rest) (text_of lead more))
 
--- a run stays a run if f maps each of its states
+-- A run under rules that see only `f s` of each state `s` is also a run over the states `f s`.
 module _ {S T : Type 0} (f : S → T) (begins : Profile → Reply → T → Type 0) (turns : T → Command → Reply → T → Type 0)
     (in_part : T → Command → List ℕ → T → Type 0) where
   step_seen : (old : Option S) (item : Item) (reply : Reply) (new : Option S)

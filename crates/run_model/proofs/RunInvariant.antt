@@ -1,4 +1,4 @@
--- A run is in progress after its start and after every step.
+-- The invariant `IsGoing` of a run: it holds at the start, and every step keeps it.
 use Rattle.std.proofs.Common.{◌≡◌, ℕ, List, Option, Some, None, Result, Ok, Err, sym, ◌∙◌, ap, subst, refl, arith}
 use Rattle.std.specs.FinMap.{get}
 use Rattle.cf_base.specs.Settings.{Profile}
@@ -24,7 +24,7 @@ use Rattle.run_model.proofs.NamedIds.{FreesAt, MallocsAt, ResizesAt, WritesAt}
 use Rattle.run_model.specs.Texts.{Reply}
 use Rattle.run_model.proofs.Tied.{step_tied, unmoved_changes_cost}
 
--- the kind, the settings and whether the manager is open stay
+-- two states of a manager have the same kind, the same settings, and are both open or both closed
 pub record IsSame (old new : HeapState) : Type 0 where
   pub kind : new.kind ≡ old.kind
   pub opened : new.is_open ≡ old.is_open
@@ -54,7 +54,7 @@ module _ (old new : HeapState) where
   bound_same None k is = same_as old new _ is (record { kind = refl; opened = refl; profile = refl })
   bound_same (Some c) k is = same_as old new _ is (record { kind = refl; opened = refl; profile = refl })
 
--- what a step keeps of the heap
+-- what a step keeps of the heap: kind, settings and openness, and its rules
 record Kept (old new : HeapState) : Type 0 where
   same : IsSame old new
   rules : KeepsRules new
@@ -102,7 +102,7 @@ module _ (old new : RunState) (rules : KeepsRules old.heap) where
 pub step_same : (old new : RunState) (c : Command) (reply : Reply) → KeepsRules old.heap → Step old c reply new → IsSame old.heap new.heap
 step_same old new c reply rules step = (kept old new rules c reply step).same
 
--- and its rules
+-- a step keeps the rules of the heap
 pub step_rules : (old new : RunState) (c : Command) (reply : Reply) → KeepsRules old.heap → Step old c reply new → KeepsRules new.heap
 step_rules old new c reply rules step = (kept old new rules c reply step).rules
 

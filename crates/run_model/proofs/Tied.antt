@@ -1,4 +1,4 @@
--- The ids stay consistent with the handles in every step.
+-- Every step keeps `AreTied`: each live id names one live handle, each handle has one id, and the last cost is within the session's bound.
 use Rattle.std.proofs.Common.{◌≡◌, ℕ, List, Option, Some, None, Result, Ok, Err, sym, ◌∙◌, ap, subst, refl}
 use Rattle.std.specs.Prelude.{option_map}
 use Rattle.std.specs.FinMap.{get, insert, remove}
@@ -90,7 +90,7 @@ module _ (old new : RunState) (tied : AreTied old.session old.heap) where
   abbrev names : AreTiedTo old.session.ids old.heap.held
   names = tied.ids
 
-  -- session and heap are consistent, by their parts
+  -- from the ids, the objects and the bound of the new state: session and heap are consistent
   tied_with : (session : SessionState) (ids : Ids) (m : Held) (bound : ℕ) → new.session ≡ session → session.ids ≡ ids → session.bound ≡ bound
       → new.heap.held ≡ m → AreTiedTo ids m → CostsAtMost new.heap.kind new.heap.cost bound → AreTied new.session new.heap
   tied_with session ids m bound e i b f names cost =

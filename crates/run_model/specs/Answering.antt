@@ -1,4 +1,4 @@
--- One command, with its reply written to a sink.
+-- What it means that a session answered one command: the run made its step, and the reply, or a prefix of it, was written to a sink.
 use Rattle.std.specs.Prelude.{◌≡◌, ℕ, List, ◌++◌, Option}
 use Rattle.cf_io.specs.Feeds.{appended}
 use Rattle.script_reader.specs.declared.command.Command.{Command}
@@ -6,23 +6,23 @@ use Rattle.run_model.specs.Runs.{Turn}
 use Rattle.run_model.specs.Sessions.{RunState}
 use Rattle.run_model.specs.Texts.{Reply, led}
 
--- a command, and the text before each line of its reply
+-- a command, and `lead`: the bytes written before each line of its reply
 pub record Asked : Type 0 where
   pub command : Command
   pub lead : List ℕ
 
--- a run at one moment, and the bytes written so far, if the sink is observable
+-- the state of a run at one moment, and the bytes written so far; `None` if the sink isn't observable
 pub record Moment : Type 0 where
   pub run : RunState
   pub written : Option (List ℕ)
 
--- the command took effect, and its whole reply was written
+-- between the moments `old` and `new`, the command of `asked` took effect, and its whole reply was written
 pub record IsAnswered (old : Moment) (asked : Asked) (new : Moment) : Type 0 where
   pub reply : Reply
   pub turn : Turn old.run asked.command reply new.run
   pub written : new.written ≡ appended old.written (led asked.lead reply)
 
--- the command took effect, and a prefix of its reply was written
+-- between the moments `old` and `new`, the command of `asked` took effect, but the sink got only `front` of its reply, a prefix; `lost` is the rest
 pub record IsCutShort (old : Moment) (asked : Asked) (new : Moment) : Type 0 where
   pub reply : Reply
   pub front : List ℕ

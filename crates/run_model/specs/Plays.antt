@@ -1,25 +1,28 @@
--- A run over the items of a script, for any rules of how a run begins and how a command is answered.
+-- A run over the items of a script, for any type `S` of states and two rules. `begins p reply s`: a `heap` line with settings `p` may get this reply and lead
+-- to state `s`. `turns old command reply s`: in state `old` the command may get this reply and lead to `s`. `None` is the state before the `heap` line.
 use Rattle.std.specs.Prelude.{◌≡◌, ◌++◌, List, [], ◌∷◌, ℕ, Option, Some, None}
 use Rattle.cf_base.specs.Settings.{Profile}
 use Rattle.script_reader.specs.Items.{Item, asks, bad, starts}
 use Rattle.script_reader.specs.declared.command.Command.{Command}
 use Rattle.run_model.specs.Texts.{Reply, bad_line, led, said}
 
--- one item: its reply, and the state after it; a command before the `heap` line, which no script has, does nothing, and no script has a second `heap` line
+-- In the given state the item may get `reply` and lead to state `new`. A bad line gets its own reply and changes nothing. No script has a command before the
+-- `heap` line; such a command does nothing, and gets no line.
 abbrev pub PlayStep : {S : Type 0} → (Profile → Reply → S → Type 0) → (S → Command → Reply → S → Type 0) → Option S → Item → Reply → Option S → Type 0
 PlayStep {S} begins turns old (starts p) reply new = (s : S) × begins p reply s × (new ≡ Some s)
 PlayStep begins turns None (asks command) reply new = (reply ≡ []) × (new ≡ None)
 PlayStep {S} begins turns (Some old) (asks command) reply new = (s : S) × turns old command reply s × (new ≡ Some s)
 PlayStep begins turns old (bad n) reply new = (reply ≡ said (bad_line n)) × (new ≡ old)
 
--- the items may get these replies, one each, and lead to the new state
+-- from the given state the items, in turn, may get these replies, one each, and lead to state `new`
 abbrev pub PlayRun : {S : Type 0} → (Profile → Reply → S → Type 0) → (S → Command → Reply → S → Type 0) → Option S → List Item → List Reply → Option S
     → Type 0
 PlayRun begins turns old [] replies new = (replies ≡ []) × (new ≡ old)
 PlayRun {S} begins turns old (item ∷ rest) replies new = (mid : Option S) × (reply : Reply) × (more : List Reply)
     × PlayStep begins turns old item reply mid × (replies ≡ reply ∷ more) × PlayRun begins turns mid rest more new
 
--- one item takes effect, but only the bytes `out` of its reply, a prefix, are written; and the state after it
+-- One item takes effect and leads to state `new`, but only `out`, a prefix of its reply, is written. `in_part old command out s` is the rule for a command;
+-- for a `heap` line or a bad line, `lost` is the rest of the reply.
 abbrev pub PlayPart : {S : Type 0} → (Profile → Reply → S → Type 0) → (S → Command → List ℕ → S → Type 0) → Option S → Item → List ℕ → Option S → Type 0
 PlayPart {S} begins in_part old (starts p) out new = (s : S) × (reply : Reply) × (lost : List ℕ) × begins p reply s × (led [] reply ≡ out ++ lost)
     × (new ≡ Some s)

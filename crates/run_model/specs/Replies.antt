@@ -1,4 +1,4 @@
--- The reply of each command.
+-- The text of the reply to each command, computed from the result of the manager's call or from the state of the run.
 use Rattle.std.specs.Prelude.{ℕ, ◌+◌, List, ◌++◌, Option, Some, None, Result, Ok, Err, codes, length, take, drop, nat_le, if◌then◌else◌, slice_get}
 use Rattle.std.specs.FinMap.{get}
 use Rattle.hex.specs.Hex.{encode_lower}
@@ -23,24 +23,24 @@ use Rattle.run_model.specs.Reports.{frag_of, walk_of}
 use Rattle.run_model.specs.Sessions.{RunState, SessionState}
 use Rattle.run_model.specs.Texts.{Reply, said, with_number}
 
--- the object of an id, if the id is live
+-- the object of an id in the state of a run; `None` if the id isn't live
 abbrev pub object_of : RunState → ℕ → Option Placed
 object_of s id = elim (get s.session.ids id) [ None ↦ None | Some h ↦ get s.heap.held h ]
 
--- the reply to `m`
+-- the reply to `m`, from the result of the manager's malloc
 abbrev pub malloc_text : Result Handle Refusal → List ℕ
 malloc_text (Ok h) = codes "ok"
 malloc_text (Err refusal.Size) = codes "refused size"
 malloc_text (Err refusal.Proxy) = codes "refused proxy"
 malloc_text (Err refusal.Space) = codes "refused space"
 
--- the reply to `w`
+-- the reply to `w`, from the result of the manager's write
 abbrev pub write_text : Result Unit AccessFault → List ℕ
 write_text (Ok u) = codes "ok"
 write_text (Err access.Unknown) = codes "unknown"
 write_text (Err access.Range) = codes "range"
 
--- the reply to `z`; `none` if the kind has no resize
+-- the reply to `z`, from the result of the manager's resize; `none` if the kind has no resize
 abbrev pub resize_text : Result Resized ResizeFault → List ℕ
 resize_text (Ok done) = codes "ok"
 resize_text (Err resize.Unknown) = codes "unknown"
@@ -48,39 +48,40 @@ resize_text (Err resize.Kind) = codes "none"
 resize_text (Err resize.Size) = codes "refused size"
 resize_text (Err resize.Space) = codes "refused space"
 
--- the reply to `r`: `=` and the bytes in hexadecimal; `range` if the read passes the end of the object
+-- the reply to `r` of `count` bytes from byte `at` on: `=` and the bytes in hexadecimal; `range` if the read passes the end of the object
 abbrev pub read_text : Option Placed → ℕ → ℕ → List ℕ
 read_text None at count = codes "unknown"
 read_text (Some x) at count = if nat_le (at + count) (length x.bytes) then codes "=" ++ encode_lower (take count (drop at x.bytes)) else codes "range"
 
--- the reply to `q`: the address of the object
+-- the reply to `q`: the address of the object in words, from the start of the region
 abbrev pub place_text : Option Placed → List ℕ
 place_text None = codes "unknown"
 place_text (Some x) = with_number (codes "at ") x.place
 
--- the reply to `b` of a kind with a block table: the physical block, or `range` if the object has no such block
+-- the reply to `b` of a kind with a block table: the number of the physical block, or `range` if the object has no such block
 abbrev pub frame_text : Option ℕ → List ℕ
 frame_text None = codes "range"
 frame_text (Some frame) = with_number (codes "block ") frame
 
--- the reply to `b` for a live object: only the non-moving kind has a block table
+-- the reply to `b` for block `i` of a live object `x` in heap `s`; only the non-moving kind has a block table
 abbrev pub block_text : Kind → HeapState → Placed → ℕ → List ℕ
 block_text Moving s x i = codes "none"
 block_text NonMoving s x i = frame_text (block_of_object s (Some x) i)
 block_text Tlsf s x i = codes "none"
 block_text HalfFit s x i = codes "none"
 
--- the reply to `b`: `unknown` if the id isn't live
+-- the reply to `b` for block `i` of an object: `unknown` if there is no object, as the id isn't live
 abbrev pub block_text_at : HeapState → Option Placed → ℕ → List ℕ
 block_text_at s None i = codes "unknown"
 block_text_at s (Some x) i = block_text s.kind s x i
 
--- the reply to `p`: the word as 16 hexadecimal digits, or `range` past the region
+-- the reply to `p`: the word's value as 16 hexadecimal digits, or `range` if the region has no such word
 abbrev pub peek_text : Option ℕ → List ℕ
 peek_text None = codes "range"
 peek_text (Some word) = word_text word
 
--- the reply to `steps`: the steps of the last malloc, free or resize; with pages also their bound, how many objects moved, and the words of their slots
+-- the reply to `steps`: `cost`, the steps of the last malloc, free or resize; with pages also the bound on them, how many objects have moved since the start,
+-- and the words of their slots
 abbrev pub steps_text : Kind → SessionState → ℕ → List ℕ
 steps_text kind s cost = elim (family_of kind) [
   | paged ↦ with_number (codes "steps last ") cost ++ (with_number (codes " bound ") s.bound
@@ -88,8 +89,8 @@ steps_text kind s cost = elim (family_of kind) [
   | tiled ↦ with_number (codes "steps last ") cost
 ]
 
--- the reply to a command that changes nothing; `none` to the commands of other modes. `Step` defines the replies to `m`, `f`, `w`, `z` and `k`, and doesn't use
--- the last row.
+-- the reply to a command that changes nothing, in the state of a run; `none` to the commands of other modes. `Step` defines the replies to `m`, `f`, `w`, `z`
+-- and `k`; for these it doesn't use the last row here.
 abbrev pub shown : RunState → Command → Reply
 shown s (Read id at count) = said (read_text (object_of s id) at count)
 shown s (Place id) = said (place_text (object_of s id))

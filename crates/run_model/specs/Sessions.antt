@@ -1,4 +1,4 @@
--- What a session keeps besides its manager.
+-- The state of a session, the state of a run (a session and its manager), and what is always true of a run in progress.
 use Rattle.std.specs.Prelude.{ℕ, ◌+◌, ◌≤◌, ⊤, Option, Some, None, min, refl, IsTrue}
 use Rattle.std.specs.FinMap as map
 use Rattle.std.specs.Coded.{Coded, code_by, coded×, coded_ℕ}
@@ -10,7 +10,8 @@ use Rattle.cf_model.specs.Families.{paged, tiled, family_of}
 use Rattle.cf_model.specs.Rules.{KeepsRules}
 use Rattle.cf_model.specs.State.{HeapState}
 
--- the live ids; the step bound of the last malloc, free or resize, 0 before the first one; how many objects moved, and the words of their slots
+-- `ids` maps each live id to the number of its handle. `bound` is the step bound of the last malloc, free or resize, 0 before the first one. `moves` counts the
+-- objects that a call moved, and `words` the words of their slots.
 pub record SessionState : Type 0 where
   pub ids : Ids
   pub bound : ℕ
@@ -21,30 +22,30 @@ pub record SessionState : Type 0 where
 abbrev pub fresh_session : SessionState
 fresh_session = record { ids = map.empty; bound = 0; moves = 0; words = 0 }
 
--- a session is stored as nested pairs
+-- the encoding of a session's state as nested pairs, which the model of the type `Session` needs
 abbrev pub session_code : Coded SessionState
 session_code = code_by (Ids × (ℕ × (ℕ × ℕ))) (coded× (map.code coded_ℕ coded_ℕ) (coded× coded_ℕ (coded× coded_ℕ coded_ℕ)))
     (λ s. (s.ids, (s.bound, (s.moves, s.words)))) (λ q. record { ids = q.0; bound = q.1.0; moves = q.1.1.0; words = q.1.1.1 }) (λ _. refl)
 
--- n more, saturating at 64 bits
+-- the count with `n` added, at most 2^64 - 1
 abbrev pub more_by : ℕ → ℕ → ℕ
 more_by count n = min (count + n) last_count
 
--- the session with the move counted, if an object moved: one more object, and `slot_words` more words
+-- session `s` after a call that moved an object into a slot of `slot_words` words: one more move, and these words more; `s` itself if the call moved none
 abbrev pub counted : {T : Type 0} → SessionState → Option T → ℕ → SessionState
 counted s None slot_words = s
 counted s (Some h) slot_words = record s { moves = more_by s.moves 1; words = more_by s.words slot_words }
 
--- a run at one moment: the session and its manager
+-- the state of a run: that of the session, and that of its manager
 pub record RunState : Type 0 where
   pub session : SessionState
   pub heap : HeapState
 
--- with pages a call costs at most n steps; with blocks this claims nothing
+-- if the kind has pages, `cost` is at most `n` steps; if it has blocks, nothing is claimed
 abbrev pub CostsAtMost : Kind → ℕ → ℕ → Type 0
 CostsAtMost kind cost n = elim (family_of kind) [ paged ↦ cost ≤ n | tiled ↦ ⊤ ]
 
--- with pages the cost is at most n, with blocks at most m
+-- if the kind has pages, `cost` is at most `n` steps; if it has blocks, at most `m`
 abbrev pub CostsByKind : Kind → ℕ → ℕ → ℕ → Type 0
 CostsByKind kind cost n m = elim (family_of kind) [ paged ↦ cost ≤ n | tiled ↦ cost ≤ m ]
 
@@ -53,7 +54,7 @@ pub record AreTied (session : SessionState) (heap : HeapState) : Type 0 where
   pub ids : AreTiedTo session.ids heap.held
   pub cost : CostsAtMost heap.kind heap.cost session.bound
 
--- the run is in progress: its manager is open and keeps its rules, and its session is consistent with it
+-- a run in state `s` is in progress: its manager is open and keeps its rules, and its session is consistent with it
 pub record IsGoing (s : RunState) : Type 0 where
   pub opened : IsTrue s.heap.is_open
   pub rules : KeepsRules s.heap

@@ -1,4 +1,5 @@
--- The steps of a run, one for each command.
+-- What each command does to the state of a run, and its reply. In each definition `old` is the state before the command, `new` the state after it, and `answer`
+-- the result of the manager's call.
 use Rattle.std.specs.Prelude.{◌≡◌, ℕ, ◌+◌, ◌*◌, List, Option, Some, None, Result, Ok, Err, codes, if◌then◌else◌, nat_eq}
 use Rattle.std.specs.Option.{MatchOption}
 use Rattle.std.specs.FinMap.{get, insert, len, remove}
@@ -21,16 +22,16 @@ use Rattle.run_model.specs.Replies.{malloc_text, resize_text, shown, write_text}
 use Rattle.run_model.specs.Sessions.{CostsAtMost, CostsByKind, Ids, RunState, SessionState, counted}
 use Rattle.run_model.specs.Texts.{Reply, said}
 
--- the command does nothing, and gets this reply
+-- the command changes nothing, and its reply is the one line `text`
 abbrev pub Stays : RunState → List ℕ → Reply → RunState → Type 0
 Stays old text reply new = (reply ≡ said text) × (new ≡ old)
 
--- the ids after a malloc for an id: unchanged if it was refused
+-- the ids after a malloc for `id` with this result: `id` names the new handle, or the malloc was refused and no id changes
 abbrev pub ids_given : Ids → ℕ → Result Handle Refusal → Ids
 ids_given ids id (Ok h) = insert ids id h.0
 ids_given ids id (Err e) = ids
 
--- a malloc for an id that isn't live; the step doesn't name the words that change, since the rules determine them
+-- a malloc of `asked.length` bytes for the id `asked.number`, which isn't live; `step` doesn't name the words that change: `rules` relates them to the objects
 pub record Mallocs (old : RunState) (asked : Request) (reply : Reply) (new : RunState) : Type 0 where
   pub answer : Result Handle Refusal
   pub step : IsMallocStep old.heap asked.length answer new.heap
@@ -45,7 +46,7 @@ pub record Named : Type 0 where
   pub id : ℕ
   pub number : ℕ
 
--- a free of a live id
+-- a free of a live id; `freed` is the manager's result: the words of the slot, and the object that moved into it, if one did
 pub record Frees (old : RunState) (named : Named) (reply : Reply) (new : RunState) : Type 0 where
   pub freed : Freed
   pub step : FreesObject old.heap named.number freed new.heap
@@ -56,7 +57,7 @@ pub record Frees (old : RunState) (named : Named) (reply : Reply) (new : RunStat
       freed.slot_words
   pub reply_is : reply ≡ said (codes "ok")
 
--- a write into a live object
+-- a write of `bytes` into the live object with the handle `part.number`, from byte `part.from` on
 pub record Writes (old : RunState) (part : Part) (bytes : List ℕ) (reply : Reply) (new : RunState) : Type 0 where
   pub answer : Result Unit AccessFault
   pub step : IsWriteStep old.heap part bytes answer new.heap
@@ -64,12 +65,12 @@ pub record Writes (old : RunState) (part : Part) (bytes : List ℕ) (reply : Rep
   pub session : new.session ≡ old.session
   pub reply_is : reply ≡ said (write_text answer)
 
--- the session after a resize: if an object moved into the old slot, its move is counted
+-- session `s` after a resize with this result: if another object moved into the old slot, its move is counted
 abbrev pub session_resized : SessionState → Result Resized ResizeFault → SessionState
 session_resized s (Ok done) = counted s done.moved done.old_slot_words
 session_resized s (Err e) = s
 
--- a resize of a live object; `number` is that of its handle
+-- a resize of a live object to `asked.length` bytes; `asked.number` is its handle
 pub record Resizes (old : RunState) (asked : Request) (reply : Reply) (new : RunState) : Type 0 where
   pub answer : Result Resized ResizeFault
   pub step : IsResizeStep old.heap asked answer new.heap
@@ -79,23 +80,23 @@ pub record Resizes (old : RunState) (asked : Request) (reply : Reply) (new : Run
   pub session : new.session ≡ session_resized (record old.session { bound = resize_bound answer }) answer
   pub reply_is : reply ≡ said (resize_text answer)
 
--- the class that gets a new bound; none if no class has such slots, or if an object is live, which no script allows
+-- the class with slots of `slot_words` words, which gets a new bound; none if there is no such class, or if an object is live, which no script allows
 abbrev pub class_to_bound : HeapState → ℕ → Option ℕ
 class_to_bound s slot_words = if nat_eq (len s.held) 0 then class_with s.kind s slot_words else None
 
--- the reply to `k`: `ok` if a class got the bound, else `none`
+-- the reply to `k`, from the class that got the bound: `ok`, or `none` if no class did
 abbrev pub bound_text : Option ℕ → List ℕ
 bound_text None = codes "none"
 bound_text (Some c) = codes "ok"
 
--- the step of `k`: the class with these slots, if there is one, gets bound k
+-- the step of command `k`: the class with slots of `slot_words` words, if there is one, gets the bound `k`: how many of its pages may be partly full
 pub record Bounds (old : RunState) (slot_words k : ℕ) (reply : Reply) (new : RunState) : Type 0 where
   pub heap : new.heap ≡ bound_put old.heap (class_to_bound old.heap slot_words) k
   pub rules : KeepsRules new.heap
   pub session : new.session ≡ old.session
   pub reply_is : reply ≡ said (bound_text (class_to_bound old.heap slot_words))
 
--- one command: its reply, and the state after it
+-- In state `old` the command may get this reply and lead to state `new`. `m` for a live id changes nothing, nor does `f`, `w` or `z` for one that isn't live.
 abbrev pub Step : RunState → Command → Reply → RunState → Type 0
 Step old (Malloc id bytes) reply new =
     MatchOption (get old.session.ids id) (Mallocs old (record { number = id; length = bytes }) reply new) (λ h. Stays old (codes "live") reply new)

@@ -1,3 +1,3 @@
-//! Runs over the items of a script: the replies, the reports, the state of a session, and the
-//! steps. No code.
+//! The definitions with which contracts speak of a session over one manager: the state of a run, what each
+//! command does to it, the replies, and a run over all items of a script. No code.
 #![tactic(auto)]

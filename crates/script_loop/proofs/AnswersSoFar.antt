@@ -1,4 +1,4 @@
--- The replies so far, and those to the next items.
+-- For the loops in `answer_kept` and `answer_chunk`: what was answered so far (`Answered`, `CutOff`), continued by one more item or by more bytes.
 use Rattle.std.proofs.Common.{◌≡◌, ◌++◌, ◌∙◌, ◌+◌, Bool, true, false, List, [], ◌∷◌, ℕ, Option, Some, None, refl, ap, ap₂, sym, subst}
 use Rattle.std.proofs.Common.{append_assoc, append-nil, take, drop, take-append-drop}
 use Rattle.std.proofs.Math.Seq.{take-add}
@@ -122,13 +122,13 @@ module _ {S P : Type 0} (m : Semantics S P) where
     untouched = λ at. let m = b.untouched at in let o = a.untouched m.0 in (o.0, m.1 ∙ o.1);
   }
 
-  -- the items of both were answered as a whole
+  -- the items that the first bytes complete, and those answered whole of the next bytes, were all answered whole
   pub both_done : {old mid new : Playing S} {p q t out : List ℕ} (a : Answered m old p mid t false) (b : CutOff m mid q new out)
       → (cut_then a b).done ≡ a.done ++ b.done
   unfolding cut_then
   both_done a b = refl
 
-  -- with no byte in between
+  -- two answers in turn, the second without further bytes, are one answer
   pub answered_next : {old mid new : Playing S} {p t u : List ℕ} {stop : Bool} → Answered m old p mid t false → Answered m mid [] new u stop
       → Answered m old p new (t ++ u) stop
   answered_next {old} {mid} {new} {p} {t} {u} {stop} a b = subst (λ (l : List ℕ). Answered m old l new (t ++ u) stop) (append-nil p) (answered_then a b)

@@ -1,4 +1,4 @@
--- What follows from the outcome of a script on one manager.
+-- For the laws of `laws.rt`: what follows from the outcome of a script on one manager.
 use Rattle.std.proofs.Common.{◌≡◌, ◌≤◌, ◌<◌, ◌++◌, ◌∙◌, Bool, ℕ, List, [], Option, Some, None, true, false, refl, sym, ap, subst, length, arith}
 use Rattle.cf_base.specs.declared.kind.Kind.{Kind}
 use Rattle.cf_base.specs.declared.status.Status.{Status}

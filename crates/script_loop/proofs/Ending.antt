@@ -1,4 +1,4 @@
--- How the parts of a call make its outcome.
+-- For `play_script`: from what its turns and the end of the input did to `MeetsOutcome`, case by case of the status.
 use Rattle.std.proofs.Common.{◌≡◌, ◌≤◌, ◌<◌, ◌+◌, ◌-◌, ◌++◌, ◌∙◌, Bool, true, false, List, [], ◌∷◌, ℕ, Option, Some, None, refl, ap, ap₂, sym, subst, length}
 use Rattle.std.proofs.Common.{take, append_assoc, append-nil, length-append, arith}
 use Rattle.std.proofs.Math.Seq.{take-append-add}

@@ -1,4 +1,4 @@
--- Chunks that are put or taken one after the other.
+-- Bytes written, taken or counted in two chunks, one after the other, are those of one chunk. For the loops over chunks.
 use Rattle.std.proofs.Common.{◌≡◌, ◌++◌, ◌∙◌, List, ℕ, Option, None, Some, true, refl, ap, sym, ◌+◌, append_assoc, append-nil, take, min, arith, inl, inr}
 use Rattle.std.proofs.lemmas.Bool.{cases_lt}
 use Rattle.std.specs.Prelude.{[]}

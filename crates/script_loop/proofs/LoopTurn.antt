@@ -1,4 +1,5 @@
--- The items that the turns of the loop answer, and how the turns make the outcome of a script.
+-- For `Script::turn` and `play_script`: what one turn answers, what all turns so far have answered, and the contract `Plays` when the last turn ends the
+-- script.
 use Rattle.std.proofs.Common.{◌≡◌, ◌≢◌, ◌≤◌, ◌<◌, ◌+◌, ◌⊎◌, ◌++◌, ◌∙◌, false, true, List, [], ℕ, Option, refl, ap, sym, subst, length, inl, inr, arith}
 use Rattle.std.proofs.Common.{take, drop, append_assoc, append-nil, length-append, length-drop, take-append-drop, min}
 use Rattle.std.proofs.lemmas.List.{length-take-le, take-take}

@@ -1,4 +1,4 @@
--- How one manager with its session opens, and what no call changes.
+-- For the `Player` implementation of `Session`: a `heap` line begins a run, and no item changes the plan.
 use Rattle.std.proofs.Common.{◌≡◌}
 use Rattle.cf_base.specs.Settings.{profile_of}
 use Rattle.cf_base.specs.declared.settings.Settings.{Settings}

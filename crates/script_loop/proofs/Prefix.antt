@@ -1,4 +1,5 @@
--- The output of a call that was cut is a prefix of that of a whole run, for any mode handler whose commands always have a turn.
+-- For the laws on failed sinks, of any mode handler whose commands always have a turn: what a call wrote before the sink failed is a prefix of the output of a
+-- whole run.
 use Rattle.std.proofs.Common.{◌≡◌, ◌++◌, ◌∙◌, ℕ, List, [], ◌∷◌, Option, Some, None, refl, sym, ap, subst, append_assoc}
 use Rattle.script_reader.specs.Items.{Item, asks, bad, starts}
 use Rattle.script_reader.specs.declared.command.Command.{Command}

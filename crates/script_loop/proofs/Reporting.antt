@@ -1,4 +1,4 @@
--- What a command of a session did and what was written of its reply, together.
+-- From the turn of a command and from what was written of its reply to `Applies`, for the session of any mode handler.
 use Rattle.std.proofs.Common.{◌≡◌, ℕ, ◌++◌, List, [], ◌∷◌, Option, Result, Ok, Err, refl, sym, subst}
 use Rattle.cf_base.specs.declared.answers.Failed.{Failed}
 use Rattle.cf_io.specs.Feeds.{Puts}

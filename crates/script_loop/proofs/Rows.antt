@@ -1,4 +1,4 @@
--- The row of an outcome, over the bytes of an observable source, and over any source.
+-- From `MeetsOutcome` to `IsRow`: for the bytes of an observable source, and for some bytes over any source.
 use Rattle.std.proofs.Common.{◌≡◌, ◌++◌, ◌∙◌, ◌≤◌, Bool, true, false, ℕ, List, [], Option, Some, None, length, refl, ap, sym, subst}
 use Rattle.std.proofs.lemmas.Bool.{le-leb}
 use Rattle.std.proofs.lemmas.List.{take_all}

@@ -1,4 +1,4 @@
--- A run that keeps the settings of the `heap` line.
+-- For `settings_are_kept`: a run by `with_settings` is a run by the inner semantics, and its manager has the settings that are kept.
 use Rattle.std.proofs.Common.{◌∙◌, ℕ, List, [], ◌∷◌, Option, Some, None, Result, Ok, Err, refl, sym, ap, subst}
 use Rattle.std.specs.Prelude.{option_map}
 use Rattle.cf_base.specs.Settings.{profile_of}

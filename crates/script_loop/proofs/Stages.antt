@@ -1,4 +1,4 @@
--- The stage of a script and its run.
+-- The reader's stage and the state of the run: after a command the heap is open, before the `heap` line it isn't; and the state after a run.
 use Rattle.std.proofs.Common.{◌≡◌, Bool, true, false, Some, refl}
 use Rattle.script_reader.specs.Items.{stage_after_command}
 use Rattle.script_reader.specs.declared.stage.Stage.{Stage}
@@ -7,7 +7,7 @@ use Rattle.script_loop.specs.Progress.{IsReadyAt, run_in}
 use Rattle.script_loop.specs.ScriptOutcome.{EndsAt}
 use Rattle.script_loop.specs.Semantics.{Semantics}
 
--- after a command the heap is open
+-- the stage after a command isn't `Opening`
 pub never_opening : (a b : Stage) (k : Bool) → stage_after_command a k ≡ Some b → b ≡ Opening → ⊥
 never_opening Opening b k leads is = absurd cc
 never_opening Bounding b true leads is = absurd cc
@@ -15,7 +15,7 @@ never_opening Bounding b false leads is = absurd cc
 never_opening Running b true leads is = absurd cc
 never_opening Running b false leads is = absurd cc
 
--- and before it
+-- a stage that allows a command isn't `Opening`, so the run has begun
 pub run_before : {S : Type 0} (a b : Stage) (k : Bool) → stage_after_command a k ≡ Some b → (s : S) → run_in a s ≡ Some s
 run_before Opening b k leads s = absurd cc
 run_before Bounding b k leads s = refl
@@ -36,7 +36,7 @@ going_after m a Opening k s leads going = absurd (never_opening a Opening k lead
 going_after m a Bounding k s leads going = going
 going_after m a Running k s leads going = going
 
--- the state after a run
+-- the state after a run; before the `heap` line it is the first state, unchanged
 pub stands : {S : Type 0} (a : Stage) (s t : S) → (a ≡ Opening → t ≡ s) → EndsAt s (run_in a t) t
 stands Opening s t untouched = untouched refl
 stands Bounding s t untouched = refl

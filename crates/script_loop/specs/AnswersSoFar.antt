@@ -1,4 +1,5 @@
--- What the loop over a script has answered so far.
+-- What it has done to feed some bytes to the reader and to answer the items that they complete, for each of the four ways in which this ends (`Goes`). `m` is
+-- the semantics of the mode handler.
 use Rattle.std.specs.Prelude.{◌≡◌, ◌≤◌, ◌+◌, ◌++◌, ℕ, Bool, true, false, List, [], ◌∷◌, length, Option, Some, None}
 use Rattle.cf_io.specs.Feeds.{appended}
 use Rattle.script_reader.specs.Items.{Item}
@@ -12,7 +13,8 @@ use Rattle.script_loop.specs.Semantics.{PartBy, RunBy, Semantics}
 use Rattle.script_loop.specs.declared.answering.Ready.{Ready}
 use Rattle.script_loop.specs.declared.answering.Ready.TheVariants.{GoesOn, Stopped, Cut, LacksMemory}
 
--- The bytes `chunk` were read, and `text` is the replies to the items that they complete; if `stopped`, the last one is a bad line.
+-- The bytes `chunk` were fed. The items `done` that they complete were answered, `text` is their replies, and `stopped` is whether a bad line is one of them.
+-- `left`: whatever bytes `more` follow, the items of `chunk` and `more` are `done` and then those that are still to be answered.
 pub record Answered {S P : Type 0} (m : Semantics S P) (old : Playing S) (chunk : List ℕ) (new : Playing S) (text : List ℕ) (stopped : Bool) : Type 0 where
   pub done : List Item
   pub replies : List Reply
@@ -24,7 +26,8 @@ pub record Answered {S P : Type 0} (m : Semantics S P) (old : Playing S) (chunk 
   pub untouched : new.reading.stage ≡ Opening → (old.reading.stage ≡ Opening) × (new.state ≡ old.state)
   pub silent : stopped ≡ false → new.reading.stage ≡ Opening → text ≡ []
 
--- The bytes `chunk` were read, and the output is replies to items and a prefix of the reply to the next one.
+-- The bytes `chunk` were fed. The items `done` were answered whole; the next one, `item`, took effect, but only `front`, a prefix of its reply, was written.
+-- `out` is the replies and this prefix.
 pub record CutOff {S P : Type 0} (m : Semantics S P) (old : Playing S) (chunk : List ℕ) (new : Playing S) (out : List ℕ) : Type 0 where
   pub done : List Item
   pub replies : List Reply
@@ -38,13 +41,13 @@ pub record CutOff {S P : Type 0} (m : Semantics S P) (old : Playing S) (chunk : 
   pub left : (more : List ℕ) (ended : Bool) → (after : List Item) × (items_left old.reading (chunk ++ more) ended ≡ done ++ item ∷ after)
   pub untouched : new.reading.stage ≡ Opening → (old.reading.stage ≡ Opening) × (new.state ≡ old.state)
 
--- the kept bytes hold no whole item, so that the reader needs more bytes
+-- the reader `r` needs more bytes: it isn't stopped, the bytes that it keeps hold no whole item, and before the end they are at most the longest line
 pub record IsWaiting (r : Reading) : Type 0 where
   pub going : r.stopped ≡ None
   pub quiet : items_left r [] false ≡ []
   pub room : r.ended ≡ false → length r.kept ≤ LONGEST
 
--- the items that the chunk completes were answered
+-- the case `GoesOn`: all items that the chunk completes were answered, and the reader needs more bytes
 pub record WentOn {S P : Type 0} (m : Semantics S P) (old : Progress S) (chunk : List ℕ) (new : Progress S) : Type 0 where
   pub text : List ℕ
   pub answered : Answered m old.playing chunk new.playing text false
@@ -54,34 +57,34 @@ pub record WentOn {S P : Type 0} (m : Semantics S P) (old : Progress S) (chunk :
   pub same_end : new.playing.reading.ended ≡ old.playing.reading.ended
   pub fed : new.playing.reading.fed ≡ old.playing.reading.fed + length chunk
 
--- the script stopped at a bad line, and its number was written
+-- the case `Stopped`: the script stopped at a bad line, and its number was written
 pub record HasStopped {S P : Type 0} (m : Semantics S P) (old : Progress S) (chunk : List ℕ) (new : Progress S) : Type 0 where
   pub text : List ℕ
   pub answered : Answered m old.playing chunk new.playing text true
   pub wrote : new.written ≡ appended old.written text
   pub over : (line : ℕ) × (new.playing.reading.stopped ≡ Some line)
 
--- the sink failed at the reply to an item: a prefix of it was written
+-- the case `Cut`: the sink failed at the reply to an item, and a prefix of that reply was written
 pub record WasCut {S P : Type 0} (m : Semantics S P) (old : Progress S) (chunk : List ℕ) (new : Progress S) : Type 0 where
   pub out : List ℕ
   pub cut : CutOff m old.playing chunk new.playing out
   pub wrote : new.written ≡ appended old.written out
 
--- an allocation failed at the `heap` line, and nothing was written
+-- the case `LacksMemory`: an allocation failed at the `heap` line, and nothing was written
 pub record LackedMemory {S P : Type 0} (m : Semantics S P) (old new : Progress S) : Type 0 where
   pub stage : old.playing.reading.stage ≡ Opening
   pub lacks : m.lacks old.playing.state new.playing.state
   pub plan : m.plan new.playing.state ≡ m.plan old.playing.state
   pub wrote : new.written ≡ old.written
 
--- what the bytes `chunk` led to, by the result of `answer_chunk`
+-- from the progress `old` the bytes `chunk` led to the progress `new`, by the result of `answer_chunk`
 abbrev pub Goes : {S P : Type 0} → Semantics S P → Progress S → List ℕ → Ready → Progress S → Type 0
 Goes m old chunk GoesOn new = WentOn m old chunk new
 Goes m old chunk Stopped new = HasStopped m old chunk new
 Goes m old chunk Cut new = WasCut m old chunk new
 Goes m old chunk LacksMemory new = LackedMemory m old new
 
--- a prefix of a text was written
+-- `front`, a prefix of `text`, was written
 pub record WroteFront (old : Option (List ℕ)) (text : List ℕ) (new : Option (List ℕ)) : Type 0 where
   pub front : List ℕ
   pub lost : List ℕ

@@ -1,4 +1,4 @@
--- What follows from the outcome of a script on one manager.
+-- The words of the laws of this crate: conclusions about what a script's call printed (`call`: the bytes before and after it, and its status).
 use Rattle.std.specs.Prelude.{◌≡◌, ◌++◌, ⊤, ℕ, List, [], Option, Some, None}
 use Rattle.cf_base.specs.declared.kind.Kind.{Kind}
 use Rattle.cf_base.specs.declared.status.Status.{Status}
@@ -14,20 +14,20 @@ use Rattle.script_loop.specs.ScriptOutcome.{Effects, items_within}
 use Rattle.script_loop.specs.Semantics.{RunBy, Semantics}
 use Rattle.transcript_laws.specs.Transcripts.{ArePlaceless, StaysAtOne, transcript}
 
--- the statuses at which every item within the limit was answered
+-- the statuses after which every item within the limit of 268,435,455 bytes was answered
 abbrev pub AnswersAll : Status → Type 0
 AnswersAll Done = ⊤
 AnswersAll BadScript = ⊤
 AnswersAll TooLong = ⊤
 AnswersAll status = ⊥
 
--- replies to these items were printed, and the reply to each read is the bytes last written
+-- a reply to each of the items `wanted` was printed, and the reply to each read is the bytes last written through its id
 pub record PrintsReads (wanted : List Item) (call : Effects) : Type 0 where
   pub replies : List Reply
   pub reads : AreReadsOf None wanted replies
   pub written : call.after ≡ appended call.before (text_of [] replies)
 
--- the text is a prefix of the output of some run over all the items
+-- the text is a prefix of the output of some run over all the items `wanted`, on a manager of the kind
 pub record IsPrefixOfRun (kind : Kind) (wanted : List Item) (text : List ℕ) : Type 0 where
   pub replies : List Reply
   pub end : Option RunState
@@ -35,18 +35,18 @@ pub record IsPrefixOfRun (kind : Kind) (wanted : List Item) (text : List ℕ) : 
   pub missing : List ℕ
   pub prefix : text_of [] replies ≡ text ++ missing
 
--- with pages, every bound is 1 at each command except `k`, and no command asks for an address or a cost
+-- the items are plain: the kind has pages, every bound is 1 at each command except `k`, and no command asks for an address or a cost
 pub record ArePlain (kind : Kind) (wanted : List Item) : Type 0 where
   pub paged : IsPaged kind
   pub ones : StaysAtOne kind None wanted
   pub placeless : ArePlaceless wanted
 
--- if the items are plain, the output is their transcript
+-- if the source is observable and the items of its bytes `all` are plain, the call appended their transcript to the sink
 abbrev pub PrintsTranscript : Kind → Option (List ℕ) → Effects → Type 0
 PrintsTranscript kind None call = ⊤
 PrintsTranscript kind (Some all) call = ArePlain kind (items_within all) → call.after ≡ appended call.before (text_of [] (transcript kind (items_within all)))
 
--- the text is a prefix of the output of some run by these rules over all the items
+-- the text is a prefix of the output of some run by the semantics `m`, from the state `from`, over all the items `wanted`
 pub record IsPrefixBy {S P : Type 0} (m : Semantics S P) (from : S) (wanted : List Item) (text : List ℕ) : Type 0 where
   pub replies : List Reply
   pub end : Option S

@@ -1,4 +1,5 @@
--- One turn of the loop over a script: it takes one chunk, and answers the items that the chunk completes.
+-- The contract of `Script::turn`, one turn of the loop: it takes one chunk, and answers the items that the chunk completes. `m` is the semantics of the mode
+-- handler; `old` and `new` are the script before and after the turn.
 use Rattle.std.specs.Prelude.{◌≡◌, ◌<◌, ◌≤◌, ◌+◌, ◌++◌, ℕ, false, List, [], length, Option}
 use Rattle.cf_base.specs.declared.status.Status.{Status}
 use Rattle.cf_base.specs.declared.status.Status.TheVariants.{BadScript, ReadFault, WriteFault, OutOfMemory, TooLong}
@@ -13,34 +14,35 @@ use Rattle.script_loop.specs.declared.running.Script.{Script}
 use Rattle.script_loop.specs.declared.running.TurnEnd.{TurnEnd}
 use Rattle.script_loop.specs.declared.running.TurnEnd.TheVariants.{Answered, Ended, Stopped}
 
--- what the script's reader was fed and keeps
+-- the state of the script's reader: what it was fed and keeps
 abbrev pub reading_in : Script → Reading
 reading_in script = script.reader
 
--- how many bytes may still be taken up to the limit
+-- how many bytes the script may still take before it passes the limit
 abbrev pub left_in : Script → ℕ
 left_in script = script.left
 
--- A script between two turns: the run so far, the bytes left in its source, how many the source has returned, and how many may still be taken.
+-- A script between two turns: its progress; the bytes `rest` left in its source, if it is observable; `given`, how many bytes the source has returned; and
+-- `left`, how many the script may still take.
 pub record Between (S : Type 0) : Type 0 where
   pub progress : Progress S
   pub rest : Option (List ℕ)
   pub given : ℕ
   pub left : ℕ
 
--- what contracts see of a script between two turns, with the state of its run, its sink and its source
+-- the record `Between` of a script, the state of its run, the bytes written to its sink, those left in its source, and how many the source has returned
 abbrev pub between : {S : Type 0} → Script → S → Option (List ℕ) → Option (List ℕ) → ℕ → Between S
 between script state written rest given =
     record { progress = progress (playing (reading_in script) state) written; rest = rest; given = given; left = left_in script }
 
--- every whole line taken is answered; the bytes fed and those that may still be taken add up to the limit
+-- a turn may begin in `b`: every whole line taken so far is answered, and the bytes fed and those that may still be taken add up to the limit
 pub record AwaitsChunk {S P : Type 0} (m : Semantics S P) (b : Between S) : Type 0 where
   pub waiting : IsWaiting b.progress.playing.reading
   pub ready : IsReady m b.progress.playing
   pub going : b.progress.playing.reading.ended ≡ false
   pub few : b.progress.playing.reading.fed + b.left ≡ MOST_BYTES
 
--- a chunk was taken: its bytes within the limit, and those past it
+-- a chunk was taken: `within` is its bytes up to the limit, `past` those beyond it
 pub record Chunk {S : Type 0} (old new : Between S) : Type 0 where
   pub within : List ℕ
   pub past : List ℕ
@@ -71,7 +73,7 @@ pub record TakesNothing {S : Type 0} (old new : Between S) : Type 0 where
   pub counted : HasGiven old.given 0 new.given
   pub left : new.left ≡ old.left
 
--- the turn was the last one, by the status at which the script ends
+-- what the last turn did, from `old` to `new`, if the script ends with this status
 abbrev pub StopsBy : {S P : Type 0} → Semantics S P → Status → Between S → Between S → Type 0
 StopsBy m ReadFault old new = TakesNothing old new
 StopsBy m BadScript old new = (c : Chunk old new) × HasStopped m old.progress c.within new.progress
@@ -80,7 +82,7 @@ StopsBy m OutOfMemory old new = (c : Chunk old new) × LackedMemory m old.progre
 StopsBy m TooLong old new = PassesLimit m old new
 StopsBy m status old new = ⊥
 
--- what a turn did, by how it ended
+-- what a turn did, from `old` to `new`, by how it ended (`TurnEnd`)
 abbrev pub TakesTurn : {S P : Type 0} → Semantics S P → Between S → TurnEnd → Between S → Type 0
 TakesTurn m old Answered new = AnswersChunk m old new
 TakesTurn m old Ended new = TakesNothing old new × IsSpent old.rest

@@ -1,4 +1,4 @@
--- The mode handler of a session over one manager.
+-- The semantics of mode `run`: which replies the session over one manager may write, and to which states they lead.
 use Rattle.std.specs.Prelude.{◌≡◌, ◌++◌, ℕ, Bool, List, [], is_some}
 use Rattle.cf_base.specs.declared.kind.Kind.{Kind}
 use Rattle.cf_model.specs.Steps.{IsClosed}
@@ -8,19 +8,19 @@ use Rattle.run_model.specs.Sessions.{IsGoing, RunState, fresh_session}
 use Rattle.run_model.specs.Texts.{Reply, led}
 use Rattle.script_loop.specs.Semantics.{Semantics}
 
--- the command took effect, and these bytes, a prefix of its reply, were written
+-- the command took effect and leads from `old` to `new`, but only `out`, a prefix of its reply, was written; `lost` is the rest
 pub record TurnInPart (old : RunState) (command : Command) (out : List ℕ) (new : RunState) : Type 0 where
   pub reply : Reply
   pub lost : List ℕ
   pub turn : Turn old command reply new
   pub cut : led [] reply ≡ out ++ lost
 
--- the manager is out of memory, and the session is unchanged
+-- an allocation failed at the `heap` line: the manager is closed, and the session is unchanged
 pub record LacksOne (old new : RunState) : Type 0 where
   pub closed : IsClosed old.heap new.heap
   pub session : new.session ≡ old.session
 
--- The plan is the kind, and whether the manager promises an order.
+-- The semantics of a session over one manager. The plan, which no item changes, is the manager's kind, and whether it promises an order.
 abbrev pub one_manager : Semantics RunState (Kind × Bool)
 one_manager = record {
   plan = λ s. (s.heap.kind, is_some s.heap.order);

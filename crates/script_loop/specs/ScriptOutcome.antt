@@ -1,4 +1,5 @@
--- How a whole script may end.
+-- How the run of a whole script may end: for each status, which bytes were read, which items were answered, and what was written. `m` is the semantics of the
+-- mode handler; its run goes from the state `from` to the state `to`.
 use Rattle.std.specs.Prelude.{◌≡◌, ◌≢◌, ◌<◌, ◌≤◌, ◌+◌, ◌⊎◌, ◌++◌, ⊤, ℕ, Bool, true, false, List, [], ◌∷◌, length, take, nat_le, Option, Some, None}
 use Rattle.std.specs.List.{list_any}
 use Rattle.cf_base.specs.declared.status.Status.{Status}
@@ -16,16 +17,17 @@ MOST_BYTES = 268435455
 abbrev pub MOST_CHUNK : ℕ
 MOST_CHUNK = 4096
 
+-- whether an item is a line that isn't in the grammar
 abbrev pub is_bad : Item → Bool
 is_bad (starts settings) = false
 is_bad (asks command) = false
 is_bad (bad n) = true
 
--- whether some line isn't in the grammar
+-- whether some item is a line that isn't in the grammar
 abbrev pub has_bad : List Item → Bool
 has_bad = list_any is_bad
 
--- the items of the bytes within the limit; if there are no more bytes, the last line needs no line feed
+-- the items of the first 268,435,455 bytes of `all`; if there are no more bytes, the last line needs no line feed
 abbrev pub items_within : List ℕ → List Item
 items_within all = items (take MOST_BYTES all) (nat_le (length all) MOST_BYTES)
 
@@ -36,6 +38,7 @@ pub record SourceState : Type 0 where
   pub faults : ℕ
   pub failed : Bool
 
+-- the record `SourceState` of these values: bytes left, number returned, number of faults, and whether the last call failed
 abbrev pub source_at : Option (List ℕ) → ℕ → ℕ → Bool → SourceState
 source_at rest given faults failed = record { rest = rest; given = given; faults = faults; failed = failed }
 
@@ -45,11 +48,12 @@ pub record SinkState : Type 0 where
   pub faults : ℕ
   pub failed : Bool
 
+-- the record `SinkState` of these values: bytes written, number of faults, and whether the last call failed
 abbrev pub sink_at : Option (List ℕ) → ℕ → Bool → SinkState
 sink_at written faults failed = record { written = written; faults = faults; failed = failed }
 
--- A call: the bytes left in its source and the bytes in its sink before and after, if they are observable; how many bytes the source gave before and after;
--- and the status.
+-- What a call did to the bytes of its source and sink. `had` and `left`: the bytes in the source before and after the call. `given_before` and `given_after`:
+-- how many bytes the source had returned by then. `before` and `after`: the bytes in the sink. A list is `None` if the device isn't observable.
 pub record Effects : Type 0 where
   pub had : Option (List ℕ)
   pub left : Option (List ℕ)
@@ -59,7 +63,7 @@ pub record Effects : Type 0 where
   pub after : Option (List ℕ)
   pub status : Status
 
--- the effects of a call, by its source and its sink before and after it
+-- the record `Effects` of a call with this status: from the states of its source and its sink before it, and their states `source'` and `sink'` after it
 abbrev pub effects : SourceState → SinkState → Status → SourceState → SinkState → Effects
 effects source sink status source' sink' = record {
   had = source.rest;
@@ -71,12 +75,12 @@ effects source sink status source' sink' = record {
   status = status;
 }
 
--- the state after the run; unchanged if no run began
+-- `to` is the state after the run that began in `from`: its last state, or `from` itself if no run began (`None`)
 abbrev pub EndsAt : {S : Type 0} → S → Option S → S → Type 0
 EndsAt from None to = to ≡ from
 EndsAt from (Some s) to = to ≡ s
 
--- a run over these items leads to this state, and its replies were written
+-- a run from `from` over the items `wanted` leads to the state `to`, and all its replies were written
 pub record Wrote {S P : Type 0} (m : Semantics S P) (from : S) (wanted : List Item) (call : Effects) (to : S) : Type 0 where
   pub replies : List Reply
   pub end : Option S
@@ -84,7 +88,8 @@ pub record Wrote {S P : Type 0} (m : Semantics S P) (from : S) (wanted : List It
   pub written : call.after ≡ appended call.before (text_of [] replies)
   pub stands : EndsAt from end to
 
--- the replies of a run over the items before `item` were written; then `item` took effect, and a prefix of its reply, `front`, was written
+-- `wanted` is `before`, `item` and `after`. The replies of a run over `before` were written; then `item` took effect and leads to the state `to`, but only
+-- `front`, a prefix of its reply, was written. The items `after` were not answered.
 pub record WroteInPart {S P : Type 0} (m : Semantics S P) (from : S) (wanted : List Item) (call : Effects) (to : S) : Type 0 where
   pub before : List Item
   pub item : Item
@@ -99,8 +104,8 @@ pub record WroteInPart {S P : Type 0} (m : Semantics S P) (from : S) (wanted : L
   pub written : call.after ≡ appended call.before (text_of [] replies ++ front)
   pub stands : EndsAt from end to
 
--- The bytes taken are `earlier` and then at most 4,096 others, `last`. Each item whose line is complete in `earlier` is one of those that were answered as a
--- whole, `before`.
+-- Of the bytes `all`, `left` were not taken. Those taken are `earlier` and then at most 4,096 others, `last`. Each item whose line is complete in `earlier` is
+-- among the items `before`, which were answered whole.
 pub record TakesAtMostAChunk (before : List Item) (all left : List ℕ) : Type 0 where
   pub earlier : List ℕ
   pub last : List ℕ
@@ -108,14 +113,14 @@ pub record TakesAtMostAChunk (before : List Item) (all left : List ℕ) : Type 0
   pub short : length last ≤ MOST_CHUNK
   pub answered : AreFirstOf (items earlier false) before
 
--- an allocation failed, and nothing was written
+-- an allocation failed at the `heap` line, nothing was written, and the semantics allow the state `to` after that
 pub record Lacks {S P : Type 0} (m : Semantics S P) (from : S) (call : Effects) (to : S) : Type 0 where
   pub lacks : m.lacks from to
   pub unwritten : call.after ≡ call.before
 
--- By the status: a source had the bytes `all`, and has the bytes `left` now. If the source failed, each item whose line is complete in the bytes taken was
--- answered, and no other. If the sink failed, each item whose line is complete before the last bytes taken, at
--- most 4,096, was answered as a whole.
+-- What is true for each status, if the source had the bytes `all` before the call and has `left` after it. If the source failed, each item whose line is
+-- complete in the bytes taken was answered, and no other. If the sink failed, each item whose line is complete before the last bytes taken, at most 4,096, was
+-- answered whole. No script ends by `Words` or `BadImage`.
 abbrev pub IsRow : {S P : Type 0} → Semantics S P → Status → S → List ℕ → List ℕ → Effects → S → Type 0
 IsRow m Done from all left call to = (length all ≤ MOST_BYTES) × (left ≡ []) × (has_bad (items_within all) ≡ false) × Wrote m from (items_within all) call to
 IsRow m BadScript from all left call to = (has_bad (items_within all) ≡ true) × Wrote m from (items_within all) call to
@@ -127,13 +132,14 @@ IsRow m OutOfMemory from all left call to = Lacks m from call to
 IsRow m Words from all left call to = ⊥
 IsRow m BadImage from all left call to = ⊥
 
--- the bytes that may be read next: the bytes left, if they are observable; none if the source has ended
+-- `more` are bytes that the source may still have: exactly `left`, if it is observable; else none if it has ended, or any
 abbrev pub MayFollow : Option (List ℕ) → Bool → List ℕ → Type 0
 MayFollow (Some left) ended more = more ≡ left
 MayFollow None true more = more ≡ []
 MayFollow None false more = ⊤
 
--- Over every source: the bytes that the call took, and the row of its status, which holds for all bytes that may follow them.
+-- The outcome of a script over every source, observable or not: the call took the bytes `taken` (and met the end if `ended`), and whatever bytes `more` may
+-- follow them, the source had `taken` and `more`, and `IsRow` holds of its status. `from` and `to` are the states of the run before and after the call.
 pub record MeetsOutcome {S P : Type 0} (m : Semantics S P) (from : S) (call : Effects) (to : S) : Type 0 where
   pub taken : List ℕ
   pub ended : Bool
@@ -141,7 +147,9 @@ pub record MeetsOutcome {S P : Type 0} (m : Semantics S P) (from : S) (call : Ef
   pub counted : HasGiven call.given_before (length taken) call.given_after
   pub row : (more : List ℕ) → MayFollow call.left ended more → IsRow m call.status from (taken ++ more) more call to
 
--- The cause of each status, over every source and sink.
+-- The cause of each status, over every source and sink; `source'` and `sink'` are their states after the call. `ReadFault` means that the last call of the
+-- source failed, `WriteFault` the same of the sink; with any other status neither failed. With `OutOfMemory` nothing was written. `TooLong` means that the
+-- source returned more than the limit, or that its count of bytes saturated.
 pub record HasCauses (source : SourceState) (sink : SinkState) (status : Status) (source' : SourceState) (sink' : SinkState) : Type 0 where
   pub silent : status ≡ OutOfMemory → sink'.written ≡ sink.written
   pub source_same : status ≢ ReadFault → source'.faults ≡ source.faults
@@ -150,7 +158,8 @@ pub record HasCauses (source : SourceState) (sink : SinkState) (status : Status)
   pub write_fault : status ≡ WriteFault → FailsLast sink.faults sink'.faults sink'.failed
   pub too_long : status ≡ TooLong → (source.given + MOST_BYTES < source'.given) ⊎ (source'.given ≡ last_count)
 
--- A script led from one state to another: the row of its status, its cause, and what no item changes.
+-- The contract of `play_script`: a script led from the state `from` to the state `to`. Its outcome, its plan, which no item changes, and the causes of its
+-- status.
 pub record Plays {S P : Type 0} (m : Semantics S P) (from : S) (source : SourceState) (sink : SinkState) (status : Status) (source' : SourceState)
     (sink' : SinkState) (to : S) : Type 0 where
   pub outcome : MeetsOutcome m from (effects source sink status source' sink') to

@@ -1,4 +1,4 @@
--- What the replies of a mode handler mean.
+-- The semantics of a mode handler, `m` below: a record of relations that fixes which reply each item may get, and to which state it leads.
 use Rattle.std.specs.Prelude.{◌≡◌, ◌++◌, ℕ, List, [], Option, Result, Ok, Err}
 use Rattle.cf_base.specs.Settings.{Profile, profile_of}
 use Rattle.cf_base.specs.declared.answers.Failed.{Failed}
@@ -11,8 +11,9 @@ use Rattle.run_model.specs.Texts.{Reply, led}
 use Rattle.script_loop.specs.declared.player.OpenFault.{OpenFault}
 use Rattle.script_loop.specs.declared.player.OpenFault.TheVariants as fault
 
--- The states are those of a run. No item changes the plan. A run begins with a `heap` line in a fresh state, and each command has a turn in a state of a
--- run. If the sink cuts a reply, `turns_in_part` fixes the bytes written and the state afterwards. `lacks` fixes the state after an allocation that failed.
+-- `S` is the type of the states of a run, `P` that of their plan, which no item changes. `is_fresh`: a `heap` line may come. `is_going`: a command may come.
+-- `begins plan settings reply new`: the `heap` line may get this reply and lead to `new`. `turns old command reply new`: so may the command. `turns_in_part old
+-- command out new`: it led to `new`, but the sink cut its reply after the bytes `out`. `lacks old new`: an allocation failed at the `heap` line.
 pub record Semantics (S P : Type 0) : Type 1 where
   pub plan : S → P
   pub is_fresh : S → Type 0
@@ -22,33 +23,34 @@ pub record Semantics (S P : Type 0) : Type 1 where
   pub turns_in_part : S → Command → List ℕ → S → Type 0
   pub lacks : S → S → Type 0
 
--- one item, its reply and the state after it, by the plan of a state
+-- by the semantics `m` with the plan of `from`, one item may get this reply and lead from `old` to `new`; `None` is before the `heap` line
 abbrev pub StepBy : {S P : Type 0} → Semantics S P → S → Option S → Item → Reply → Option S → Type 0
 StepBy m from old item reply new = PlayStep (m.begins (m.plan from)) m.turns old item reply new
 
--- a run over items, by the plan of a state: their replies, and the state after them
+-- by the semantics `m` with the plan of `from`, the items in turn may get these replies, one each, and lead from `old` to `new`
 abbrev pub RunBy : {S P : Type 0} → Semantics S P → S → Option S → List Item → List Reply → Option S → Type 0
 RunBy m from old items replies new = PlayRun (m.begins (m.plan from)) m.turns old items replies new
 
--- one item takes effect, and only these bytes of its reply, a prefix, are written
+-- by the semantics `m` with the plan of `from`, one item takes effect and leads from `old` to `new`, but only `out`, a prefix of its reply, is written
 abbrev pub PartBy : {S P : Type 0} → Semantics S P → S → Option S → Item → List ℕ → Option S → Type 0
 PartBy m from old item out new = PlayPart (m.begins (m.plan from)) m.turns_in_part old item out new
 
--- a state, and the bytes written by then, if the sink is observable
+-- a state of a run, and the bytes written by then; `None` if the sink isn't observable
 pub record Snapshot (S : Type 0) : Type 0 where
   pub state : S
   pub written : Option (List ℕ)
 
+-- the record `Snapshot` of a state and the bytes written by then
 abbrev pub snapshot : {S : Type 0} → S → Option (List ℕ) → Snapshot S
 snapshot s written = record { state = s; written = written }
 
--- a `heap` line was answered
+-- the `heap` line with settings `p` took effect, and its whole reply was written
 pub record IsOpened {S P : Type 0} (m : Semantics S P) (old : Snapshot S) (p : Profile) (new : Snapshot S) : Type 0 where
   pub reply : Reply
   pub begins : m.begins (m.plan old.state) p reply new.state
   pub written : new.written ≡ appended old.written (led [] reply)
 
--- a `heap` line took effect, and a prefix of its reply was written
+-- the `heap` line with settings `p` took effect, but only `front`, a prefix of its reply, was written; `lost` is the rest
 pub record IsOpenedInPart {S P : Type 0} (m : Semantics S P) (old : Snapshot S) (p : Profile) (new : Snapshot S) : Type 0 where
   pub reply : Reply
   pub front : List ℕ
@@ -57,25 +59,25 @@ pub record IsOpenedInPart {S P : Type 0} (m : Semantics S P) (old : Snapshot S) 
   pub cut : led [] reply ≡ front ++ lost
   pub written : new.written ≡ appended old.written front
 
--- what a `heap` line did, by the result: it was answered, or in part, or an allocation failed and nothing was written
+-- what a `heap` line did, by its result: its reply was written, or a prefix of it (`Failed`), or an allocation failed and nothing was written (`OutOfMemory`)
 abbrev pub OpensBy : {S P T : Type 0} → Semantics S P → Snapshot S → Settings → Result T OpenFault → Snapshot S → Type 0
 OpensBy m old settings (Ok u) new = IsOpened m old (profile_of settings) new
 OpensBy m old settings (Err fault.Failed) new = IsOpenedInPart m old (profile_of settings) new
 OpensBy m old settings (Err fault.OutOfMemory) new = m.lacks old.state new.state × (new.written ≡ old.written)
 
--- a command was answered
+-- a command took effect, and its whole reply was written
 pub record HasTurn {S P : Type 0} (m : Semantics S P) (old : Snapshot S) (command : Command) (new : Snapshot S) : Type 0 where
   pub reply : Reply
   pub turns : m.turns old.state command reply new.state
   pub written : new.written ≡ appended old.written (led [] reply)
 
--- a command took effect, and these bytes, a prefix of its reply, were written
+-- a command took effect, but only `out`, a prefix of its reply, was written
 pub record HasTurnInPart {S P : Type 0} (m : Semantics S P) (old : Snapshot S) (command : Command) (new : Snapshot S) : Type 0 where
   pub out : List ℕ
   pub turns : m.turns_in_part old.state command out new.state
   pub written : new.written ≡ appended old.written out
 
--- what a command did, by the result: it was answered, or in part
+-- what a command did, by its result: its whole reply was written, or a prefix of it
 abbrev pub AnswersBy : {S P T : Type 0} → Semantics S P → Snapshot S → Command → Result T Failed → Snapshot S → Type 0
 AnswersBy m old command (Ok u) new = HasTurn m old command new
 AnswersBy m old command (Err failed) new = HasTurnInPart m old command new

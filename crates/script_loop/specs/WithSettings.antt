@@ -1,19 +1,21 @@
--- A mode handler that keeps the settings of the `heap` line.
+-- The semantics of `WithSettings`: another handler's, with the settings of the `heap` line kept in the state.
 use Rattle.std.specs.Prelude.{◌≡◌, ⊤, Option, Some, None, option_map}
 use Rattle.cf_base.specs.Settings.{profile_of}
 use Rattle.cf_base.specs.declared.settings.Settings.{Settings}
 use Rattle.run_model.specs.Sessions.{IsGoing, RunState}
 use Rattle.script_loop.specs.Semantics.{Semantics}
 
--- a state of another mode handler, and the settings of the `heap` line, if any
+-- a state of the other handler, and the settings of the `heap` line; none before it
 pub record Settled (S : Type 0) : Type 0 where
   pub state : S
   pub settings : Option Settings
 
+-- the record `Settled` of a state and the settings of the `heap` line
 abbrev pub settled : {S : Type 0} → S → Option Settings → Settled S
 settled state settings = record { state = state; settings = settings }
 
--- The semantics of the handler around one with semantics m: it answers as that one does. The `heap` line sets the settings, and no command changes them.
+-- The semantics of the handler around one with the semantics `m`: it answers as that one does. The `heap` line sets the kept settings, and no command changes
+-- them.
 abbrev pub with_settings : {S P : Type 0} → Semantics S P → Semantics (Settled S) P
 with_settings m = record {
   plan = λ s. m.plan s.state;
@@ -25,7 +27,7 @@ with_settings m = record {
   lacks = λ old new. m.lacks old.state new.state;
 }
 
--- the run goes on, and its manager has the settings that are kept
+-- if the run has begun, it is in progress, and its manager has the settings that are kept
 abbrev pub GoesWith : Option (Settled RunState) → Type 0
 GoesWith None = ⊤
 GoesWith (Some s) = IsGoing s.state × (option_map profile_of s.settings ≡ Some s.state.heap.profile)

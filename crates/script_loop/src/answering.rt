@@ -1,4 +1,5 @@
-//! The mode handler answers the items that a reader has.
+//! Two inner loops: one passes each whole item that the reader holds to the mode handler, the other feeds a chunk
+//! to the reader in between.
 ghost use Rattle.std.specs.Prelude.{◌≡◌, ◌≤◌, ◌+◌, [], length, false, None, ◌≢◌};
 ghost use Rattle.cf_io.specs.Feeds.{FailsLast};
 ghost use Rattle.script_reader.specs.Reading.{MOST_FED};
@@ -9,20 +10,21 @@ use crate::player::{OpenFault, Player};
 use cf_io::{Line, Sink, push_field, put_line};
 use script_reader::{NextRef, PayloadBuffer, Reader};
 
-/// Why no further item was answered.
+/// Why an inner loop stopped.
 #[derive(Clone, Copy, Debug, PartialEq, Eq)]
 pub enum Ready {
-    /// The reader needs more bytes, or the script has ended.
+    /// All whole items are answered: the reader needs more bytes, or the script has ended.
     GoesOn,
-    /// At a bad line, whose number was written.
+    /// The next line is bad, and its number was written.
     Stopped,
-    /// The sink failed.
+    /// The sink failed: of the last reply only a prefix was written. Its item has taken effect.
     Cut,
     /// An allocation failed at the `heap` line.
     LacksMemory,
 }
 
-/// Writes the number of a bad line, and returns `Stopped`, or `Cut` if the sink failed.
+/// Writes the reply `bad line` with this number, counted from 1, and returns `Stopped`, or `Cut` if the sink
+/// failed.
 fn name_bad<K: Sink>(number: u32, sink: &mut K) -> Ready
     ensures names { NamesBad (K.written sink.old) number result (K.written sink.new) }
     ensures grows { K.faults sink.old ≤ K.faults sink.new }
@@ -37,8 +39,8 @@ fn name_bad<K: Sink>(number: u32, sink: &mut K) -> Ready
     }
 }
 
-/// Answers the items of the reader until it needs more bytes, has ended, or is at a bad line, or until the
-/// sink or an allocation fails. `payload` is for the bytes of a write.
+/// Passes each whole item that the reader holds to the mode handler, which does it on the heap and writes its
+/// reply. Stops for one of the causes in `Ready`. `payload` is scratch, for the bytes of a write.
 pub fn answer_kept<H, A: Player<H>, K: Sink>(
     reader: &mut Reader,
     player: &mut A,
@@ -73,8 +75,8 @@ pub fn answer_kept<H, A: Player<H>, K: Sink>(
     }
 }
 
-/// Feeds the chunk to the reader, and answers the items that it completes, until one of the causes in
-/// `Ready` stops it.
+/// Feeds the chunk to the reader, and passes the items that it completes to the mode handler, until one of the
+/// causes in `Ready` stops it.
 pub fn answer_chunk<H, A: Player<H>, K: Sink>(
     reader: &mut Reader,
     player: &mut A,

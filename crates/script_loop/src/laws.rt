@@ -1,4 +1,5 @@
-//! Laws of the outcome of a script on one manager.
+//! Theorems on every script that ran on one manager (`run_script`), from its outcome alone: what its reads print,
+//! what a failed sink got, when the output is the transcript, and that chunks don't matter.
 ghost use Rattle.std.specs.Prelude.{◌≡◌, ◌++◌, ℕ, List, [], None, Some};
 ghost use Rattle.run_laws.specs.IdBytes.{AreReadsOf};
 ghost use Rattle.run_model.specs.Sessions.{RunState};
@@ -9,7 +10,8 @@ ghost use Rattle.script_loop.specs.OneManager.{one_manager};
 ghost use Rattle.script_loop.specs.ScriptOutcome.{Effects, MeetsOutcome, Wrote, WroteInPart, items_within};
 ghost use Rattle.script_loop.specs.WithSettings.{GoesWith, Settled, with_settings};
 
-/// Each read that was answered prints the bytes last written through its id, on any kind of manager.
+/// On any kind of manager, each read that was answered prints the bytes last written through its id. `printed`
+/// claims it of the output, `whole` of the replies to all items, and `in_part` of those before a cut reply.
 pub fn every_read_gives_what_was_written()
     ensures printed { (from to : RunState) (call : Effects) (all : List ℕ) → call.had ≡ Some all
         → MeetsOutcome one_manager from call to → AnswersAll call.status
@@ -20,22 +22,23 @@ pub fn every_read_gives_what_was_written()
         (w : WroteInPart one_manager from wanted call to) → AreReadsOf None w.before w.replies }
 {}
 
-/// The output before the sink failed is a prefix of the output of a run over the whole script, on any
-/// kind of manager.
+/// On any kind of manager, what was written before the sink failed is a prefix of the output of some run over
+/// the whole script.
 pub fn what_was_cut_is_a_prefix()
     ensures { (from to : RunState) (call : Effects) (all : List ℕ)
         → (w : WroteInPart one_manager from (items_within all) call to)
         → IsPrefixOfRun from.heap.kind (items_within all) (text_of [] w.replies ++ w.front) }
 {}
 
-/// If all items were answered and are plain (`ArePlain`), the output is their transcript.
+/// If all items were answered and are plain (`ArePlain`), the output is their transcript, which is computed from
+/// the script alone.
 pub fn plain_scripts_print_their_transcript()
     ensures { (from to : RunState) (call : Effects) → MeetsOutcome one_manager from call to
         → AnswersAll call.status → PrintsTranscript from.heap.kind call.had call }
 {}
 
-/// The chunks of a source do not matter: two calls that answered every item of the same bytes return the
-/// same status, and if the items are plain and the managers of one kind, they print the same.
+/// The chunks of a source don't matter: two calls, `one` and `two`, that answered every item of the same bytes
+/// return the same status. If the items are plain and the managers of one kind, they also write the same bytes.
 pub fn cuts_never_matter()
     ensures status { (from other to there : RunState) (one two : Effects) (all : List ℕ)
         → one.had ≡ Some all → two.had ≡ Some all
@@ -49,8 +52,8 @@ pub fn cuts_never_matter()
         → two.before ≡ one.before → two.after ≡ one.after }
 {}
 
-/// A mode handler that keeps the settings of the `heap` line writes only what the session's own handler
-/// may write. If its run began, the run can go on, and the manager has those settings.
+/// The handler that also keeps the settings (`WithSettings`, of mode `save`) writes what a session alone may
+/// write for the same script. If its run began, the run is in progress, and its manager has the kept settings.
 pub fn settings_are_kept()
     ensures { (from to : Settled RunState) (wanted : List Item) (call : Effects)
         (w : Wrote (with_settings one_manager) from wanted call to)

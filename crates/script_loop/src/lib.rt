@@ -1,4 +1,5 @@
-//! A whole script: reads bytes from a source, and writes replies into a sink.
+//! The loop of every mode that reads a script: takes chunks from a source, passes each item to the mode handler
+//! (trait `Player`), which writes the reply to a sink, and stops at the end or at the first fault.
 #![tactic(auto)]
 
 mod answering;

@@ -1,4 +1,4 @@
-//! The mode handler of a script on one manager: a session.
+//! The mode handler of mode `run`, a session over one manager, and `run_script`, the loop with that handler.
 ghost use Rattle.std.specs.Prelude.{◌≡◌, Bool};
 ghost use Rattle.cf_base.specs.declared.kind.Kind.{Kind};
 ghost use Rattle.cf_session.specs.Apply.{run_at};
@@ -45,10 +45,10 @@ impl<H: Manager> Player<H> for Session {
     }
 }
 
-/// Answers each line of a script before it takes the next chunk: the `heap` line opens the manager, and
-/// each command is done on it. It stops at a bad line, if the source or the sink fails, if an allocation
-/// fails at the `heap` line, and after 268,435,455 bytes. Session and manager are then at the end of
-/// that run, and can go on from there.
+/// Runs a script on one manager, and answers each line before it takes the next chunk: the `heap` line opens the
+/// manager, and each command is done on it. It stops at a bad line, if the source or the sink fails, if an
+/// allocation fails at the `heap` line, and after 268,435,455 bytes; the status shows which. Session and manager
+/// are then in the last state of that run.
 pub fn run_script<H: Manager, S: Source, K: Sink>(
     session: &mut Session,
     heap: &mut H,

@@ -1,4 +1,4 @@
-//! Mode handlers, which answer the items of a script.
+//! The trait `Player`: a mode handler, which the script loop calls for each item.
 ghost use Rattle.std.specs.Prelude.{◌≡◌, ◌≤◌, Err, OnErr, OnOk, ◌≢◌};
 ghost use Rattle.cf_io.specs.Feeds.{FailsLast};
 ghost use Rattle.script_reader.specs.Commands.{IsWellFormed};
@@ -38,18 +38,20 @@ impl From<OutOfMemory> for OpenFault {
 /// A mode handler: it answers the items of a script on a heap, which is one manager, a list of managers,
 /// or another heap. Each mode that reads a script has one, and `play_script` is the loop of all.
 pub trait Player<H> {
-    /// A run at one moment: the state of the handler and its heap.
+    /// The type of the states of a run: what contracts see of the handler and its heap together.
     ghost State: { Type 0 };
 
-    /// The part of a state that no item changes.
+    /// The type of the plan, the part of a state that no item changes.
     ghost Plan: { Type 0 };
 
+    /// The state of a run, from the handler and its heap.
     ghost state: { Self → H → State };
 
+    /// Which reply each item may get, and to which state it leads.
     ghost semantics: { Semantics State Plan };
 
-    /// Answers the `heap` line, the first item of a script: opens the heap and writes the reply. `OpenFault`
-    /// shows why the reply wasn't written whole.
+    /// Answers the `heap` line, the first item of a script: opens the heap with these settings and writes the
+    /// reply. If that fails, `OpenFault` shows why the reply wasn't written whole.
     fn open<K: Sink>(
         &mut self,
         heap: &mut H,
@@ -65,8 +67,8 @@ pub trait Player<H> {
         ensures same { result ≢ Err OpenFault.Failed → K.faults sink.new ≡ K.faults sink.old }
         ensures failed { result ≡ Err OpenFault.Failed → FailsLast (K.faults sink.old) (K.faults sink.new) (K.last_failed sink.new) };
 
-    /// Answers a command. If the sink fails, the command has taken effect, and a prefix of its reply was
-    /// written.
+    /// Does a command on the open heap and writes its reply. If the sink fails, the command has taken effect,
+    /// and a prefix of its reply was written.
     fn answer<K: Sink>(
         &mut self,
         heap: &mut H,

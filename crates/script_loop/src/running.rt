@@ -1,4 +1,5 @@
-//! The loop over the chunks of a script.
+//! `play_script`, the loop of every mode that reads a script, and `Script::turn`, one turn of it, which takes one
+//! chunk.
 ghost use Rattle.std.specs.Prelude.{◌≡◌, ◌≤◌, ◌+◌, ◌≢◌};
 ghost use Rattle.cf_io.specs.Feeds.{FailsLast, one_more};
 ghost use Rattle.script_reader.specs.Reading.{fresh};
@@ -20,15 +21,16 @@ const CHUNK: usize = 4_096;
 /// How a turn of the loop ends.
 #[derive(Clone, Copy, Debug, PartialEq, Eq)]
 pub enum TurnEnd {
-    /// A chunk was taken, and the items that it completes were answered.
+    /// A chunk was taken, the items that it completes were answered, and another turn may follow.
     Answered,
-    /// The source has ended.
+    /// The source has ended, and no byte was taken.
     Ended,
     /// The script ends with this status.
     Stopped(Status),
 }
 
-/// A script between two chunks: its reader, a buffer for the payload of a write, and the bytes left up to the limit.
+/// A script between two chunks: its reader, a buffer for the bytes of a write, and `left`, how many bytes may
+/// still be taken before the limit is passed.
 #[derive(Drop)]
 pub struct Script {
     reader: Reader,
@@ -49,9 +51,9 @@ impl Script {
         }
     }
 
-    /// One turn of the loop: takes one chunk, and answers each command whose line is complete. It ends the
-    /// script at a bad line, if the source or the sink fails, if an allocation fails at the `heap` line, and
-    /// after the limit.
+    /// One turn of the loop: takes one chunk, and lets `player` answer each item whose line is complete. It ends
+    /// the script at a bad line, if the source or the sink fails, if an allocation fails at the `heap` line, and
+    /// if the chunk passes the limit.
     pub fn turn<H, A: Player<H>, S: Source, K: Sink>(
         &mut self,
         player: &mut A,

@@ -1,4 +1,5 @@
-//! A mode handler that keeps the settings of the `heap` line.
+//! A mode handler around another one: it also keeps the settings of the `heap` line. Mode `save` writes them into
+//! the image.
 ghost use Rattle.script_loop.specs.WithSettings.{Settled, settled, with_settings};
 
 use crate::player::{OpenFault, Player};
@@ -6,8 +7,7 @@ use cf_base::{Failed, Settings};
 use cf_io::Sink;
 use script_reader::CommandRef;
 
-/// A mode handler, and the settings of the `heap` line that it answered, so that an image of the heap
-/// after the script can contain them.
+/// The mode handler `player`, and the settings of the `heap` line that it answered; none before that line.
 #[derive(Drop)]
 pub struct WithSettings<A> {
     pub player: A,

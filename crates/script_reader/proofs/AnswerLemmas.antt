@@ -1,4 +1,4 @@
--- The results of the reader, line after line: each means what `Answers` claims.
+-- For `read_next` and the functions that it calls: each result that the reader returns means what `Answers` claims.
 use Rattle.std.proofs.Common.{◌≡◌, ◌∙◌, ◌<◌, ◌≤◌, ◌+◌, ℕ, Bool, true, false, List, [], ◌∷◌, Option, Some, None, length, take, drop, refl, sym, ap, arith}
 use Rattle.std.proofs.Common.{length-append, length-drop, subst, append-nil, append_assoc, ◌++◌, ◌⊎◌, inl, inr, cond, suc, take-append-drop}
 use Rattle.std.proofs.lemmas.Bool.{false≢true, ltb-false}
@@ -98,7 +98,7 @@ first_counted kept ended len at first = go first.cut
         let one : lines kept true ≡ kept ∷ [] = lines_alone kept true h.2 ∙ alone kept (omega (arith, first.some)) in
         rw (drop_all at kept (omega arith)) (ap length one)
 
--- what is read with the first line, if it leads to this stage, or is bad
+-- from `old` the reader reads its first line: one that leads to this stage, or a bad one
 module _ (old : Reading) (len at : ℕ) (going : old.stopped ≡ None) (first : IsFirstLine old.kept old.ended len at) where
   one_line : (next : Stage) (stopped : Option ℕ) (items : List Item)
       → ((more : List ℕ) (e : Bool) → items_left old more e ≡ items ++ items_left (record (after_line old at next) { stopped = stopped }) more e)
@@ -118,13 +118,13 @@ module _ (old : Reading) (len at : ℕ) (going : old.stopped ≡ None) (first : 
 
 -- ---- the result of a line
 
--- a heap is opened first, and bounds may follow
+-- a `heap` line is allowed only as the first command, and leads to the stage `Bounding`
 opens_first : (old new : Stage) → Some new ≡ stage_opened old → (old ≡ Opening) × (new ≡ Bounding)
 opens_first Opening new leads = (refl, cc)
 opens_first Bounding new leads = absurd cc
 opens_first Running new leads = absurd cc
 
--- a blank line or a comment is passed
+-- a first line that is blank or a comment is passed
 pub passes_line : (old : Reading) (len at : ℕ) → old.stopped ≡ None → IsFirstLine old.kept old.ended len at
     → says_nothing (line_says (take len old.kept)) ≡ true → PassesOver old (line_passed old at)
 passes_line old len at going first silent = record {
@@ -139,10 +139,10 @@ passes_line old len at going first silent = record {
     line_is_passed wrong is silent = absurd cc
     line_is_passed (item i) is silent = absurd cc
 
--- the next line, which is in the grammar with this result, or isn't
+-- the next line, which the code reads with the result n if `formed` is true, and finds bad if it is false
 module _ (old : Reading) (len at : ℕ) (formed : Bool) (n : Next) (going : old.stopped ≡ None) (line : IsNextLine old len at)
     (says : saying_if formed n ≡ line_says (take len old.kept)) where
-  -- a line in its place has its result
+  -- if the line is allowed at its stage, the reader returns the line's item
   pub step_in_place : (stage : Stage) → (formed ≡ true → IsInRange n) → Some stage ≡ stage_said old.stage (saying_if formed n)
       → Answers old n (after_line old at stage)
   step_in_place stage fits place = go formed fits (sym says) place
@@ -176,7 +176,7 @@ module _ (old : Reading) (len at : ℕ) (formed : Bool) (n : Next) (going : old.
       go false fits is place = absurd cc
       go true fits is place = answered n (fits refl) is place
 
-  -- the answer to a line that isn't
+  -- if it isn't, the reader returns `Bad`
   pub step_out_of_place : None ≡ stage_said old.stage (saying_if formed n)
       → AnswersBad old old.stopped (old.passed + 1) (record (line_passed old at) { stopped = Some (old.passed + 1) })
   step_out_of_place place =
@@ -210,7 +210,7 @@ few_kept : (kept : List ℕ) → is_last_line false kept ≡ false → length ke
 few_kept [] none = omega arith
 few_kept (x ∷ r) none = ltb-false 8999 (length (x ∷ r)) none
 
--- and the end was not announced
+-- then the reader returns `NeedMore`, if the end was not announced
 pub step_waits : (old : Reading) (kept : List ℕ) → old.stopped ≡ None → kept ≡ old.kept → HasNoLine kept old.ended → old.ended ≡ false → NeedsMore old old
 step_waits old kept going same none open_end =
     let none2 = subst (λ (e : Bool). HasNoLine old.kept e) open_end (subst (λ (k : List ℕ). HasNoLine k old.ended) same none) in
@@ -226,7 +226,7 @@ empty_kept : (kept : List ℕ) → is_last_line true kept ≡ false → kept ≡
 empty_kept [] none = refl
 empty_kept (x ∷ r) none = absurd (false≢true (sym none))
 
--- and the end was announced
+-- and it returns `End`, if the end was announced
 pub step_ends : (old : Reading) (kept : List ℕ) → old.stopped ≡ None → kept ≡ old.kept → HasNoLine kept old.ended → old.ended ≡ true → HasEnded old old
 step_ends old kept going same none shown =
     let none2 = subst (λ (e : Bool). HasNoLine old.kept e) shown (subst (λ (k : List ℕ). HasNoLine k old.ended) same none) in

@@ -9,7 +9,7 @@ use Rattle.script_reader.specs.declared.next.Next.{Next}
 use Rattle.script_reader.specs.declared.next.Next.TheVariants.{Start, Command, NeedMore, Bad, End}
 pub use Rattle.script_reader.proofs.ItemLemmas.{some_stretch}
 
--- a fresh reader has all items to give
+-- a reader that was fed nothing has all items of the bytes left that are fed next
 pub fresh_left : (more : List ℕ) (ended : Bool) → items_left fresh more ended ≡ items more ended
 fresh_left more ended = refl
 
@@ -17,7 +17,7 @@ bad_same_end : (old : Reading) (before : Option ℕ) (line : ℕ) (new : Reading
 bad_same_end old None line new answer = answer.reads.same_end
 bad_same_end old (Some before) line new answer = ap (λ (r : Reading). r.ended) answer.1
 
--- a result announces no end
+-- a call that returns a result doesn't announce the end
 pub answer_same_end : (old : Reading) (next : Next) (new : Reading) → Answers old next new → new.ended ≡ old.ended
 answer_same_end old (Start settings) new answer = answer.reads.same_end
 answer_same_end old (Command command) new answer = answer.reads.same_end
@@ -25,18 +25,18 @@ answer_same_end old NeedMore new answer = answer.passes.reads.same_end
 answer_same_end old (Bad line) new answer = bad_same_end old old.stopped line new answer
 answer_same_end old End new answer = answer.passes.reads.same_end
 
--- after the end nothing is fed
+-- after the end was announced no call feeds bytes
 fed_nothing : (calls : List ReaderCall) (old now : Reading) → old.ended ≡ true → AreCalls old calls now → bytes_fed calls ≡ []
 fed_nothing [] old now shown are = refl
 fed_nothing (feeds bytes ∷ rest) old now shown (mid, (open_end, is), are) = absurd (true≢false (sym shown ∙ open_end))
 fed_nothing (finishes ∷ rest) old now shown (mid, is, are) = fed_nothing rest mid now (ap (λ (r : Reading). r.ended) is) are
 fed_nothing (answers next ∷ rest) old now shown (mid, is, are) = fed_nothing rest mid now (answer_same_end old next mid is ∙ shown) are
 
--- bytes that were fed come before those to come
+-- the items left are the same whether bytes were fed already or are fed next
 pub fed_left : (old : Reading) (bytes more : List ℕ) (e : Bool) → old.ended ≡ false → items_left old (bytes ++ more) e ≡ items_left (fed_with old bytes) more e
 fed_left old bytes more e open_end = rw (open_end, append_assoc) refl
 
--- once the end was announced, nothing follows
+-- the items that are left if the input ends now are those that are left after `finish`
 pub finished_left : (old : Reading) (e : Bool) → items_left old [] true ≡ items_left (record old { ended = true }) [] e
 finished_left old e = go old.ended refl
   where
@@ -44,11 +44,11 @@ finished_left old e = go old.ended refl
     go true shown = rw shown refl
     go false open_end = rw (open_end, append-nil) refl
 
--- nothing is left after a bad line
+-- after a bad line no items are left
 pub nothing_left : (r : Reading) (line : ℕ) (more : List ℕ) (e : Bool) → r.stopped ≡ Some line → items_left r more e ≡ []
 nothing_left r line more e over = rw over refl
 
--- if the reader continues, a bad line is met now
+-- a reader that returned no bad line before and returns one now stops there
 pub bad_now : (old : Reading) (line : ℕ) (new : Reading) → old.stopped ≡ None → Answers old (Bad line) new → StopsAt old line new
 bad_now old line new going answer = subst (λ (o : Option ℕ). AnswersBad old o line new) going answer
 
@@ -67,7 +67,7 @@ over_then (feeds bytes ∷ rest) old now line over (mid, (open_end, is), are) = 
 over_then (finishes ∷ rest) old now line over (mid, is, are) = over_then rest mid now line (ap (λ (r : Reading). r.stopped) is ∙ over) are
 over_then (answers next ∷ rest) old now line over (mid, is, are) = over_then rest mid now line (still_over old next mid line over is) are
 
--- What was given up to the first bad line, and then what is left, are the items that were left.
+-- The items that the calls returned up to the first bad line, and then the items left after the calls, are the items left before the calls.
 pub given_then_left : (calls : List ReaderCall) (old now : Reading) → old.stopped ≡ None → AreCalls old calls now
     → items_left old (bytes_fed calls) (is_finished calls) ≡ items_given calls ++ items_left now [] false
 given_then_left [] old now going are = ap (λ (r : Reading). items_left r [] false) (sym are)

@@ -1,4 +1,4 @@
--- What the next call returns.
+-- For the law `answers_come_exactly`: exactly when the next call of a reader returns `NeedMore`, `End` or `Bad`.
 use Rattle.std.proofs.Common.{◌≡◌, ◌∙◌, ◌++◌, ℕ, true, false, List, [], ◌∷◌, Option, Some, None, refl, sym, ap, subst, append-nil}
 use Rattle.std.specs.Prelude.{◌↔◌, is_some}
 use Rattle.std.proofs.lemmas.Bool.{true≢false}
@@ -16,14 +16,14 @@ shown_stays (feeds bytes ∷ rest) old now shown (mid, (open_end, is), are) = sh
 shown_stays (finishes ∷ rest) old now shown (mid, is, are) = shown_stays rest mid now (ap (λ (r : Reading). r.ended) is) are
 shown_stays (answers next ∷ rest) old now shown (mid, is, are) = shown_stays rest mid now (answer_same_end old next mid is ∙ shown) are
 
--- the reader knows whether the end was announced
+-- the field `ended` of a reader is true if and only if a call announced the end
 ended_is : (calls : List ReaderCall) (old now : Reading) → old.ended ≡ false → AreCalls old calls now → now.ended ≡ is_finished calls
 ended_is [] old now open_end are = ap (λ (r : Reading). r.ended) are ∙ open_end
 ended_is (feeds bytes ∷ rest) old now open_end (mid, (_, is), are) = ended_is rest mid now (ap (λ (r : Reading). r.ended) is ∙ open_end) are
 ended_is (finishes ∷ rest) old now open_end (mid, is, are) = shown_stays rest mid now (ap (λ (r : Reading). r.ended) is) are
 ended_is (answers next ∷ rest) old now open_end (mid, is, are) = ended_is rest mid now (answer_same_end old next mid is ∙ open_end) are
 
--- the reader knows whether a bad line was returned
+-- the field `stopped` of a reader has a line if and only if a call returned a bad line
 stopped_is : (calls : List ReaderCall) (old now : Reading) → old.stopped ≡ None → AreCalls old calls now → is_some now.stopped ≡ is_stopped calls
 stopped_is [] old now going are = ap (λ (r : Reading). is_some r.stopped) are ∙ ap is_some going
 stopped_is (feeds bytes ∷ rest) old now going (mid, (_, is), are) = stopped_is rest mid now (ap (λ (r : Reading). r.stopped) is ∙ going) are
@@ -49,7 +49,7 @@ module _ (calls : List ReaderCall) (now new : Reading) (are : AreCalls fresh cal
   going_on : is_stopped calls ≡ false → now.stopped ≡ None
   going_on none = none_is now.stopped (stopped_is calls fresh now refl are ∙ none)
 
-  -- what is left, if this follows the items that were returned
+  -- the items left are these, if they come after the returned ones in the items of the bytes fed
   left_is : (rest : List Item) → items (bytes_fed calls) (is_finished calls) ≡ items_given calls ++ rest → items_left now [] false ≡ rest
   left_is rest is = append_cancel_left (items_given calls) (items_left now [] false) rest (sym (given_then_left calls fresh now refl are) ∙ is)
 

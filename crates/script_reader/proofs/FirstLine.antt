@@ -1,4 +1,4 @@
--- The first line of the bytes that are kept.
+-- For `first_line` and `line_feed_from`: where the first line of the kept bytes ends.
 use Rattle.std.proofs.Common.{◌≡◌, ◌∙◌, ◌<◌, ◌≤◌, ◌+◌, ◌-◌, ◌==◌, ◌||◌, ◌++◌, ℕ, suc, Bool, true, false, cond, not, List, [], ◌∷◌, Some, None, length, take}
 use Rattle.std.proofs.Common.{drop, refl, sym, ap, arith, zero, inl, inr, option_map}
 use Rattle.std.proofs.lemmas.Bool.{eqb-true, ltb-true, ltb-false, lt-ltb, le-ltb, false≢true}
@@ -8,7 +8,7 @@ use Rattle.std.specs.Prelude.{position, nat_lt}
 use Rattle.script_reader.specs.Lines.{is_last_line}
 use Rattle.script_reader.specs.Reading.{IsFirstLine, holds_line_feed}
 
--- the place of the first line feed
+-- the position of the first line feed; the length if there is none
 abbrev pub feed_place : List ℕ → ℕ
 feed_place kept = position_or_len (λ x. x == 10) kept
 
@@ -88,7 +88,7 @@ no_feed kept h = go (nat_lt (feed_place kept) (length kept)) refl h
     go true is h = absurd cc
     go false isnt h = feed_missing kept (ltb-false _ _ isnt)
 
--- the bytes with no line feed are a line
+-- if the kept bytes hold no line feed but count as a line, they are the first line
 pub line_by_end : (kept : List ℕ) (ended : Bool) → None ≡ position (λ x. x == 10) kept → is_last_line ended kept ≡ true
     → IsFirstLine kept ended (length kept) (length kept)
 line_by_end [] ended none counts = absurd (false≢true counts)

@@ -1,4 +1,4 @@
--- A number that is read as its token ends.
+-- For `take_number` and `is_done`: the digits that a text begins with are its first token if and only if a gap or the end follows them.
 use Rattle.std.proofs.Common.{◌≡◌, ◌∙◌, ◌-◌, ◌<◌, ◌≤◌, ℕ, true, false, not, nat_eq, List, [], Option, Some, None, option_map, length, take, drop, get_or}
 use Rattle.std.proofs.Common.{length-drop, refl, sym, ap, arith, inl, inr}
 use Rattle.std.specs.List.{position_or_len}
@@ -13,7 +13,7 @@ use Rattle.script_reader.specs.Fields.{first_by}
 use Rattle.script_reader.specs.Lines.{is_gap, is_parted, tokens}
 use Rattle.script_reader.proofs.Words.{after_gaps, first_token, gaps_in, no_gap_left, past_gaps, place-le-length}
 
--- no token is left if and only if the gaps reach the end
+-- a text has no token if and only if it is all gaps
 pub all_gaps : (t : List ℕ) (g : ℕ) → g ≡ gaps_in t → nat_eq g (length t) ≡ none_of (tokens t)
 all_gaps t g count = elim (cases_lt (gaps_in t) (length t)) [
   | inl below ↦
@@ -33,7 +33,7 @@ gap_no_digit x gap digit = grind (arith, gap, digit)
 abbrev Numbered : Type 0
 Numbered = Option (ℕ × List (List ℕ))
 
--- a text that begins with a token, if it has one: the end of the token, and of its first digits
+-- a text s that begins with no gap: where its first token ends, and where the digits end that it begins with
 module _ (s : List ℕ) (begun : gaps_in s ≡ 0) where
   abbrev token : ℕ
   token = position_or_len is_gap s
@@ -49,7 +49,7 @@ module _ (s : List ℕ) (begun : gaps_in s ≡ 0) where
     | inr above ↦ above
   ]
 
-  -- the token has another byte than digits
+  -- if the first token has a byte that is no digit
   no_number : digits < token → number_in (take token s) ≡ None
   no_number below =
       let inside : digits < length s = omega (arith, below, place-le-length is_gap s) in
@@ -80,7 +80,7 @@ module _ (s : List ℕ) (begun : gaps_in s ≡ 0) where
         ap (λ n. number_in (take n s)) same ∙ not_spelled (number_in (take digits s)) none
   ])
 
-  -- a token ends at a gap, or with the text
+  -- after the first token a gap follows, or the text ends
   parted : is_parted (drop token s) ≡ true
   parted = elim (cases_lt token (length s)) [
     | inl inside ↦ ap is_parted (drop-cons s token 0 inside) ∙ passes_at_first is_gap s 0 inside
@@ -117,7 +117,7 @@ module _ (s : List ℕ) (begun : gaps_in s ≡ 0) where
         ]
   ]
 
--- the number that the first digits spell, or none
+-- if n is the number of digits that s begins with, the number that they spell is that of `leading_number`
 module _ (s : List ℕ) (n : ℕ) (first : n ≡ digits_first s) where
   pub none_first : None ≡ number_in (take n s) → ◌≡◌ {A = Option (ℕ × ℕ)} None (leading_number s)
   none_first none =
@@ -129,7 +129,7 @@ module _ (s : List ℕ) (n : ℕ) (first : n ≡ digits_first s) where
       let e : number_in (take (digits_first s) s) ≡ Some v = ap (λ k. number_in (take k s)) (sym first) ∙ sym is in
       rw e (ap (λ (k : ℕ). Some (v, k)) first)
 
--- the text after the gaps that come first
+-- the text s after the gaps that a text t begins with
 module _ (t s : List ℕ) (g : ℕ) (is : s ≡ take (length t - g) (drop g t)) (count : g ≡ gaps_in t) where
   pub begins : gaps_in s ≡ 0
   begins = ap gaps_in (after_gaps t s g is count) ∙ no_gap_left t

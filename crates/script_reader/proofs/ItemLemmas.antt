@@ -1,4 +1,4 @@
--- Items from the first line on, whatever comes next.
+-- For `answer_line` and `next_line`: the items that are left are that of the first line and then those of the rest, whatever bytes are fed next.
 use Rattle.std.proofs.Common.{◌≡◌, ◌∙◌, ◌+◌, ◌==◌, ◌||◌, ◌++◌, ◌⊎◌, inl, inr, ℕ, Bool, true, false, cond, List, [], ◌∷◌, None, length, take, drop, refl, sym}
 use Rattle.std.proofs.Common.{ap, arith, append_assoc, append-nil, length-append}
 use Rattle.std.proofs.lemmas.Bool.{false≢true, lt-ltb, ltb-true}
@@ -17,7 +17,7 @@ some_stretch (x ∷ r) = go (x == 10) (some_stretch r)
     go true rest = ([], stretches r, refl)
     go false rest = (x ∷ rest.0, rest.1, ap (onto_first x) rest.2)
 
--- bytes with no line feed come before the first stretch
+-- if bytes with no line feed are put before a text, its first stretch alone grows (stretches are the texts between line feeds)
 pub stretches_behind : (a g l : List ℕ) (ls : List (List ℕ)) → holds_line_feed a ≡ false → stretches g ≡ l ∷ ls → stretches (a ++ g) ≡ (a ++ l) ∷ ls
 stretches_behind [] g l ls none is = is
 stretches_behind (x ∷ a) g l ls none is = go (x == 10) none (stretches_behind a g l ls)
@@ -50,7 +50,7 @@ long_last e [] long = absurd (false≢true long)
 long_last true (x ∷ r) long = refl
 long_last false (x ∷ r) long = long
 
--- bytes with no line feed, too many for a line, are a prefix of the first line
+-- bytes with no line feed that are too many for a line are the first line, or a prefix of it that is as bad
 pub lines_long : (a more : List ℕ) (e : Bool) → holds_line_feed a ≡ false → is_too_long a ≡ true
     → (l : List ℕ) × (ls : List (List ℕ)) × (lines (a ++ more) e ≡ (a ++ l) ∷ ls)
 lines_long a more e none long = go (some_stretch more)
@@ -106,7 +106,7 @@ no_items kept ended h n stage =
     let nothing : cond (is_last_line ended kept) (kept ∷ []) [] ≡ [] = rw h.1 refl in
     ap (λ (ls : List (List ℕ)). items_at ls n stage) (lines_alone kept ended h.0 ∙ nothing)
 
--- the reading after its first line
+-- the reading after its first line, at this stage
 abbrev pub after_line : Reading → ℕ → Stage → Reading
 after_line old at next = record old { kept = drop at old.kept; passed = old.passed + 1; stage = next }
 

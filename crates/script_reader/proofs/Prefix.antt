@@ -1,4 +1,4 @@
--- The items of the first bytes of a script stay its first items, whatever bytes follow.
+-- For the law `items_stay`: the items of the first bytes of a script are the first items of the whole, whatever bytes follow.
 use Rattle.std.proofs.Common.{◌≡◌, ◌∙◌, ◌+◌, ◌==◌, ◌++◌, ℕ, Bool, true, false, cond, List, [], ◌∷◌, refl, sym, ap}
 use Rattle.script_reader.specs.Items.{AreFirstOf, Item, Verdict, bad, breaks, gives, items, items_at, items_by, line_says, passes, verdict}
 use Rattle.script_reader.specs.Lines.{is_last_line, is_too_long, lines_among, onto_first, stretches}
@@ -6,7 +6,7 @@ use Rattle.script_reader.specs.declared.stage.Stage.{Stage}
 use Rattle.script_reader.specs.declared.stage.Stage.TheVariants.{Opening}
 use Rattle.script_reader.proofs.ItemLemmas.{long_last, says_wrong, some_stretch, too_long_more}
 
--- two lists of stretches, the last of the first list joined with the first of the second
+-- two lists of stretches joined: the last of the first list and the first of the second become one
 abbrev pub glued : List (List ℕ) → List (List ℕ) → List (List ℕ)
 glued [] ms = ms
 glued (l ∷ []) [] = l ∷ []
@@ -52,7 +52,7 @@ by_first breaks n stage front all rest = ([], refl)
 long_is_bad : (line : List ℕ) (ls : List (List ℕ)) (n : ℕ) (stage : Stage) → is_too_long line ≡ true → items_at (line ∷ ls) n stage ≡ bad (n + 1) ∷ []
 long_is_bad line ls n stage long = rw (says_wrong line long) refl
 
--- a last stretch that is too long, with more after it
+-- a last stretch that is too long for a line stays a bad line if more bytes follow it
 long_goes_on : (l : List ℕ) (t : List (List ℕ)) (e : Bool) (n : ℕ) (stage : Stage) → is_too_long l ≡ true
     → items_at (lines_among e (glued (l ∷ []) t)) n stage ≡ bad (n + 1) ∷ []
 long_goes_on l [] e n stage long = rw (long_last e l long) (long_is_bad l [] n stage long)

@@ -1,4 +1,4 @@
--- The first byte that passes a test, as the searches of `memchr` return it.
+-- For `line_feed_at` and `first_gap_in_long`: what the searches of the crate `memchr` return is the first position that passes the test.
 use Rattle.std.proofs.Common.{◌≡◌, ◌∙◌, ◌<◌, ℕ, Bool, true, false, cond, List, Option, Some, None, length, refl, sym, ap, arith}
 use Rattle.std.proofs.lemmas.Bool.{false≢true, le-ltb, lt-ltb, ltb-false, ltb-true}
 use Rattle.std.proofs.lemmas.List.Sums.{fails_before_first, passes_at_first, position_or_len_is}
@@ -44,7 +44,7 @@ unfolding first_of
 first_taken all rest None takes = ap first_of (sym takes.0)
 first_taken all rest (Some x) takes = ap first_of (sym takes)
 
--- the first of the places that pass
+-- the first of the positions whose bytes pass the test p is what a search for p returns
 pub next_is_position : (p : ℕ → Bool) (s all rest : List ℕ) (r : Option ℕ) → all ≡ places p s → TakesFirst all r rest → r ≡ position p s
 next_is_position p s all rest r are takes =
     first_taken all rest r takes ∙ ap first_of are ∙ sym (IsFirstByte-value p s (position p s) (position_is_first p s))

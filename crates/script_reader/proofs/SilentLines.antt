@@ -1,4 +1,4 @@
--- Blank lines and comments, and lines with a command.
+-- For `has_no_item` and `read_item`: which lines are blank or comments, and which item each other line has.
 use Rattle.std.proofs.Common.{◌≡◌, ◌∙◌, ◌<◌, ◌==◌, ℕ, suc, Bool, true, false, cond, not, List, [], ◌∷◌, Option, Some, None, length, take, drop, get_or}
 use Rattle.std.proofs.Common.{if◌then◌else◌, option_map, refl, sym, ap, arith, codes}
 use Rattle.std.proofs.Math.Bool.{and-false}
@@ -26,7 +26,7 @@ comment_or_item : (b : Bool) (o : Option Item) → says_nothing (if b then nothi
 comment_or_item true o = refl
 comment_or_item false o = item_speaks o
 
--- what follows from the first byte that is no gap
+-- from the first byte that is no gap it follows whether the line is a comment
 first_byte : (t : List ℕ) → gaps_in t < length t → (get_or t (gaps_in t) 0 == 35) ≡ says_nothing (tokens_say (tokens t))
 first_byte t below =
     let x = get_or t (gaps_in t) 0 in
@@ -61,7 +61,7 @@ silent_gaps t h = go (nat_lt (gaps_in t) (length t)) refl h
         let none : tokens t ≡ [] = sym (past_gaps t) ∙ ap tokens (drop_all (gaps_in t) t (ltb-false _ _ isnt)) in
         sym (ap (λ (ts : List (List ℕ)). says_nothing (tokens_say ts)) none)
 
--- a line that is no comment means its item
+-- a line that has a first token, and is no comment, means the item of its tokens, or isn't in the grammar
 pub speaks : (word : List ℕ) (args : List (List ℕ)) → says_nothing (tokens_say (word ∷ args)) ≡ false
     → tokens_say (word ∷ args) ≡ item_or_wrong (item_in word args)
 speaks word args says = go (is_comment word) says
@@ -71,7 +71,7 @@ speaks word args says = go (is_comment word) says
     go true says = absurd cc
     go false says = refl
 
--- a command that was read, or none
+-- what the code found for a command, or that it found none, is the meaning of the line
 pub command_said : (formed : Bool) (n : Next) (c : Option Command) → some_if formed n ≡ option_map answer.Command c
     → saying_if formed n ≡ item_or_wrong (option_map asks c)
 command_said true n (Some c) read = let e : n ≡ answer.Command c = cc in rw e refl
@@ -82,13 +82,13 @@ command_said false n None read = refl
 not_heap : (x : ℕ) → bytes_eq (x ∷ []) (codes "heap") ≡ false
 not_heap x = and-false (x == 104)
 
--- a word of one letter
+-- the item of a line whose first token has one letter
 pub one_letter : (word : List ℕ) (args : List (List ℕ)) → length word ≡ 1 → item_in word args ≡ option_map asks (letter_command (get_or word 0 0) args)
 one_letter [] args one = absurd cc
 one_letter (x ∷ []) args one = rw (not_heap x) refl
 one_letter (x ∷ y ∷ r) args one = absurd (omega (arith, one))
 
--- a longer word
+-- the item of a line whose first token is longer and isn't `heap`
 pub longer_word : (word : List ℕ) (args : List (List ℕ)) → ¬ (length word ≡ 1) → bytes_eq word (codes "heap") ≡ false
     → item_in word args ≡ option_map asks (word_command word args)
 longer_word [] args more other = refl

@@ -1,4 +1,4 @@
--- The gaps and the first token at the start of a text.
+-- For `split_token` and the functions that it calls: the gaps and the first token at the start of a text.
 use Rattle.std.proofs.Common.{◌≡◌, ◌∙◌, ◌-◌, ◌<◌, ◌≤◌, ◌+◌, ℕ, suc, Bool, true, false, cond, not, List, [], ◌∷◌}
 use Rattle.std.proofs.Common.{length, take, drop, get_or, refl, sym, ap, arith}
 use Rattle.std.specs.List.{position_or_len}
@@ -8,7 +8,7 @@ use Rattle.std.specs.Prelude.{position, unwrap_or, nat_lt, Some, None}
 use Rattle.std.proofs.lemmas.Bool.{ltb-false, ne_eqb}
 use Rattle.script_reader.specs.Lines.{is_gap, is_parted, onto_first, tokens}
 
--- how many gaps come first
+-- the number of gaps that a text begins with
 abbrev pub gaps_in : List ℕ → ℕ
 gaps_in t = position_or_len (λ x. not (is_gap x)) t
 
@@ -19,7 +19,7 @@ no_gap_first (x ∷ r) some past =
     let isnt : is_gap x ≡ false = rw (ne_eqb x 32 (λ e. omega (arith, e, past)), ne_eqb x 9 (λ e. omega (arith, e, past))) refl in
     rw isnt refl
 
--- leading gaps change no token
+-- the text after its first gaps has the same tokens
 pub past_gaps : (t : List ℕ) → tokens (drop (gaps_in t) t) ≡ tokens t
 past_gaps [] = refl
 past_gaps (x ∷ r) = go (is_gap x) refl (past_gaps r)
@@ -29,7 +29,7 @@ past_gaps (x ∷ r) = go (is_gap x) refl (past_gaps r)
     go false isnt rest = refl
     go true is rest = let e : 1 + gaps_in r ≡ suc (gaps_in r) = omega arith in rw (e, is) rest
 
--- no gap follows the gaps
+-- after its first gaps a text begins with no gap
 pub no_gap_left : (t : List ℕ) → gaps_in (drop (gaps_in t) t) ≡ 0
 no_gap_left [] = refl
 no_gap_left (x ∷ r) = go (is_gap x) refl (no_gap_left r)
@@ -39,7 +39,7 @@ no_gap_left (x ∷ r) = go (is_gap x) refl (no_gap_left r)
     go false isnt rest = rw isnt refl
     go true is rest = let e : 1 + gaps_in r ≡ suc (gaps_in r) = omega arith in rw e rest
 
--- a token reaches up to the next gap
+-- if a text begins with no gap, its first token reaches up to the next gap
 pub run : (x : ℕ) (r : List ℕ) → is_gap x ≡ false
     → tokens (x ∷ r) ≡ (x ∷ take (position_or_len is_gap r) r) ∷ tokens (drop (position_or_len is_gap r) r)
 run x [] isnt = rw isnt refl
@@ -67,7 +67,7 @@ first_token (x ∷ r) none some = go (is_gap x) refl none
 pub place-le-length : (p : ℕ → Bool) (t : List ℕ) → position_or_len p t ≤ length t
 place-le-length p t = prefix_len-le-length (λ x. not (p x)) t
 
--- the first place that passes, or the length
+-- the first position that passes the test p, or the length if none does
 pub place_or_end : (p : ℕ → Bool) (t : List ℕ) → unwrap_or (position p t) (length t) ≡ position_or_len p t
 place_or_end p t = go (nat_lt (position_or_len p t) (length t)) refl
   where
@@ -78,12 +78,12 @@ place_or_end p t = go (nat_lt (position_or_len p t) (length t)) refl
 pub after_gaps : (t s : List ℕ) (g : ℕ) → s ≡ take (length t - g) (drop g t) → g ≡ gaps_in t → s ≡ drop (gaps_in t) t
 after_gaps t s g is count = is ∙ take_rest t g ∙ ap (λ (n : ℕ). drop n t) count
 
--- no token is left if only gaps are
+-- if the text after its first gaps is empty, it has no token
 pub only_gaps : (t s : List ℕ) (g : ℕ) → s ≡ take (length t - g) (drop g t) → g ≡ gaps_in t → length s ≡ 0 → tokens t ≡ []
 only_gaps t s g is count none =
     sym (past_gaps t) ∙ ap tokens (sym (after_gaps t s g is count)) ∙ ap tokens (nil_from_length s none)
 
--- the first token of a text
+-- a text that isn't all gaps: its first token, and the tokens after it
 pub token_of_text : (t s : List ℕ) (g m : ℕ) → s ≡ take (length t - g) (drop g t) → g ≡ gaps_in t → m ≡ position_or_len is_gap s
     → 0 < length s → tokens t ≡ take m s ∷ tokens (drop m s)
 token_of_text t s g m is count size some =

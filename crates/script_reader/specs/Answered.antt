@@ -1,4 +1,4 @@
--- What the reader returns for a line, by its meaning. No public clause cites this module.
+-- What the reader returns for a line, by the line's meaning (`Saying`). No public clause cites this module.
 use Rattle.std.specs.Prelude.{◌≡◌, ◌+◌, ℕ, Bool, true, false, Option, Some, None, drop, take}
 use Rattle.cf_base.specs.Settings.{profile_of}
 use Rattle.script_reader.specs.Commands.{IsWellFormed}
@@ -13,23 +13,23 @@ abbrev pub some_if : {A : Type 0} → Bool → A → Option A
 some_if true x = Some x
 some_if false x = None
 
--- the item that a call of the reader returned; none if it returned `NeedMore`, `Bad` or `End`
+-- the item in a result of the reader; none in `NeedMore`, `Bad` and `End`
 abbrev pub item_answered : Next → Option Item
 item_answered (next.Start settings) = Some (starts (profile_of settings))
 item_answered (next.Command command) = Some (asks command)
 item_answered _ = None
 
--- if the reader returned a command, the command is well-formed
+-- if the result of the reader is a command, its fields are in the ranges of the grammar
 abbrev pub IsInRange : Next → Type 0
 IsInRange (next.Command command) = IsWellFormed command
 IsInRange _ = Unit {0}
 
--- the meaning of a line: the item that n holds, or `wrong` if the line isn't in the grammar
+-- the meaning of a line, from what the code found: whether the line is in the grammar, and then the result n with its item
 abbrev pub saying_if : Bool → Next → Saying
 saying_if true n = item_or_wrong (item_answered n)
 saying_if false n = wrong
 
--- whether a line is blank or a comment
+-- whether a line of this meaning is blank or a comment
 abbrev pub says_nothing : Saying → Bool
 says_nothing nothing = true
 says_nothing wrong = false
@@ -41,11 +41,11 @@ stage_said stage nothing = Some stage
 stage_said stage wrong = None
 stage_said stage (item i) = stage_after stage i
 
--- the reading without its first `next` bytes, which are one line; the line is counted, and the stage stays
+-- the reading `old` after its first line, of `next` bytes with the line feed, was passed: the line is kept no longer and is counted; the stage stays
 abbrev pub line_passed : Reading → ℕ → Reading
 line_passed old next = record old { kept = drop next old.kept; passed = old.passed + 1 }
 
--- the first kept line is neither blank nor a comment; it has `len` bytes, and the next line starts at byte `next`
+-- the first line that r keeps is neither blank nor a comment; it has `len` bytes without its line feed, and the next line starts at byte `next`
 pub record IsNextLine (r : Reading) (len next : ℕ) : Type 0 where
   pub first : IsFirstLine r.kept r.ended len next
   pub says : says_nothing (line_says (take len r.kept)) ≡ false

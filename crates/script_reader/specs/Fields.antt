@@ -1,17 +1,17 @@
--- Fields of a line, read one after the other. No public clause cites this module.
+-- For the private functions of `fields`: what a function that reads fields one after the other returns. No public clause cites this module.
 use Rattle.std.specs.Prelude.{List, [], ◌∷◌, ℕ, Option, Some, None, option_map}
 use Rattle.script_reader.specs.Commands.{one_of, two_of, ◌>>=◌}
 
--- what `reads` makes of the first token, and the tokens after it; none if there is no token, or `reads` fails
+-- the value of `reads` at the first token, and the tokens after it; none if there is no token, or `reads` has no value there
 abbrev pub first_by : {A : Type 0} → (List ℕ → Option A) → List (List ℕ) → Option (A × List (List ℕ))
 first_by reads [] = None
 first_by reads (a ∷ rest) = option_map (λ x. (x, rest)) (reads a)
 
--- what `reads` makes of the only token; none if there isn't exactly one
+-- the value of `reads` at the only token; none if there isn't exactly one token, or `reads` has no value there
 abbrev pub one_by : {A : Type 0} → (List ℕ → Option A) → List (List ℕ) → Option A
 one_by reads args = one_of args >>= reads
 
--- what f and g make of the two tokens; none if there aren't exactly two
+-- the values of f at the first and of g at the second of two tokens; none if there aren't exactly two, or f or g has no value there
 abbrev pub two_by : {A B : Type 0} → (List ℕ → Option A) → (List ℕ → Option B) → List (List ℕ) → Option (A × B)
 two_by f g args = do
   p ← two_of args

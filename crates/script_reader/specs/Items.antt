@@ -1,4 +1,4 @@
--- A script as items.
+-- What a script means: its bytes as items, which are commands, the `heap` line, and the first bad line.
 use Rattle.std.specs.Prelude.{◌≡◌, ◌++◌, ◌==◌, ℕ, Bool, true, false, ◌+◌, List, [], ◌∷◌, Option, Some, None, codes, option_map, if◌then◌else◌}
 use Rattle.std.specs.Str.{bytes_eq, byte}
 use Rattle.cf_base.specs.Settings.{Profile}
@@ -15,13 +15,13 @@ pub data Item : Type 0 where
   asks : Command → Item
   bad : ℕ → Item
 
--- what a line means, whatever its place: no item, since it is blank or a comment; not in the grammar; or an item
+-- what a line means by itself: `nothing` if it is blank or a comment, `wrong` if it isn't in the grammar, else its item
 pub data Saying : Type 0 where
   nothing : Saying
   wrong : Saying
   item : Item → Saying
 
--- whether the token begins a comment
+-- whether the token begins with `#`, as the first token of a comment does
 abbrev pub is_comment : List ℕ → Bool
 is_comment [] = false
 is_comment (x ∷ rest) = x == byte "#"
@@ -49,31 +49,31 @@ abbrev pub is_bound : Command → Bool
 is_bound (Bound slot_words k) = true
 is_bound _ = false
 
--- the stage after a command; `k` is allowed only after `heap` and before the other commands
+-- the stage after a command, which is `k` if `bounds` is true; none if it isn't allowed: `k` comes only after `heap` and before the other commands
 abbrev pub stage_after_command : Stage → Bool → Option Stage
 stage_after_command Opening bounds = None
 stage_after_command Bounding bounds = Some (if bounds then Bounding else Running)
 stage_after_command Running bounds = if bounds then None else Some Running
 
--- the stage after the `heap` line, which is the first command and allowed nowhere else
+-- the stage after the `heap` line; none if it isn't the first command, as it is allowed nowhere else
 abbrev pub stage_opened : Stage → Option Stage
 stage_opened Opening = Some Bounding
 stage_opened Bounding = None
 stage_opened Running = None
 
--- the stage after an item; none if it breaks a rule at its place
+-- the stage after an item; none if the item isn't allowed at this stage
 abbrev pub stage_after : Stage → Item → Option Stage
 stage_after stage (starts settings) = stage_opened stage
 stage_after stage (asks command) = stage_after_command stage (is_bound command)
 stage_after stage (bad line) = None
 
--- the verdict on a line at its place: it is skipped, or is an item and leads to a stage, or breaks a rule
+-- what a line is at its place: `passes` if it is blank or a comment; `gives` its item and the stage after it; `breaks` if it is bad
 pub data Verdict : Type 0 where
   passes : Verdict
   gives : Item → Stage → Verdict
   breaks : Verdict
 
--- the verdict on an item, by the stage that it leads to, if it is allowed
+-- the verdict on an item, from the stage after it; `breaks` if there is none, since the item isn't allowed
 abbrev pub gives_or_breaks : Item → Option Stage → Verdict
 gives_or_breaks i None = breaks
 gives_or_breaks i (Some next) = gives i next
@@ -84,13 +84,13 @@ verdict stage nothing = passes
 verdict stage wrong = breaks
 verdict stage (item i) = gives_or_breaks i (stage_after stage i)
 
--- the items from line n + 1 on, by that line's verdict; `after` is the items of the later lines, by the stage after that line
+-- the items from line n + 1 on, from the verdict on that line at this stage; `after` is the items of the later lines as a function of the stage after it
 abbrev pub items_by : Verdict → ℕ → Stage → (Stage → List Item) → List Item
 items_by passes n stage after = after stage
 items_by (gives i next) n stage after = i ∷ after next
 items_by breaks n stage after = bad (n + 1) ∷ []
 
--- the items of these lines, after n lines, at this stage of the script
+-- the items of these lines, if n lines came before them and led to this stage
 abbrev pub items_at : List (List ℕ) → ℕ → Stage → List Item
 items_at [] n stage = []
 items_at (line ∷ rest) n stage = items_by (verdict stage (line_says line)) n stage (items_at rest (n + 1))

@@ -1,17 +1,18 @@
--- How a reader keeps a script that is being read. No public clause cites this module.
+-- What contracts see of the fields of a `Reader`, and its invariant. `Inside` is the record of these fields. No public clause cites this module.
 use Rattle.std.specs.Prelude.{◌≡◌, ◌≤◌, ◌+◌, false, List, ℕ, length, take, drop}
 use Rattle.script_reader.specs.Reading.{MOST_FED, Reading, holds_line_feed}
 use Rattle.script_reader.specs.declared.reader.Reader.TheInside.{Inside}
 
--- the kept bytes: fed, but not read yet
+-- the bytes that reader r keeps: those that were fed, but not read yet
 abbrev pub kept_in : Inside → List ℕ
 kept_in r = drop r.start r.buffer.items
 
--- what contracts see of a reader
+-- what contracts see of a reader with these fields
 abbrev pub reading_of : Inside → Reading
 reading_of r = record { kept = kept_in r; passed = r.passed; stage = r.stage; ended = r.ended; stopped = r.stopped; fed = r.fed }
 
--- the kept bytes are those of the buffer from `start` on; the first `searched` of them hold no line feed; each line passed had a byte
+-- The invariant of a reader: the buffer has at most 18,000 bytes, of which at most 9,000 are kept; the first `searched` kept bytes hold no line feed; and
+-- the lines passed are no more than the fed bytes that are not kept.
 pub record IsValid (r : Inside) : Type 0 where
   pub start : r.start ≤ length r.buffer.items
   pub few : length r.buffer.items ≤ 18000

@@ -1,4 +1,4 @@
--- A script as lines, and a line as tokens.
+-- The bytes of a script as lines, and those of a line as tokens.
 use Rattle.std.specs.Prelude.{ℕ, Bool, true, false, ◌||◌, ◌==◌, ◌-◌, List, [], ◌∷◌, length, take, slice_index, nat_lt, if◌then◌else◌}
 
 -- the most bytes of a line, its line feed not counted
@@ -9,22 +9,22 @@ LONGEST = 8999
 abbrev pub is_too_long : List ℕ → Bool
 is_too_long line = nat_lt LONGEST (length line)
 
--- the byte put before the first text, or as a text of its own if there is none
+-- the texts, of which the first one gets the byte x as its new first byte; if there is no text, x alone is one
 abbrev pub onto_first : ℕ → List (List ℕ) → List (List ℕ)
 onto_first x [] = (x ∷ []) ∷ []
 onto_first x (text ∷ rest) = (x ∷ text) ∷ rest
 
--- the texts between line feeds, before the first one and after the last one: one or more
+-- the texts into which the line feeds divide these bytes: one more than there are line feeds
 abbrev pub stretches : List ℕ → List (List ℕ)
 stretches [] = [] ∷ []
 stretches (x ∷ rest) = if x == 10 then [] ∷ stretches rest else onto_first x (stretches rest)
 
--- whether the bytes after the last line feed are a line: there are some, and the input has ended or they are more than a line may have
+-- whether the bytes after the last line feed count as a line: there is at least one, and the input has ended (`ended`) or they are more than a line may have
 abbrev pub is_last_line : Bool → List ℕ → Bool
 is_last_line ended [] = false
 is_last_line ended (x ∷ rest) = ended || is_too_long (x ∷ rest)
 
--- the texts that are lines: all but the last one, and the last one by `is_last_line`
+-- the texts that are lines: all but the last one, and the last one if `is_last_line` says so
 abbrev pub lines_among : Bool → List (List ℕ) → List (List ℕ)
 lines_among ended [] = []
 lines_among ended (last ∷ []) = if is_last_line ended last then last ∷ [] else []
@@ -34,7 +34,7 @@ lines_among ended (line ∷ next ∷ rest) = line ∷ lines_among ended (next �
 abbrev pub lines : List ℕ → Bool → List (List ℕ)
 lines bytes ended = lines_among ended (stretches bytes)
 
--- the line without one carriage return at its end
+-- the line without the carriage return (13) at its end, if it has one there
 abbrev pub without_return : List ℕ → List ℕ
 without_return line = if slice_index line (length line - 1) == 13 then take (length line - 1) line else line
 
@@ -42,7 +42,7 @@ without_return line = if slice_index line (length line - 1) == 13 then take (len
 abbrev pub is_gap : ℕ → Bool
 is_gap x = x == 32 || x == 9
 
--- whether a token ends before these bytes: there are none, or a gap is first
+-- whether a token may end before these bytes: there are none, or the first is a gap
 abbrev pub is_parted : List ℕ → Bool
 is_parted [] = true
 is_parted (x ∷ rest) = is_gap x

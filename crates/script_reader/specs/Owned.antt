@@ -1,4 +1,4 @@
--- Commands and results of the reader with borrowed bytes, as those that own their bytes.
+-- `CommandRef` and `NextRef`, whose writes borrow their bytes, as the `Command` and the `Next` of the same meaning, which own them.
 use Rattle.script_reader.specs.declared.command.Command.{Command}
 use Rattle.script_reader.specs.declared.command.Command.TheVariants as command
 use Rattle.script_reader.specs.declared.command_ref.CommandRef.{CommandRef}

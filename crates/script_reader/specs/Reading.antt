@@ -1,4 +1,4 @@
--- What a reader was fed and keeps, which items it still has, and what each result means for them.
+-- What contracts see of a reader: what it was fed and keeps, which items it has left, and what each result says of them.
 use Rattle.std.specs.Prelude.{◌≡◌, ◌<◌, ◌≤◌, ◌+◌, ◌-◌, ◌==◌, ◌||◌, ◌⊎◌, ◌++◌, ℕ, Bool, true, false, List, [], ◌∷◌, Option, Some, None, is_some, length, take}
 use Rattle.std.specs.Prelude.{drop, min, if◌then◌else◌}
 use Rattle.std.specs.List.{list_any}
@@ -13,8 +13,8 @@ use Rattle.script_reader.specs.declared.next.Next.TheVariants as answer
 use Rattle.script_reader.specs.declared.stage.Stage.{Stage}
 use Rattle.script_reader.specs.declared.stage.Stage.TheVariants.{Opening, Bounding}
 
--- A script that is being read: the bytes that are kept, the lines passed, the stage that they led to,
--- whether the end was announced, the number of the bad line, if it was returned, and the bytes ever fed.
+-- The state of a reader: the bytes that it keeps, fed but not read; the number of lines that it passed, and the stage that they led to; whether the end was
+-- announced; the number of the bad line, if it was returned; and the number of all bytes fed.
 pub record Reading : Type 0 where
   pub kept : List ℕ
   pub passed : ℕ
@@ -35,7 +35,7 @@ MOST_KEPT = 9000
 abbrev pub MOST_FED : ℕ
 MOST_FED = 4294967295
 
--- how many bytes of a chunk `feed` takes: all that both limits allow
+-- the number of bytes of a chunk that `feed` takes: as many as both limits allow
 abbrev pub taken : Reading → List ℕ → ℕ
 taken r chunk = min (length chunk) (min (MOST_KEPT - length r.kept) (MOST_FED - r.fed))
 
@@ -47,16 +47,17 @@ fed_with r bytes = record r { kept = r.kept ++ bytes; fed = r.fed + length bytes
 abbrev pub to_come : Bool → List ℕ → List ℕ → List ℕ
 to_come ended kept more = if ended then kept else kept ++ more
 
--- the items still to be returned if `more` is fed next, and the input then ends (`ended`) or not; none after a bad line
+-- the items that reader r has left if `more` is fed next and then the input ends (`ended`) or not; none after a bad line
 abbrev pub items_left : Reading → List ℕ → Bool → List Item
 items_left r more ended = if is_some r.stopped then []
     else items_at (lines (to_come r.ended r.kept more) (r.ended || ended)) r.passed r.stage
 
+-- whether a line feed is among these bytes
 abbrev pub holds_line_feed : List ℕ → Bool
 holds_line_feed = list_any (λ x. x == 10)
 
--- A prefix of the kept bytes was read, which holds the items `first`, and its lines were counted. Whatever is
--- fed later, the items left in `old` are `first` and then those left in `new`.
+-- From `old` to `new` the reader read a prefix of the kept bytes, which holds the items `first`, and counted its lines. Whatever is fed later, the items
+-- left in `old` are `first` and then those left in `new`.
 pub record Reads (old : Reading) (first : List Item) (new : Reading) : Type 0 where
   pub going : old.stopped ≡ None
   pub front : List ℕ
@@ -66,7 +67,7 @@ pub record Reads (old : Reading) (first : List Item) (new : Reading) : Type 0 wh
   pub same_fed : new.fed ≡ old.fed
   pub left : (more : List ℕ) (ended : Bool) → items_left old more ended ≡ first ++ items_left new more ended
 
--- the reader passed only blank lines and comments
+-- from `old` to `new` the reader passed only blank lines and comments, or nothing
 pub record PassesOver (old new : Reading) : Type 0 where
   pub reads : Reads old [] new
   pub still : new.stopped ≡ None
@@ -80,7 +81,7 @@ pub record AnswersStart (old : Reading) (settings : Settings) (new : Reading) : 
   pub opening : old.stage ≡ Opening
   pub bounding : new.stage ≡ Bounding
 
--- the reader returned this command, which is well-formed and allowed at its stage
+-- the reader returned this command, whose fields are in their ranges, and which is allowed at the stage of `old`
 pub record AnswersCommand (old : Reading) (command : Command) (new : Reading) : Type 0 where
   pub reads : Reads old (asks command ∷ []) new
   pub still : new.stopped ≡ None
@@ -123,7 +124,8 @@ Answers old answer.NeedMore new = NeedsMore old new
 Answers old (answer.Bad line) new = AnswersBad old old.stopped line new
 Answers old answer.End new = HasEnded old new
 
--- the end of the first line, and the start of the next one: after the line feed, or at the end if the rest counts as a line
+-- The first line of the kept bytes has `len` bytes, and the next line starts at byte `next`: after the line feed; or, if the kept bytes hold none but count
+-- as a line, at their end.
 pub record IsFirstLine (kept : List ℕ) (ended : Bool) (len next : ℕ) : Type 0 where
   pub some : 1 ≤ next
   pub within : next ≤ length kept

@@ -2,22 +2,23 @@
 
 use crate::payload::Payload;
 
-/// A command of a script. The comment of each variant begins with the form of its line.
+/// A command of a script. The comment of each variant begins with the form of its line, in which ID is the
+/// script's name for an object.
 #[derive(Debug, PartialEq, Eq, Drop)]
 pub enum Command {
-    /// `m ID BYTES`: makes an object of BYTES bytes.
+    /// `m ID BYTES`: makes object ID, with BYTES bytes.
     Malloc { id: u16, bytes: u32 },
-    /// `f ID`: frees the object.
+    /// `f ID`: frees object ID.
     Free { id: u16 },
-    /// `w ID AT HEX`: writes bytes into the object.
+    /// `w ID AT HEX`: writes the bytes HEX into object ID from byte AT on.
     Write { id: u16, at: u32, bytes: Payload },
-    /// `r ID AT LEN`: reads bytes of the object, at most 4,096.
+    /// `r ID AT LEN`: prints LEN bytes of object ID, at most 4,096, from byte AT on.
     Read { id: u16, at: u32, len: u16 },
-    /// `q ID`: prints the object's address.
+    /// `q ID`: prints the address of object ID.
     Place { id: u16 },
-    /// `b ID I`: prints the physical block of block I of the object.
+    /// `b ID I`: prints which physical block holds block I of object ID, counted from 0.
     Block { id: u16, i: u32 },
-    /// `p WORD`: prints a word of the region.
+    /// `p WORD`: prints the word of the region with this number.
     Peek { word: u32 },
     /// `walk`: reports on the classes in use and the pages, or on the blocks.
     Walk,
@@ -25,17 +26,18 @@ pub enum Command {
     Frag,
     /// `steps`: prints the steps of the last malloc, free or resize.
     Steps,
-    /// `k SLOTWORDS K`: sets a class's bound on partly full pages, from 1 to 64.
+    /// `k SLOTWORDS K`: of the class whose slots have SLOTWORDS words, at most K pages may be partly full
+    /// from now on; K is from 1 to 64.
     Bound { slot_words: u32, k: u32 },
-    /// `z ID BYTES`: changes the object's length.
+    /// `z ID BYTES`: changes the length of object ID to BYTES bytes.
     Resize { id: u16, bytes: u32 },
     /// `s`: does one slice of pending work.
     Slice,
-    /// `t TASK`: makes a task, from 0 to 15, the present one.
+    /// `t TASK`: makes this task, from 0 to 15, the present one, for which the following lines are.
     Task { task: u32 },
-    /// `quota TASK PAGES`: sets how many pages a task may use.
+    /// `quota TASK PAGES`: sets how many pages the task may use.
     Quota { task: u32, pages: u32 },
-    /// `need TASK BYTES COUNT`: declares for a task that it needs COUNT objects of BYTES bytes.
+    /// `need TASK BYTES COUNT`: declares that the task needs COUNT objects of BYTES bytes.
     Need { task: u32, bytes: u32, count: u32 },
     /// `admit TASK`: asks whether the task's declared objects fit its quota.
     Admit { task: u32 },

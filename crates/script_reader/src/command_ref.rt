@@ -1,4 +1,4 @@
-//! A command whose bytes are borrowed.
+//! `CommandRef`: a command like `Command`, but the bytes of a write are borrowed.
 ghost use Rattle.std.specs.Prelude.{◌≡◌};
 ghost use Rattle.script_reader.specs.Commands.{IsWellFormed};
 ghost use Rattle.script_reader.specs.Owned.{owned_command};
@@ -6,8 +6,8 @@ ghost use Rattle.script_reader.specs.Owned.{owned_command};
 use crate::command::Command;
 use crate::payload::Payload;
 
-/// A `Command` whose bytes of a write are borrowed. A `Command` has room for 4,096 bytes in place, so
-/// moving it costs time; a `CommandRef` is a few words.
+/// A command of a script; the variants are those of `Command`, but a write borrows its bytes. A `Command`
+/// holds up to 4,096 bytes in place, so moving it costs time; a `CommandRef` is only a few words long.
 #[derive(Clone, Copy, Debug, PartialEq, Eq)]
 pub enum CommandRef<'a> {
     Malloc { id: u16, bytes: u32 },
@@ -30,7 +30,7 @@ pub enum CommandRef<'a> {
 }
 
 impl Command {
-    /// The same command, with the bytes of a write borrowed.
+    /// Returns the same command, which borrows the bytes of a write from this one.
     pub fn as_ref(&self) -> CommandRef
         ensures { owned_command result ≡ self.now }
     {
@@ -81,7 +81,7 @@ impl Command {
 }
 
 impl<'a> CommandRef<'a> {
-    /// The command, with a copy of the bytes of a write.
+    /// Returns the same command, with a copy of the bytes of a write.
     pub fn to_command(self) -> Command
         requires { IsWellFormed (owned_command self) }
         ensures { result ≡ owned_command self.entry }

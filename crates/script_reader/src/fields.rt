@@ -1,7 +1,8 @@
-//! The fields of a line: numbers in their ranges, and bytes in hexadecimal. Each function reads fields from
-//! the start of a text and returns none if one is missing or out of range. A `take_` function returns the rest
-//! of the text too; every other one also returns none if a further token follows. What the usual commands need
-//! is inlined into the one function that reads a line, where numbers then stay in registers.
+//! Reads the fields of a line: the tokens after its first one, as numbers in their ranges or as texts. Each
+//! function reads fields from the start of a text, and returns `None` if one is missing or out of range. A
+//! `take_` function returns the rest of the text too; every other one also returns `None` if a further token
+//! follows. What the usual commands need is inlined into the one function that reads a line, where numbers
+//! then stay in registers.
 ghost use Rattle.std.specs.Prelude.{◌≡◌, ◌≤◌, IfSome, Some, option_map};
 ghost use Rattle.cf_io.specs.Numbers.{number_in};
 ghost use Rattle.script_reader.specs.Commands as grammar;
@@ -10,7 +11,7 @@ ghost use Rattle.script_reader.specs.Lines.{tokens};
 
 use crate::tokens::{is_done, split_token, take_number};
 
-/// The first token as a number from `low` to `high`, and what follows it.
+/// The first token as a number, and the text after it. `None` if it isn't a number from `low` to `high`.
 #[inline(always)]
 fn take_from(low: u32, high: u32, text: &[u8]) -> Option<(u32, &[u8])>
     ensures value { option_map (λ p. (p.0, tokens p.1.now)) result
@@ -25,7 +26,7 @@ fn take_from(low: u32, high: u32, text: &[u8]) -> Option<(u32, &[u8])>
     }
 }
 
-/// The first token as an id, and what follows it.
+/// The first token as an id, and the text after it. `None` if it isn't a number from 0 to 65,535.
 #[inline(always)]
 fn take_id(text: &[u8]) -> Option<(u16, &[u8])>
     ensures { option_map (λ p. (p.0, tokens p.1.now)) result ≡ first_by grammar.id_in (tokens text.now) }
@@ -34,7 +35,7 @@ fn take_id(text: &[u8]) -> Option<(u16, &[u8])>
     Some((n as u16, rest))
 }
 
-/// The first token as a task, and what follows it.
+/// The first token as a task, and the text after it. `None` if it isn't a number from 0 to 15.
 fn take_task(text: &[u8]) -> Option<(u32, &[u8])>
     ensures value { option_map (λ p. (p.0, tokens p.1.now)) result ≡ first_by grammar.task_in (tokens text.now) }
     ensures within { IfSome result (λ p. p.0 ≤ 15) }
@@ -42,7 +43,8 @@ fn take_task(text: &[u8]) -> Option<(u32, &[u8])>
     take_from(0, 15, text)
 }
 
-/// A number from `low` to `high`, as the only token.
+/// The only token, as a number. `None` if the text hasn't exactly one token, or it isn't a number from
+/// `low` to `high`.
 #[inline(always)]
 fn one_from(low: u32, high: u32, args: &[u8]) -> Option<u32>
     ensures value { result ≡ one_by (grammar.number_from low high) (tokens args.now) }
@@ -52,7 +54,8 @@ fn one_from(low: u32, high: u32, args: &[u8]) -> Option<u32>
     if is_done(rest) { Some(n) } else { None }
 }
 
-/// The number of bytes that a read returns, as the only token.
+/// The only token, as the number of bytes that a read prints. `None` if the text hasn't exactly one token,
+/// or it isn't a number from 0 to 4,096.
 #[inline(always)]
 fn one_length(args: &[u8]) -> Option<u16>
     ensures value { result ≡ one_by grammar.length_in (tokens args.now) }
@@ -62,7 +65,8 @@ fn one_length(args: &[u8]) -> Option<u16>
     Some(n as u16)
 }
 
-/// A class's bound of partly full pages, as the only token.
+/// The only token, as a class's bound of partly full pages. `None` if the text hasn't exactly one token, or
+/// it isn't a number from 1 to 64.
 fn one_bound(args: &[u8]) -> Option<u32>
     ensures value { result ≡ one_by grammar.bound_in (tokens args.now) }
     ensures within { IfSome result (λ k. (1 ≤ k) × (k ≤ 64)) }
@@ -70,7 +74,7 @@ fn one_bound(args: &[u8]) -> Option<u32>
     one_from(1, 64, args)
 }
 
-/// The token, if the text has just one.
+/// The only token of the text. `None` if the text hasn't exactly one.
 fn one_token(text: &[u8]) -> Option<&[u8]>
     ensures { grammar.one_of (tokens text.now) ≡ option_map (λ a. a.now) result }
 {
@@ -78,7 +82,7 @@ fn one_token(text: &[u8]) -> Option<&[u8]>
     if is_done(rest) { Some(first) } else { None }
 }
 
-/// The tokens, if the text has just two.
+/// Both tokens of the text. `None` if the text hasn't exactly two.
 fn two_tokens(text: &[u8]) -> Option<(&[u8], &[u8])>
     ensures { grammar.two_of (tokens text.now) ≡ option_map (λ p. (p.0.now, p.1.now)) result }
 {
@@ -87,7 +91,7 @@ fn two_tokens(text: &[u8]) -> Option<(&[u8], &[u8])>
     Some((first, second))
 }
 
-/// The tokens, if the text has just three.
+/// The three tokens of the text. `None` if the text hasn't exactly three.
 fn three_tokens(text: &[u8]) -> Option<(&[u8], &[u8], &[u8])>
     ensures { grammar.three_of (tokens text.now) ≡ option_map (λ p. (p.0.now, p.1.now, p.2.now)) result }
 {
@@ -96,7 +100,7 @@ fn three_tokens(text: &[u8]) -> Option<(&[u8], &[u8], &[u8])>
     Some((first, second, third))
 }
 
-/// The tokens, if the text has just four.
+/// The four tokens of the text. `None` if the text hasn't exactly four.
 pub fn four_tokens(text: &[u8]) -> Option<(&[u8], &[u8], &[u8], &[u8])>
     ensures { grammar.four_of (tokens text.now)
         ≡ option_map (λ p. (p.0.now, p.1.now, p.2.now, p.3.now)) result }
@@ -106,7 +110,7 @@ pub fn four_tokens(text: &[u8]) -> Option<(&[u8], &[u8], &[u8], &[u8])>
     Some((first, second, third, fourth))
 }
 
-/// An id, as the only token.
+/// The only token, as an id from 0 to 65,535. `None` if the text is anything else.
 #[inline(always)]
 pub fn one_id(args: &[u8]) -> Option<u16>
     ensures { result ≡ grammar.one_id (tokens args.now) }
@@ -115,7 +119,7 @@ pub fn one_id(args: &[u8]) -> Option<u16>
     Some(n as u16)
 }
 
-/// A number, as the only token.
+/// The only token, as a number of 32 bits. `None` if the text is anything else.
 #[inline(always)]
 pub fn one_number(args: &[u8]) -> Option<u32>
     ensures { result ≡ grammar.one_number (tokens args.now) }
@@ -124,7 +128,7 @@ pub fn one_number(args: &[u8]) -> Option<u32>
     if is_done(rest) { Some(n) } else { None }
 }
 
-/// A task, as the only token.
+/// The only token, as a task from 0 to 15. `None` if the text is anything else.
 pub fn one_task(args: &[u8]) -> Option<u32>
     ensures value { result ≡ grammar.one_task (tokens args.now) }
     ensures within { IfSome result (λ n. n ≤ 15) }
@@ -132,7 +136,7 @@ pub fn one_task(args: &[u8]) -> Option<u32>
     one_from(0, 15, args)
 }
 
-/// An id and a number.
+/// The two tokens of the text, as an id and a number of 32 bits. `None` if the text is anything else.
 #[inline(always)]
 pub fn id_and_number(args: &[u8]) -> Option<(u16, u32)>
     ensures { result ≡ grammar.id_and_number (tokens args.now) }
@@ -142,7 +146,8 @@ pub fn id_and_number(args: &[u8]) -> Option<(u16, u32)>
     Some((id, n))
 }
 
-/// A number and the bound of a class.
+/// The two tokens of the text, as a number of 32 bits and the bound of a class, from 1 to 64. `None` if the
+/// text is anything else.
 pub fn number_and_bound(args: &[u8]) -> Option<(u32, u32)>
     ensures value { result ≡ grammar.number_and_bound (tokens args.now) }
     ensures within { IfSome result (λ p. (1 ≤ p.1) × (p.1 ≤ 64)) }
@@ -152,7 +157,8 @@ pub fn number_and_bound(args: &[u8]) -> Option<(u32, u32)>
     Some((n, k))
 }
 
-/// A task and a number.
+/// The two tokens of the text, as a task from 0 to 15 and a number of 32 bits. `None` if the text is
+/// anything else.
 pub fn task_and_number(args: &[u8]) -> Option<(u32, u32)>
     ensures value { result ≡ grammar.task_and_number (tokens args.now) }
     ensures within { IfSome result (λ p. p.0 ≤ 15) }
@@ -162,7 +168,7 @@ pub fn task_and_number(args: &[u8]) -> Option<(u32, u32)>
     Some((task, n))
 }
 
-/// Two numbers.
+/// The two tokens of the text, as numbers of 32 bits. `None` if the text is anything else.
 fn two_numbers(args: &[u8]) -> Option<(u32, u32)>
     ensures { result ≡ two_by number_in number_in (tokens args.now) }
 {
@@ -171,7 +177,8 @@ fn two_numbers(args: &[u8]) -> Option<(u32, u32)>
     Some((m, n))
 }
 
-/// A task and two numbers.
+/// The three tokens of the text, as a task from 0 to 15 and two numbers of 32 bits. `None` if the text is
+/// anything else.
 pub fn task_and_numbers(args: &[u8]) -> Option<(u32, u32, u32)>
     ensures value { result ≡ grammar.task_and_numbers (tokens args.now) }
     ensures within { IfSome result (λ p. p.0 ≤ 15) }
@@ -181,7 +188,8 @@ pub fn task_and_numbers(args: &[u8]) -> Option<(u32, u32, u32)>
     Some((task, m, n))
 }
 
-/// A number, and the number of bytes that a read returns.
+/// The two tokens of the text, as a number of 32 bits and the number of bytes that a read prints, at most
+/// 4,096. `None` if the text is anything else.
 #[inline(always)]
 fn number_and_length(args: &[u8]) -> Option<(u32, u16)>
     ensures value { result ≡ two_by number_in grammar.length_in (tokens args.now) }
@@ -192,7 +200,8 @@ fn number_and_length(args: &[u8]) -> Option<(u32, u16)>
     Some((n, len))
 }
 
-/// An id, a number, and the number of bytes that a read returns.
+/// The three tokens of the text, as an id, a number of 32 bits, and the number of bytes that a read prints,
+/// at most 4,096. `None` if the text is anything else.
 #[inline(always)]
 pub fn id_number_and_length(args: &[u8]) -> Option<(u16, u32, u16)>
     ensures value { result ≡ grammar.id_number_and_length (tokens args.now) }
@@ -203,7 +212,8 @@ pub fn id_number_and_length(args: &[u8]) -> Option<(u16, u32, u16)>
     Some((id, n, len))
 }
 
-/// A number and another token.
+/// The two tokens of the text, as a number of 32 bits and a text as it is. `None` if the text is anything
+/// else.
 #[inline(always)]
 fn number_and_text(args: &[u8]) -> Option<(u32, &[u8])>
     ensures { two_by number_in Some (tokens args.now) ≡ option_map (λ p. (p.0, p.1.now)) result }
@@ -213,7 +223,8 @@ fn number_and_text(args: &[u8]) -> Option<(u32, &[u8])>
     Some((n, text))
 }
 
-/// An id, a number, and another token.
+/// The three tokens of the text, as an id, a number of 32 bits, and a text as it is. `None` if the text is
+/// anything else.
 #[inline(always)]
 pub fn id_number_and_text(args: &[u8]) -> Option<(u16, u32, &[u8])>
     ensures { grammar.id_number_and_text (tokens args.now) ≡ option_map (λ p. (p.0, p.1, p.2.now)) result }

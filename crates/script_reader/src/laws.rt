@@ -1,4 +1,5 @@
-//! Laws of scripts and their items, for the proofs of callers.
+//! Laws that callers use in proofs: what a reader returns, over all its calls, are the items of the bytes
+//! that it was fed. An item is a command, the `heap` line, or the first bad line.
 ghost use Rattle.std.specs.Prelude.{◌≡◌, ◌↔◌, ℕ, List, [], ◌∷◌, Bool, true, false, ◌++◌};
 ghost use Rattle.script_reader.specs.ReaderCalls.{AllGiven, AreCalls, ReaderCall, bytes_fed, is_finished, is_stopped, items_given};
 ghost use Rattle.script_reader.specs.Items.{AreFirstOf, bad, items};
@@ -6,13 +7,14 @@ ghost use Rattle.script_reader.specs.Reading.{Answers, Reading, fresh, items_lef
 ghost use Rattle.script_reader.specs.declared.next.Next.{Next};
 ghost use Rattle.script_reader.specs.declared.next.Next.TheVariants.{NeedMore, Bad, End};
 
-/// The items of the first bytes of a script are the first items of the whole, whatever bytes follow.
+/// The items that the first bytes of a script have are the first items of the whole script, whatever bytes
+/// follow.
 pub fn items_stay()
     ensures { (bytes more : List ℕ) (ended : Bool) → AreFirstOf (items bytes false) (items (bytes ++ more) ended) }
 {}
 
-/// However a script is cut into chunks, and whenever the reader is asked: its results up to the first
-/// bad line, and then what it has left, are the items of the bytes fed so far.
+/// However a script is cut into chunks, and whenever `next_command` is called: the items that it returned,
+/// up to the first bad line, and then the items that the reader has left, are the items of the bytes fed.
 pub fn answers_are_items()
     ensures first { (calls : List ReaderCall) (now : Reading) → AreCalls fresh calls now
         → AreFirstOf (items_given calls) (items (bytes_fed calls) (is_finished calls)) }
@@ -20,9 +22,10 @@ pub fn answers_are_items()
         → items (bytes_fed calls) (is_finished calls) ≡ items_given calls ++ items_left now [] false }
 {}
 
-/// What the next call returns. `NeedMore` if and only if the end was not announced and every item of the
-/// bytes fed was returned, none bad; `End` if and only if it was announced and every item was returned,
-/// none bad; and while none was bad, `Bad` if and only if the next item is bad.
+/// What `next_command` returns after these calls of a reader. It returns `NeedMore` if and only if the end
+/// was not announced, and every item of the bytes fed was returned, with no bad line among them. It returns
+/// `End` if and only if the end was announced, and every item was returned, with no bad line among them. If
+/// no bad line was returned before, it returns `Bad` if and only if the next item is a bad line.
 pub fn answers_come_exactly()
     ensures need_more { (calls : List ReaderCall) (now new : Reading) (next : Next) → AreCalls fresh calls now → Answers now next new
         → (next ≡ NeedMore ↔ AllGiven calls × (is_finished calls ≡ false)) }

@@ -1,4 +1,5 @@
-//! Bytes to commands, by the grammar of scripts, however the bytes are chunked.
+//! The reader of scripts: it turns the bytes of a script, fed in chunks of any size, into commands, by the
+//! grammar of scripts.
 #![tactic(auto)]
 
 mod command;

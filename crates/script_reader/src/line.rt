@@ -1,6 +1,6 @@
-//! What a line means, by the grammar. A function named for a command reads the fields of its line, whose form
-//! its comment shows. It returns true and puts the command into `next`, or returns false if the fields aren't
-//! in the grammar; its contract then says nothing of `next`.
+//! Reads one line of a script by the grammar. There is a function for each command, which reads `args`, the
+//! text after the command's word. It puts the command into `next` and returns true, or returns false if the
+//! text isn't in the grammar; its contract then says nothing of `next`.
 ghost use Rattle.std.specs.Prelude.{◌≡◌, IsTrue, codes, false, option_map};
 ghost use Rattle.std.specs.Str.{bytes_eq};
 ghost use Rattle.cf_base.specs.Settings.{profile_of};
@@ -26,7 +26,8 @@ use cf_io::number_of;
 /// The most bytes of a line, its line feed not counted.
 pub const LONGEST: usize = 8_999;
 
-/// `m ID BYTES`.
+/// Reads the text after `m` in a line `m ID BYTES`, and puts the command into `next`. False if
+/// the text isn't in the grammar.
 fn malloc(args: &[u8], next: &mut NextRef) -> bool
     ensures value { some_if result (owned_next next.new) ≡ option_map answer.Command (grammar.malloc_in (tokens args.now)) }
     ensures fits { IsTrue result → IsInRange (owned_next next.new) }
@@ -38,7 +39,8 @@ fn malloc(args: &[u8], next: &mut NextRef) -> bool
     true
 }
 
-/// `f ID`.
+/// Reads the text after `f` in a line `f ID`, and puts the command into `next`. False if
+/// the text isn't in the grammar.
 fn free(args: &[u8], next: &mut NextRef) -> bool
     ensures value { some_if result (owned_next next.new) ≡ option_map answer.Command (grammar.free_in (tokens args.now)) }
     ensures fits { IsTrue result → IsInRange (owned_next next.new) }
@@ -50,7 +52,8 @@ fn free(args: &[u8], next: &mut NextRef) -> bool
     true
 }
 
-/// `w ID AT HEX`: the bytes are put into the payload buffer.
+/// Reads the text after `w` in a line `w ID AT HEX`. Puts the bytes into `payload` and the command, which
+/// borrows them, into `next`. False if the text isn't in the grammar.
 fn write<'a>(args: &[u8], payload: &'a mut PayloadBuffer, next: &mut NextRef<'a>) -> bool
     ensures value { some_if result (owned_next next.new) ≡ option_map answer.Command (grammar.write_in (tokens args.now)) }
     ensures fits { IsTrue result → IsInRange (owned_next next.new) }
@@ -66,7 +69,8 @@ fn write<'a>(args: &[u8], payload: &'a mut PayloadBuffer, next: &mut NextRef<'a>
     true
 }
 
-/// `r ID AT LEN`.
+/// Reads the text after `r` in a line `r ID AT LEN`, and puts the command into `next`. False if
+/// the text isn't in the grammar.
 fn read(args: &[u8], next: &mut NextRef) -> bool
     ensures value { some_if result (owned_next next.new) ≡ option_map answer.Command (grammar.read_in (tokens args.now)) }
     ensures fits { IsTrue result → IsInRange (owned_next next.new) }
@@ -78,7 +82,8 @@ fn read(args: &[u8], next: &mut NextRef) -> bool
     true
 }
 
-/// `q ID`.
+/// Reads the text after `q` in a line `q ID`, and puts the command into `next`. False if
+/// the text isn't in the grammar.
 fn place(args: &[u8], next: &mut NextRef) -> bool
     ensures value { some_if result (owned_next next.new) ≡ option_map answer.Command (grammar.place_command_in (tokens args.now)) }
     ensures fits { IsTrue result → IsInRange (owned_next next.new) }
@@ -90,7 +95,8 @@ fn place(args: &[u8], next: &mut NextRef) -> bool
     true
 }
 
-/// `b ID I`.
+/// Reads the text after `b` in a line `b ID I`, and puts the command into `next`. False if
+/// the text isn't in the grammar.
 fn block(args: &[u8], next: &mut NextRef) -> bool
     ensures value { some_if result (owned_next next.new) ≡ option_map answer.Command (grammar.block_command_in (tokens args.now)) }
     ensures fits { IsTrue result → IsInRange (owned_next next.new) }
@@ -102,7 +108,8 @@ fn block(args: &[u8], next: &mut NextRef) -> bool
     true
 }
 
-/// `p WORD`.
+/// Reads the text after `p` in a line `p WORD`, and puts the command into `next`. False if
+/// the text isn't in the grammar.
 fn peek(args: &[u8], next: &mut NextRef) -> bool
     ensures value { some_if result (owned_next next.new) ≡ option_map answer.Command (grammar.peek_in (tokens args.now)) }
     ensures fits { IsTrue result → IsInRange (owned_next next.new) }
@@ -114,7 +121,8 @@ fn peek(args: &[u8], next: &mut NextRef) -> bool
     true
 }
 
-/// `k SLOTWORDS K`.
+/// Reads the text after `k` in a line `k SLOTWORDS K`, and puts the command into `next`. False if
+/// the text isn't in the grammar.
 fn bound(args: &[u8], next: &mut NextRef) -> bool
     ensures value { some_if result (owned_next next.new) ≡ option_map answer.Command (grammar.bound_command_in (tokens args.now)) }
     ensures fits { IsTrue result → IsInRange (owned_next next.new) }
@@ -126,7 +134,8 @@ fn bound(args: &[u8], next: &mut NextRef) -> bool
     true
 }
 
-/// `z ID BYTES`.
+/// Reads the text after `z` in a line `z ID BYTES`, and puts the command into `next`. False if
+/// the text isn't in the grammar.
 fn resize(args: &[u8], next: &mut NextRef) -> bool
     ensures value { some_if result (owned_next next.new) ≡ option_map answer.Command (grammar.resize_in (tokens args.now)) }
     ensures fits { IsTrue result → IsInRange (owned_next next.new) }
@@ -138,7 +147,8 @@ fn resize(args: &[u8], next: &mut NextRef) -> bool
     true
 }
 
-/// `t TASK`.
+/// Reads the text after `t` in a line `t TASK`, and puts the command into `next`. False if
+/// the text isn't in the grammar.
 fn task(args: &[u8], next: &mut NextRef) -> bool
     ensures value { some_if result (owned_next next.new) ≡ option_map answer.Command (grammar.task_command_in (tokens args.now)) }
     ensures fits { IsTrue result → IsInRange (owned_next next.new) }
@@ -150,7 +160,8 @@ fn task(args: &[u8], next: &mut NextRef) -> bool
     true
 }
 
-/// `quota TASK PAGES`.
+/// Reads the text after `quota` in a line `quota TASK PAGES`, and puts the command into `next`. False if
+/// the text isn't in the grammar.
 fn quota(args: &[u8], next: &mut NextRef) -> bool
     ensures value { some_if result (owned_next next.new) ≡ option_map answer.Command (grammar.quota_in (tokens args.now)) }
     ensures fits { IsTrue result → IsInRange (owned_next next.new) }
@@ -162,7 +173,8 @@ fn quota(args: &[u8], next: &mut NextRef) -> bool
     true
 }
 
-/// `need TASK BYTES COUNT`.
+/// Reads the text after `need` in a line `need TASK BYTES COUNT`, and puts the command into `next`. False if
+/// the text isn't in the grammar.
 fn need(args: &[u8], next: &mut NextRef) -> bool
     ensures value { some_if result (owned_next next.new) ≡ option_map answer.Command (grammar.need_in (tokens args.now)) }
     ensures fits { IsTrue result → IsInRange (owned_next next.new) }
@@ -174,7 +186,8 @@ fn need(args: &[u8], next: &mut NextRef) -> bool
     true
 }
 
-/// `admit TASK`.
+/// Reads the text after `admit` in a line `admit TASK`, and puts the command into `next`. False if
+/// the text isn't in the grammar.
 fn admit(args: &[u8], next: &mut NextRef) -> bool
     ensures value { some_if result (owned_next next.new) ≡ option_map answer.Command (grammar.admit_in (tokens args.now)) }
     ensures fits { IsTrue result → IsInRange (owned_next next.new) }
@@ -186,7 +199,8 @@ fn admit(args: &[u8], next: &mut NextRef) -> bool
     true
 }
 
-/// `s`.
+/// Reads the text after `s`, which must have no token, and puts the command into `next`. False if it has
+/// one.
 fn slice(args: &[u8], next: &mut NextRef) -> bool
     ensures value { some_if result (owned_next next.new) ≡ option_map answer.Command (grammar.alone_in Command.Slice (tokens args.now)) }
     ensures fits { IsTrue result → IsInRange (owned_next next.new) }
@@ -195,7 +209,8 @@ fn slice(args: &[u8], next: &mut NextRef) -> bool
     is_done(args)
 }
 
-/// `walk`.
+/// Reads the text after `walk`, which must have no token, and puts the command into `next`. False if it has
+/// one.
 fn walk(args: &[u8], next: &mut NextRef) -> bool
     ensures value { some_if result (owned_next next.new) ≡ option_map answer.Command (grammar.alone_in Command.Walk (tokens args.now)) }
     ensures fits { IsTrue result → IsInRange (owned_next next.new) }
@@ -204,7 +219,8 @@ fn walk(args: &[u8], next: &mut NextRef) -> bool
     is_done(args)
 }
 
-/// `frag`.
+/// Reads the text after `frag`, which must have no token, and puts the command into `next`. False if it has
+/// one.
 fn frag(args: &[u8], next: &mut NextRef) -> bool
     ensures value { some_if result (owned_next next.new) ≡ option_map answer.Command (grammar.alone_in Command.Frag (tokens args.now)) }
     ensures fits { IsTrue result → IsInRange (owned_next next.new) }
@@ -213,7 +229,8 @@ fn frag(args: &[u8], next: &mut NextRef) -> bool
     is_done(args)
 }
 
-/// `steps`.
+/// Reads the text after `steps`, which must have no token, and puts the command into `next`. False if it has
+/// one.
 fn steps(args: &[u8], next: &mut NextRef) -> bool
     ensures value { some_if result (owned_next next.new) ≡ option_map answer.Command (grammar.alone_in Command.Steps (tokens args.now)) }
     ensures fits { IsTrue result → IsInRange (owned_next next.new) }
@@ -222,8 +239,8 @@ fn steps(args: &[u8], next: &mut NextRef) -> bool
     is_done(args)
 }
 
-/// Reads the fields of the command whose word is this letter. False if they aren't in the grammar, or
-/// no command has this letter.
+/// Reads `args`, the text after the word of a line, if the word is one letter, and puts the command into
+/// `next`. False if no command has this letter, or the text isn't in the grammar.
 fn letter_command<'a>(
     letter: u8,
     args: &[u8],
@@ -249,8 +266,8 @@ fn letter_command<'a>(
     }
 }
 
-/// Reads the fields of the command whose word is longer than a letter, other than `heap`. False if they
-/// aren't in the grammar, or no command has this word.
+/// Reads `args`, the text after the word of a line, if the word is longer than a letter and isn't `heap`,
+/// and puts the command into `next`. False if no command has this word, or the text isn't in the grammar.
 fn word_command(word: &[u8], args: &[u8], next: &mut NextRef) -> bool
     ensures value { some_if result (owned_next next.new) ≡ option_map answer.Command (grammar.word_command word.now (tokens args.now)) }
     ensures fits { IsTrue result → IsInRange (owned_next next.new) }
@@ -272,7 +289,8 @@ fn word_command(word: &[u8], args: &[u8], next: &mut NextRef) -> bool
     }
 }
 
-/// The settings of `heap PAGES PAGEBYTES K PROXIES`. None if the fields aren't in the grammar.
+/// Reads the text after `heap` in a line `heap PAGES PAGEBYTES K PROXIES`, and returns the settings. `None`
+/// if the text hasn't four numbers, or the settings aren't allowed.
 fn settings(args: &[u8]) -> Option<Settings>
     ensures { option_map (λ s. profile_of s) result ≡ grammar.settings_in (tokens args.now) }
 {
@@ -287,7 +305,7 @@ fn settings(args: &[u8]) -> Option<Settings>
     }
 }
 
-/// Whether the line has more bytes than any line may have.
+/// Whether the line has more than 8,999 bytes, the most of any line.
 fn is_too_long(text: &[u8]) -> bool
     ensures { result ≡ too_long text.now }
 {
@@ -308,7 +326,7 @@ pub fn is_silent(text: &[u8]) -> bool
     !is_too_long(text) && has_no_item(without_return(text))
 }
 
-/// Whether the text has no token, or its first token begins a comment.
+/// Whether the text has no token, or its first token begins with `#`, as that of a comment does.
 #[tactic(auto, using(crate::proofs::SilentLines::item_at_once))]
 fn has_no_item(text: &[u8]) -> bool
     ensures { result ≡ says_nothing (tokens_say (tokens text.now)) }
@@ -323,8 +341,9 @@ fn has_no_item(text: &[u8]) -> bool
     }
 }
 
-/// Reads a line, given without its line feed, that is neither blank nor a comment. Puts its item into `next`,
-/// and the bytes of a write into `payload`. False if the line isn't in the grammar.
+/// Reads a line, given without its line feed, that is neither blank nor a comment. Puts its command, or the
+/// settings of a `heap` line, into `next`, and the bytes of a write into `payload`. False if the line isn't
+/// in the grammar.
 pub fn read_line<'a>(text: &[u8], payload: &'a mut PayloadBuffer, next: &mut NextRef<'a>) -> bool
     requires { says_nothing (line_says text.now) ≡ false }
     ensures value { saying_if result (owned_next next.new) ≡ line_says text.now }
@@ -339,7 +358,7 @@ pub fn read_line<'a>(text: &[u8], payload: &'a mut PayloadBuffer, next: &mut Nex
     }
 }
 
-/// Reads a line as `read_line` does, from its first token and the text after it.
+/// Does what `read_line` does, from the line's first token `word` and the text `args` after it.
 fn read_item<'a>(
     word: &[u8],
     args: &[u8],
@@ -358,7 +377,8 @@ fn read_item<'a>(
     word_command(word, args, next)
 }
 
-/// `heap PAGES PAGEBYTES K PROXIES`.
+/// Reads the text after `heap` in a line `heap PAGES PAGEBYTES K PROXIES`, and puts the settings into `next`. False if
+/// the text isn't in the grammar.
 fn start(args: &[u8], next: &mut NextRef) -> bool
     ensures value { saying_if result (owned_next next.new) ≡ item_or_wrong (option_map starts (grammar.settings_in (tokens args.now))) }
     ensures fits { IsTrue result → IsInRange (owned_next next.new) }

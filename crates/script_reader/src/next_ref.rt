@@ -1,4 +1,4 @@
-//! The next item of a script, with borrowed bytes.
+//! `NextRef`: what a call of the reader returns, like `Next`, but the bytes of a write are borrowed.
 ghost use Rattle.std.specs.Prelude.{◌≡◌};
 ghost use Rattle.script_reader.specs.Owned.{owned_next};
 ghost use Rattle.script_reader.specs.Answered.{IsInRange};
@@ -7,23 +7,23 @@ use crate::command_ref::CommandRef;
 use crate::next::Next;
 use cf_base::Settings;
 
-/// The next item of a script, as `Next`, but the bytes of a write are borrowed.
+/// What a call of the reader returns, like `Next`, but the bytes of a write are borrowed.
 #[derive(Clone, Copy, Debug, PartialEq, Eq)]
 pub enum NextRef<'a> {
     /// The `heap` line, with its settings.
     Start(Settings),
-    /// A command.
+    /// The next command.
     Command(CommandRef<'a>),
-    /// More bytes must be fed, or the end announced.
+    /// The bytes fed hold no further whole line: more must be fed, or the end announced.
     NeedMore,
     /// The line of this number, counted from 1, isn't in the grammar at its place.
     Bad { line: u32 },
-    /// The script has ended.
+    /// The end was announced, and no line is left.
     End,
 }
 
 impl<'a> NextRef<'a> {
-    /// The same result, with a copy of the bytes of a write.
+    /// Returns the same result, with a copy of the bytes of a write.
     pub(crate) fn to_next(self) -> Next
         requires { IsInRange (owned_next self) }
         ensures { result ≡ owned_next self.entry }

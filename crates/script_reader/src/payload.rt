@@ -1,13 +1,14 @@
-//! The bytes of a write command, owned.
+//! `Payload`: the bytes that a write command writes, owned by the command.
 ghost use Rattle.std.specs.Prelude.{◌≡◌, ◌≤◌, ◌<◌, ◌⊎◌, length, MatchOption};
 
 use arrayvec::ArrayVec;
 use std::marker::Model;
 
+/// The most bytes of a write.
 const MOST: usize = 4_096;
 
-/// The bytes of a write, from 1 to 4,096 of them, in place. A `PayloadBuffer` holds those of one write
-/// after another.
+/// The bytes of one write, from 1 to 4,096 of them, in place. A `PayloadBuffer` instead is filled again with
+/// the bytes of each write.
 #[derive(Debug, PartialEq, Eq, Drop)]
 pub struct Payload {
     bytes: ArrayVec<u8, MOST>,
@@ -26,7 +27,7 @@ impl Model for Payload {
 }
 
 impl Payload {
-    /// A payload of these bytes. None if and only if there are none, or more than 4,096.
+    /// Returns a payload of these bytes. `None` if and only if there are no bytes or more than 4,096.
     pub fn new(bytes: &[u8]) -> Option<Payload>
         ensures { MatchOption result ((length bytes.now ≡ 0) ⊎ (4096 < length bytes.now))
             (λ p. (p ≡ bytes.now) × (1 ≤ length bytes.now) × (length bytes.now ≤ 4096)) }

@@ -1,4 +1,4 @@
-//! A buffer for the payload of a write, filled again and again.
+//! `PayloadBuffer`: a buffer that the reader fills with the bytes of each write command in turn.
 ghost use Rattle.std.specs.Prelude.{◌≡◌, ◌≤◌, IsTrue, length};
 ghost use Rattle.script_reader.specs.Commands.{bytes_in};
 ghost use Rattle.script_reader.specs.Answered.{some_if};
@@ -8,8 +8,8 @@ use std::marker::Model;
 /// The most bytes of a write.
 const MOST: usize = 4_096;
 
-/// A buffer for the payload of one write, at most 4,096 bytes. Its owner makes it once, and a reader
-/// fills it in place. A `Payload` owns its bytes instead.
+/// A buffer for the bytes of one write, at most 4,096. Its owner makes it once, and a reader fills it again
+/// for each write. The first `len` of its cells are the bytes. A `Payload` instead belongs to one write.
 #[derive(Drop)]
 pub struct PayloadBuffer {
     cells: [u8; MOST],
@@ -37,15 +37,15 @@ impl PayloadBuffer {
         }
     }
 
-    /// The bytes in it.
+    /// The bytes of the last write that were put into it.
     pub fn bytes(&self) -> &[u8]
         ensures { result.now ≡ self.now }
     {
         &self.cells[..self.len]
     }
 
-    /// Decodes a text in hexadecimal into the buffer: from 1 to 4,096 bytes. False if the text spells
-    /// no such bytes; the contract then says nothing of the buffer.
+    /// Decodes `text`, two hexadecimal digits for each byte, into the buffer. False if it isn't the digits of
+    /// 1 to 4,096 bytes; the contract then says nothing of the buffer.
     // Out of line, since its loop then keeps all it needs in registers.
     #[inline(never)]
     pub(crate) fn take_hex(&mut self, text: &[u8]) -> bool

@@ -1,4 +1,4 @@
-//! The reader of scripts.
+//! `Reader`: takes the bytes of a script in chunks, and returns one command after the other.
 ghost use Rattle.std.specs.Prelude.{◌≡◌, ◌≤◌, ◌+◌, ◌==◌, true, false, length, take, drop, position, MatchOption, None};
 ghost use Rattle.script_reader.specs.Answered.{IsNextLine, line_passed, says_nothing};
 ghost use Rattle.script_reader.specs.Items.{line_says};
@@ -15,25 +15,32 @@ use crate::tokens::line_feed_at;
 use arrayvec::ArrayVec;
 use std::marker::Model;
 
-/// The most bytes that are kept: they were fed, but are not read yet.
+/// The most bytes that a reader keeps: those that it was fed but has not read yet.
 const MOST_KEPT: usize = 9_000;
 
-/// The bytes of the buffer. It is so large that the kept bytes never overlap the place that they move to.
+/// The length of the buffer in bytes: so large that the kept bytes, when they move to its start, never overlap
+/// their old place.
 const BUFFER: usize = 2 * MOST_KEPT;
 
-/// Reads a script from bytes that are fed in chunks. It keeps at most 9,000 bytes in place, and allocates
-/// nothing.
+/// Reads a script from bytes that are fed in chunks. The kept bytes are those that were fed but not read
+/// yet. They are at most 9,000, and are in the reader itself, which allocates nothing.
 #[derive(Drop)]
 pub struct Reader {
-    /// The bytes fed that were not dropped; those from `start` on are kept.
+    /// Bytes of the script in order: up to `start` some that were read, from there on the kept ones.
     buffer: ArrayVec<u8, BUFFER>,
+    /// The position in the buffer of the first kept byte, where the next line to read begins.
     start: usize,
-    /// How many of the kept bytes, from the first on, are known to hold no line feed.
+    /// The number of kept bytes, from the first on, that were searched and hold no line feed.
     searched: usize,
+    /// The number of lines read so far, blank lines and comments too.
     passed: u32,
+    /// Which lines are allowed next.
     stage: Stage,
+    /// Whether the end of the script was announced (`finish`).
     ended: bool,
+    /// The number of the bad line, once it was returned: the reader then reads nothing more.
     stopped: Option<u32>,
+    /// The number of bytes that were fed in all.
     fed: u32,
 }
 
@@ -50,7 +57,7 @@ impl Model for Reader {
 }
 
 impl Reader {
-    /// A reader that was fed nothing.
+    /// Returns a reader that was fed nothing.
     pub fn new() -> Reader
         ensures { result ≡ fresh }
     {
@@ -66,8 +73,9 @@ impl Reader {
         }
     }
 
-    /// Takes a prefix of the chunk, and returns its length: the least of the chunk's length, the bytes
-    /// that may still be kept of 9,000, and what keeps all bytes ever fed at `2^32 - 1`.
+    /// Feeds the reader: adds a prefix of `chunk` to the kept bytes, and returns the prefix's length. The
+    /// prefix is the longest after which at most 9,000 bytes are kept, and at most `2^32 - 1` bytes were fed
+    /// in all. The caller feeds the rest after it has read commands. Not to be called after `finish`.
     pub fn feed(&mut self, chunk: &[u8]) -> usize
         requires { self.old.ended ≡ false }
         ensures value { result ≡ taken self.old chunk.now }
@@ -85,17 +93,18 @@ impl Reader {
         n
     }
 
-    /// Announces the end: no more bytes are fed.
+    /// Announces that the script ends with the bytes fed so far: no more are fed, and the last line needs no
+    /// line feed.
     pub fn finish(&mut self)
         ensures { self.new ≡ record self.old { ended = true } }
     {
         self.ended = true;
     }
 
-    /// The next item. Blank lines and comments are skipped. `NeedMore` if and only if the end was not
-    /// announced and the bytes kept after such lines are no whole line; `End` if and only if it was
-    /// announced and no line is left; `Bad` if and only if the next line isn't in the grammar at its
-    /// place; from then on every call returns that same `Bad`.
+    /// Reads the next line that is neither blank nor a comment, and returns its command, or `Start` for a
+    /// `heap` line. Returns `NeedMore` if there is no such whole line and the end was not announced, `End`
+    /// if there is none and the end was announced. Returns `Bad` if the line isn't in the grammar or isn't
+    /// allowed at its place; from then on every call returns that same `Bad`.
     pub fn next_command(&mut self) -> Next
         ensures { Answers self.old result self.new }
     {
@@ -103,8 +112,8 @@ impl Reader {
         self.next_ref(&mut payload).to_next()
     }
 
-    /// The next item, as `next_command` returns it; the bytes of a write are borrowed from
-    /// `payload`.
+    /// Does what `next_command` does, but the result borrows the bytes of a write from `payload`, into which
+    /// they are put.
     pub fn next_ref<'a>(&mut self, payload: &'a mut PayloadBuffer) -> NextRef<'a>
         ensures { Answers self.old (owned_next result) self.new }
     {
@@ -113,7 +122,7 @@ impl Reader {
         next
     }
 
-    /// Puts the next item, as `next_ref` returns it, into `next`, so that it isn't copied.
+    /// Does what `next_ref` does, but puts the result into `next`, so that it isn't copied.
     pub fn read_next<'a>(&mut self, payload: &'a mut PayloadBuffer, next: &mut NextRef<'a>)
         ensures { Answers self.old (owned_next next.new) self.new }
     {
@@ -127,7 +136,7 @@ impl Reader {
         }
     }
 
-    /// The result if the kept bytes hold no line: `End` if the end was announced, else `NeedMore`.
+    /// What a call returns if the kept bytes hold no line: `End` if the end was announced, else `NeedMore`.
     fn without_line<'a>(&self) -> NextRef<'a>
         requires going { self.now.stopped ≡ None }
         requires none { HasNoLine self.now.kept self.now.ended }
@@ -140,8 +149,8 @@ impl Reader {
         }
     }
 
-    /// Finds the first line that is neither blank nor a comment, and skips those before it. None if the
-    /// kept bytes hold no such line.
+    /// Passes the blank lines and comments that the kept bytes begin with, and returns where the line after
+    /// them ends. `None` if no whole line comes after them.
     fn next_line(&mut self) -> Option<Cut>
         requires { self.old.stopped ≡ None }
         ensures passes { PassesOver self.old self.new }
@@ -156,7 +165,8 @@ impl Reader {
         }
     }
 
-    /// Finds the first line; none if it isn't whole yet. Bytes once searched are not searched again.
+    /// Returns where the first line of the kept bytes ends. `None` if they hold no whole line; the next call
+    /// then doesn't search the same bytes again.
     fn find_line(&mut self) -> Option<Cut>
         ensures same { self.new ≡ self.old }
         ensures found { MatchOption result (HasNoLine self.old.kept self.old.ended)
@@ -170,7 +180,7 @@ impl Reader {
         cut
     }
 
-    /// Whether the first line is blank or a comment.
+    /// Whether the first line of the kept bytes, which ends at `cut`, is blank or a comment.
     fn is_silent(&self, cut: Cut) -> bool
         requires { cut.len ≤ length self.now.kept }
         ensures { result ≡ says_nothing (line_says (take cut.len self.now.kept)) }
@@ -179,7 +189,8 @@ impl Reader {
         is_silent(&kept[..cut.len])
     }
 
-    /// Skips the first line.
+    /// Passes the first line of the kept bytes, which ends at `cut`: its bytes are kept no longer, and the line
+    /// is counted.
     fn pass_line(&mut self, cut: Cut)
         requires some { 1 ≤ cut.next }
         requires within { cut.next ≤ length self.old.kept }
@@ -190,8 +201,9 @@ impl Reader {
         self.passed += 1;
     }
 
-    /// Reads the first line, which is neither blank nor a comment, into `next`, and passes it. At a bad
-    /// line the reader stops.
+    /// Reads the first line of the kept bytes, which ends at `cut` and is neither blank nor a comment, passes
+    /// it, and puts what a call returns for it into `next`. The bytes of a write are put into `payload`. If
+    /// the line is bad, that is `Bad` with the line's number, and the reader stops.
     fn answer_line<'a>(&mut self, cut: Cut, payload: &'a mut PayloadBuffer, next: &mut NextRef<'a>)
         requires going { self.old.stopped ≡ None }
         requires line { IsNextLine self.old cut.len cut.next }
@@ -211,7 +223,8 @@ impl Reader {
     }
 }
 
-/// Drops the bytes of the buffer before `start`.
+/// Drops the bytes of the buffer before `start`, and moves the others to its start. They must not overlap
+/// their new place.
 fn drop_front(buffer: &mut ArrayVec<u8, BUFFER>, start: usize)
     requires within { start ≤ length buffer.old.items }
     requires apart { length buffer.old.items ≤ start + start }
@@ -223,14 +236,16 @@ fn drop_front(buffer: &mut ArrayVec<u8, BUFFER>, start: usize)
     buffer.truncate(left);
 }
 
-/// The end of the first line, and the start of the next one, as positions among the kept bytes.
+/// Where the first line of the kept bytes ends: it has `len` bytes, its line feed not counted, and the next
+/// line starts at byte `next` of the kept bytes.
 #[derive(Clone, Copy)]
 struct Cut {
     len: usize,
     next: usize,
 }
 
-/// The position of the first line feed, if there is one; none is before `from`.
+/// The position of the first line feed in `kept`, if there is one. The caller knows that none is before `from`,
+/// so the search begins there.
 fn line_feed_from(kept: &[u8], from: usize) -> Option<usize>
     requires within { from ≤ length kept.now }
     requires searched { holds_line_feed (take from kept.now) ≡ false }
@@ -240,7 +255,8 @@ fn line_feed_from(kept: &[u8], from: usize) -> Option<usize>
     Some(from + at)
 }
 
-/// Where the first line ends; none if it isn't whole yet. The first `searched` bytes hold no line feed.
+/// Where the first line of the bytes `kept` ends. `None` if they hold no whole line. The first `searched` bytes
+/// hold no line feed; `ended` is whether the script ends with these bytes.
 fn first_line(kept: &[u8], searched: usize, ended: bool) -> Option<Cut>
     requires within { searched ≤ length kept.now }
     requires searched { holds_line_feed (take searched kept.now) ≡ false }
@@ -256,8 +272,8 @@ fn first_line(kept: &[u8], searched: usize, ended: bool) -> Option<Cut>
     }
 }
 
-/// Whether bytes with no line feed are a line: there are some, and the input has ended or they are too
-/// many for one line.
+/// Whether the bytes `rest`, which hold no line feed, count as a line. They do if there is at least one, and the
+/// script has ended or they are too many for one line. In the latter case the line is bad.
 fn is_line(rest: &[u8], ended: bool) -> bool
     ensures { result ≡ is_last_line ended rest.now }
 {

@@ -1,4 +1,4 @@
-//! The stages of a script.
+//! The stages of a script, by which a line is allowed or not: first `heap`, then `k`, then the others.
 ghost use Rattle.std.specs.Prelude.{◌≡◌};
 ghost use Rattle.script_reader.specs.Answered.{saying_if, stage_said};
 ghost use Rattle.script_reader.specs.Items as place;
@@ -7,19 +7,19 @@ ghost use Rattle.script_reader.specs.Owned.{owned_command, owned_next};
 use crate::command_ref::CommandRef;
 use crate::next_ref::NextRef;
 
-/// The stage of a script, which the lines so far lead to. It determines which lines are allowed next.
+/// The stage that a script is at after the lines read so far. It determines which lines are allowed next.
 #[derive(Clone, Copy, Debug, PartialEq, Eq)]
 pub enum Stage {
-    /// The heap isn't open.
+    /// No command was read; only `heap` may follow.
     Opening,
-    /// The heap was opened, and bounds of classes may follow.
+    /// Only `heap` and maybe `k` were read; any command but `heap` may follow.
     Bounding,
-    /// A command other than `heap` and `k` was read, and no `k` may follow.
+    /// A command other than `heap` and `k` was read; neither of these two may follow.
     Running,
 }
 
-/// The stage after a line; `formed` is whether it is in the grammar, and `next` is its item then. None if
-/// it isn't in the grammar, or isn't allowed at this stage.
+/// The stage after one more line. `formed` is whether the line is in the grammar; if it is, `next` is what
+/// the line says. `None` if the line isn't in the grammar, or isn't allowed at this stage.
 pub fn stage_after(stage: Stage, formed: bool, next: NextRef) -> Option<Stage>
     ensures { result ≡ stage_said stage (saying_if formed (owned_next next.entry)) }
 {
@@ -36,7 +36,8 @@ pub fn stage_after(stage: Stage, formed: bool, next: NextRef) -> Option<Stage>
     }
 }
 
-/// The stage after a command; `bounds` is whether it is `k`. None if it isn't allowed at this stage.
+/// The stage after one more command; `bounds` is whether the command is `k`. `None` if it isn't allowed at
+/// this stage.
 fn stage_after_command(stage: Stage, bounds: bool) -> Option<Stage>
     ensures { result ≡ place.stage_after_command stage bounds }
 {
@@ -51,7 +52,7 @@ fn stage_after_command(stage: Stage, bounds: bool) -> Option<Stage>
     }
 }
 
-/// Whether the command sets the bound of a class.
+/// Whether the command is `k`, which sets the bound of a class.
 fn is_bound(command: CommandRef) -> bool
     ensures { result ≡ place.is_bound (owned_command command.entry) }
 {

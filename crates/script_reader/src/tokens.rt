@@ -1,4 +1,5 @@
-//! A line as tokens.
+//! Splits a line into tokens, the runs of bytes between spaces and tabs, and reads a token as a number. A
+//! space or a tab is called a gap.
 ghost use Rattle.std.specs.Prelude.{◌≡◌, ◌≤◌, ◌==◌, ◌%◌, ◌^◌, length, take, position, not, option_map, true, false, MatchOption, IfSome, [], ◌∷◌};
 ghost use Rattle.std.specs.List.{list_all, position_or_len};
 ghost use Rattle.std.specs.Str.Parse.{digits_value};
@@ -10,7 +11,7 @@ ghost use Rattle.script_reader.specs.Lines.{without_return as no_return, is_gap 
 use cf_io::number_of;
 use memchr::{memchr_iter, memchr2};
 
-/// Texts from this length on are searched many bytes at once.
+/// In a text of at least this many bytes the first gap is searched for many bytes at once.
 const LONG: usize = 64;
 
 /// The position of the first line feed, if there is one.
@@ -20,7 +21,7 @@ pub fn line_feed_at(bytes: &[u8]) -> Option<usize>
     memchr_iter(b'\n', bytes).next()
 }
 
-/// The line without one carriage return at its end.
+/// The line without the carriage return at its end, if it has one there.
 pub fn without_return(line: &[u8]) -> &[u8]
     ensures { result.now ≡ no_return line.now }
 {
@@ -35,14 +36,14 @@ pub fn without_return(line: &[u8]) -> &[u8]
     }
 }
 
-/// Whether the byte separates tokens.
+/// Whether the byte is a gap, a space or a tab: it separates tokens.
 fn is_gap(x: u8) -> bool
     ensures { result ≡ gap x }
 {
     x == b' ' || x == b'\t'
 }
 
-/// How many gaps the text begins with.
+/// The number of gaps that the text begins with.
 #[tactic(auto, using(crate::proofs::Words::no_gap_first))]
 fn gaps(text: &[u8]) -> usize
     ensures value { result ≡ position_or_len (λ x. not (gap x)) text.now }
@@ -55,7 +56,7 @@ fn gaps(text: &[u8]) -> usize
     first_other(text).unwrap_or(text.len())
 }
 
-/// How many bytes precede the first gap.
+/// The number of bytes before the first gap; all bytes if there is no gap.
 fn token_length(text: &[u8]) -> usize
     ensures value { result ≡ position_or_len gap text.now }
     ensures within { result ≤ length text.now }
@@ -70,6 +71,7 @@ pub fn first_other(text: &[u8]) -> Option<usize>
     text.iter().position(|x| !is_gap(*x))
 }
 
+/// The position of the first gap, if there is one.
 fn first_gap(text: &[u8]) -> Option<usize>
     ensures { result ≡ position gap text.now }
 {
@@ -80,8 +82,8 @@ fn first_gap(text: &[u8]) -> Option<usize>
     }
 }
 
-/// The position of the first gap, if there is one. A function of its own, so that the search of short
-/// texts stays small.
+/// The position of the first gap, if there is one, by a search that is quick in long texts. A function of its
+/// own, so that the code for short texts stays small.
 #[inline(never)]
 fn first_gap_in_long(text: &[u8]) -> Option<usize>
     ensures { result ≡ position gap text.now }
@@ -89,7 +91,7 @@ fn first_gap_in_long(text: &[u8]) -> Option<usize>
     memchr2(b' ', b'\t', text)
 }
 
-/// The first token, and the text after it. None if there is no token.
+/// The first token, and the text after it. `None` if the text has no token.
 #[inline(always)]
 pub fn split_token(text: &[u8]) -> Option<(&[u8], &[u8])>
     ensures value { MatchOption result (tokens text.now ≡ []) (λ p. tokens text.now ≡ p.0.now ∷ tokens p.1.now) }
@@ -112,8 +114,8 @@ pub fn is_done(text: &[u8]) -> bool
     gaps(text) == text.len()
 }
 
-/// The number that the first token spells, and the text after it. None if there is no token, or it
-/// spells no number.
+/// The number of 32 bits that the first token spells in decimal, and the text after the token. `None` if the
+/// text has no token, or its first one spells no such number.
 #[inline(always)]
 pub fn take_number(text: &[u8]) -> Option<(u32, &[u8])>
     ensures { option_map (λ p. (p.0, tokens p.1.now)) result ≡ first_by number_in (tokens text.now) }
@@ -125,7 +127,8 @@ pub fn take_number(text: &[u8]) -> Option<(u32, &[u8])>
     Some((n, rest))
 }
 
-/// What the digits at the start of a text spell, modulo `2^32`, and how many they are.
+/// The number that the decimal digits at the start of a text spell, modulo `2^32`, and how many digits those
+/// are.
 #[inline(always)]
 fn leading_digits(text: &[u8]) -> (u32, usize)
     ensures value { result.0 ≡ digits_value 10 (take result.1 text.now) % 2 ^ 32 }
@@ -143,7 +146,8 @@ fn leading_digits(text: &[u8]) -> (u32, usize)
     (value, at)
 }
 
-/// The number that the first `digits` bytes of a text spell; `value` is that number modulo `2^32`.
+/// The number that the first `digits` bytes of a text spell, all of them digits. `value` is that number modulo
+/// `2^32`, which the caller has computed. `None` if there is no digit, or the number has more than 32 bits.
 #[inline(always)]
 fn spelled_number(text: &[u8], digits: usize, value: u32) -> Option<u32>
     requires count { digits ≤ length text.now }
@@ -159,7 +163,8 @@ fn spelled_number(text: &[u8], digits: usize, value: u32) -> Option<u32>
     }
 }
 
-/// What follows a token that ends here: the text after one gap. None if the token continues.
+/// `text` is what comes after some bytes of a token. If the token ends there, returns the text without its
+/// first gap; an empty text stays empty. `None` if the token continues: the next byte is no gap.
 #[inline(always)]
 fn past_token(text: &[u8]) -> Option<&[u8]>
     ensures { MatchOption result (parted text.now ≡ false) (λ rest. (parted text.now ≡ true) × (tokens rest.now ≡ tokens text.now)) }

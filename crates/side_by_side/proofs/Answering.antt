@@ -1,4 +1,4 @@
--- How the mode handler of a list of managers answers, and what no answer changes.
+-- What `answer_each` did is what the mode handler claims of `answer`; and which managers promise an order stays the same.
 use Rattle.std.proofs.Common.{◌≡◌, ◌∙◌, ℕ, List, Option, Result, Ok, Err, map, sym}
 use Rattle.std.specs.Prelude.{is_some}
 use Rattle.cf_base.specs.declared.answers.Failed.{Failed}

@@ -1,4 +1,4 @@
--- The first manager of a kind.
+-- The first manager of a kind in a list: for the loop of `first_of`, and for callers that replace this manager.
 use Rattle.std.proofs.Common.{◌≡◌, ◌∙◌, ◌+◌, ◌<◌, ◌≤◌, ℕ, true, false, List, Option, Some, None, refl, sym, ap}
 use Rattle.std.proofs.Common.{length, get_or, set, map, arith, inl, inr}
 use Rattle.std.proofs.lemmas.Bool.{cases_lt}

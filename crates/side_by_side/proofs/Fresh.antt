@@ -1,4 +1,4 @@
--- Sessions that were just begun.
+-- New sessions, one for each manager: what `Sessions::start` returns is what a run of `many_managers` may begin with.
 use Rattle.std.proofs.Common.{◌≡◌, ◌∙◌, List, [], ◌∷◌, refl, sym, ap, length, map, arith}
 use Rattle.std.proofs.lemmas.List.{length-map}
 use Rattle.std.proofs.lemmas.List.Elements.{All-head, All-tail}

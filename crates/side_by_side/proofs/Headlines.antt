@@ -1,4 +1,4 @@
--- Each manager's own replies meet the headline.
+-- Each manager's own replies meet the headline of its kind: for the law `each_meets_the_headline`.
 use Rattle.std.proofs.Common.{List, [], ◌∷◌, Option}
 use Rattle.cf_base.specs.declared.kind.Kind.{Kind}
 use Rattle.script_reader.specs.Items.{Item}

@@ -1,4 +1,4 @@
--- Replies with a name before each line.
+-- A reply of a session whose lead is the name of a kind has that name before each line: for `answer_one`.
 use Rattle.std.proofs.Common.{◌≡◌, ◌++◌, ◌∙◌, ℕ, List, [], ◌∷◌, refl, sym, ap, append_assoc}
 use Rattle.cf_io.specs.Feeds.{appended}
 use Rattle.run_model.specs.Texts.{Reply, led}
@@ -12,7 +12,7 @@ use Rattle.cf_base.specs.declared.kind.Kind.{Kind}
 use Rattle.side_by_side.specs.Progress.{TurnNamed, TurnNamedInPart}
 use Rattle.side_by_side.specs.SideBySide.{named_lines}
 
--- the lead of each line, or its name
+-- lines with a kind's lead are the bytes of the lines with its name before each
 led_named : (kind : Kind) (reply : Reply) → led (lead_of kind) reply ≡ led [] (named_lines kind reply)
 led_named kind [] = refl
 led_named kind (line ∷ rest) = ap (λ l. l ++ led (lead_of kind) rest) (sym (append_assoc (lead_of kind) line (10 ∷ [])))
@@ -42,6 +42,6 @@ named_cut old c lead new is a = (
   a.written,
 )
 
--- the kind stays
+-- a command leaves the kind of the manager as it is
 pub turn_kind : (old new : RunState) (c : Command) (reply : Reply) → IsGoing old → Turn old c reply new → new.heap.kind ≡ old.heap.kind
 turn_kind old new c reply going turn = (step_same old new c reply going.rules turn.step).kind

@@ -1,4 +1,4 @@
--- The replies of managers that were opened, one after the other.
+-- The replies to the `heap` line, written one manager after the other: for the loop of `put_opened`.
 use Rattle.std.proofs.Common.{◌≡◌, ◌++◌, ◌∙◌, ◌+◌, ◌<◌, ℕ, List, [], ◌∷◌, sym, ap, length, take, drop, get_or, map, append_assoc, append-nil, arith}
 use Rattle.std.proofs.Common.{take-append-drop}
 use Rattle.std.proofs.lemmas.List.{get_or-map, length-map, map-append, take_more}
@@ -9,7 +9,7 @@ use Rattle.side_by_side.specs.SideBySide.{lead_of}
 use Rattle.cf_base.specs.declared.kind.Kind.{Kind}
 use Rattle.side_by_side.specs.SideBySide.{opened_reply}
 
--- one of them as bytes
+-- the bytes of one manager's line
 line_of : (kind : Kind) → led [] (opened_reply (kind ∷ [])) ≡ lead_of kind ++ codes "ok\n"
 line_of kind = append-nil ((lead_of kind ++ codes "ok") ++ 10 ∷ []) ∙ append_assoc (lead_of kind) (codes "ok") (10 ∷ [])
 
@@ -33,7 +33,7 @@ opened_reply_cut kinds i kind front lost lt is cut =
     (sym (opened_reply_more kinds i kind lt is) ∙ ap (λ l. led [] (opened_reply (take i kinds)) ++ l) cut ∙ sym (append_assoc (led [] (opened_reply (take i kinds))) front lost))
     ∙ append_assoc (led [] (opened_reply (take i kinds)) ++ front) lost (led [] (opened_reply (drop (i + 1) kinds)))
 
--- the kind of a manager, among the kinds
+-- the kind of the manager at i is the kind at i
 pub kind_at : {X : Type 0} (f : X → Kind) (xs : List X) (i : ℕ) (x : X) (kind : Kind) → i < length xs → x ≡ get_or xs i x → kind ≡ f x
     → (i < length (map f xs)) × (kind ≡ get_or (map f xs) i kind)
 kind_at f xs i x kind lt read is = (omega (arith, lt, length-map xs f), is ∙ ap f read ∙ sym (get_or-map f xs i x kind lt))

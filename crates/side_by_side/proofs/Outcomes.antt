@@ -1,4 +1,4 @@
--- From the outcome of a script on many managers to a run of each.
+-- From the outcome of a script on many managers to a run of each: for the law `outcomes_are_of_each`.
 use Rattle.std.proofs.Common.{◌≡◌, List, None, subst}
 use Rattle.std.specs.Prelude.{option_map}
 use Rattle.run_model.proofs.CallerLemmas.{part_seen, run_seen}

@@ -1,4 +1,4 @@
--- A loop in which each run does the same command, one run after the other.
+-- A loop in which each run does the same command, one run after the other: for `answer_each`.
 use Rattle.std.proofs.Common.{◌≡◌, ◌++◌, ◌∙◌, ◌+◌, ◌<◌, ◌≤◌, ℕ, List, [], ◌∷◌, refl, sym, ap, subst, inl, inr, length, set, get_or, map, append_assoc}
 use Rattle.std.proofs.Common.{append-nil, length-append, arith}
 use Rattle.std.proofs.lemmas.List.{get_or_at, length-map, set_at, length_push}

@@ -1,4 +1,4 @@
--- Many managers always answer, so that what was cut is a prefix.
+-- Many managers have a reply to each command, so what was written before a cut is a prefix of a whole output: for the law `what_was_cut_is_a_prefix`.
 use Rattle.std.proofs.Common.{◌≡◌, ◌++◌, ◌∙◌, ℕ, List, [], ◌∷◌, map, refl, sym, ap, subst, inl, inr, append_assoc}
 use Rattle.std.specs.List.{All}
 use Rattle.std.specs.Prelude.{codes}
@@ -16,7 +16,7 @@ use Rattle.script_reader.specs.declared.command.Command.{Command}
 use Rattle.side_by_side.specs.SideBySide.{EachBegins, EachInPart, EachTurn, SideBySide, kinds_of, side_by_side_at, many_managers, named_lines, runs_of}
 use Rattle.side_by_side.proofs.Begun.{begun_goes}
 
--- runs as sessions beside managers
+-- the sessions and the managers of a list of runs
 pub side_by_side_of : List RunState → SideBySide
 side_by_side_of runs = side_by_side_at (map (λ (s : RunState). s.session) runs) (map (λ (s : RunState). s.heap) runs)
 
@@ -45,7 +45,7 @@ each_goes_on (old ∷ olds) c reply news on (first, more, new, rest, turn, turns
     subst (All IsGoing) (sym are) (All-cons IsGoing new rest (step_going old new c first (All-head IsGoing old olds on) turn.step)
     (each_goes_on olds c more rest (All-tail IsGoing old olds on) turns))
 
--- a reply that was cut is a prefix of one of all
+-- what was written of a cut reply is a prefix of a whole reply of all managers
 each_whole : (olds : List RunState) (c : Command) (out : List ℕ) (news : List RunState) → All IsGoing olds → IsSayable c → EachInPart olds c out news
     → (reply : Reply) × (mids : List RunState) × (lost : List ℕ) × EachTurn olds c reply mids × (led [] reply ≡ out ++ lost)
 each_whole [] c out news on can part = absurd part

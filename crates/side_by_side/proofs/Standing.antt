@@ -1,4 +1,4 @@
--- The state of each of many managers after a script.
+-- After a script each of many managers is in the last state of its run (`EachEndsAt`): for the law `outcomes_are_of_each`.
 use Rattle.std.proofs.Common.{◌≡◌, ◌++◌, ◌∙◌, ℕ, suc, List, [], ◌∷◌, Option, Some, None, refl, sym, ap, subst, inl, inr, length, map, arith}
 use Rattle.std.proofs.lemmas.List.{length-map}
 use Rattle.std.specs.Prelude.{option_map}

@@ -1,4 +1,4 @@
--- A run of many managers side by side splits into a run of the first one and a run of the others.
+-- A run of many managers side by side splits into a run of the first one and a run of the others: for the law `each_has_its_own_run`.
 use Rattle.std.proofs.Common.{◌≡◌, ◌++◌, ◌∙◌, ℕ, List, [], ◌∷◌, Option, Some, None, refl, sym, ap, subst, inl, inr, map}
 use Rattle.std.specs.Prelude.{⊤}
 use Rattle.run_model.proofs.CallerLemmas.{one_run, run_joined, step_rules, step_same}
@@ -125,7 +125,7 @@ run_parts kind kinds own olds all together of (item ∷ items) replies end (mid,
       of = rest.of;
     }
 
--- by no managers
+-- a run side by side of no managers has the replies of `bare_reply`
 bare_step : (olds : Option (List RunState)) → HasNoManagers olds → (item : Item) (reply : Reply) (mid : Option (List RunState))
     → PlayStep (EachBegins []) EachTurn olds item reply mid → (reply ≡ bare_reply item) × HasNoManagers mid
 bare_step olds none (starts p) reply mid (news, (is, are), mid_is) = (is, rw mid_is are)
@@ -150,7 +150,7 @@ own_runs (kind ∷ kinds) items replies end run =
     let here = run_parts kind kinds None None None refl tt items replies end run in
     (here.owns, here.others, here.own_end, here.ends, here.run, own_runs kinds items here.others here.ends here.runs, here.replies_are, here.together)
 
--- one manager's own run, and a command more
+-- one manager's own run, continued by one command
 own_run_more : (kind : Kind) (before : List Item) (c : Command) (owns : List Reply) (own : Reply) (old new : RunState) → Run kind None before owns (Some old)
     → Turn old c own new → Run kind None (before ++ asks c ∷ []) (owns ++ own ∷ []) (Some new)
 own_run_more kind before c owns own old new run turn =

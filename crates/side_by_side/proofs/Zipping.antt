@@ -1,4 +1,4 @@
--- Sessions beside managers, as a list of runs.
+-- A list of sessions beside a list of managers, as a list of runs (`zipped`): its length, the run at an index, and replacing it.
 use Rattle.std.proofs.Common.{◌≡◌, ◌∙◌, ◌<◌, ℕ, suc, zero, List, [], ◌∷◌, refl, sym, ap, length, set, get_or, map, arith}
 use Rattle.std.proofs.lemmas.List.{get_or-map, length-map, map-set, set-get_or}
 use Rattle.cf_model.specs.State.{HeapState}

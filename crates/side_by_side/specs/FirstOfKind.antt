@@ -1,11 +1,11 @@
--- The first manager of a kind, among many.
+-- The first manager of a kind in a list of managers: the one that mode `run` uses.
 use Rattle.std.specs.Prelude.{ℕ, Bool, true, false, List, Option, Some, None, slice_index_or, slice_set}
 use Rattle.std.specs.List.{position}
 use Rattle.cf_base.specs.declared.kind.Kind.{Kind}
 use Rattle.cf_base.specs.declared.kind.Kind.TheVariants.{Moving, NonMoving, Tlsf, HalfFit}
 use Rattle.cf_model.specs.State.{HeapState, closed_state}
 
--- whether the kinds are the same
+-- whether the two kinds are the same
 abbrev pub same_kind : Kind → Kind → Bool
 same_kind Moving Moving = true
 same_kind NonMoving NonMoving = true
@@ -13,7 +13,7 @@ same_kind Tlsf Tlsf = true
 same_kind HalfFit HalfFit = true
 same_kind one other = false
 
--- the index of the first manager of the kind
+-- the index of the first manager of the kind in the list; None if there is none
 abbrev pub first_of_kind : Kind → List HeapState → Option ℕ
 first_of_kind kind heaps = position (λ h. same_kind h.kind kind) heaps
 
@@ -21,6 +21,6 @@ first_of_kind kind heaps = position (λ h. same_kind h.kind kind) heaps
 abbrev pub chosen_manager : Kind → List HeapState → HeapState
 chosen_manager kind heaps = elim (first_of_kind kind heaps) [ None ↦ closed_state kind | Some i ↦ slice_index_or heaps i (closed_state kind) ]
 
--- The managers with the first of the kind replaced by `new`; unchanged if none is of the kind.
+-- The list of managers after the first of the kind has become `new`; unchanged if none is of the kind.
 abbrev pub with_chosen_manager : Kind → List HeapState → HeapState → List HeapState
 with_chosen_manager kind heaps new = elim (first_of_kind kind heaps) [ None ↦ heaps | Some i ↦ slice_set heaps i new ]

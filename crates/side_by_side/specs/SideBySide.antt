@@ -1,4 +1,4 @@
--- Managers side by side, each with its session.
+-- Managers side by side, each with its session: how they begin, do one command, and are cut. It ends with the mode handler's relations (`many_managers`).
 use Rattle.std.specs.Prelude.{◌≡◌, ◌++◌, ◌⊎◌, ℕ, Bool, List, [], ◌∷◌, codes, is_some, length, map}
 use Rattle.std.specs.List.{All}
 use Rattle.run_model.specs.Texts.{Reply, led}
@@ -15,31 +15,34 @@ use Rattle.run_model.specs.Runs.{BeginsOne, Turn}
 use Rattle.script_loop.specs.Semantics.{Semantics}
 use Rattle.run_model.specs.Sessions.{IsGoing, RunState, SessionState, fresh_session}
 
--- the sessions of managers side by side, and the managers
+-- a list of managers, and a list with a session for each, in the same order
 pub record SideBySide : Type 0 where
   pub sessions : List SessionState
   pub heaps : List HeapState
 
+-- these managers, each with the session at the same index
 abbrev pub side_by_side_at : List SessionState → List HeapState → SideBySide
 side_by_side_at sessions heaps = record { sessions = sessions; heaps = heaps }
 
--- the states of runs, one for each session and its manager
+-- the runs of a list of sessions on a list of managers: for each index that of the session there on the manager there
 abbrev pub zipped : List SessionState → List HeapState → List RunState
 zipped [] heaps = []
 zipped (s ∷ ss) [] = []
 zipped (s ∷ ss) (h ∷ hs) = run_at s h ∷ zipped ss hs
 
+-- the run of each manager: the manager with its session
 abbrev pub runs_of : SideBySide → List RunState
 runs_of m = zipped m.sessions m.heaps
 
+-- the kind of each manager
 abbrev pub kinds_of : SideBySide → List Kind
 kinds_of m = map (λ h. h.kind) m.heaps
 
--- whether each manager promises an order
+-- for each manager, whether it promises an order
 abbrev pub promises_of : SideBySide → List Bool
 promises_of m = map (λ h. is_some h.order) m.heaps
 
--- `count` new sessions
+-- there are `count` sessions, and all are new
 pub record AreFresh (count : ℕ) (sessions : List SessionState) : Type 0 where
   pub many : length sessions ≡ count
   pub fresh : All (λ s. s ≡ fresh_session) sessions
@@ -53,16 +56,16 @@ pub record IsEachFresh (m : SideBySide) : Type 0 where
   pub count : length m.sessions ≡ length m.heaps
   pub fresh : All (λ s. s ≡ fresh_session) m.sessions
 
--- each manager has a session, and their run goes on
+-- each manager has a session, and the run of each is in progress
 pub record IsEachGoing (m : SideBySide) : Type 0 where
   pub count : length m.sessions ≡ length m.heaps
   pub going : All IsGoing (runs_of m)
 
--- the lead of each line of a reply: the name of the kind, and a space
+-- the lead of each line of a manager's reply: the name of its kind, and a space
 abbrev pub lead_of : Kind → List ℕ
 lead_of kind = kind_name kind ++ 32 ∷ []
 
--- a reply with the name of the kind before each line
+-- the reply with the name of the kind and a space before each line
 abbrev pub named_lines : Kind → Reply → Reply
 named_lines kind reply = map (λ line. lead_of kind ++ line) reply
 
@@ -70,19 +73,21 @@ named_lines kind reply = map (λ line. lead_of kind ++ line) reply
 abbrev pub opened_reply : List Kind → Reply
 opened_reply kinds = map (λ kind. lead_of kind ++ codes "ok") kinds
 
--- managers of these kinds are opened, each with its own reply
+-- The `heap` line with the settings p opens managers of these kinds: each begins a run with its own reply, and `reply` is all of these, each line after the
+-- name of the kind. `news` are the runs.
 abbrev pub EachBegins : List Kind → Profile → Reply → List RunState → Type 0
 EachBegins [] p reply news = (reply ≡ []) × (news ≡ [])
 EachBegins (kind ∷ kinds) p reply news = (first : Reply) × (more : Reply) × (new : RunState) × (rest : List RunState)
     × BeginsOne kind p first new × EachBegins kinds p more rest × (reply ≡ named_lines kind first ++ more) × (news ≡ new ∷ rest)
 
--- each manager does a command, in order
+-- Each manager does the command c, in order: the runs `olds` become `news`, and `reply` is the reply of each, each line after the name of the kind.
 abbrev pub EachTurn : List RunState → Command → Reply → List RunState → Type 0
 EachTurn [] c reply news = (reply ≡ []) × (news ≡ [])
 EachTurn (old ∷ olds) c reply news = (first : Reply) × (more : Reply) × (new : RunState) × (rest : List RunState)
     × Turn old c first new × EachTurn olds c more rest × (reply ≡ named_lines old.heap.kind first ++ more) × (news ≡ new ∷ rest)
 
--- the command took effect on the first manager, and a prefix of its reply was written; the other managers are unchanged
+-- The command c took effect on the manager of the run `old`, and only the prefix `out` of its reply was written; the managers after it, `olds`, are unchanged.
+-- `news` are all runs after that.
 pub record IsCutHere (old : RunState) (olds : List RunState) (c : Command) (out : List ℕ) (news : List RunState) : Type 0 where
   pub reply : Reply
   pub lost : List ℕ
@@ -91,7 +96,8 @@ pub record IsCutHere (old : RunState) (olds : List RunState) (c : Command) (out 
   pub cut : led [] (named_lines old.heap.kind reply) ≡ out ++ lost
   pub are : news ≡ new ∷ olds
 
--- the managers do a command in order, up to the one whose reply was cut; a prefix of that reply was written
+-- The managers do the command c in order, up to the one whose reply was cut; `out` is the replies before that one and a prefix of it. The runs `olds` become
+-- `news`.
 abbrev pub EachInPart : List RunState → Command → List ℕ → List RunState → Type 0
 EachInPart [] c out news = ⊥
 EachInPart (old ∷ olds) c out news =
@@ -99,13 +105,14 @@ EachInPart (old ∷ olds) c out news =
     ⊎ ((first : Reply) × (more : List ℕ) × (new : RunState) × (rest : List RunState)
     × Turn old c first new × EachInPart olds c more rest × (out ≡ led [] (named_lines old.heap.kind first) ++ more) × (news ≡ new ∷ rest))
 
--- out of memory: the first managers are open and empty, the next one is closed, and the later ones are unchanged
+-- An allocation failed at the `heap` line: the managers before the one that failed are open and empty, that one is closed, and the later ones are unchanged;
+-- so are all sessions.
 pub record LacksSome (old new : SideBySide) : Type 0 where
   pub settings : Settings
   pub stops : Stops (Opens settings) IsClosed old.heaps new.heaps
   pub sessions : new.sessions ≡ old.sessions
 
--- The mode handler of a list of managers, each with its session. The plan is each manager's kind, and whether it promises an order.
+-- The relations of the mode handler of a list of managers, for the script loop. The plan is each manager's kind, and whether it promises an order.
 abbrev pub many_managers : Semantics SideBySide (List Kind × List Bool)
 many_managers = record {
   plan = λ m. (kinds_of m, promises_of m);

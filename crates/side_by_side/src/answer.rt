@@ -1,4 +1,4 @@
-//! One command on each manager.
+//! Does one command of a script on each manager, and writes their replies.
 ghost use Rattle.std.specs.Prelude.{◌≡◌, ◌≤◌, OnErr, is_some, length, map, OnOk};
 ghost use Rattle.std.specs.List.{All};
 ghost use Rattle.cf_io.specs.Feeds.{FailsLast};
@@ -16,8 +16,9 @@ use cf_model::Manager;
 use cf_session::Session;
 use script_reader::CommandRef;
 
-/// Does a command on each manager in order, and writes each line of a reply after the name of the manager's
-/// kind. `Failed` if the sink failed; the managers after the one whose reply was cut haven't done the command.
+/// Does a command on each manager in order, in the session with the same index, and writes each line of its
+/// reply after the name of its kind. Returns `Failed` if the sink failed. Then the managers up to the one
+/// whose reply was cut have done the command, and those after it have not.
 pub fn answer_each<H: Manager, K: Sink>(
     sessions: &mut Vec<Session>,
     managers: &mut Vec<H>,
@@ -47,8 +48,9 @@ pub fn answer_each<H: Manager, K: Sink>(
     Ok(())
 }
 
-/// Does a command on one manager, and writes each line of the reply after the name of its kind. `Failed` if
-/// the sink failed; the command has taken effect, and a prefix of its reply was written.
+/// Does a command on one manager in its session, and writes each line of the reply after the name of its
+/// kind. Returns `Failed` if the sink failed; then the command has taken effect, and a prefix of its reply
+/// was written.
 fn answer_one<H: Manager, K: Sink>(
     session: &mut Session,
     manager: &mut H,
@@ -70,7 +72,8 @@ fn answer_one<H: Manager, K: Sink>(
     Ok(())
 }
 
-/// The name of a kind, and a space.
+/// The name of a kind, `cf`, `nm`, `tlsf` or `half`, and a space: what each line of a manager's reply begins
+/// with.
 pub fn lead_bytes(kind: Kind) -> &'static [u8]
     ensures value { result.now ≡ lead_of kind }
     ensures short { length result.now ≤ 8 }

@@ -1,4 +1,4 @@
-//! The mode handler of many managers: a session for each.
+//! The mode handler of many managers: it opens them all at the `heap` line, and does each command on all.
 ghost use Rattle.std.specs.Prelude.{◌≡◌, Bool, IfOk, List, map};
 ghost use Rattle.cf_base.specs.declared.kind.Kind.{Kind as TheKind};
 ghost use Rattle.side_by_side.specs.SideBySide.{AreFresh, SideBySide, side_by_side_at, many_managers};
@@ -13,14 +13,15 @@ use script_loop::{OpenFault, Player};
 use script_reader::CommandRef;
 use std::alloc::Global;
 
-/// A session for each of many managers.
+/// A session for each of many managers: that with index i runs on the manager with index i.
 #[derive(Drop)]
 pub struct Sessions {
     pub each: Vec<Session>,
 }
 
 impl Sessions {
-    /// `count` sessions in which no id is live. Allocates the table of ids of each.
+    /// `count` new sessions, in which no id is live. Allocates the table of 65,536 ids of each, and fails with
+    /// `OutOfMemory` if an allocation fails.
     pub fn start(rt: &HostRuntime, alloc: Global, count: usize) -> Result<Sessions, OutOfMemory>
         ensures { IfOk result (λ s. AreFresh count s.each.items) }
     {
@@ -45,6 +46,7 @@ impl<H: Manager> Player<Vec<H>> for Sessions {
 
     ghost semantics = { many_managers };
 
+    /// Opens all managers with the settings of the `heap` line, in order, and writes an `ok` line for each.
     fn open<K: Sink>(
         &mut self,
         heap: &mut Vec<H>,
@@ -56,6 +58,7 @@ impl<H: Manager> Player<Vec<H>> for Sessions {
         Ok(())
     }
 
+    /// Does the command on each manager in order and writes their replies.
     fn answer<K: Sink>(
         &mut self,
         heap: &mut Vec<H>,

@@ -1,11 +1,11 @@
-//! The first manager of a kind.
+//! Finds the first manager of a kind in a list of managers: mode `run` uses it.
 ghost use Rattle.std.specs.Prelude.{◌≡◌, map};
 ghost use Rattle.side_by_side.specs.FirstOfKind.{first_of_kind, same_kind};
 
 use cf_base::Kind;
 use cf_model::Manager;
 
-/// Whether the kinds are the same.
+/// Whether the two kinds are the same.
 fn is_same(one: Kind, other: Kind) -> bool
     ensures { result ≡ same_kind one other }
 {
@@ -18,7 +18,7 @@ fn is_same(one: Kind, other: Kind) -> bool
     }
 }
 
-/// The index of the first manager of the kind; none if there is no such manager.
+/// The index of the first manager of the kind in the list, counted from 0; `None` if there is none.
 pub fn first_of<H: Manager>(managers: &Vec<H>, kind: Kind) -> Option<usize>
     ensures { result ≡ first_of_kind kind (map (λ m. H.state m) managers.now.items) }
 {

@@ -1,4 +1,4 @@
-//! Laws of many runs side by side.
+//! Laws of many runs side by side. The functions do nothing: what each ensures is the law.
 ghost use Rattle.std.specs.Prelude.{◌≡◌, ◌++◌, ℕ, List, [], Option, None, Some, option_map};
 ghost use Rattle.std.specs.List.{All};
 ghost use Rattle.cf_base.specs.declared.kind.Kind.{Kind};
@@ -11,22 +11,24 @@ ghost use Rattle.script_loop.specs.ScriptOutcome.{Effects, Wrote, WroteInPart, i
 ghost use Rattle.side_by_side.specs.SideBySide.{EachBegins, EachInPart, EachTurn, SideBySide, kinds_of, many_managers, runs_of};
 ghost use Rattle.side_by_side.specs.OwnRuns.{MeetHeadlines, OwnRuns, OwnRunsInPart, EachEndsAt};
 
-/// The replies of many managers side by side interleave those of a run of each manager over the same
-/// items.
+/// If managers of these kinds run side by side over some items, each of them has a run of its own over the
+/// same items, and the replies side by side interleave the replies of these runs.
 pub fn each_has_its_own_run()
     ensures { (kinds : List Kind) (items : List Item) (replies : List Reply) (end : Option (List RunState))
         → PlayRun (EachBegins kinds) EachTurn None items replies end
         → OwnRuns kinds items replies end }
 {}
 
-/// The replies of each manager's run meet the headline of its kind.
+/// If each manager has a run of its own over some items, the replies of this run meet the headline of its
+/// kind.
 pub fn each_meets_the_headline()
     ensures { (kinds : List Kind) (items : List Item) (replies : List Reply) (end : Option (List RunState))
         → OwnRuns kinds items replies end → MeetHeadlines kinds items replies }
 {}
 
-/// If the reply to an item was cut, the managers up to the one whose reply was cut have done the item,
-/// and the later ones have not.
+/// Each manager has a run of its own over the items `before`. If the reply to the next item, a command, was
+/// cut after its prefix `front`, the managers up to the one whose reply was cut have done the command, and
+/// the later ones have not.
 pub fn a_cut_stops_between_two_managers()
     ensures { (kinds : List Kind) (before : List Item) (replies : List Reply) (mid : Option (List RunState))
         (item : Item) (front : List ℕ) (end : Option (List RunState))
@@ -35,8 +37,9 @@ pub fn a_cut_stops_between_two_managers()
         → OwnRunsInPart kinds before item replies front end }
 {}
 
-/// By the outcome of a script on many managers each has a run of its own, whole or up to a cut reply, and
-/// is at the end of that run.
+/// From what the script loop claims of many managers: each has a run of its own over the script, if all was
+/// written (clause `whole`), or up to a cut reply (`in_part`); and each manager is left in the last state
+/// of its run (`stand`, `stand_in_part`).
 pub fn outcomes_are_of_each()
     ensures whole { (from to : SideBySide) (wanted : List Item) (call : Effects)
         (w : Wrote many_managers from wanted call to)
@@ -52,8 +55,9 @@ pub fn outcomes_are_of_each()
         → EachEndsAt from.heaps (option_map runs_of w.end) to.heaps }
 {}
 
-/// If a script has a `heap` line, each manager is open afterwards, keeps its rules, and is consistent
-/// with its session, wherever the script was cut.
+/// If the managers' runs have begun with a `heap` line, each manager is open after its run, keeps its
+/// rules, and is consistent with its session, whether all was written (clause `whole`) or a reply was cut
+/// (`in_part`).
 pub fn each_manager_is_open_after_its_run()
     ensures whole { (kinds : List Kind) (items : List Item) (replies : List Reply) (all : List RunState)
         → OwnRuns kinds items replies (Some all) → All IsGoing all }

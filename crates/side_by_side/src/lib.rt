@@ -1,4 +1,5 @@
-//! A script on many managers side by side.
+//! A script on many managers side by side. Each manager has a session; each command is done on one manager
+//! after the other, and each line of a reply begins with the name of the manager's kind.
 #![tactic(auto)]
 
 mod answer;

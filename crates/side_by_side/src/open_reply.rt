@@ -1,4 +1,4 @@
-//! The reply of many managers to the `heap` line.
+//! Writes the reply of many managers to the `heap` line: a line with `ok` for each.
 ghost use Rattle.std.specs.Prelude.{◌≤◌, ◌++◌, [], OnErr, codes, map, OnOk, ◌≡◌};
 ghost use Rattle.cf_io.specs.Feeds.{Puts, FailsLast};
 ghost use Rattle.run_model.specs.Texts.{led};
@@ -9,8 +9,8 @@ use cf_base::{Failed, Kind};
 use cf_io::{Line, Sink, put_all};
 use cf_model::Manager;
 
-/// Writes `ok` for each manager, after the name of its kind. `Failed` if the sink failed; a prefix was
-/// written.
+/// Writes a line for each manager in order: the name of its kind, and `ok`. Returns `Failed` if the sink
+/// failed; then a prefix of these lines was written.
 pub fn put_opened<H: Manager, K: Sink>(managers: &Vec<H>, sink: &mut K) -> Result<(), Failed>
     ensures puts { Puts (K.written sink.old) (led [] (opened_reply (map (λ m. (H.state m).kind) managers.now.items))) result (K.written sink.new) }
     ensures grows { K.faults sink.old ≤ K.faults sink.new }
@@ -26,7 +26,8 @@ pub fn put_opened<H: Manager, K: Sink>(managers: &Vec<H>, sink: &mut K) -> Resul
     Ok(())
 }
 
-/// Writes the line of one manager: `ok` after the name of its kind.
+/// Writes the line of one manager: the name of its kind, and `ok`. Returns `Failed` if the sink failed; then a
+/// prefix of the line was written.
 fn show_one<K: Sink>(kind: Kind, sink: &mut K) -> Result<(), Failed>
     ensures puts { Puts (K.written sink.old) (lead_of kind ++ codes "ok\n") result (K.written sink.new) }
     ensures grows { K.faults sink.old ≤ K.faults sink.new }

@@ -1,4 +1,4 @@
--- The words of a page are a power of two.
+-- For `Classes::new`: the number of words of a page is a power of two.
 use Rattle.std.proofs.Common.{◌≡◌, ℕ, ◌^◌, ◌<◌, Bool, inl, inr, arith, refl, sym, subst}
 use Rattle.std.specs.Prelude.{◌||◌, ◌==◌, IsTrue}
 use Rattle.std.specs.Int.Count.{count_trailing_zeros}

@@ -1,4 +1,5 @@
-//! The table of size classes of a heap's pages, and the class of a request.
+//! The size classes of a heap's pages as a table (`Classes`): the words of a slot of each class,
+//! and the class of a request.
 #![tactic(auto)]
 
 mod needs;

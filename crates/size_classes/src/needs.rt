@@ -1,12 +1,12 @@
-//! The class of each need, computed once.
+//! The class of each need in words, computed once, when the table of classes is made.
 ghost use Rattle.std.specs.Prelude.{IfOk};
 ghost use Rattle.size_classes.specs.Table.{IsClassTable};
 ghost use Rattle.size_classes.specs.Layout.{ShowsClasses};
 
 use std::alloc::{AllocError, Global};
 
-/// For each need from 0 to `page_words` words its class: the index of the least of these sizes that
-/// holds it.
+/// Returns, for each need from 0 to `page_words` words, its class: the index of the least of
+/// `sizes` that is at least the need.
 pub(crate) fn classes_by_need(
     alloc: Global,
     sizes: &[u32],

@@ -1,4 +1,4 @@
-//! The table of size classes.
+//! `Classes`, the table of size classes of a heap's pages.
 ghost use Rattle.std.specs.Prelude.{◌≡◌, ◌↔◌, ◌/◌, ◌%◌, ◌<◌, ◌≤◌, IsTrue, IsNone, IfOk, IfSome, length, slice_index};
 ghost use Rattle.step_ledger.specs.Counting.{RoseBy};
 ghost use Rattle.cf_base.specs.Classes.{need, slots, class_of};
@@ -13,7 +13,7 @@ use std::marker::Model;
 use step_ledger::Steps;
 
 /// The size classes of pages: the words of a slot of each class, in rising order, by the rule of
-/// Compact-fit (2008).
+/// Compact-fit (2008). A class is an index into this list.
 #[derive(Drop)]
 pub struct Classes {
     sizes: Vec<u32>,
@@ -36,8 +36,9 @@ impl Model for Classes {
 }
 
 impl Classes {
-    /// The classes of pages with `page_words` words, by one of the two sequences. Only this call
-    /// allocates.
+    /// Makes the classes of pages with `page_words` words; `layout` chooses the sequence of slot
+    /// sizes, in single words or in whole blocks of four. Only this call allocates. It fails with
+    /// `OutOfMemory` if an allocation fails.
     pub fn new(alloc: Global, page_words: u32, layout: Layout) -> Result<Classes, OutOfMemory>
         requires { IsTrue (is_page_size page_words) }
         ensures { IfOk result (λ t. t ≡ table_of page_words layout) }
@@ -63,7 +64,7 @@ impl Classes {
         self.sizes.len() as u32
     }
 
-    /// The words of a slot of class c.
+    /// How many words a slot of class `c` has.
     pub fn slot_words(&self, c: u32) -> u32
         requires { c < length self.now.sizes }
         ensures value { result ≡ slice_index self.now.sizes c }
@@ -73,7 +74,7 @@ impl Classes {
         self.sizes[c as usize]
     }
 
-    /// The slots of class c on a page.
+    /// How many slots of class `c` a page has.
     pub fn slots(&self, c: u32) -> u32
         requires { c < length self.now.sizes }
         ensures value { result ≡ slots self.now.page_words self.now.sizes c }
@@ -83,29 +84,29 @@ impl Classes {
         self.page_words / self.slot_words(c)
     }
 
-    /// The words of a page.
+    /// How many words a page has.
     pub fn page_words(&self) -> u32
         ensures { result ≡ self.now.page_words }
     {
         self.page_words
     }
 
-    /// The page of an address.
+    /// The number of the page on which word `address` of the region is.
     pub fn page_of(&self, address: u32) -> u32
         ensures { result ≡ address / self.now.page_words }
     {
         address >> self.page_shift
     }
 
-    /// The words between the start of its page and an address.
+    /// How many words word `address` of the region is behind the start of its page.
     pub fn offset_of(&self, address: u32) -> u32
         ensures { result ≡ address % self.now.page_words }
     {
         address & (self.page_words - 1)
     }
 
-    /// The class of an object of `bytes` bytes, that with the smallest slots that hold it; none if
-    /// it needs more than a page. Costs one step.
+    /// The class of an object of `bytes` bytes: the one with the smallest slots that hold it and
+    /// its header; none if it needs more than a page. Costs one step.
     pub fn class_of(&self, bytes: u32, steps: &mut Steps) -> Option<u32>
         ensures found { result ≡ class_of self.now.sizes bytes }
         ensures none { IsNone result ↔ (self.now.page_words < need bytes) }

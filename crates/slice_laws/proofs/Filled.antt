@@ -1,4 +1,5 @@
--- When the page of a job's slot is filled, by the slots that are taken in its class.
+-- Unless its class has two partly full pages, the page of a job's slot is full if and only if the taken slots of the class fill whole pages. So the replies
+-- determine the field `filled` of the shown job.
 use Rattle.std.proofs.Common.{◌≡◌, ◌≢◌, ℕ, true, false, cond, ◌+◌, ◌%◌, ◌<◌, ◌≤◌, Bool, Some, None, arith, sym, ◌∙◌, ap, refl, subst, inl, inr}
 use Rattle.std.specs.Prelude.{◌||◌, nat_eq, nat_le}
 use Rattle.std.proofs.lemmas.Bool.{cases_eq, cases_lt, leb-true, leb-false, eqb-false}

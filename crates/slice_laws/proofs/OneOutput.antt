@@ -1,4 +1,4 @@
--- Two runs over one script in mode slice have the same replies, with each word that `p` prints.
+-- For `one_sliced_output`: two runs over one script in mode `slice` have the same replies, with each word that `p` prints.
 use Rattle.std.proofs.Common.{◌≡◌, ℕ, List, [], ◌∷◌, Option, Some, None, length, sym, ◌∙◌, ap, subst}
 use Rattle.std.specs.Prelude.{codes, option_map}
 use Rattle.std.specs.Option.{MatchOption}

@@ -1,4 +1,4 @@
--- For a script without `p` exactly one list of replies meets the claim.
+-- For `one_sliced_transcript`: to a script without `p` exactly one list of replies meets the claim.
 use Rattle.std.proofs.Common.{◌≡◌, ℕ, List, [], ◌∷◌, Option, Some, None, ◌∙◌, ap, refl}
 use Rattle.std.specs.Prelude.{codes}
 use Rattle.run_model.specs.Plays.{PlayRun, PlayStep}

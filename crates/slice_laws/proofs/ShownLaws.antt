@@ -1,4 +1,4 @@
--- Who waits, and how long.
+-- For `who_waits_and_how_long`: when a free or a malloc prints `busy`, and how slices lower the words that are left.
 use Rattle.std.proofs.Common.{◌≡◌, ◌≢◌, ℕ, zero, suc, true, false, cond, ◌+◌, ◌-◌, ◌*◌, ◌<◌, ◌≤◌, Bool, List, Option, Some, None, length, get_or, arith, sym, ◌∙◌, ap, refl, subst, inl, inr}
 use Rattle.std.specs.Prelude.{◌&&◌, ◌||◌, ◌↔◌, codes, if◌then◌else◌, nat_eq, nat_lt, not}
 use Rattle.std.proofs.lemmas.Bool.{cases_lt}

@@ -1,4 +1,4 @@
--- The heap that a state shows, and how slices, mallocs and frees change its job.
+-- The `ShownSlices` of a state of the sliced heap's model, and how its job changes by slices, mallocs and frees.
 use Rattle.std.proofs.Common.{◌≡◌, ℕ, true, false, cond, ◌+◌, ◌%◌, Bool, Option, Some, None, arith, sym, ◌∙◌, ap, refl, inl, inr}
 use Rattle.std.specs.Prelude.{◌&&◌, ◌||◌, nat_eq, not}
 use Rattle.std.specs.FinMap.{get, remove}

@@ -1,4 +1,4 @@
--- What each command of a session prints and leaves, by the heap that is shown.
+-- For `the_sliced_headline`: each command's reply, and the heap shown after it, are those of `Answers`.
 use Rattle.std.proofs.Common.{◌≡◌, ◌≢◌, ℕ, false, cond, ◌+◌, ◌*◌, ◌<◌, ◌≤◌, Bool, List, Option, Some, None, length, replicate, arith, sym, ◌∙◌, ap}
 use Rattle.std.proofs.Common.{refl, subst, inl, inr}
 use Rattle.std.specs.Prelude.{Result, Ok, Err, codes, nat_eq, nat_le, nat_lt, option_map, slice_get, slice_index}

@@ -1,4 +1,4 @@
--- What the replies to a script in mode slice show of the heap: its objects by id, and the pending job.
+-- The heap as the claim of mode `slice` sees it: what the lines of a script and their replies show, which is its objects by id and the pending job.
 use Rattle.std.specs.Prelude.{ℕ, Bool, false, ◌+◌, ◌-◌, ◌%◌, ◌&&◌, ◌||◌, Option, Some, None, if◌then◌else◌, nat_eq, nat_lt, not}
 use Rattle.cf_base.specs.Settings.{Profile, at_bound_one}
 use Rattle.cf_base.specs.declared.kind.Kind.TheVariants.{Moving}
@@ -6,8 +6,9 @@ use Rattle.page_model.specs.Arrangement.{live, pages_for}
 use Rattle.page_model.specs.Paging.{Paging, class_for, slot_words, slots_of}
 use Rattle.transcript_laws.specs.ById.{ById, begun, paging_by_id}
 
--- The pending job: the class of its slot, the words of the slot that are done, and whether the slot's page was full at any time since the job began, with the
--- slot counted as taken. Once that page is full, the heap places new objects of the class on another page.
+-- A pending job, which clears a slot or moves an object into it. `class` is the slot's class, `done` how many words of the slot are done. `filled`: the slot's
+-- page was full at some time since the job began, with the slot counted as taken. Once that page is full, the heap places new objects of the class on another
+-- page.
 pub record ShownJob : Type 0 where
   pub class : ℕ
   pub done : ℕ
@@ -20,11 +21,11 @@ pub record ShownSlices : Type 0 where
   pub quantum : ℕ
   pub job : Option ShownJob
 
--- the heap after the `heap` line: no object is live and no job is pending
+-- the heap after the `heap` line with the settings `p`, for slices of at most `quantum` words: no object is live and no job is pending
 abbrev pub slices_opened : ℕ → Profile → ShownSlices
 slices_opened quantum p = record { heap = begun Moving (at_bound_one p); quantum = quantum; job = None }
 
--- the pages and classes of the heap
+-- the pages and classes of heap `t`
 abbrev pub paging_shown : ShownSlices → Paging
 paging_shown t = paging_by_id t.heap
 
@@ -33,24 +34,24 @@ abbrev pub job_takes : Option ShownJob → ℕ → ℕ
 job_takes None c = 0
 job_takes (Some job) c = if nat_eq job.class c then 1 else 0
 
--- the number of taken slots of class c: one for each object of the class, and one for a job in the class
+-- the number of taken slots of class `c` in heap `t`: one for each object of the class, and one for a job in the class
 abbrev pub taken_slots : ShownSlices → ℕ → ℕ
 taken_slots t c = live (paging_shown t) t.heap.objects c + job_takes t.job c
 
--- true if the taken slots of class c fill whole pages, so that no page of the class need be partly full
+-- true if the taken slots of class `c` in heap `t` fill whole pages, so that no page of the class need be partly full
 abbrev pub are_full : ShownSlices → ℕ → Bool
 are_full t c = nat_eq (taken_slots t c % slots_of (paging_shown t) c) 0
 
--- the pages that the taken slots need, with one more slot for an object of n bytes
+-- how many pages the taken slots of heap `t` need, with one more slot for an object of `n` bytes
 abbrev pub needed_beside : ShownSlices → ℕ → ℕ
 needed_beside t n = pages_for (paging_shown t) (λ c. taken_slots t c + (if nat_eq (class_for (paging_shown t) n) c then 1 else 0))
 
--- the words of its slot that the job has yet to do; 0 without a job
+-- how many words of its slot the given job, if there is one, has yet to do in heap `t`; 0 without a job
 abbrev pub words_of_job : ShownSlices → Option ShownJob → ℕ
 words_of_job t None = 0
 words_of_job t (Some job) = slot_words (paging_shown t) job.class - job.done
 
--- the words that the heap's job has yet to do; 0 without a job
+-- how many words the pending job of heap `t` has yet to do; 0 without a job
 abbrev pub words_left : ShownSlices → ℕ
 words_left t = words_of_job t t.job
 
@@ -59,7 +60,7 @@ abbrev pub job_noted : ShownSlices → Option ShownJob → Option ShownJob
 job_noted t None = None
 job_noted t (Some job) = Some (record job { filled = job.filled || are_full t job.class })
 
--- the heap after a malloc or a free changed its objects: its job is updated by `job_noted`
+-- the heap `t` after a malloc or a free changed its objects: its job is updated by `job_noted`
 abbrev pub noted : ShownSlices → ShownSlices
 noted t = record t { job = job_noted t t.job }
 
@@ -72,6 +73,6 @@ job_sliced t (Some job) =
     if nat_lt (job.done + t.quantum) (slot_words (paging_shown t) job.class) then Some (record job { done = job.done + t.quantum })
     else (if job.filled && not (are_full t job.class) then Some (record { class = job.class; done = 0; filled = false }) else None)
 
--- the heap after a slice
+-- the heap `t` after one slice of its job
 abbrev pub after_slice : ShownSlices → ShownSlices
 after_slice t = record t { job = job_sliced t t.job }

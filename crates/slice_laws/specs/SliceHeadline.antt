@@ -1,4 +1,4 @@
--- What is claimed of every script in mode slice, by its lines and their replies alone.
+-- What is claimed of every script in mode `slice`, by its lines and their replies alone. `t` is the heap before a command.
 --
 -- Each reply is a function of the lines before it, which determine the heap that is shown (`ShownSlices`). Only the word that `p` prints is left open.
 use Rattle.std.specs.Prelude.{◌≡◌, ⊤, ℕ, zero, suc, false, List, [], ◌∷◌, Option, Some, None, Err, codes, if◌then◌else◌, length, nat_eq, nat_lt, replicate}
@@ -23,8 +23,8 @@ use Rattle.slice_session.specs.SliceRun.{slice_free_text, slice_malloc_text}
 use Rattle.transcript_laws.specs.Replies.{objects_after, ok_or, read_said, write_said}
 use Rattle.slice_laws.specs.ShownSlices.{ShownJob, ShownSlices, after_slice, needed_beside, noted, paging_shown, slices_opened, words_left}
 
--- Why a malloc of n bytes is refused; None if it isn't. The causes in turn: the object exceeds a page; all proxies are used; the objects with the new one need
--- more pages than there are; they need more pages while the job has its slot.
+-- Why a malloc of `n` bytes is refused; None if it isn't. The first cause that holds: the object is longer than a page (`Size`); all proxies are in use
+-- (`Proxy`); the objects with the new one need more pages than there are (`Space`); they do so only as long as the job has its slot (`Busy`).
 abbrev pub slice_refusal : ShownSlices → ℕ → Option SliceRefusal
 slice_refusal t n =
     if nat_lt t.heap.profile.page_words (need n) then Some refusal.Size
@@ -38,7 +38,7 @@ slice_fault None job = Some fault.Unknown
 slice_fault (Some v) None = None
 slice_fault (Some v) (Some job) = Some fault.Busy
 
--- the reply to `m`, by the bytes of the id (None if it isn't live)
+-- the reply to `m` for `n` bytes, from the bytes that the id names (None if it isn't live)
 abbrev pub malloc_line : Option (List ℕ) → ShownSlices → ℕ → List ℕ
 malloc_line (Some v) t n = codes "live"
 malloc_line None t n = ok_or (λ e. slice_malloc_text (Err e)) (slice_refusal t n)
@@ -52,7 +52,7 @@ line_of t (Write id at bytes) = write_said (get t.heap.objects id) at (length by
 line_of t (Read id at count) = read_said (get t.heap.objects id) at count
 line_of t command = codes "none"
 
--- the heap with these objects by id in place of its own
+-- the heap `t` with the objects by id `o` in place of its own
 abbrev pub with_objects : ShownSlices → Objects → ShownSlices
 with_objects t o = record t { heap = record t.heap { objects = o } }
 
@@ -62,7 +62,7 @@ after_malloc None None t id n = noted (with_objects t (insert t.heap.objects id 
 after_malloc None (Some e) t id n = t
 after_malloc (Some v) e t id n = t
 
--- the job that a free of an object with these bytes begins, in a slot of the object's class
+-- the job that a free of an object with the bytes `v` begins, in a slot of the object's class
 abbrev pub job_begun : ShownSlices → List ℕ → ShownJob
 job_begun t v = record { class = class_for (paging_shown t) (length v); done = 0; filled = false }
 
@@ -72,7 +72,7 @@ after_free None job t id = t
 after_free (Some v) None t id = after_slice (noted (record (with_objects t (remove t.heap.objects id)) { job = Some (job_begun t v) }))
 after_free (Some v) (Some job) t id = t
 
--- the heap after a command
+-- the heap after a command in heap `t`
 abbrev pub after : ShownSlices → Command → ShownSlices
 after t (Malloc id n) = after_malloc (get t.heap.objects id) (slice_refusal t n) t id n
 after t (Free id) = after_free (get t.heap.objects id) t.job t id
@@ -85,8 +85,8 @@ abbrev pub after_slices : ℕ → ShownSlices → ShownSlices
 after_slices zero t = t
 after_slices (suc n) t = after_slices n (after t Slice)
 
--- One command: its reply, and the heap after it. To `p` the reply is some word in 16 digits if the region has a word of this number, else `range`. To every
--- other command the heap determines the reply.
+-- In heap `old` the command may get this reply and leave the heap `new`. The reply to `p` is any word in 16 digits if the region has a word of this number,
+-- else `range`. The reply to every other command is determined by the heap.
 abbrev pub Answers : ShownSlices → Command → Reply → ShownSlices → Type 0
 Answers old (Peek word) reply new = (value : ℕ)
     × (reply ≡ said (peek_text (if nat_lt word (region_words old.heap.profile) then Some value else None))) × (new ≡ old)
@@ -96,7 +96,8 @@ Answers old command reply new = (reply ≡ said (line_of old command)) × (new �
 abbrev pub Opens : ℕ → Profile → Reply → ShownSlices → Type 0
 Opens quantum p reply new = (reply ≡ said (codes "ok")) × (new ≡ slices_opened quantum p)
 
--- The replies to a script are as claimed, one for each item, if a slice does at most `quantum` words.
+-- The claim of mode `slice` with slices of at most `quantum` words: there is one reply for each item, and there are heaps between them such that each reply and
+-- each heap follow from the item and the heap before.
 abbrev pub MeetsSliced : ℕ → List Item → List Reply → Type 0
 MeetsSliced quantum items replies = (end : Option ShownSlices) × PlayRun (Opens quantum) Answers None items replies end
 

@@ -1,5 +1,5 @@
-//! What is claimed of every script in mode slice, by its lines and their replies alone. The public
-//! functions do nothing: each one's contract is a law.
+//! What is claimed of every script in mode `slice`, by its lines and their replies alone (`MeetsSliced`). The
+//! public functions do nothing: the contract of each is a theorem.
 #![tactic(auto)]
 
 ghost use Rattle.std.specs.Prelude.{◌≡◌, ◌≢◌, ℕ, ◌+◌, ◌-◌, ◌*◌, ◌<◌, ◌≤◌, ◌↔◌, codes, length, take, List, [], ◌∷◌, ◌++◌, None, Option, Some};
@@ -18,8 +18,8 @@ ghost use Rattle.slice_laws.specs.ShownSlices.{ShownJob, ShownSlices, paging_sho
 ghost use Rattle.slice_laws.specs.SliceHeadline.{AreNoPeeks, MeetsSliced, after, after_slices, line_of, slice_refusal};
 ghost use Rattle.slice_laws.specs.Small.{MeetsSmall, small_replies};
 
-/// The replies of every run in mode slice meet the claim (`MeetsSliced`) for its quantum. `run` is about a
-/// run of a session, `play` about a run of the mode handler in the script loop (`RunBy`).
+/// The replies of every run in mode `slice` meet the claim (`MeetsSliced`) for its quantum, the most words of
+/// a slice. `run` is about a run of a session, `play` about a run of the script loop (`RunBy`).
 pub fn the_sliced_headline()
     ensures run { (quantum : ℕ) (items : List Item) (replies : List Reply) (end : Option SliceRun)
         → RunsSliced quantum None items replies end → MeetsSliced quantum items replies }
@@ -27,7 +27,8 @@ pub fn the_sliced_headline()
         → RunBy slices from None items replies end → MeetsSliced from.quantum items replies }
 {}
 
-/// If a script has no `p`, exactly one list of replies meets the claim for a quantum.
+/// If a script has no `p`, exactly one list of replies meets the claim for a quantum: at most one (`one`) and
+/// at least one (`some`).
 pub fn one_sliced_transcript()
     ensures one { (quantum : ℕ) (items : List Item) (replies others : List Reply) → AreNoPeeks items
         → MeetsSliced quantum items replies → MeetsSliced quantum items others → others ≡ replies }
@@ -35,9 +36,9 @@ pub fn one_sliced_transcript()
         → (replies : List Reply) × MeetsSliced quantum items replies }
 {}
 
-/// One script has one output in mode slice: two runs over the same items with the same quantum have the
-/// same replies, also to `p` while a job is pending. They end with the same ids and the same heap, with
-/// its words and its order. `run` is about runs of a session, `play` about runs of the mode handler.
+/// One script has one output in mode `slice`: two runs over the same items with the same quantum have the
+/// same replies, also to `p` while a job is pending. They end with the same ids and the same heap, with its
+/// words and its order. `run` is about runs of a session, `play` about runs of the script loop (`RunBy`).
 pub fn one_sliced_output()
     ensures run { (quantum : ℕ) (items : List Item) (replies others : List Reply) (last end : Option SliceRun)
         → RunsSliced quantum None items replies last → RunsSliced quantum None items others end
@@ -48,12 +49,13 @@ pub fn one_sliced_output()
         → (others ≡ replies) × (option_map run_of_play end ≡ option_map run_of_play last) }
 {}
 
-/// Which calls wait for a job, and how long. A free of a live id prints `busy` if and only if a job is
-/// pending. A malloc does not print `busy` if the objects with the new one need fewer pages than there
-/// are. `s` prints `left 0` if and only if no job is pending after it. After a free, if only slices
-/// follow, each `s` lowers the words that are left by the quantum, down to 0. Suppose a malloc prints
-/// `busy`, a slices are enough for the rest of the job, and b slices are enough for a whole slot. Then the
-/// malloc is not refused after a + b slices without another command: at most one more job follows.
+/// Which calls wait for a job, and how long. `free`: a free of a live id prints `busy` if and only if a job
+/// is pending. `malloc`: a malloc doesn't print `busy` if the objects with the new one need fewer pages than
+/// there are. `none_left`: `s` prints `left 0` if and only if no job is pending after it. `left`: after a
+/// free, if only slices follow, each `s` lowers the words that are left by the quantum, down to 0. `ended`:
+/// suppose a malloc prints `busy`, `a` slices are enough for the rest of the job, and `b` slices for a whole
+/// slot. Then the malloc isn't refused after `a + b` slices without another command: at most one more job
+/// follows.
 pub fn who_waits_and_how_long()
     ensures free { (t : ShownSlices) (id : ℕ) (v : List ℕ) → get t.heap.objects id ≡ Some v
         → (line_of t (Free id) ≡ codes "busy") ↔ (t.job ≢ None) }
@@ -72,13 +74,14 @@ pub fn who_waits_and_how_long()
         → slice_refusal t n ≡ Some Busy → slice_refusal (after_slices (a + b) t) n ≡ None }
 {}
 
-/// Wrong replies violate the claim. The script, on two pages of 64 words with slices of 8 words: mallocs
-/// of two objects of 23 words, a free of one, a slice, a free of the other, a malloc of a whole page, and
-/// a malloc of a third object of 23 words. The claim holds for `ok` to the first malloc, `left 7`, `busy`,
-/// `ok` and `busy`. It fails for `refused size` to a malloc that fits, for no reply, for a reply too few
-/// or too many, for `left 0` at once, for the words that are done instead of those left, for `ok` to a
-/// free while the job is pending, for `busy` while a page is free, and for `ok` while the job has the only
-/// slot.
+/// Wrong replies violate the claim, so it isn't empty. The script, on two pages of 64 words with slices of 8
+/// words: mallocs of objects 1 and 2, of 23 words each; `f 2`, which leaves a job; a slice; `f 1`; a malloc
+/// of a whole page; and a malloc of object 4, of 23 words. The claim holds for `ok` to the first malloc,
+/// `left 7` to the slice, `busy` to `f 1`, `ok` to the whole page and `busy` to object 4 (`right`). It fails
+/// for `refused size` to a malloc that fits (`size`), for no replies at all (`silent`), for a reply too few
+/// (`missing`) or too many (`over`), for `left 0` (`at_once`), for the words that are done instead of those
+/// left (`done`), for `ok` to a free while the job is pending (`beside`), for `busy` to a page while one is
+/// free (`page`), and for `ok` to object 4 while the job has the only slot (`slot`).
 pub fn wrong_sliced_replies_fall_short()
     ensures right { MeetsSmall (small_replies (codes "ok") (codes "left 7") (codes "busy") (codes "ok") (codes "busy")) }
     ensures size { ¬ MeetsSmall (small_replies (codes "refused size") (codes "left 7") (codes "busy") (codes "ok") (codes "busy")) }

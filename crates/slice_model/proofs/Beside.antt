@@ -1,4 +1,4 @@
--- For `what_the_rules_say_of_pages`: the rules of the objects while a job is pending.
+-- For `what_the_rules_say_of_pages`: what the objects without the placeholder satisfy while a job is pending.
 use Rattle.std.proofs.Common.{◌≡◌, ℕ, Some, arith, sym, ◌∙◌, subst}
 use Rattle.std.specs.FinMap.{get, insert}
 use Rattle.cf_lemmas.proofs.Maps.{get_inserted, get_insert_other}

@@ -1,4 +1,5 @@
--- For `words_after_each_call` and `bytes_are_read_where_they_stand`.
+-- For `words_after_each_call` and `bytes_are_read_where_they_stand`: the words after a malloc, a free, a slice and a write, and reading a byte while a job
+-- is half done.
 use Rattle.std.proofs.Common.{◌≡◌, ◌≢◌, ℕ, zero, suc, ◌+◌, ◌-◌, ◌*◌, ◌/◌, ◌%◌, ◌<◌, ◌≤◌, List, Option, Some, None, length, get_or, replicate, take, drop, arith}
 use Rattle.std.proofs.Common.{sym, ◌∙◌, ap, refl, subst, inl, inr, length-drop}
 use Rattle.std.specs.Prelude.{◌⊎◌, min}

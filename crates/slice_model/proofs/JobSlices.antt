@@ -1,4 +1,4 @@
--- For the laws on the slices of one job: the number of slices that end it.
+-- For the laws of `jobs.rt` on the slices of one job: how each slice advances it, and how many slices end it.
 use Rattle.std.proofs.Common.{◌≡◌, ◌≢◌, ℕ, zero, suc, ◌+◌, ◌-◌, ◌*◌, ◌%◌, ◌<◌, ◌≤◌, List, [], ◌∷◌, Some, None, arith, sym, ◌∙◌, ap, refl, subst, inl, inr}
 use Rattle.std.specs.Prelude.{◌⊎◌, Ok, Err}
 use Rattle.std.proofs.lemmas.Nat.{div-add-mod'}

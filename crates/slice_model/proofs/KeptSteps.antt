@@ -1,4 +1,4 @@
--- For the laws that each call keeps the rules (`IsKept`).
+-- For the laws of `kept.rt`: if a state satisfies the rules (`IsKept`), so does the state after each call.
 use Rattle.std.proofs.Common.{◌≡◌, ◌≢◌, ℕ, ◌+◌, ◌-◌, ◌*◌, ◌<◌, ◌≤◌, List, Option, Some, None, length, replicate, arith, sym, ◌∙◌, ap, refl, subst, inl, inr}
 use Rattle.std.proofs.lemmas.Bool.{cases_eq, cases_lt}
 use Rattle.std.proofs.lemmas.List.{length-replicate}

@@ -1,4 +1,4 @@
--- For `places_are_those_beside_the_job`: the arrangement with the job's placeholder as one more object, and its free places.
+-- For `places_are_those_beside_the_job`: the arrangement with the job's placeholder as one more object, and the addresses that are free in it.
 use Rattle.std.proofs.Common.{◌≡◌, ◌≢◌, ℕ, false, ◌+◌, ◌-◌, ◌*◌, ◌/◌, ◌<◌, ◌≤◌, Option, Some, None, length, get_or}
 use Rattle.std.proofs.Common.{replicate, arith, sym, ◌∙◌, ap, refl, inl, inr}
 use Rattle.std.specs.Prelude.{◌⊎◌, nat_le}

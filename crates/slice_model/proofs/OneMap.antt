@@ -1,4 +1,4 @@
--- For `calls_of_all_tasks_are_those_of_one_map`.
+-- For `calls_of_all_tasks_are_those_of_one_map`: each call does to the objects what it would do to a map from numbers to bytes.
 use Rattle.std.proofs.Common.{◌≡◌, ℕ, ◌+◌, ◌<◌, ◌≤◌, List, [], ◌∷◌, Option, Some, None, length, get_or, replicate, take, drop, arith, sym, ◌∙◌, ap, refl, subst}
 use Rattle.std.proofs.Common.{inl, inr, length-drop}
 use Rattle.std.specs.Prelude.{Ok, Err}

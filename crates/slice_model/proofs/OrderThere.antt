@@ -1,4 +1,4 @@
--- For the laws that each call can follow an order, and leaves an order of the new state.
+-- For the laws of `order.rt` that each call can follow an order, and leaves an order of the new state.
 use Rattle.std.proofs.Common.{◌≡◌, ◌≢◌, ℕ, ◌+◌, ◌-◌, ◌*◌, ◌<◌, ◌≤◌, List, ◌∷◌, Option, Some, None, length, replicate, arith, refl, sym, ◌∙◌, ap, subst, inl, inr}
 use Rattle.std.specs.Prelude.{Ok, Err}
 use Rattle.std.specs.List.{Contains}

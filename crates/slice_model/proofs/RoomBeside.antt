@@ -1,4 +1,5 @@
--- For the laws on refusals of a malloc: free space by arithmetic while a job is pending, and the one result of each malloc.
+-- For the laws of `room.rt` on malloc: a slot is left if and only if the pages are enough for the objects and the placeholder, and each malloc has one
+-- result.
 use Rattle.std.proofs.Common.{◌≡◌, ℕ, ◌+◌, ◌<◌, ◌≤◌, Option, Some, None, arith, refl, subst, inl, inr}
 use Rattle.std.specs.Prelude.{◌⊎◌, nat_eq}
 use Rattle.std.proofs.lemmas.Bool.{cases_lt}

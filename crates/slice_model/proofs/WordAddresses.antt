@@ -1,4 +1,4 @@
--- The addresses of objects' words beside a job, and that no two words have one address.
+-- For the laws of `words.rt`: the addresses of objects' words while a job is pending, and that no two words have one address.
 use Rattle.std.proofs.Common.{◌≡◌, ◌≢◌, ℕ, ◌+◌, ◌*◌, ◌<◌, ◌≤◌, Option, Some, length, arith, sym, ◌∙◌, ap, refl, subst, inl, inr}
 use Rattle.std.specs.Prelude.{◌⊎◌, nat_eq}
 use Rattle.std.proofs.lemmas.Bool.{cases_eq, cases_lt}

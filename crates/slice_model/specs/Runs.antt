@@ -1,4 +1,4 @@
--- Lists of calls of several tasks: what they do to a sliced heap with its words, and to one map of objects.
+-- Lists of calls of several tasks: what they do to a sliced heap with its words, and what they would do to one map from numbers to bytes.
 use Rattle.std.specs.Prelude.{◌≡◌, ℕ, ◌+◌, ◌-◌, ◌/◌, ◌%◌, ◌<◌, ◌≤◌, List, [], ◌∷◌, Option, Some, None, Result}
 use Rattle.std.specs.Prelude.{Ok, Err, if◌then◌else◌, length, nat_eq, slice_index, take, drop, replicate, min}
 use Rattle.std.specs.FinMap.{get, insert, remove}
@@ -17,12 +17,13 @@ use Rattle.slice_model.specs.declared.answers.SliceRefusal.{SliceRefusal}
 use Rattle.slice_model.specs.declared.answers.SliceFault.{SliceFault}
 use Rattle.slice_model.specs.declared.answers.SliceFault.TheVariants as fault
 
--- where a read or a write begins: the object's number, and the first byte
+-- where a read or a write begins: the object's number, and the first byte that is read or written, counted from 0
 pub record Part : Type 0 where
   pub number : ℕ
   pub from : ℕ
 
--- A call with its result: a malloc with its number of bytes, a free, a slice, a write and a read. For a free and a write None means success.
+-- A call with its result: a malloc with its number of bytes, a free with its number, a slice, a write with its bytes, and a read with its number of bytes.
+-- For a free and a write None means success.
 pub data Event : Type 0 where
   Malloc : ℕ → Result Handle SliceRefusal → Event
   Free : ℕ → Option SliceFault → Event
@@ -30,37 +31,37 @@ pub data Event : Type 0 where
   Write : Part → List ℕ → Option AccessFault → Event
   Read : Part → ℕ → Result (List ℕ) AccessFault → Event
 
--- a call of a task, with its result
+-- a call, with its result, and the number of the task that makes it
 pub record Turn : Type 0 where
   pub task : ℕ
   pub event : Event
 
--- a heap at work: its state, and the words of its region
+-- a sliced heap with its memory: its state, and the words of its region
 pub record Working : Type 0 where
   pub state : Sliced
   pub words : List ℕ
 
--- the number of words that the next slice of this job does
+-- how many words the next slice does if the job holds this slot; 0 if no job is pending
 abbrev pub words_of_slice : Plan → Option JobSlot → ℕ
 words_of_slice plan None = 0
 words_of_slice plan (Some k) = min plan.quantum (slot_words plan.paging k.class - k.done)
 
--- a malloc that is done: the object is added, and its header is written at its address
+-- a malloc that is done: the object `asked` is added to the state, and its header is written at its address; no other word changes
 pub record Mallocs (plan : Plan) (old : Working) (asked : Request) (new : Working) : Type 0 where
   pub gives : GivesObject plan old.state asked new.state
   pub words : Rewrites old.words new.words (record { from = gives.place; count = 1 }) (λ _. header_word asked.number asked.length)
 
--- a free that is done: the object is removed, and the first slice of its job clears or moves words
+-- a free of object h that is done: the object is removed from the state, and the first slice of its job clears or moves words
 pub record Frees (plan : Plan) (old : Working) (h : ℕ) (new : Working) : Type 0 where
   pub removes : RemovesObject plan old.state h new.state
   pub words : DoesWords removes.begun.held removes.begun.job (words_of_slice plan (job_slot removes.begun.job)) old.words new.words
 
--- a slice: the state's next, and the words that it clears or moves
+-- a slice: the state becomes the next one, and the job's next words are cleared or moved
 pub record Slices (plan : Plan) (old new : Working) : Type 0 where
   pub slice : IsSlice plan old.state new.state
   pub words : DoesWords old.state.held old.state.job (words_of_slice plan (job_slot old.state.job)) old.words new.words
 
--- a write that is done: the object gets the bytes, and each word that holds one of them is rewritten at its present address
+-- a write that is done: the object gets the bytes from byte `part.from` on, and each word that holds one of them is rewritten at its present address
 pub record Writes (old : Working) (part : Part) (bytes : List ℕ) (new : Working) : Type 0 where
   pub object : Placed
   pub found : get old.state.held part.number ≡ Some object
@@ -72,7 +73,7 @@ pub record Writes (old : Working) (part : Part) (bytes : List ℕ) (new : Workin
   pub words : RewritesObject old.state.job part.number object (written object.bytes part.from bytes)
       (record { from = 1 + part.from / 8; count = (part.from % 8 + length bytes + 7) / 8 }) old.words new.words
 
--- a read that is done: each byte is read from the word that holds it, at its present address
+-- a read of `count` bytes that is done: each byte of the result `out` is read from the word that holds it, at its present address
 pub record Reads (old : Working) (part : Part) (count : ℕ) (out : List ℕ) : Type 0 where
   pub object : Placed
   pub found : get old.state.held part.number ≡ Some object
@@ -80,12 +81,12 @@ pub record Reads (old : Working) (part : Part) (count : ℕ) (out : List ℕ) : 
   pub size : length out ≡ count
   pub bytes : (k : ℕ) → k < count → slice_index out k ≡ byte_read old.state.job old.words part.number object (part.from + k)
 
--- the cause of each refusal of a read or write of n bytes: the object isn't live, or the bytes pass its end
+-- what holds of the objects o if a read or a write of `count` bytes is refused with this reply: the object isn't live, or the bytes pass its end
 abbrev pub IsOutOfReach : Objects → Part → ℕ → AccessFault → Type 0
 IsOutOfReach o part count access.Unknown = get o part.number ≡ None
 IsOutOfReach o part count access.Range = (v : List ℕ) × (get o part.number ≡ Some v) × (length v < part.from + count)
 
--- what each call, with this result, does to the state and the words
+-- what a call with this result does to the state and the words: the heap `old` becomes `new`
 abbrev pub Happens : Plan → Working → Event → Working → Type 0
 Happens plan old (Malloc bytes (Ok h)) new = Mallocs plan old (record { number = h.0; length = bytes }) new
 Happens plan old (Malloc bytes (Err e)) new = IsRefusedBy plan old.state bytes e × (new ≡ old)
@@ -97,7 +98,7 @@ Happens plan old (Write part bytes (Some e)) new = IsOutOfReach (objects old.sta
 Happens plan old (Read part count (Ok out)) new = Reads old part count out × (new ≡ old)
 Happens plan old (Read part count (Err e)) new = IsOutOfReach (objects old.state.held) part count e × (new ≡ old)
 
--- the calls of all tasks, one after the other
+-- the calls of all tasks, made one after the other, turn the heap `old` into `new`
 abbrev pub Runs : Plan → Working → List Turn → Working → Type 0
 Runs plan old [] new = new ≡ old
 Runs plan old (turn ∷ rest) new = (mid : Working) × Happens plan old turn.event mid × Runs plan mid rest new
@@ -143,11 +144,12 @@ abbrev pub mallocs_in : Plan → ℕ → List Turn → ℕ
 mallocs_in plan c [] = 0
 mallocs_in plan c (turn ∷ rest) = is_malloc_of plan c turn.event + mallocs_in plan c rest
 
--- object h is live
+-- an object of o has the number h
 abbrev pub IsLive : Objects → ℕ → Type 0
 IsLive o h = (v : List ℕ) × (get o h ≡ Some v)
 
--- What each call, with this result, does to one map from numbers to bytes, without tasks, addresses and jobs. A refused call and a slice change nothing.
+-- What a call with this result does to one map from numbers to bytes, without tasks, addresses and jobs: `old` becomes `new`. A refused call, a slice and a
+-- read change nothing.
 abbrev pub HappensOnMap : Objects → Event → Objects → Type 0
 HappensOnMap old (Malloc bytes (Ok h)) new = (get old h.0 ≡ None) × (new ≡ insert old h.0 (replicate bytes 0))
 HappensOnMap old (Malloc bytes (Err e)) new = new ≡ old
@@ -162,12 +164,12 @@ HappensOnMap old (Read part count (Ok out)) new = (v : List ℕ) × (get old par
     × (out ≡ take count (drop part.from v)) × (new ≡ old)
 HappensOnMap old (Read part count (Err e)) new = IsOutOfReach old part count e × (new ≡ old)
 
--- what a list of calls, one after the other, does to one map
+-- the calls, made one after the other, turn the map `old` into `new`
 abbrev pub RunsOnMap : Objects → List Turn → Objects → Type 0
 RunsOnMap old [] new = new ≡ old
 RunsOnMap old (turn ∷ rest) new = (mid : Objects) × HappensOnMap old turn.event mid × RunsOnMap mid rest new
 
--- The invariant between two calls: the state keeps the rules, the words are those of the state, and each object holds bytes.
+-- The invariant between two calls: the state satisfies the rules (`IsKept`), the words are those of the state (`HasWords`), and each object holds bytes.
 pub record IsConsistent (plan : Plan) (w : Working) : Type 0 where
   pub kept : IsKept plan w.state
   pub words : HasWords plan.paging w.state w.words

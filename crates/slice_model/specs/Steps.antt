@@ -1,4 +1,4 @@
--- What a malloc, a free and a slice do to the state of a sliced heap.
+-- What a malloc, a free and a slice do to the state of a sliced heap, and why a malloc or a free is refused.
 use Rattle.std.specs.Prelude.{◌≡◌, ◌≢◌, ℕ, zero, suc, ◌+◌, ◌-◌, ◌<◌, ◌≤◌, ◌⊎◌, Option, Some, None, Result, Ok, Err, min}
 use Rattle.std.specs.FinMap.{get, insert, remove, len}
 use Rattle.cf_base.specs.Classes.{need}
@@ -13,7 +13,8 @@ use Rattle.slice_model.specs.declared.answers.SliceRefusal.TheVariants as refusa
 use Rattle.slice_model.specs.declared.answers.SliceFault.{SliceFault}
 use Rattle.slice_model.specs.declared.answers.SliceFault.TheVariants as fault
 
--- a malloc that is done: an object of zeros is added under a number that wasn't in use; the job is unchanged
+-- A malloc is done: the object `asked` fits a page, a proxy is free, and the object is added, all zeros, in a slot that it may use, under a number that
+-- wasn't in use. The job is unchanged.
 pub record GivesObject (plan : Plan) (old : Sliced) (asked : Request) (new : Sliced) : Type 0 where
   pub fits : need asked.length ≤ plan.paging.page_words
   pub few : len old.held < plan.proxies
@@ -23,52 +24,55 @@ pub record GivesObject (plan : Plan) (old : Sliced) (asked : Request) (new : Sli
   pub free : IsPlaceFor plan.paging old (class_for plan.paging asked.length) place
   pub placed : new ≡ record old { held = insert old.held asked.number (zeros_at place asked.length) }
 
--- the cause of `Proxy`: the object would fit a page, and all proxies are in use
+-- the cause of `Proxy` for a malloc of `bytes` bytes: the object would fit a page, but all proxies are in use
 pub record WantsProxy (plan : Plan) (s : Sliced) (bytes : ℕ) : Type 0 where
   pub fits : need bytes ≤ plan.paging.page_words
   pub all : len s.held ≡ plan.proxies
 
--- the cause of `Space`: the object fits a page and a proxy is free, but the objects and the new one need more pages than the heap has
+-- the cause of `Space` for a malloc of `bytes` bytes: the object fits a page and a proxy is free, but the objects and the new one need more pages than the
+-- heap has
 pub record WantsSpace (plan : Plan) (s : Sliced) (bytes : ℕ) : Type 0 where
   pub fits : need bytes ≤ plan.paging.page_words
   pub few : len s.held < plan.proxies
   pub over : plan.paging.pages < pages_needed_with plan.paging (objects s.held) bytes
 
--- the cause of `Busy`: the object fits a page, a proxy is free and the pages are enough, but no slot of the class is usable and no page is free
+-- the cause of `Busy` for a malloc of `bytes` bytes: the object fits a page, a proxy is free and the pages are enough, but no slot of the class is usable
+-- and no page is free
 pub record WantsSlot (plan : Plan) (s : Sliced) (bytes : ℕ) : Type 0 where
   pub fits : need bytes ≤ plan.paging.page_words
   pub few : len s.held < plan.proxies
   pub within : pages_needed_with plan.paging (objects s.held) bytes ≤ plan.paging.pages
   pub lacking : NoPlace plan.paging s (class_for plan.paging bytes)
 
--- the cause of each refusal of a malloc
+-- what holds of state s if a malloc of `bytes` bytes is refused with this reply
 abbrev pub IsRefusedBy : Plan → Sliced → ℕ → SliceRefusal → Type 0
 IsRefusedBy plan s bytes refusal.Size = plan.paging.page_words < need bytes
 IsRefusedBy plan s bytes refusal.Proxy = WantsProxy plan s bytes
 IsRefusedBy plan s bytes refusal.Space = WantsSpace plan s bytes
 IsRefusedBy plan s bytes refusal.Busy = WantsSlot plan s bytes
 
--- a malloc adds an object, or is refused and changes nothing
+-- what a malloc of `bytes` bytes with this result does to state `old`: it adds an object under the number returned, or is refused and changes nothing
 abbrev pub IsMalloc : Plan → Sliced → ℕ → Result Handle SliceRefusal → Sliced → Type 0
 IsMalloc plan old bytes (Ok h) new = GivesObject plan old (record { number = h.0; length = bytes }) new
 IsMalloc plan old bytes (Err e) new = IsRefusedBy plan old bytes e × (new ≡ old)
 
--- the slot of a new job, with none of its words done
+-- the slot of class c at address a when a job on it begins: none of its words is done
 abbrev pub fresh_slot : ℕ → ℕ → JobSlot
 fresh_slot a c = record { address = a; class = c; done = 0 }
 
--- object q gets the address a, and the new job moves its words there from its old slot of class c
+-- A job begins that moves object q of m: the object gets the address a at once, and the job has to move its words there from its old slot, of class c.
 pub record Carries (m : Held) (q a c : ℕ) (new : Sliced) : Type 0 where
   pub object : Placed
   pub found : get m q ≡ Some object
   pub whole : new ≡ record { held = insert m q (record { place = a; bytes = object.bytes }); job = Move q (fresh_slot object.place c) }
 
--- the job that a free leaves for the freed slot of class c at a: to move object q there, or, if no object moves, to clear the slot
+-- A job begins after an object was removed from the slot of class c at address a, and the objects m are left: the job moves object q into that slot, or, if
+-- no object is to move, clears the slot.
 abbrev pub Vacates : Held → ℕ → ℕ → Option ℕ → Sliced → Type 0
 Vacates m a c None new = new ≡ record { held = m; job = Clear (fresh_slot a c) }
 Vacates m a c (Some q) new = Carries m q a c new
 
--- object q, of class c, is on a partly full page other than that of address a
+-- object q is of class c, and on a partly full page other than that of address a
 pub record IsBeside (p : Paging) (m : Held) (a c q : ℕ) : Type 0 where
   pub object : Placed
   pub found : get m q ≡ Some object
@@ -76,51 +80,52 @@ pub record IsBeside (p : Paging) (m : Held) (a c q : ℕ) : Type 0 where
   pub page : page_of p object.place ≢ page_of p a
   pub not_full : objects_on p m c (page_of p object.place) < slots_of p c
 
--- the job that follows an ended one if two pages of the class are partly full: to move an object of the other page to the job's slot
+-- The job of slot k has done its last word, and another follows, since two pages of the class are partly full: it moves an object of the other page into
+-- slot k.
 pub record Chains (p : Paging) (m : Held) (k : JobSlot) (new : Sliced) : Type 0 where
   pub two : not_full_pages p m k.class ≡ 2
   pub object : ℕ
   pub beside : IsBeside p m k.address k.class object
   pub carries : Carries m object k.address k.class new
 
--- the state after the job's last word is done: no job is pending, or the next one if two pages of the class are partly full
+-- The state `new` after the job of slot k has done its last word: no job is pending, or, if two pages of the class are partly full, the next job begins.
 abbrev pub Ends : Paging → Held → JobSlot → Sliced → Type 0
 Ends p m k new = ((not_full_pages p m k.class ≢ 2) × (new ≡ record { held = m; job = Idle })) ⊎ Chains p m k new
 
--- the number of words of a job that are done after one more slice
+-- how many words of slot k are done after one more slice: a quantum more, but at most all
 abbrev pub done_after : Plan → JobSlot → ℕ
 done_after plan k = k.done + min plan.quantum (slot_words plan.paging k.class - k.done)
 
--- a slice that does not end the job: some of its words are still to do
+-- a slice that does not end the job of slot k: some of its words are still to do
 pub record GoesOn (plan : Plan) (old : Sliced) (k : JobSlot) (new : Sliced) : Type 0 where
   pub left : done_after plan k < slot_words plan.paging k.class
   pub whole : new ≡ record old { job = advanced old.job (done_after plan k) }
 
--- a slice that ends the job: all its words are done
+-- a slice that ends the job of slot k: all its words are done
 pub record IsDone (plan : Plan) (old : Sliced) (k : JobSlot) (new : Sliced) : Type 0 where
   pub all : done_after plan k ≡ slot_words plan.paging k.class
   pub ends : Ends plan.paging old.held k new
 
--- a slice does the next words of the job; it changes nothing if no job is pending
+-- what a slice does to state `old` if its job holds this slot: the job goes on or ends; nothing changes if no job is pending
 abbrev pub SliceOf : Plan → Sliced → Option JobSlot → Sliced → Type 0
 SliceOf plan old None new = new ≡ old
 SliceOf plan old (Some k) new = GoesOn plan old k new ⊎ IsDone plan old k new
 
--- a slice of the pending job of a state
+-- a slice of the pending job turns state `old` into `new`; nothing changes if no job is pending
 abbrev pub IsSlice : Plan → Sliced → Sliced → Type 0
 IsSlice plan old new = SliceOf plan old (job_slot old.job) new
 
--- n slices, one after the other, with no other call in between
+-- n slices, with no other call in between, turn state `old` into `new`
 abbrev pub AreSlices : Plan → ℕ → Sliced → Sliced → Type 0
 AreSlices plan zero old new = new ≡ old
 AreSlices plan (suc n) old new = (mid : Sliced) × IsSlice plan old mid × AreSlices plan n mid new
 
--- the job of slot k has ended: no job is pending, or the next one of the class, which moves an object and has no word done yet
+-- j is what is pending right after the job of slot k has ended: no job, or the next one of the same class, which moves an object and has no word done yet
 abbrev pub IsOver : JobSlot → Job → Type 0
 IsOver k j = (j ≡ Idle) ⊎ ((h : ℕ) × (g : JobSlot) × (j ≡ Move h g) × (g.class ≡ k.class) × (g.done ≡ 0))
 
--- A free that is done: the object is removed; the job holds the freed slot, or, if an object moves there, that object's old slot. The first slice of the
--- job is part of the free.
+-- A free of object h is done, while no job is pending. The object is removed, and a job begins (state `begun`): it holds the freed slot, or, if object
+-- `moved` moves there, the old slot of that object. The first slice of the job is part of the free.
 pub record RemovesObject (plan : Plan) (old : Sliced) (h : ℕ) (new : Sliced) : Type 0 where
   pub idle : old.job ≡ Idle
   pub freed : Placed
@@ -131,18 +136,18 @@ pub record RemovesObject (plan : Plan) (old : Sliced) (h : ℕ) (new : Sliced) :
   pub begins : Vacates (remove old.held h) freed.place (class_at plan.paging freed) moved begun
   pub slice : IsSlice plan begun new
 
--- the cause of `Busy`: the object is live, and a job is pending
+-- the cause of `Busy` for a free of object h: it is live, and a job is pending
 pub record MustWait (s : Sliced) (h : ℕ) : Type 0 where
   pub object : Placed
   pub found : get s.held h ≡ Some object
   pub pending : s.job ≢ Idle
 
--- the cause of each refusal of a free
+-- what holds of state s if a free of number h is refused with this reply
 abbrev pub IsFaultOf : Sliced → ℕ → SliceFault → Type 0
 IsFaultOf s h fault.Unknown = get s.held h ≡ None
 IsFaultOf s h fault.Busy = MustWait s h
 
--- a free removes the object and leaves a job, or is refused and changes nothing
+-- what a free of number h with this result does to state `old`: it removes the object and leaves a job, or is refused and changes nothing
 abbrev pub IsFree : {T : Type 0} → Plan → Sliced → ℕ → Result T SliceFault → Sliced → Type 0
 IsFree plan old h (Ok u) new = RemovesObject plan old h new
 IsFree plan old h (Err e) new = IsFaultOf old h e × (new ≡ old)

@@ -1,23 +1,27 @@
-//! The refusals of the calls of a sliced heap.
+//! Why a call of the sliced heap is refused: the causes for a malloc and those for a free.
 
-/// Why a malloc was refused, in the order in which the causes are tested.
+/// Why a malloc is refused. The causes are tested in this order, and the first that holds is
+/// returned.
 #[derive(Clone, Copy, Debug, PartialEq, Eq)]
 pub enum SliceRefusal {
     /// The object with its header is larger than a page.
     Size,
     /// Every proxy is in use.
     Proxy,
-    /// The objects and the new one need more pages than the heap has, by arithmetic.
+    /// The heap has too few pages for its objects and the new one: for each class the number of
+    /// objects is divided by the slots of a page and rounded up, and the sum exceeds the pages.
     Space,
-    /// The pages would be enough, but the slot that a pending job holds leaves no free slot for the object.
+    /// By that sum the pages are enough. But the slot of the pending job counts as used, and no
+    /// other slot is left for the object.
     Busy,
 }
 
-/// Why a free was refused, in the order in which the causes are tested.
+/// Why a free is refused. The causes are tested in this order, and the first that holds is
+/// returned.
 #[derive(Clone, Copy, Debug, PartialEq, Eq)]
 pub enum SliceFault {
-    /// The handle isn't live.
+    /// No live object has this handle.
     Unknown,
-    /// A job is pending.
+    /// The object is live, but the job that an earlier free left is still pending.
     Busy,
 }

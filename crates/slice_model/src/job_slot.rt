@@ -1,10 +1,13 @@
-//! The slot that a pending job holds until it is done.
+//! The slot that a pending job of the sliced heap holds.
 
-/// The slot that a job holds: its address in words, its class, and the number of its words that are
-/// cleared or moved.
+/// The slot that a pending job clears, or from which it moves an object. The job holds the slot
+/// until its last word is done.
 #[derive(Clone, Copy, Debug, PartialEq, Eq)]
 pub struct JobSlot {
+    /// The first word of the slot, counted from the start of the region.
     pub address: u32,
+    /// The size class of the slot, which determines how many words it has.
     pub class: u32,
+    /// How many words of the slot, from its first on, are cleared or moved so far.
     pub done: u32,
 }

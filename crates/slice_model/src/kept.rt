@@ -1,4 +1,5 @@
-//! The rules of every state (`IsKept`), and the laws that each call keeps them.
+//! Laws that each call of a sliced heap keeps the rules of its state (`IsKept`): if the state
+//! before the call satisfies them, so does the state after it.
 ghost use Rattle.std.specs.Prelude.{ℕ, ◌≡◌, ◌≢◌, ◌<◌, ◌≤◌, List, Some, length};
 ghost use Rattle.std.specs.FinMap.{empty, get, insert};
 ghost use Rattle.page_model.specs.Arrangement.{IsSlotAt, IsSound, class_at};
@@ -8,41 +9,43 @@ ghost use Rattle.page_model.specs.Steps.{Request};
 ghost use Rattle.slice_model.specs.State.{Idle, IsKept, IsPlan, JobSlot, Plan, Sliced, LieBeside, job_slot};
 ghost use Rattle.slice_model.specs.Steps.{GivesObject, IsSlice, RemovesObject};
 
-/// A state without objects and without a job keeps the rules.
+/// A heap without objects and without a pending job satisfies the rules (`IsKept`).
 pub fn nothing_keeps_the_rules()
     ensures { (plan : Plan) → IsKept plan (record { held = empty; job = Idle }) }
 {}
 
-/// A malloc keeps the rules.
+/// If the state `old` satisfies the rules, so does the state `new` that a successful malloc leaves.
 pub fn a_malloc_keeps_the_rules()
     ensures { (plan : Plan) (old : Sliced) (asked : Request) (new : Sliced) → IsPlan plan → IsKept plan old
         → GivesObject plan old asked new → IsKept plan new }
 {}
 
-/// A free, with the first slice of its job, keeps the rules.
+/// If the state `old` satisfies the rules, so does the state `new` that a successful free of object
+/// h leaves. The free includes the first slice of its job.
 pub fn a_free_keeps_the_rules()
     ensures { (plan : Plan) (old : Sliced) (h : ℕ) (new : Sliced) → IsPlan plan → IsKept plan old
         → RemovesObject plan old h new → IsKept plan new }
 {}
 
-/// A slice keeps the rules, also if it ends the job and if another job follows.
+/// If the state `old` satisfies the rules, so does the state `new` that a slice leaves, also if the
+/// slice ends the job, and if another job follows.
 pub fn a_slice_keeps_the_rules()
     ensures { (plan : Plan) (old new : Sliced) → IsPlan plan → IsKept plan old
         → IsSlice plan old new → IsKept plan new }
 {}
 
-/// A write, which does not change the object's length, keeps the rules.
+/// If a state satisfies the rules, it still does after object h got other bytes of the same length.
 pub fn a_write_keeps_the_rules()
     ensures { (plan : Plan) (old : Sliced) (h : ℕ) (x : Placed) (bytes : List ℕ) → IsPlan plan → IsKept plan old
         → get old.held h ≡ Some x → length bytes ≡ length x.bytes
         → IsKept plan (record old { held = insert old.held h (record { place = x.place; bytes = bytes }) }) }
 {}
 
-/// What the rules require of the objects without the placeholder. Each has a slot of its class, no two
-/// have one address, and all on one page have one class. If no job is pending, their arrangement is
-/// sound. If one is, no object is in the job's slot, and all objects on that slot's page have its class.
-/// Each other class has at most one partly full page. The job's class has at most two; if it has two,
-/// only the job's slot is free on its page.
+/// What the rules (`IsKept`) mean for the objects without the placeholder. Each has a slot of its
+/// class, no two have one address, and all on one page have one class. If no job is pending, their
+/// arrangement is sound. If one is, no object is in the job's slot, and all objects on that slot's
+/// page have its class. Each other class has at most one partly full page. The job's class has at
+/// most two; if it has two, only the job's slot is free on its page.
 pub fn what_the_rules_say_of_pages()
     ensures slots { (plan : Plan) (s : Sliced) (h : ℕ) (x : Placed) → IsPlan plan → IsKept plan s
         → get s.held h ≡ Some x → IsSlotAt plan.paging (class_at plan.paging x) x.place }

@@ -1,5 +1,6 @@
-//! Laws on the order of a sliced heap, also while a job is pending: it determines each call's outcome,
-//! and each call can follow it.
+//! Laws on the order in which a sliced heap uses its free pages, its partly full pages and its
+//! spare numbers, also while a job is pending: the order determines what each call does, and each
+//! call can follow it.
 ghost use Rattle.std.specs.Prelude.{ℕ, ◌≡◌, ◌∷◌, List, Option, Some, Result, length};
 ghost use Rattle.std.specs.FinMap.{empty, get};
 ghost use Rattle.cf_base.specs.declared.answers.AccessFault.{AccessFault};
@@ -14,8 +15,9 @@ ghost use Rattle.slice_model.specs.Steps.{GivesObject, IsRefusedBy, IsSlice, Rem
 ghost use Rattle.slice_model.specs.declared.answers.SliceFault.{SliceFault};
 ghost use Rattle.slice_model.specs.declared.answers.SliceRefusal.{SliceRefusal};
 
-/// The order determines a call's outcome: two equal calls that follow it have the same result, and
-/// leave the same objects, job, words (also those of a job that is half done) and order.
+/// The order determines what a call does. If the same call is made twice on the heap `old`, and
+/// follows the order `was` both times, it has the same result, and leaves the same objects, job,
+/// words (also those of a job that is half done) and order.
 pub fn an_order_leaves_no_choice_beside_a_job()
     ensures malloc { (plan : Plan) (old : Working) (bytes : ℕ) (a b : Result Handle SliceRefusal) (new other : Working) (was now next : Order)
         → IsPlan plan → IsConsistent plan old → length new.words ≡ length other.words
@@ -39,8 +41,8 @@ pub fn an_order_leaves_no_choice_beside_a_job()
         → (a ≡ b) × (new ≡ other) × (now ≡ next) }
 {}
 
-/// A malloc that is not refused can follow the order, in which the job's slot counts as used. It leaves
-/// an order of the new state.
+/// In an order of the state s the job's slot counts as used. A malloc of `bytes` bytes for which no
+/// cause of refusal holds can follow such an order, and leaves an order of the new state.
 pub fn a_malloc_can_follow_an_order_beside_a_job()
     ensures { (plan : Plan) (s : Sliced) (bytes : ℕ) (o : Order) → IsPlan plan → IsKept plan s → IsOrderBeside plan s o
         → ((e : SliceRefusal) → ¬ IsRefusedBy plan s bytes e)
@@ -49,15 +51,17 @@ pub fn a_malloc_can_follow_an_order_beside_a_job()
         × IsOrderBeside plan after new }
 {}
 
-/// A slice, also the last one of a job, can follow the order, and leaves an order of the new state.
+/// A slice can follow the order of the state s, also if it is the last one of a job. It leaves an
+/// order of the new state.
 pub fn a_slice_can_follow_an_order()
     ensures { (plan : Plan) (s : Sliced) (o : Order) → IsPlan plan → IsKept plan s → IsOrderBeside plan s o
         → (after : Sliced) × (new : Order) × IsSlice plan s after
         × SliceFollows plan s.held (job_slot s.job) after.job o new × IsOrderBeside plan after new }
 {}
 
-/// While no job is pending, a free of each live object, with the first slice of its job, can follow the
-/// order, and leaves an order of the new state.
+/// While no job is pending, a free of any live object can follow the order of the state s: if it
+/// moves an object, it moves the one that the order lists next. With the first slice of its job, it
+/// leaves an order of the new state.
 pub fn a_free_can_follow_an_order_beside_a_job()
     ensures { (plan : Plan) (s : Sliced) (h : ℕ) (x : Placed) (o : Order) → IsPlan plan → IsKept plan s → IsOrderBeside plan s o
         → s.job ≡ Idle → get s.held h ≡ Some x
@@ -67,13 +71,14 @@ pub fn a_free_can_follow_an_order_beside_a_job()
         × IsOrderBeside plan after new }
 {}
 
-/// Each call that follows an order leaves an order of the new state.
+/// A call that follows an order of the old state leaves an order of the new state.
 pub fn a_call_keeps_an_order()
     ensures { (plan : Plan) (old : Working) (event : Event) (new : Working) (was now : Order) → IsPlan plan → IsKept plan old.state
         → IsOrderBeside plan old.state was → HappensInOrder plan old event new was now → IsOrderBeside plan new.state now }
 {}
 
-/// Pages and numbers in rising order are an order of a state without objects and without a job.
+/// All pages and all numbers, each in rising order from 0, are an order of a heap without objects
+/// and without a job.
 pub fn rising_numbers_are_an_order()
     ensures { (plan : Plan) → IsOrderBeside plan (record { held = empty; job = Idle }) (first_order plan.paging plan.proxies) }
 {}

@@ -1,4 +1,6 @@
-//! Laws on when a malloc and a free are refused, also while a job is pending.
+//! Laws on when a malloc and a free of the sliced heap are refused, also while a job is pending.
+//! The pages that objects need (`pages_needed_with`) are counted class by class: their number
+//! divided by the slots of a page, rounded up, and summed over the classes.
 ghost use Rattle.std.specs.Prelude.{ℕ, ◌≡◌, ◌≢◌, ◌<◌, ◌≤◌, ◌⊎◌, ◌↔◌, Option, Some};
 ghost use Rattle.std.specs.FinMap.{get};
 ghost use Rattle.cf_base.specs.Classes.{need};
@@ -16,8 +18,8 @@ pub fn a_malloc_waits_for_a_job_alone()
     ensures { (plan : Plan) (s : Sliced) (bytes : ℕ) → IsPlan plan → IsKept plan s → WantsSlot plan s bytes → s.job ≢ Idle }
 {}
 
-/// If a slot of the class is usable or a page is free, the objects and the new one need at most the
-/// pages that the heap has, by arithmetic.
+/// If the class of a malloc has a usable slot, or a page is free, the malloc is not refused as
+/// `Space`: the objects and the new one need at most the pages that the heap has.
 pub fn a_place_is_within_the_sum()
     ensures slot { (plan : Plan) (s : Sliced) (bytes a : ℕ) → IsPlan plan → IsKept plan s → need bytes ≤ plan.paging.page_words
         → IsUsable plan.paging s (class_for plan.paging bytes) a
@@ -27,8 +29,8 @@ pub fn a_place_is_within_the_sum()
         → pages_needed_with plan.paging (objects s.held) bytes ≤ plan.paging.pages }
 {}
 
-/// There is no slot for a malloc if and only if the objects, the job's placeholder and the new object
-/// need more pages than the heap has.
+/// No slot is left for an object of `bytes` bytes if and only if the objects, the job's placeholder
+/// and the new object together need more pages than the heap has.
 pub fn a_malloc_waits_exactly_by_arithmetic()
     ensures { (plan : Plan) (s : Sliced) (bytes : ℕ) → IsPlan plan → IsKept plan s → need bytes ≤ plan.paging.page_words
         → NoPlace plan.paging s (class_for plan.paging bytes)
@@ -36,13 +38,14 @@ pub fn a_malloc_waits_exactly_by_arithmetic()
 {}
 
 /// If the objects and the new one need fewer pages than the heap has, the malloc is not refused as
-/// `Busy`.
+/// `Busy`. So one spare page is enough that no malloc waits for a job.
 pub fn a_spare_page_never_waits()
     ensures { (plan : Plan) (s : Sliced) (bytes : ℕ) → IsPlan plan → IsKept plan s
         → pages_needed_with plan.paging (objects s.held) bytes < plan.paging.pages → ¬ WantsSlot plan s bytes }
 {}
 
-/// Each malloc is either done or refused, and refused for exactly one cause.
+/// In a state that satisfies the rules (`IsKept`), each malloc is either done or refused, and
+/// refused for exactly one cause.
 pub fn a_malloc_has_one_answer()
     ensures some { (plan : Plan) (s : Sliced) (bytes : ℕ) → IsPlan plan → IsKept plan s
         → ((e : SliceRefusal) × IsRefusedBy plan s bytes e)
@@ -52,7 +55,8 @@ pub fn a_malloc_has_one_answer()
         → GivesObject plan s asked new → ¬ IsRefusedBy plan s asked.length e }
 {}
 
-/// Each free is either done or refused, and refused for exactly one cause.
+/// In a state that satisfies the rules (`IsKept`), each free is either done or refused, and refused
+/// for exactly one cause.
 pub fn a_free_has_one_answer()
     ensures some { (plan : Plan) (s : Sliced) (h : ℕ) → IsPlan plan → IsKept plan s
         → ((e : SliceFault) × IsFaultOf s h e) ⊎ ((new : Sliced) × RemovesObject plan s h new) }
@@ -60,7 +64,8 @@ pub fn a_free_has_one_answer()
     ensures done { (plan : Plan) (s : Sliced) (h : ℕ) (new : Sliced) (e : SliceFault) → RemovesObject plan s h new → ¬ IsFaultOf s h e }
 {}
 
-/// A slice is never refused: from every state that keeps the rules there is a next one.
+/// A slice is never refused: from every state that satisfies the rules (`IsKept`) a slice leads to
+/// a next state.
 pub fn a_slice_can_always_be_done()
     ensures { (plan : Plan) (s : Sliced) → IsPlan plan → IsKept plan s → (new : Sliced) × IsSlice plan s new }
 {}

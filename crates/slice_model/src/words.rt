@@ -1,4 +1,4 @@
-//! The words of the region while a job is half done.
+//! Laws on the words of the region, also while a job is half done.
 ghost use Rattle.std.specs.Prelude.{ℕ, ◌≡◌, ◌+◌, ◌/◌, ◌%◌, ◌<◌, ◌≤◌, ◌↔◌, List, Some, length, min, slice_index};
 ghost use Rattle.std.specs.FinMap.{get, insert};
 ghost use Rattle.page_model.specs.Bytes.{AreBytes, written};
@@ -11,9 +11,10 @@ ghost use Rattle.slice_model.specs.State.{Idle, IsKept, IsPlan, JobSlot, Move, P
 ghost use Rattle.slice_model.specs.Steps.{GivesObject, IsSlice, RemovesObject};
 ghost use Rattle.slice_model.specs.Words.{DoesWords, HasWords, IsClosed, RewritesObject, byte_read};
 
-/// If no job is pending, the words are the image of the objects. If one is, each word that is not left
-/// open by the job (`IsClosed`) is that of the image; and the words of an object in motion that are
-/// not moved yet are in the job's slot.
+/// Compares the words of a heap with `clean`, the image of its objects without any job. If no job
+/// is pending, the two are equal. If one is, they agree in each word that the job does not leave
+/// open (`IsClosed`). The words of an object in motion that are not moved yet are in the job's
+/// slot.
 pub fn words_are_the_image_but_for_the_job()
     ensures idle { (p : Paging) (m : Held) (words : List ℕ)
         → HasWords p (record { held = m; job = Idle }) words ↔ IsSlotImage p m words }
@@ -26,8 +27,10 @@ pub fn words_are_the_image_but_for_the_job()
         → slice_index words (k.address + i) ≡ slice_index clean (x.place + i) }
 {}
 
-/// After a malloc that writes a header, a free or a slice that clears or moves the next words of the
-/// job, and a write to the words that hold its bytes, the words are those of the new state.
+/// If the words are those of a state (`HasWords`), they are those of the state after a call too.
+/// This holds if a malloc writes the header of its object and no other word, a free or a slice
+/// clears or moves just the next words of the job, and a write changes just the words that hold its
+/// bytes.
 pub fn words_after_each_call()
     ensures malloc { (plan : Plan) (old : Sliced) (words after : List ℕ) (asked : Request) (new : Sliced) → IsPlan plan → IsKept plan old
         → HasWords plan.paging old words → (g : GivesObject plan old asked new)
@@ -49,8 +52,9 @@ pub fn words_after_each_call()
         (record old { held = insert old.held h (record { place = x.place; bytes = written x.bytes at bytes }) }) after }
 {}
 
-/// The byte that is read from the word at `word_at` is the object's byte: for an object in motion this
-/// word is in its new slot if the job has moved it, else in the job's slot.
+/// Reading byte k of object h returns the object's byte, also if a job is moving the object:
+/// `byte_read` reads the word at the object's address if it is moved already, else in the job's
+/// slot.
 pub fn bytes_are_read_where_they_stand()
     ensures { (plan : Plan) (s : Sliced) (words : List ℕ) (h : ℕ) (x : Placed) (k : ℕ) → IsPlan plan → IsKept plan s
         → HasWords plan.paging s words → get s.held h ≡ Some x → AreBytes x.bytes → k < length x.bytes

@@ -1,4 +1,4 @@
--- Each call of a sliced heap has a result and a state after it.
+-- For each call of a sliced heap there is a result and a state after it that its contract allows: for `CommandSteps`.
 use Rattle.std.proofs.Common.{◌≡◌, ℕ, ◌+◌, List, Some, None, length, arith, ◌∙◌, ap, refl, subst, inl, inr}
 use Rattle.std.specs.Prelude.{Option, Result, Ok, Err, option_map}
 use Rattle.std.proofs.lemmas.Bool.{cases_lt}

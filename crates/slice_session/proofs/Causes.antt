@@ -1,4 +1,4 @@
--- The cause of a refusal by its reply.
+-- The reply to a refused malloc or free shows its cause: for the law `replies_show_their_causes`.
 use Rattle.std.proofs.Common.{◌≡◌, ◌≢◌, ℕ, List, [], ◌∷◌, Some, None, get_or, refl, sym, ◌∙◌, ap, subst}
 use Rattle.std.specs.Prelude.{Option, Result, Ok, Err, codes, nat_eq, if◌then◌else◌}
 use Rattle.std.specs.Option.{MatchOption}

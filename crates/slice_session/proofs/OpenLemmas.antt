@@ -1,4 +1,4 @@
--- A run over a sliced heap begins.
+-- How a run over a sliced heap begins, and that it is then in progress: for `open` and the law `each_command_has_its_turn`.
 use Rattle.std.proofs.Common.{◌≡◌, ℕ, ◌*◌, replicate, arith, sym, ◌∙◌, ap, refl, subst}
 use Rattle.std.specs.Prelude.{IsTrue}
 use Rattle.std.proofs.lemmas.List.{length-replicate}

@@ -1,4 +1,4 @@
--- The replies of the mode handler are those of a run of its session.
+-- The replies of the mode handler are those of a run of its session: for the law `plays_are_runs`.
 use Rattle.std.proofs.Common.{List, None}
 use Rattle.std.specs.Prelude.{Option, option_map}
 use Rattle.cf_io.specs.Texts.{Reply}

@@ -1,4 +1,4 @@
--- In a run, reads return the bytes that follow from the lines and their replies.
+-- In a run over a sliced heap, reads return the bytes that follow from the lines and their replies: for the law `reads_give_what_was_written`.
 use Rattle.std.proofs.Common.{ℕ, List, Option, None}
 use Rattle.cf_io.specs.Texts.{Reply}
 use Rattle.run_laws.specs.IdBytes.{AreReadsOf}

@@ -1,4 +1,4 @@
--- Words as each call of a sliced heap leaves them.
+-- For each call of a sliced heap there are words of the region as its contract requires them after the call: for `CallsThere`.
 use Rattle.std.proofs.Common.{◌≡◌, ◌≢◌, ℕ, zero, suc, ◌+◌, ◌-◌, ◌*◌, ◌/◌, ◌%◌, ◌<◌, ◌≤◌, List, length, get_or, set}
 use Rattle.std.proofs.Common.{Some, arith, sym, ◌∙◌, ap, refl, subst, inl, inr}
 use Rattle.std.specs.Prelude.{min}

@@ -1,4 +1,5 @@
--- The mode handler of a session over a sliced heap.
+-- Mode `slice` for the script loop: how a run over a sliced heap begins, its runs over a script, and what is left if an allocation fails; first of a session
+-- (`sliced`), then of the mode handler, which knows its quantum besides (`slices`).
 use Rattle.std.specs.Prelude.{◌≡◌, ◌≤◌, ◌*◌, ℕ, true, List, Option, codes, replicate}
 use Rattle.std.specs.FinMap.{empty}
 use Rattle.cf_base.specs.Settings.{Profile}
@@ -15,7 +16,7 @@ use Rattle.slice_model.specs.State.{Idle}
 use Rattle.sliced_heap.specs.Shown.{KeepsRules, SlicedState, closed_state}
 use Rattle.slice_session.specs.SliceRun.{IsGoingSliced, SliceRun, SliceStep, slice_run}
 
--- the open heap after a `heap` line: without objects and without a job, with the settings of the line, but always the bound 1
+-- the open heap after a `heap` line with the settings p: without objects and without a job, with these settings, but always the bound 1
 abbrev pub first_heap : ℕ → Profile → SlicedState
 first_heap quantum p = record {
   is_open = true;
@@ -27,7 +28,7 @@ first_heap quantum p = record {
   order = first_order (paging_of (record p { k = 1 }) Words (first_bounds (record p { k = 1 }) Words)) p.proxies;
 }
 
--- the run after the `heap` line: the heap is new, with slices of at most `quantum` words, and no id is live
+-- the run `new` after a `heap` line with the settings p: the heap is new, with slices of at most `quantum` words, and no id is live
 pub record BeginsSliced (quantum : ℕ) (p : Profile) (new : SliceRun) : Type 0 where
   pub ids : new.ids ≡ empty
   pub heap : new.heap ≡ first_heap quantum p
@@ -37,11 +38,12 @@ pub record BeginsSliced (quantum : ℕ) (p : Profile) (new : SliceRun) : Type 0 
 abbrev pub BeginsSlices : ℕ → Profile → Reply → SliceRun → Type 0
 BeginsSlices quantum p reply new = BeginsSliced quantum p new × (reply ≡ said (codes "ok"))
 
--- A run from a state (None before the `heap` line): the items may have these replies, one each, and lead to the new state.
+-- A run with slices of at most the given number of words, from a state (None before the `heap` line): the items may have these replies, one each, and lead
+-- to the new state.
 abbrev pub RunsSliced : ℕ → Option SliceRun → List Item → List Reply → Option SliceRun → Type 0
 RunsSliced quantum = PlayRun (BeginsSlices quantum) SliceStep
 
--- an allocation failed: the heap is closed, and the session is unchanged
+-- an allocation failed at the `heap` line: the heap is closed, and the session is unchanged
 pub record LacksSliced (old new : SliceRun) : Type 0 where
   pub closed : new.heap ≡ closed_state
   pub ids : new.ids ≡ old.ids
@@ -63,6 +65,7 @@ pub record SlicePlay : Type 0 where
   pub run : SliceRun
   pub quantum : ℕ
 
+-- the mode handler with these live ids, this quantum in words, and this heap
 abbrev pub slice_play : Ids → ℕ → SlicedState → SlicePlay
 slice_play ids quantum heap = record { run = slice_run ids heap; quantum = quantum }
 

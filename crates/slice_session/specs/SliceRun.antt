@@ -1,4 +1,4 @@
--- A session over a sliced heap, and what each command does there.
+-- A session over a sliced heap: its state, and for each command the reply, the state after it, and the most steps.
 use Rattle.std.specs.Prelude.{◌≡◌, ℕ, ◌+◌, IsTrue, List, Option, Some, None, Result, Ok, Err, codes, length, slice_get}
 use Rattle.std.specs.Option.{MatchOption}
 use Rattle.std.specs.FinMap.{get, insert, remove}
@@ -27,10 +27,11 @@ pub record SliceRun : Type 0 where
   pub ids : Ids
   pub heap : SlicedState
 
+-- the run with these live ids on this heap
 abbrev pub slice_run : Ids → SlicedState → SliceRun
 slice_run ids heap = record { ids = ids; heap = heap }
 
--- the objects of a run, by the numbers of their handles
+-- the objects of a run: a map from the numbers of their handles to their bytes
 abbrev pub live_in : SliceRun → Objects
 live_in s = objects s.heap.held
 
@@ -73,7 +74,8 @@ abbrev pub ids_without : Ids → ℕ → Option SliceFault → Ids
 ids_without ids id None = remove ids id
 ids_without ids id (Some e) = ids
 
--- the heap did this call: objects, job and words change as in `Happens`, the order as in `HappensInOrder`, and it stays open with its pages and its quantum
+-- The heap did this call, `event`: its objects, job and words change as in `Happens`, its order as in `HappensInOrder`, and it stays open with its settings
+-- and its quantum.
 pub record Does (old : SlicedState) (event : Event) (new : SlicedState) : Type 0 where
   pub happens : Happens (plan_in old) (working_in old) event (working_in new)
   pub ordered : HappensInOrder (plan_in old) (working_in old) event (working_in new) old.order new.order
@@ -90,20 +92,20 @@ pub record MallocsSliced (old : SliceRun) (id bytes : ℕ) (reply : Reply) (new 
   pub ids : new.ids ≡ ids_with old.ids id answer
   pub reply_is : reply ≡ said (slice_malloc_text answer)
 
--- a free of a live id: the heap frees the object and does the first slice of a job, or refuses; the reply shows which
+-- a free of a live id, which names h: the heap frees the object h and does the first slice of a job, or refuses; the reply shows which
 pub record FreesSliced (old : SliceRun) (id h : ℕ) (reply : Reply) (new : SliceRun) : Type 0 where
   pub answer : Option SliceFault
   pub does : Does old.heap (Free h answer) new.heap
   pub ids : new.ids ≡ ids_without old.ids id answer
   pub reply_is : reply ≡ said (slice_free_text answer)
 
--- `s`: the heap does a slice; the reply is the number of words that a job then has left, 0 if none is pending
+-- `s`: the heap does a slice of the pending job, if there is one; the reply is `left` and the words that a job then has still to do, 0 if none is pending
 pub record StepsSliced (old : SliceRun) (reply : Reply) (new : SliceRun) : Type 0 where
   pub does : Does old.heap Step new.heap
   pub ids : new.ids ≡ old.ids
   pub reply_is : reply ≡ said (with_number (codes "left ") (left_of (plan_in new.heap) (working_in new.heap).state))
 
--- a write into a live object from byte `from` on: the heap replaces the bytes, or refuses; the reply shows which
+-- a write into the live object h from byte `from` on: the heap replaces the bytes, or refuses; the reply shows which
 pub record WritesSliced (old : SliceRun) (h from : ℕ) (bytes : List ℕ) (reply : Reply) (new : SliceRun) : Type 0 where
   pub answer : Option AccessFault
   pub does : Does old.heap (Write (record { number = h; from = from }) bytes answer) new.heap
@@ -116,7 +118,7 @@ slice_look s (command.Read id from count) = said (read_text (sliced_object_of s 
 slice_look s (command.Peek word) = said (peek_text (slice_get s.heap.words word))
 slice_look s other = said (codes "none")
 
--- One command: its reply, and the state after it.
+-- One command: the run before it, its reply, and the run after it.
 abbrev pub SliceStep : SliceRun → Command → Reply → SliceRun → Type 0
 SliceStep old (command.Malloc id bytes) reply new =
     MatchOption (get old.ids id) (MallocsSliced old id bytes reply new) (λ h. StaysSliced old (codes "live") reply new)

@@ -1,5 +1,5 @@
-//! The commands of a session over a sliced heap. `m`, `f` and `w` return their reply; `r`, `s` and `p`
-//! write their reply on the line.
+//! The commands of a session over a sliced heap, where a script names objects by ids. `m`, `f` and `w` return
+//! their reply; `r`, `s` and `p` build their reply in `line`.
 ghost use Rattle.std.specs.Prelude.{◌≡◌, ◌+◌, ◌<◌, ◌≤◌, [], IsTrue, Err, Some, length, slice_get};
 ghost use Rattle.cf_io.specs.Lines.{line_room};
 ghost use Rattle.cf_io.specs.Texts.{said};
@@ -20,8 +20,8 @@ use slice_model::{SliceFault, SliceRefusal};
 use sliced_heap::SlicedHeap;
 use step_ledger::Steps;
 
-/// `m`: makes an object of `bytes` bytes for an id that isn't live. The reply is `live` if the id is live,
-/// or names the heap's refusal.
+/// `m`: makes an object of `bytes` zero bytes for an id that isn't live. The reply is `ok`; or `live` if
+/// the id is live, or names the heap's refusal, and then nothing changes.
 pub(crate) fn malloc(
     ids: &mut IdTable,
     heap: &mut SlicedHeap,
@@ -45,7 +45,7 @@ pub(crate) fn malloc(
     }
 }
 
-/// The reply to a malloc that the heap refused.
+/// The reply to a malloc that the heap refused, by its cause.
 fn malloc_reply(refusal: SliceRefusal) -> Short
     ensures { short_text result ≡ slice_malloc_text (Err refusal) }
 {
@@ -57,8 +57,9 @@ fn malloc_reply(refusal: SliceRefusal) -> Short
     }
 }
 
-/// `f`: frees the object of a live id, and does the first slice of the job that the free begins. The reply
-/// is `unknown` if the id isn't live, or names the heap's fault.
+/// `f`: frees the object of a live id, and does the first slice of the job that the free begins. The reply is
+/// `ok`; or `unknown` if the id isn't live, or `busy` if the heap refuses because a job is pending, and then
+/// nothing changes.
 pub(crate) fn free(ids: &mut IdTable, heap: &mut SlicedHeap, id: u16, steps: &mut Steps) -> Short
     requires { IsTrue heap.old.is_open }
     ensures step { SliceStep (slice_run ids.old heap.old) (Free id) (said (short_text result)) (slice_run ids.new heap.new) }
@@ -76,7 +77,7 @@ pub(crate) fn free(ids: &mut IdTable, heap: &mut SlicedHeap, id: u16, steps: &mu
     }
 }
 
-/// The reply to a free that the heap refused.
+/// The reply to a free that the heap refused, by its cause.
 fn free_reply(fault: SliceFault) -> Short
     ensures { short_text result ≡ slice_free_text (Some fault) }
 {
@@ -86,8 +87,8 @@ fn free_reply(fault: SliceFault) -> Short
     }
 }
 
-/// `w`: writes bytes into the object of a live id, from byte `at` on. The reply is `unknown` if the id
-/// isn't live, or names the heap's fault if the bytes pass the object's end.
+/// `w`: writes these bytes into the object of a live id, from byte `at` on. The reply is `ok`; or `unknown` if
+/// the id isn't live, or `range` if the bytes pass the object's end, and then nothing changes.
 pub(crate) fn write(
     ids: &IdTable,
     heap: &mut SlicedHeap,
@@ -109,8 +110,8 @@ pub(crate) fn write(
     }
 }
 
-/// `r`: fills `buffer` with bytes of a live id's object, from byte `at` on, and writes them on the line in
-/// hexadecimal. The reply is `unknown` if the id isn't live, or names the heap's fault if the bytes pass
+/// `r`: reads as many bytes as `buffer` holds from the object of a live id, from byte `at` on. The reply in
+/// `line` is `=` and the bytes in hexadecimal; or `unknown` if the id isn't live, or `range` if the bytes pass
 /// the object's end.
 pub(crate) fn read(
     ids: &IdTable,
@@ -139,8 +140,8 @@ pub(crate) fn read(
     }
 }
 
-/// `s`: does one slice of the pending job, if there is one, and writes on the line the number of words
-/// that a job then has left: 0 if none is pending.
+/// `s`: does one slice of the pending job, if there is one. The reply in `line` is `left` and the number of
+/// words that a job then has still to do, 0 if none is pending.
 pub(crate) fn step(
     ids: &IdTable,
     heap: &mut SlicedHeap,
@@ -158,7 +159,8 @@ pub(crate) fn step(
     Outcome::Other
 }
 
-/// `p`: writes word `word` of the region on the line, or `range` if the region has no such word.
+/// `p`: the reply in `line` is word `word` of the region, counted from 0, or `range` if the region has no such
+/// word.
 pub(crate) fn peek(heap: &SlicedHeap, word: u32, line: &mut Line, steps: &mut Steps) -> Outcome
     requires open { IsTrue heap.now.is_open }
     requires empty { line.old ≡ [] }

@@ -23,9 +23,10 @@ ghost use Rattle.slice_session.specs.SliceRun.{IsGoingSliced, SliceRun, SliceSte
 
 use slice_model::{a_malloc_waits_for_a_job_alone, an_empty_heap_is_consistent};
 
-/// In every list of commands of several tasks, with slices of the jobs anywhere between them, each read
-/// returns the bytes last written through its id, also of an object in motion. The bytes depend on the
-/// ids in the lines and replies alone: on no address, handle or job.
+/// In every list of commands, with slices of the jobs anywhere between them, each read returns the bytes last
+/// written through its id, also those of an object in motion. These bytes follow from the lines and their
+/// replies alone: no address, handle or job changes them. Clause `run` is of a session's runs, `play` of those
+/// of its mode handler.
 pub fn reads_give_what_was_written()
     ensures run { (quantum : ℕ) (items : List Item) (replies : List Reply) (new : Option SliceRun)
         → RunsSliced quantum None items replies new → AreReadsOf None items replies }
@@ -33,9 +34,11 @@ pub fn reads_give_what_was_written()
         → RunBy slices from None items replies new → AreReadsOf None items replies }
 {}
 
-/// The reply to a refused malloc or free names its cause, and the command changes nothing. The reply to a
-/// malloc or a free is `busy` only if a job is pending. The reply to a malloc is `refused space` if and
-/// only if the objects need more pages than there are, whether a job is pending or not.
+/// The reply to a malloc names a cause of refusal if and only if this cause holds, and then nothing changes
+/// (clauses `malloc` and `refused`). So the reply is `refused space` if and only if the object fits a page, a
+/// proxy is free, and the objects with the new one need more pages than there are, whether a job is pending or
+/// not. If the reply to a free names a cause, this cause holds, and nothing changes (clause `free`). The reply
+/// to either is `busy` only if a job is pending (clauses `busy_malloc` and `busy_free`).
 pub fn replies_show_their_causes()
     ensures malloc { (old new : SliceRun) (id n : ℕ) (e : SliceRefusal) → get old.ids id ≡ None
         → SliceStep old (Malloc id n) (said (slice_malloc_text (Err e))) new
@@ -54,8 +57,9 @@ pub fn replies_show_their_causes()
     a_malloc_waits_for_a_job_alone();
 }
 
-/// A run can begin with any settings in their ranges and slices of any quantum. In each state of a run
-/// every command of the grammar has a reply, and the run is in progress after it.
+/// A run can begin with any settings in their ranges and slices of any quantum, and then is in progress. In
+/// each state of a run in progress every command that a script can contain has a reply, and the run is in
+/// progress after it.
 pub fn each_command_has_its_turn()
     ensures begins { (quantum : ℕ) (p : Profile) → IsQuantum quantum → AreInRange p
         → (new : SliceRun) × BeginsSliced quantum p new }

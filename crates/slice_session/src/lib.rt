@@ -1,5 +1,5 @@
-//! A session over a sliced heap: it maps ids to handles, and each command has one reply. Several tasks may
-//! send it commands, in any order. `run_slices` runs a script on it.
+//! A session over a sliced heap: it maps ids to handles, and each command has one reply. The heap leaves work
+//! pending after `f`, and does a slice of it at each `s`. `run_slices` runs a script on it.
 #![tactic(auto)]
 
 mod commands;

@@ -17,14 +17,15 @@ use step_ledger::Meter;
 #[derive(Drop)]
 pub struct SlicePlayer {
     pub session: SliceSession,
-    /// The most words of a slice on the heap that the script opens.
+    /// The quantum with which the `heap` line opens the heap: the most words of one slice of a job.
     pub quantum: u32,
     meter: Meter,
 }
 
 impl SlicePlayer {
-    /// A handler with a session in which no id is live, for a heap with slices of at most `quantum` words.
-    /// Allocates the table of all 65,536 ids; the result is `OutOfMemory` if that fails.
+    /// A handler with a new session, in which no id is live, for a heap with slices of at most `quantum`
+    /// words. Allocates the table of all 65,536 ids, and fails with `OutOfMemory` if there is no memory for
+    /// it.
     pub fn start(rt: &HostRuntime, alloc: Global, quantum: u32) -> Result<SlicePlayer, OutOfMemory>
         requires { IsQuantum quantum }
         ensures session { IfOk result (λ p. p.session ≡ map.empty) }
@@ -47,6 +48,7 @@ impl Player<SlicedHeap> for SlicePlayer {
 
     ghost semantics = { slices };
 
+    /// Opens the heap with the settings of the `heap` line and the quantum, and writes the reply `ok`.
     fn open<K: Sink>(
         &mut self,
         heap: &mut SlicedHeap,
@@ -59,6 +61,7 @@ impl Player<SlicedHeap> for SlicePlayer {
         Ok(())
     }
 
+    /// Does the command on the heap and writes its reply.
     fn answer<K: Sink>(
         &mut self,
         heap: &mut SlicedHeap,
@@ -71,9 +74,10 @@ impl Player<SlicedHeap> for SlicePlayer {
     }
 }
 
-/// Answers each line of a script before it takes the next chunk: the `heap` line opens the heap, with the
-/// bound 1 for each class, and each command is done on its objects. It stops at a bad line, if the source
-/// or the sink fails, if an allocation fails at the `heap` line, and after 268,435,455 bytes.
+/// Runs the script of a source on the heap, and writes the replies to a sink; the status says how it ended.
+/// The `heap` line opens the heap, with the bound 1 for each class; each later command is done on its
+/// objects. Each complete line has its reply before the next chunk is taken. The run stops at a bad line,
+/// if the source or the sink fails, if an allocation fails at the `heap` line, and after 268,435,455 bytes.
 pub fn run_slices<S: Source, K: Sink>(
     player: &mut SlicePlayer,
     heap: &mut SlicedHeap,

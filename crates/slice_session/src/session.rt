@@ -1,4 +1,4 @@
-//! A session over a sliced heap.
+//! A session over a sliced heap: it maps a script's ids to handles, does each command, and writes its reply.
 ghost use Rattle.std.specs.Prelude.{◌≡◌, ◌<◌, ◌≤◌, [], IsTrue, IfOk, OnErr, length, OnOk};
 ghost use Rattle.std.specs.FinMap as map;
 ghost use Rattle.cf_io.specs.Feeds.{FailsLast};
@@ -25,10 +25,10 @@ use std::alloc::Global;
 use std::marker::Model;
 use step_ledger::{Meter, Steps};
 
-/// The most bytes of one read.
+/// The most bytes that one `r` reads.
 const MOST: usize = 4_096;
 
-/// The ids of the objects of one sliced heap. Several tasks may share a session, and call it in any order.
+/// The ids of a script with the handles that they name in one sliced heap, and the buffers for replies.
 #[derive(Drop)]
 pub struct SliceSession {
     ids: IdTable,
@@ -49,8 +49,8 @@ impl Model for SliceSession {
 }
 
 impl SliceSession {
-    /// A session in which no id is live. Allocates the table of all 65,536 ids; the result is
-    /// `OutOfMemory` if that fails.
+    /// A new session, in which no id is live. Allocates the table of all 65,536 ids, and fails with
+    /// `OutOfMemory` if there is no memory for it.
     pub fn start(alloc: Global) -> Result<SliceSession, OutOfMemory>
         ensures { IfOk result (λ s. s ≡ map.empty) }
     {
@@ -61,8 +61,9 @@ impl SliceSession {
         })
     }
 
-    /// Resets the ledger to 0, does the command on the heap and writes its reply. If the sink fails, the
-    /// result is `Failed`: the command has taken effect, and a prefix of its reply was written.
+    /// Resets the ledger to 0, does the command c on the heap, and writes its reply to the sink `out`. If
+    /// the sink fails, the result is `Failed`: the command has taken effect, and a prefix of its reply was
+    /// written.
     pub fn apply<K: Sink>(
         &mut self,
         heap: &mut SlicedHeap,
@@ -85,7 +86,7 @@ impl SliceSession {
         self.apply_ref(heap, c.as_ref(), out, meter)
     }
 
-    /// `apply` for a command with borrowed bytes.
+    /// The same as `apply`, for a command whose bytes are borrowed.
     pub fn apply_ref<K: Sink>(
         &mut self,
         heap: &mut SlicedHeap,
@@ -108,8 +109,8 @@ impl SliceSession {
         self.answer_ref(heap, c, out, meter.steps())
     }
 
-    /// `apply_ref` on a ledger that the caller keeps: the call doesn't reset it, and raises it by at most
-    /// the steps of the command.
+    /// The same as `apply_ref`, but on a ledger that the caller keeps: the call doesn't reset it, and
+    /// raises it by at most `most_steps` of the command.
     pub fn answer_ref<K: Sink>(
         &mut self,
         heap: &mut SlicedHeap,
@@ -142,7 +143,7 @@ impl SliceSession {
     }
 }
 
-/// Does the command on the heap and writes its reply to the sink. If the sink fails, the result is
+/// Does the command c on the heap and writes its reply to the sink `out`. If the sink fails, the result is
 /// `Failed`: the command has taken effect, and a prefix of its reply was written.
 fn answer<K: Sink>(
     ids: &mut IdTable,
@@ -167,7 +168,8 @@ fn answer<K: Sink>(
     ended(put_line(line, out), outcome)
 }
 
-/// Does the command on the heap and writes the text of its reply on the line, not yet to a sink.
+/// Does the command c on the heap and builds the text of its reply in `line`, but writes it to no sink. The
+/// reply to a command of another mode is `none`.
 fn speak(
     ids: &mut IdTable,
     heap: &mut SlicedHeap,

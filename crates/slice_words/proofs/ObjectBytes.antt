@@ -19,11 +19,11 @@ use Rattle.slice_words.specs.Writes.{IsTouched, WritesBytes, byte_by}
 use Rattle.slice_words.specs.declared.halves.Halves.{Halves}
 use Rattle.slice_words.proofs.TwoParts.{word_high, word_low}
 
--- the halves of an object that moves to a
+-- the halves of an object that moves from slot k to the address a
 abbrev moved_halves : JobSlot → ℕ → Halves
 moved_halves k a = record { to = a; from = k.address; done = k.done }
 
--- beside every job the halves hold each word
+-- while any job is pending, the halves hold word i of the object where the model has it
 pub word_by_halves : (j : Job) (h : ℕ) (x : Placed) (i : ℕ) → place_of_word (halves_of j h x.place) i ≡ word_at j h x i
 word_by_halves Idle h x i = word_high (together x.place) i (omega arith)
 word_by_halves (Clear k) h x i = word_high (together x.place) i (omega arith)
@@ -62,7 +62,7 @@ module _ (place : ℕ → ℕ) (h : ℕ) (v : List ℕ) (old new : List ℕ) (at
     ]
   ]
 
-  -- a word that holds one of the bytes
+  -- a word that holds one of the bytes written is that of the object with the new bytes
   written_word : (i : ℕ) → IsTouched at (length bytes) (suc i) → get_or new (place (suc i)) 0 ≡ object_word h (written v at bytes) (suc i)
   written_word i t =
       let some = t.some in let last = t.last in let first = t.first in
@@ -82,7 +82,7 @@ module _ (place : ℕ → ℕ) (h : ℕ) (v : List ℕ) (old new : List ℕ) (at
       ∙ ap (λ d. byte_of j (object_word h (written v at bytes) (suc d))) div in
       sym a ∙ w.value (8 * i + j) touched ∙ new_byte (8 * i + j) (omega arith) ∙ sym (byte_of_object h (written v at bytes) (8 * i + j) good) ∙ b))
 
-  -- if no byte is written nothing changes
+  -- if no byte is written, no word changes
   pub nothing_written : length bytes ≡ 0 → (a : ℕ) → get_or new a 0 ≡ get_or old a 0
   nothing_written none a = w.others a (λ i t. absurd (let some = t.some in omega arith))
 
@@ -101,7 +101,7 @@ module _ (place : ℕ → ℕ) (h : ℕ) (v : List ℕ) (old new : List ℕ) (at
       same [] none fits = written_nothing v at (omega arith)
       same (b ∷ bs) none fits = absurd (omega arith)
 
--- the words of an object are then those of the object with the bytes
+-- after a write in the halves the words of the object are those of the object with the new bytes
 pub object_rewritten : (j : Job) (h : ℕ) (x : Placed) (old new : List ℕ) (at : ℕ) (bytes : List ℕ)
     → h < 2 ^ 32 → length x.bytes < 2 ^ 32 → AreBytes x.bytes → AreBytes bytes → at + length bytes ≤ length x.bytes
     → ((i : ℕ) → i < 1 + (length x.bytes + 7) / 8 → get_or old (word_at j h x i) 0 ≡ object_word h x.bytes i)

@@ -7,7 +7,7 @@ use Rattle.word_bytes.specs.Overwriting.{Overwrites, byte_from}
 use Rattle.word_bytes.proofs.CallerLemmas.{byte_shift, overwritten_before, overwritten_behind, overwritten_inside}
 use Rattle.slice_words.specs.Writes.{WritesBytes, byte_by, word_from}
 
--- the same bytes, counted from a later one
+-- bytes that overwrite others are the same if they are counted from byte d on
 shifted : (f g : ℕ → ℕ) (d from at : ℕ) (part : List ℕ) (k : ℕ) → d ≤ k → d + from ≡ at → g (k - d) ≡ f k
     → overwritten g from part (k - d) ≡ overwritten f at part k
 shifted f g d from at part k le is same = elim (cases_lt k at) [
@@ -20,7 +20,7 @@ shifted f g d from at part k le is same = elim (cases_lt k at) [
   ]
 ]
 
--- a byte, counted from the word after the header
+-- byte k of the object, counted from the word after its header
 byte_here : (words : List ℕ) (place k : ℕ) → byte_from words (place + 1) k ≡ byte_by (word_from place) words k
 byte_here words place k = ap (λ i. byte_of (k % 8) (get_or words i 0)) (let e : place + 1 + k / 8 ≡ place + (1 + k / 8) = omega arith in e)
 
@@ -28,13 +28,13 @@ module _ (words : List ℕ) (place at k : ℕ) (le : 8 * (at / 8) ≤ k) where
   byte_later : byte_from words (place + 1 + at / 8) (k - 8 * (at / 8)) ≡ byte_by (word_from place) words k
   byte_later = byte_shift words (place + 1) (at / 8) k le ∙ byte_here words place k
 
--- the bytes that a read of a run returns, counted from the header
+-- byte k of a run of words that begins with byte `at` of the object is byte `at + k` of the object
 pub read_later : (words : List ℕ) (place at k : ℕ) → byte_from words (place + 1 + at / 8) (at % 8 + k) ≡ byte_from words (place + 1) (at + k)
 read_later words place at k =
     let e : at % 8 + k ≡ at + k - 8 * (at / 8) = omega arith in
     ap (byte_from words (place + 1 + at / 8)) e ∙ byte_shift words (place + 1) (at / 8) (at + k) (omega arith)
 
--- bytes that are written over others in a run of words
+-- a write over bytes of a run of words is a write over bytes of the object (`WritesBytes`)
 pub part_writes : (old new : List ℕ) (place at : ℕ) (bytes : List ℕ) → length bytes ≢ 0
     → Overwrites old new (record { from = place + 1 + at / 8; count = (at % 8 + length bytes + 7) / 8 }) (at % 8) bytes
     → WritesBytes old new (word_from place) at bytes
@@ -59,7 +59,7 @@ part_writes old new place at bytes some o = record {
       (byte_later old place at k le));
 }
 
--- to write no bytes changes nothing
+-- a write of no bytes changes nothing
 pub writes_none : (words : List ℕ) (place : ℕ → ℕ) (at : ℕ) (bytes : List ℕ) → length bytes ≡ 0 → WritesBytes words words place at bytes
 writes_none words place at bytes none = record {
   others = λ w out. refl;

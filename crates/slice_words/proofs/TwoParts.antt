@@ -16,7 +16,7 @@ use Rattle.slice_words.specs.Halves.{AreApart, byte_in, first_bytes, place_of_wo
 use Rattle.slice_words.specs.Writes.{IsTouched, WritesBytes, byte_by, word_from}
 use Rattle.slice_words.specs.declared.halves.Halves.{Halves}
 
--- the address of a word of each half
+-- the address of word i of the first half; below, of the second half
 pub word_low : (s : Halves) (i : ℕ) → i < s.done → place_of_word s i ≡ s.to + i
 word_low s i lt = (let f = le_no s.done i lt in rw f)
 
@@ -83,11 +83,11 @@ module _ (s : Halves) (at count : ℕ) where
     | inr none ↦ inr (omega arith)
   ]
 
-  -- no word holds a byte of both
+  -- no word holds bytes of both halves
   pub touched_apart : words_touched at first + words_touched (at + first) (count - first) ≤ words_touched at count
   touched_apart = grind (arith, nat_tests)
 
--- the bytes of both halves are written
+-- two writes, one in each half, are one write of all the bytes
 module _ (s : Halves) (at : ℕ) (bytes : List ℕ) (apart : AreApart s (1 + (at + length bytes + 7) / 8)) (old mid new : List ℕ) where
   abbrev n : ℕ
   n = first_bytes s at (length bytes)
@@ -163,7 +163,7 @@ module _ (s : Halves) (at : ℕ) (bytes : List ℕ) (apart : AreApart s (1 + (at
       behind k (inl le) = rest_same (byte_by (place_of_word s) old) at n bytes k few le
       behind k (inr none) = nothing_before (byte_by (place_of_word s) old) n none k
 
--- the steps of both parts are at most those of the words that hold one of the bytes
+-- the steps of the two reads or writes, one in each half, are at most one for each word that holds one of the bytes
 pub two_bounds : (s : Halves) (at count f l r x y z : ℕ) → f ≡ first_bytes s at count → l ≡ f → r ≡ count - f → RoseAtMost x y (words_touched at l)
     → RoseAtMost y z (words_touched (at + f) r) → RoseAtMost x z (words_touched at count)
 two_bounds s at count f l r x y z is left right a b =
@@ -175,7 +175,7 @@ two_bounds s at count f l r x y z is left right a b =
     let high = b.bound in
     record { kept = (let u = a.kept in let v = b.kept in omega arith); bound = omega arith }
 
--- the bytes that are read from both
+-- two reads, one from each half, return the bytes of the object
 pub read_two : (s : Halves) (at count f : ℕ) (words a b : List ℕ) → f ≡ first_bytes s at count → length a ≡ f → length b ≡ count - f
     → ((j : ℕ) → j < length a → get_or a j 0 ≡ byte_from words (s.to + 1) (at + j))
     → ((j : ℕ) → j < length b → get_or b j 0 ≡ byte_from words (s.from + 1) (at + f + j))

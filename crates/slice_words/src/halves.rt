@@ -1,4 +1,4 @@
-//! Reads and writes an object whose words lie in two halves.
+//! Reads and writes the bytes of an object whose words are in two halves, since a job is moving it.
 ghost use Rattle.std.specs.Prelude.{◌≡◌, ℕ, ◌+◌, ◌-◌, ◌*◌, ◌/◌, ◌^◌, ◌<◌, ◌≤◌, length, min, slice_index};
 ghost use Rattle.cf_model.specs.Costs.{words_touched};
 ghost use Rattle.step_ledger.specs.Counting.{RoseAtMost, RoseBy};
@@ -12,17 +12,19 @@ use step_ledger::Steps;
 /// The number of bytes of a word.
 const CELL: usize = 8;
 
-/// The addresses of the words of an object, its header among them: word i is at `to + i`, its new
-/// address, if i is below `done`, else at `from + i`. If the object isn't in motion, `to` and `from`
-/// are both its address.
+/// Where the words of an object are, from its header, word 0, on. Word i is at `to + i` if i is below `done`,
+/// else at `from + i`. If no job moves the object, `to` and `from` are both its address, and `done` is 0.
 #[derive(Clone, Copy, Debug, PartialEq, Eq)]
 pub struct Halves {
+    /// The object's new address.
     pub to: u32,
+    /// The first word of the slot that the object leaves.
     pub from: u32,
+    /// The number of its words that were moved, the header among them.
     pub done: u32,
 }
 
-/// Reads word `i` of the object, for one step.
+/// Reads word `i` of the object whose halves are `s`; word 0 is its header. Costs one step.
 pub fn read_word(region: &Region, s: Halves, i: u32, steps: &mut Steps) -> u64
     requires small { length region.now < 2 ^ 32 }
     requires to { s.to + i < length region.now }
@@ -34,7 +36,8 @@ pub fn read_word(region: &Region, s: Halves, i: u32, steps: &mut Steps) -> u64
     region.read(start + i, steps)
 }
 
-/// The number of bytes, of the object's `count` bytes from byte `at` on, that lie in its first half.
+/// The number of bytes, of the object's `count` bytes from byte `at` on, that are in its first half: the words
+/// that were moved.
 fn first_bytes(s: Halves, at: u32, count: usize) -> usize
     ensures { result ≡ first_bytes s at count }
 {
@@ -43,8 +46,8 @@ fn first_bytes(s: Halves, at: u32, count: usize) -> usize
         .min(count)
 }
 
-/// Fills `out` with the bytes of the object from byte `at` on, each from its half. Costs at most one
-/// step for each word that holds one of them.
+/// Fills `out` with the bytes from byte `at` on of the object whose halves are `s`, each from the half that
+/// holds it. Costs at most one step for each word that holds one of them.
 pub fn read_halves(region: &Region, s: Halves, at: u32, out: &mut [u8], steps: &mut Steps)
     requires small { length region.now < 2 ^ 32 }
     requires short { at + length out.old < 2 ^ 32 }
@@ -59,8 +62,8 @@ pub fn read_halves(region: &Region, s: Halves, at: u32, out: &mut [u8], steps: &
     read_part(region, s.from, at + first as u32, high, steps);
 }
 
-/// Writes `bytes` over those of the object from byte `at` on, each in its half. Costs at most one step
-/// for each word that holds one of them.
+/// Writes `bytes` over the bytes from byte `at` on of the object whose halves are `s`, each in the half that
+/// holds it. Costs at most one step for each word that holds one of them.
 pub fn write_halves(region: &mut Region, s: Halves, at: u32, bytes: &[u8], steps: &mut Steps)
     requires small { length region.old < 2 ^ 32 }
     requires short { at + length bytes.now < 2 ^ 32 }

@@ -7,8 +7,8 @@ use region::Region;
 use slice_model::JobSlot;
 use step_ledger::Steps;
 
-/// The number of words that the next slice of a job does, if `done` of its `size` words are done: a
-/// quantum, or the words left if they are fewer.
+/// The number of words that the next slice of a job clears or moves, if the job has `size` words, of which
+/// `done` are done: the quantum, or all words left if they are fewer.
 pub fn words_of_slice(size: u32, done: u32, quantum: u32) -> u32
     requires { done ≤ size }
     ensures { result ≡ min quantum (size - done) }
@@ -16,7 +16,8 @@ pub fn words_of_slice(size: u32, done: u32, quantum: u32) -> u32
     quantum.min(size - done)
 }
 
-/// Clears the next `n` words of the job's slot, for one step each.
+/// Clears the next `n` words of slot `k`, after the `k.done` words that were cleared before. Costs a step for
+/// each.
 pub fn clear_next(region: &mut Region, k: JobSlot, n: u32, steps: &mut Steps)
     requires small { length region.old < 2 ^ 32 }
     requires within { k.address + k.done + n ≤ length region.old }
@@ -27,8 +28,8 @@ pub fn clear_next(region: &mut Region, k: JobSlot, n: u32, steps: &mut Steps)
     region.clear(k.address + k.done, n, steps);
 }
 
-/// Moves the next `n` words of the job's slot to the slot at `to`, and leaves zeros behind, for one
-/// step each.
+/// Moves the next `n` words of slot `k`, after the `k.done` words that were moved before, to the same places in
+/// the slot at `to`, and leaves zeros in slot `k`. Costs a step for each.
 pub fn move_next(region: &mut Region, k: JobSlot, to: u32, n: u32, steps: &mut Steps)
     requires small { length region.old < 2 ^ 32 }
     requires source { k.address + k.done + n ≤ length region.old }

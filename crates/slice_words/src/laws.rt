@@ -1,4 +1,5 @@
-//! Laws on the halves of an object while a job is pending.
+//! Laws on the halves of an object while a job `j` is pending: they agree with the model of the sliced heap. In
+//! each law `h` is the object's number and `x` its address and bytes.
 ghost use Rattle.std.specs.Prelude.{ℕ, ◌≡◌, ◌+◌, ◌/◌, ◌%◌, ◌^◌, ◌<◌, ◌≤◌, List, length, slice_index};
 ghost use Rattle.page_model.specs.Bytes.{AreBytes, written};
 ghost use Rattle.page_model.specs.Held.{Placed};
@@ -8,15 +9,15 @@ ghost use Rattle.slice_model.specs.Words.{RewritesObject, byte_read, word_at};
 ghost use Rattle.slice_words.specs.Halves.{byte_in, halves_of, place_of_word};
 ghost use Rattle.slice_words.specs.Writes.{WritesBytes};
 
-/// With every job, `Halves` has the address of each of an object's words in the model; so the bytes in
-/// its halves are those that the model reads.
+/// While any job is pending, word `i` of the object is in its halves at the address that it has in the model.
+/// So byte `k` in its halves is the one that the model reads.
 pub fn halves_are_where_the_words_stand()
     ensures words { (j : Job) (h : ℕ) (x : Placed) (i : ℕ) → place_of_word (halves_of j h x.place) i ≡ word_at j h x i }
     ensures bytes { (j : Job) (h : ℕ) (x : Placed) (words : List ℕ) (k : ℕ) → byte_in (halves_of j h x.place) words k ≡ byte_read j words h x k }
 {}
 
-/// After bytes are written over those of an object in its halves, its words, each at its present
-/// address, are those of the object with these bytes.
+/// If each word of the object is at its present address, and `bytes` are then written in its halves from byte
+/// `at` on, the words that hold these bytes are those of the object with the bytes, and no other word changes.
 pub fn written_bytes_are_those_of_the_object()
     ensures { (j : Job) (h : ℕ) (x : Placed) (old new : List ℕ) (at : ℕ) (bytes : List ℕ)
         → h < 2 ^ 32 → length x.bytes < 2 ^ 32 → AreBytes x.bytes → AreBytes bytes → at + length bytes ≤ length x.bytes

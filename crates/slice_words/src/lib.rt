@@ -1,6 +1,6 @@
-//! The words of an object while a sliced heap moves it from one slot to another: the first of them
-//! lie at its new address, the others in the slot that it leaves. Its bytes are read and written in
-//! place, in at most two runs of words; and the next words of a job are cleared or moved.
+//! What the sliced heap does to the words of its region. While a job moves an object, the first words of
+//! the object are at its new address and the others still in its old slot: its two halves. This crate
+//! reads and writes the object's bytes there, and clears or moves the next words of a job.
 #![tactic(auto)]
 
 mod halves;

@@ -1,4 +1,4 @@
--- For `find`, `read` and `write`: an object's bytes in the halves in which its words lie.
+-- For `find`, `read` and `write`: which words hold the bytes of an object whose words lie in two halves.
 use Rattle.std.proofs.Common.{◌≡◌, ℕ, ◌+◌, ◌/◌, ◌%◌, ◌^◌, ◌<◌, ◌≤◌, List, length, get_or, Some, None, arith, refl, sym, ◌∙◌, ap, subst, inl, inr}
 use Rattle.std.specs.Prelude.{option_map}
 use Rattle.std.proofs.lemmas.Bool.{cases_eq}
@@ -34,7 +34,7 @@ use Rattle.sliced_heap.proofs.Counts.{needed_same}
 use Rattle.sliced_heap.proofs.HeldFromWords.{place_there}
 use Rattle.sliced_heap.proofs.Preserved.{Becomes, becomes_plan, becomes_state, becomes_valid}
 
--- the halves of an object; one may be in the job's slot
+-- both halves of an object lie in the region, also if one is in the job's slot
 halves_within : (p : Paging) (count : ℕ) (j : Job) (q : ℕ) (x : Placed) → x.place + slot_for p (length x.bytes) ≤ count
     → ((k : JobSlot) → j ≡ Move q k → k.address + slot_for p (length x.bytes) ≤ count)
     → ((halves_of j q x.place).to + slot_for p (length x.bytes) ≤ count) × ((halves_of j q x.place).from + slot_for p (length x.bytes) ≤ count)
@@ -66,7 +66,7 @@ module _ (h : Heap) (k : IsValid h) (q : ℕ) (x : Placed) (there : get (state_o
       let long = k.words_long in
       omega arith))
 
-  -- no two words of different halves have one address
+  -- no word of the first half has the address of one of the second
   pub apart : (n : ℕ) → n ≤ slot_for (paging_at h) (length x.bytes) → AreApart (halves_of h.job q x.place) n
   apart n le i j lt ge less same =
       let a = word_low s i lt in
@@ -77,12 +77,12 @@ module _ (h : Heap) (k : IsValid h) (q : ℕ) (x : Placed) (there : get (state_o
       let e = own.1 in
       omega arith
 
-  -- a part that passes the end, and one that doesn't
+  -- bytes that pass the object's end
   pub out_of_reach : (from count : ℕ) → length x.bytes < from + count
       → (v : List ℕ) × (get (objects (state_of h).held) q ≡ Some v) × (length v < from + count)
   out_of_reach from count more = (x.bytes, bytes_held m q x there, more)
 
-  -- bytes that are read
+  -- bytes of the object that are read
   pub reads : (at count : ℕ) → at + count ≤ length x.bytes → (out : List ℕ) → length out ≡ count
       → ((i : ℕ) → i < length out → get_or out i 0 ≡ byte_in (halves_of h.job q x.place) h.words (at + i))
       → Reads (working_of h) (record { number = q; from = at }) count out
@@ -94,7 +94,7 @@ module _ (h : Heap) (k : IsValid h) (q : ℕ) (x : Placed) (there : get (state_o
     bytes = λ i lt. each i (omega arith) ∙ byte_by_halves h.job q x h.words (at + i);
   }
 
-  -- bytes that are written
+  -- bytes that are written over those of the object
   module _ (at : ℕ) (bytes : List ℕ) (are : AreBytes bytes) (fits : at + length bytes ≤ length x.bytes) (n : Heap)
       (rest : n ≡ record h { words = n.words }) (long : length n.words ≡ length h.words)
       (w : WritesBytes h.words n.words (place_of_word (halves_of h.job q x.place)) at bytes) where
@@ -169,11 +169,11 @@ module _ (h : Heap) (k : IsValid h) (q : ℕ) (x : Placed) (there : get (state_o
       words = rewrites;
     }
 
--- a number that isn't live
+-- a number without an address has no object
 pub unknown : (h : Heap) (k : IsValid h) (q : ℕ) → get h.proxies.places q ≡ None → get (objects (state_of h).held) q ≡ None
 unknown h k q none = get-map_values (λ (y : Placed). y.bytes) (state_of h).held q ∙ ap (option_map (λ (y : Placed). y.bytes)) (no_place h k q none)
 
--- a live number, whose address and halves were found
+-- `find` for a live number q, whose address is a, so that the halves are s
 module _ (h : Heap) (k : IsValid h) (q a : ℕ) (known : get h.proxies.places q ≡ Some a) (s : Halves) (is : s ≡ halves_of h.job q a) where
   found : (x : Placed) × (get (state_of h).held q ≡ Some x) × (x.place ≡ a)
   found = has_place h k q a known
@@ -193,7 +193,7 @@ module _ (h : Heap) (k : IsValid h) (q a : ℕ) (known : get h.proxies.places q 
   head_from = (let w = (within h k q x found.1).1 in let o = holds h k q x found.1 in
       let e : s.from ≡ (halves_of h.job q x.place).from = ap (λ (y : Halves). y.from) halves_are in omega arith)
 
-  -- the length that the header holds
+  -- `size` is the length that the header holds: that of the object
   module _ (size : ℕ) (shown : size ≡ get_or h.words (place_of_word s 0) 0 / 2 ^ 32) where
     size_is : size ≡ length x.bytes
     size_is = shown ∙ head_length h k q x found.1 (place_of_word s 0) (ap (λ y. place_of_word y 0) halves_are ∙ word_by_halves h.job q x 0)
@@ -204,7 +204,7 @@ module _ (h : Heap) (k : IsValid h) (q a : ℕ) (known : get h.proxies.places q 
     pub lies : (from count : ℕ) → from + count ≤ size → Lies h (record { number = q; from = from }) count s
     lies from count fits = record { object = x; found = found.1; within = (let e = size_is in omega arith); halves = halves_are }
 
--- a part that lies in an object
+-- `count` bytes from byte `at` on, which an object has: their words are in the region
 module _ (h : Heap) (k : IsValid h) (q at count : ℕ) (s : Halves) (l : Lies h (record { number = q; from = at }) count s) where
   room : (1 + (at + count + 7) / 8 ≤ slot_for (paging_at h) (length l.object.bytes)) × (at + count ≤ 131072)
   room = (let o = holds h k q l.object l.found in let few = bytes_few h k q l.object l.found in let w = l.within in (omega arith, omega arith))

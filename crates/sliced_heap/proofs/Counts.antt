@@ -16,7 +16,7 @@ use Rattle.page_model.specs.Paging.{Paging, IsPaging, class_for, classes, slots_
 use Rattle.page_model.proofs.CallerLemmas.{live_added, live_taken, slots_some, sum_same}
 use Rattle.sliced_heap.specs.Layout.{opens}
 
--- the pages of one more object
+-- one more object of a class adds one page to those that its objects need, or none (`opens`)
 ceil_more : (n m : ℕ) → 0 < m → ceil_div (n + 1) m ≡ ceil_div n m + opens m n
 ceil_more n m pos =
     let e : n / m * m + n % m ≡ n = div-add-mod' n m in

@@ -28,7 +28,7 @@ use Rattle.sliced_heap.proofs.FillLemmas.{stand_class, stand_there, two, words_c
 use Rattle.sliced_heap.proofs.Preserved.{Becomes, becomes_plan, becomes_state, becomes_valid}
 use Rattle.cf_lemmas.proofs.Maps.{remove_fresh}
 
--- if an object is to move to the slot, the next job follows
+-- if `fill` chose an object to move to the slot, the end of the job is followed by the next job, as the model says
 pub filled_ends : (h : Heap) (k : IsValid h) (g : JobSlot) → h.job ≡ Clear g → (n : Heap) → IsFilled h g n → Ends (paging_at h) (state_of h).held g (state_of n)
 filled_ends h k g at n f =
     let must : MustMove (paging_at h) (insert (state_of h).held h.settings.proxies (placeholder (paging_at h) g)) (placeholder (paging_at h) g) =
@@ -51,14 +51,14 @@ module _ (h : Heap) (k : IsValid h) (g : JobSlot) (at : h.job ≡ Clear g) where
   abbrev m : Held
   m = (state_of h).held
 
-  -- the slot is used in the tables
+  -- the tables show the job's slot as used
   pub slot_used : IsUsed (tables_in h) g.class (page_at h.classes g.address) (slot_at h.classes g.class g.address)
   slot_used =
       let u = (occupied_clear h k g at).stands h.settings.proxies (placeholder (paging_at h) g) (stand_there h k g at) in
       subst (λ (t : ClassTable). IsUsed (tables_in h) g.class (page_at t g.address) (slot_at t g.class g.address)) (table_is h k)
       (subst (λ c. IsUsed (tables_in h) c (page_of (paging_at h) g.address) (slot_at (class_table (paging_at h)) c g.address)) (stand_class h k g at) u)
 
-  -- the slot becomes free in the tables
+  -- the slot becomes free: heap n has the tables that show it so, and no job
   module _ (stays : ¬ MustMove (paging_at h) (occupied (plan_of h) (state_of h)) (placeholder (paging_at h) g))
       (zeros : (i : ℕ) → i < slot_words (paging_at h) g.class → get_or h.words (g.address + i) 0 ≡ 0) (n : Heap)
       (rest : n ≡ record h { maps = n.maps; lists = n.lists; pool = n.pool; job = Idle })
@@ -130,7 +130,7 @@ module _ (h : Heap) (k : IsValid h) (g : JobSlot) (at : h.job ≡ Clear g) where
     pub idle_plan : plan_of n ≡ plan_of h
     idle_plan = becomes_plan h n k s becomes
 
-    -- its slot becomes free in the order
+    -- the order changes as it does when the slot becomes free
     freed : order_in n ≡ slot_freed (paging_at h) (insert m h.settings.proxies (placeholder (paging_at h) g)) (order_in h) g.class
         (page_of (paging_at h) g.address)
     freed = ap order_in rest
@@ -142,7 +142,7 @@ module _ (h : Heap) (k : IsValid h) (g : JobSlot) (at : h.job ≡ Clear g) where
     pub idle_ends : Ends (paging_at h) (state_of h).held g (state_of n)
     idle_ends = subst (Ends (paging_at h) m g) (sym (becomes_state h n k s becomes)) ends_idle
 
--- as above, for a heap t that equals h
+-- the lemmas above together, for a heap t that equals h
 pub idle_at : (h : Heap) (k : IsValid h) (g : JobSlot) → h.job ≡ Clear g → ¬ MustMove (paging_at h) (occupied (plan_of h) (state_of h))
     (placeholder (paging_at h) g)
     → ((i : ℕ) → i < slot_words (paging_at h) g.class → get_or h.words (g.address + i) 0 ≡ 0) → (t n : Heap) → t ≡ h

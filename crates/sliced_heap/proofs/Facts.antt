@@ -1,4 +1,4 @@
--- What follows from an open heap's invariant: its paging, its tables, its objects.
+-- For all other files here: what the invariant of an open heap says of its paging, its tables and its objects.
 use Rattle.std.proofs.Common.{◌≡◌, ℕ, ◌^◌, ◌<◌, ◌≤◌, length, Some, None, arith, refl, sym, ◌∙◌, ap, subst}
 use Rattle.std.specs.Prelude.{option_map}
 use Rattle.std.specs.FinMap.{get, len}
@@ -77,7 +77,7 @@ module _ (h : Heap) (k : IsValid h) where
   pub held_bytes : (q : ℕ) (x : Placed) → get (state_of h).held q ≡ Some x → AreBytes x.bytes
   held_bytes q x there = held_at_bytes (completed (paging_at h) h.job h.proxies.places h.words) h.proxies.places q x there
 
--- an open heap with other tables; if they have the same classes, nothing else changes
+-- the heap h with other tables and page lists; if the classes are the same, no other field of it changes
 abbrev pub seen_with : OpenHeap → PageTables → PageLists → Heap
 seen_with h t lists = seen (record h { tables = t; lists = lists })
 

@@ -35,7 +35,7 @@ use Rattle.sliced_heap.proofs.Places.{changed_occupied}
 use Rattle.sliced_heap.proofs.Preserved.{Becomes, becomes_plan, becomes_state, becomes_valid}
 use Rattle.sliced_heap.proofs.StepCounts.{drop_partly}
 
--- A job with one word left: what every state keeps if its slot gets an object.
+-- If the slot of a job `Clear` gets an object, the rules of the model hold: the step is a slice that does the last word of such a job.
 module _ (plan : Plan) (ok : IsPlan plan) (m : Held) (k : JobSlot) (kept : IsKept plan (record { held = m; job = Clear k })) where
   abbrev last : JobSlot
   last = record k { done = slot_words plan.paging k.class - 1 }
@@ -107,14 +107,14 @@ module _ (h : Heap) (k : IsValid h) (g : JobSlot) (at : h.job ≡ Clear g) where
   page_is : page_at h.classes g.address ≡ page_of (paging_at h) g.address
   page_is = ap (λ (t : ClassTable). g.address / t.page_words) k.table
 
-  -- what the test of a move asks for
+  -- what `must_move` requires
   pub page_within : page_at h.classes g.address < length h.maps
   page_within = (let lt = found_page (paging_ok h k) k.serve.part occupied_clear h.settings.proxies stand_there in let e = page_is in rw e lt)
 
   pub class_listed : g.class < h.lists.classes
   class_listed = (let lt = found_class (paging_ok h k) k.serve.part occupied_clear h.settings.proxies stand_there in rw stand_class at lt)
 
-  -- the test holds if and only if the slot must be filled (`MustMove`)
+  -- `must_move` returns true if and only if the slot must be filled (`MustMove`)
   pub must_is : MovesObject (slice_index_or h.maps (page_at h.classes g.address) []) (length (pages_in h.lists g.class NotFull)) 1
       ↔ MustMove (paging_at h) (insert (state_of h).held h.settings.proxies (placeholder (paging_at h) g)) (placeholder (paging_at h) g)
   must_is =

@@ -29,7 +29,7 @@ use Rattle.sliced_heap.proofs.Headers.{in_class}
 use Rattle.sliced_heap.proofs.Places.{stood_in}
 use Rattle.sliced_heap.proofs.Preserved.{Becomes, becomes_plan, becomes_state, becomes_valid}
 
--- removing an object and making clearing its slot the job keeps the rules of the model
+-- if an object is removed and the new job clears its slot, the rules of the model still hold
 pub kept_vacant : (plan : Plan) → IsPlan plan → (m : Held) → IsKept plan (record { held = m; job = Idle }) → (q : ℕ) (x : Placed) → get m q ≡ Some x
     → IsKept plan (record { held = remove m q; job = Clear (fresh_slot x.place (class_at plan.paging x)) })
 kept_vacant plan ok m kept q x there =
@@ -45,7 +45,7 @@ kept_vacant plan ok m kept q x there =
           (get_remove_other m q plan.proxies (λ e. ne (sym e)) ∙ none) class kept.sound;
     }
 
--- in n the number q is free, one object of class c fewer is counted, and the job is to clear the slot at a
+-- from heap h to heap n: the proxy q is released, one object of class c fewer is counted, and the job is to clear the slot at a
 pub record IsFreed (h n : Heap) (q a c : ℕ) : Type 0 where
   pub rest : n ≡ record h {
     proxies = without_place h.proxies q;
@@ -165,7 +165,7 @@ module _ (h : Heap) (k : IsValid h) (idle : h.job ≡ Idle) (q : ℕ) (x : Place
       order = ap order_in g.rest;
     }
 
--- as above, with the address and the class as the code computes them
+-- the lemmas above together, for the address a and the class c as the code computes them
 pub forgets_at : (h : Heap) (k : IsValid h) → h.job ≡ Idle → (q : ℕ) (x : Placed) → get (state_of h).held q ≡ Some x → (a c : ℕ) → x.place ≡ a
     → class_at (paging_at h) x ≡ c → (n : Heap) → IsFreed h n q a c → Forgets h q (fresh_slot a c) n × IsValid n
 forgets_at h k idle q x there a c at is n =

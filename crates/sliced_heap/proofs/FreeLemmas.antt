@@ -44,7 +44,7 @@ module _ (h : Heap) (k : IsValid h) (idle : h.job ≡ Idle) (q : ℕ) (x : Place
       let none = no_placeholder (plan_of h) m k.kept.numbers in
       get_remove_other m q h.settings.proxies (λ e. other_than m h.settings.proxies q x none there (sym e)) ∙ none
 
-  -- each page holds the same number of objects of each class, with the slot's placeholder in place of the object
+  -- with the slot's placeholder in place of the freed object each page holds as many objects of each class as before
   same_counts : (d page : ℕ) → objects_on (paging_at h) all d page ≡ objects_on (paging_at h) m d page
   same_counts d page = objects_on-exchanged (paging_at h) m q x there h.settings.proxies
       (replicate (8 * (slot_words (paging_at h) c - 1)) 0) none_left stand_class d page
@@ -52,7 +52,7 @@ module _ (h : Heap) (k : IsValid h) (idle : h.job ≡ Idle) (q : ℕ) (x : Place
   same_open : not_full_pages (paging_at h) all c ≡ not_full_pages (paging_at h) m c
   same_open = not_full-same (paging_at h) m all c (λ page. same_counts c page)
 
-  -- so a free must move an object in the one arrangement if and only if in the other
+  -- so the placeholder's slot must be filled if and only if the freed object's slot must be
   pub must_of_placeholder : MustMove (paging_at h) (insert (remove (state_of h).held q) h.settings.proxies
       (placeholder (paging_at h) (fresh_slot x.place (class_at (paging_at h) x))))
       (placeholder (paging_at h) (fresh_slot x.place (class_at (paging_at h) x))) → MustMove (paging_at h) (state_of h).held x
@@ -71,7 +71,7 @@ module _ (h : Heap) (k : IsValid h) (idle : h.job ≡ Idle) (q : ℕ) (x : Place
     many = rw stand_class (same_open ∙ must.many);
   }
 
-  -- the taken slots are the same, too
+  -- the addresses of objects, with the placeholder's, are the same as before
   taken_alone : (a : ℕ) → IsTaken all a → IsTaken m a
   taken_alone a (r, y, there', is) = elim (some_inserted (remove m q) h.settings.proxies (placeholder (paging_at h) g) r y there') [
     | inl (_, same) ↦ (q, x, there, ap (λ (z : Placed). z.place) same ∙ is)
@@ -98,7 +98,7 @@ module _ (h : Heap) (k : IsValid h) (idle : h.job ≡ Idle) (q : ℕ) (x : Place
     )
   ]
 
-  -- so the next object to move is the same
+  -- so the object that the order lists next to move is the same
   next_alone : (o : Order) (y : Placed) → IsNextToMove (paging_at h) all (record o { spare = q ∷ o.spare }) c y → IsNextToMove (paging_at h) m o c y
   next_alone o y n = record {
     page = n.page;
@@ -109,7 +109,7 @@ module _ (h : Heap) (k : IsValid h) (idle : h.job ≡ Idle) (q : ℕ) (x : Place
     address = n.address;
   }
 
-  -- the slot is vacant, then filled or not, and a slice follows
+  -- heap a after `forget`, heap b after `fill`, heap n after the slice
   module _ (a n : Heap) (f : Forgets h q g a) (ka : IsValid a) where
     occupied_is : occupied (plan_of a) (state_of a) ≡ all
     occupied_is = ap (λ p. occupied p (state_of a)) f.plan ∙ ap (occupied (plan_of h)) f.state
@@ -211,7 +211,7 @@ module _ (h : Heap) (k : IsValid h) (idle : h.job ≡ Idle) (q : ℕ) (x : Place
       frees true v = filled_frees v
       frees false v = vacant_frees v
 
--- as above, from the clauses of `forget`, `fill` and `slice`
+-- the whole free, from the clauses of `forget`, `fill` and `slice`
 pub frees_from : (h : Heap) (k : IsValid h) → h.job ≡ Idle → (q : ℕ) (g : JobSlot) (a b n : Heap) → Forgets h q g a → IsValid a → (filled : Bool)
     → Fills a g filled b
     → SlicesInOrder (plan_of b) (working_of b) (working_of n) (order_in b) (order_in n)

@@ -51,7 +51,7 @@ module _ (h : Heap) (k : IsValid h) (q : ℕ) (x : Placed) (there : get (state_o
   pub class_known_at : class_of h.classes.sizes (length x.bytes) ≡ Some (class_at (paging_at h) x)
   class_known_at = ap (λ (t : ClassTable). class_of t.sizes (length x.bytes)) k.table ∙ class_known (paging_at h) (paging_ok h k) (length x.bytes) in_class
 
--- a request that has a class fits, and it is that of the model
+-- if the class table has a class for `bytes` bytes, an object of this length fits a page, and the class is that of the model
 pub class_is : (h : Heap) → IsValid h → (bytes c : ℕ) → Some c ≡ class_of h.classes.sizes bytes → (need bytes ≤ h.settings.page_words)
     × (class_for (paging_at h) bytes ≡ c) × (c < classes (paging_at h))
 class_is h k bytes c e =
@@ -65,7 +65,7 @@ class_is h k bytes c e =
           (fits, is, subst (λ c. c < classes (paging_at h)) is lt))
     ]
 
--- a request that has none is larger than a page
+-- if the class table has no class for `bytes` bytes, an object of this length is larger than a page
 pub no_class : (h : Heap) → IsValid h → (bytes : ℕ) → None ≡ class_of h.classes.sizes bytes → h.settings.page_words < need bytes
 no_class h k bytes e = elim (cases_lt h.settings.page_words (need bytes)) [
   | inl more ↦ more

@@ -1,4 +1,4 @@
--- The words and the addresses determine the objects, also while a job is pending.
+-- For `state_of` after a call: the words and the addresses by number determine the objects, also while a job is pending.
 use Rattle.std.proofs.Common.{◌≡◌, ℕ, ◌+◌, ◌-◌, ◌*◌, ◌<◌, ◌≤◌, List, Option, Some, None, length, get_or, arith, refl, sym, ◌∙◌, ap, subst}
 use Rattle.std.specs.Prelude.{option_map}
 use Rattle.std.specs.Ordering.{nat_cmp}
@@ -21,11 +21,11 @@ use Rattle.slice_words.proofs.CallerLemmas.{part_apart}
 use Rattle.word_bytes.proofs.CallerLemmas.{cleared_clears, moved_moves}
 use Rattle.sliced_heap.specs.Layout.{completed, rest_moved}
 
--- the address of an object among the addresses
+-- the address that the map of addresses has for an object is the object's
 pub place_there : (m : Held) (at : FinMap nat_cmp ℕ) → at ≡ places m → (q : ℕ) (x : Placed) → get m q ≡ Some x → get at q ≡ Some x.place
 place_there m at e q x there = ap (λ n. get n q) e ∙ get-map_values (λ (y : Placed). y.place) m q ∙ ap (option_map (λ (y : Placed). y.place)) there
 
--- the object that a job moves is of the class of its slot, however much is done
+-- the object that a job moves is of the class of the job's slot, however many of its words are done
 pub mover_at : (p : Paging) (m : Held) (q : ℕ) (k : JobSlot) (x : Placed) → get m q ≡ Some x → class_at p x ≡ k.class → (d : ℕ)
     → (g : JobSlot) (h : ℕ) (y : Placed) → Move q (record k { done = d }) ≡ Move h g → get m h ≡ Some y → class_at p y ≡ g.class
 mover_at p m q k x there class d g h y move there' =
@@ -36,7 +36,7 @@ mover_at p m q k x there class d g h y move there' =
     let f' : x ≡ y = cc in
     sym (ap (class_at p) f') ∙ class ∙ ap (λ (z : JobSlot). z.class) b
 
--- The words once all that is left of a job is done: those of no job, and zeros in the job's slot.
+-- These words are as they must be after the last word of a job: right for the objects m without a job, and 0 in the job's slot.
 pub record AreEnded (p : Paging) (m : Held) (k : JobSlot) (words : List ℕ) : Type 0 where
   pub idle : HasWords p (record { held = m; job = Idle }) words
   pub zeros : (i : ℕ) → i < slot_words p k.class → get_or words (k.address + i) 0 ≡ 0
@@ -66,7 +66,7 @@ module _ (plan : Plan) (ok : IsPlan plan) (m : Held) (k : JobSlot) (words words'
         zeros = λ i lt. after.done (record k { done = k.done + n }) refl i (omega arith);
       }
 
--- the part of the job's slot that has still to move is apart from its new place
+-- the words of the job's slot that are yet to move don't overlap the place to which they move
 pub parts_apart : (plan : Plan) → IsPlan plan → (m : Held) (q : ℕ) (k : JobSlot) → IsKept plan (record { held = m; job = Move q k }) → (x : Placed)
     → get m q ≡ Some x → class_at plan.paging x ≡ k.class → (n : ℕ) → k.done + n ≤ slot_words plan.paging k.class
     → IsDisjoint (k.address + k.done) n (x.place + k.done) n
@@ -76,7 +76,7 @@ parts_apart plan ok m q k kept x there class n le =
     part_apart k.address x.place (slot_words plan.paging k.class) k.done n
     (subst (λ n. IsDisjoint k.address (slot_words plan.paging k.class) x.place n) size (apart.job k q x refl there)) le
 
--- with all that is left of the job done the words are those of no job
+-- if the words left of the job are done too, the words of the region are right for the objects without a job
 pub completed_words : (plan : Plan) → IsPlan plan → (m : Held) (j : Job) → IsKept plan (record { held = m; job = j }) → (at : FinMap nat_cmp ℕ) → at ≡ places m
     → (words : List ℕ) → length words ≡ plan.paging.pages * plan.paging.page_words → HasWords plan.paging (record { held = m; job = j }) words
     → HasWords plan.paging (record { held = m; job = Idle }) (completed plan.paging j at words)

@@ -67,7 +67,7 @@ module _ (h : Heap) (k : IsValid h) (bytes c : ℕ) (found : Some c ≡ class_of
       let few = h.settings.few_proxies in
       omega arith
 
-  -- the pages that are needed with the object, by the counts
+  -- the pages that the objects with the new one need, computed from the heap's counts
   pub needed_is : pages_needed_with (paging_at h) (objects (state_of h).held) bytes
       ≡ h.needed + opens (slots h.classes.page_words h.classes.sizes c) (get_or h.live c 0)
   needed_is =
@@ -253,14 +253,14 @@ module _ (h : Heap) (k : IsValid h) (bytes c : ℕ) (found : Some c ≡ class_of
             follows = follows;
           }
 
--- if the test that the sum is over fails
+-- if the test `is_over` fails, the pages are enough
 pub within_of : (b : Bool) (x y : ℕ) → (IsTrue b ↔ (y < x)) → b ≡ false → x ≤ y
 within_of b x y iff fails = elim (cases_lt y x) [
   | inl lt ↦ absurd (false≢true (sym fails ∙ iff.1 lt))
   | inr le ↦ le
 ]
 
--- a slot is taken, the object is bound, and it is counted
+-- heap t after the slot is taken, heap b after `bind`, heap n after `count_in`: the fields of n in terms of those of h
 module _ (h t b n : Heap) (a q c w : ℕ) (et : t ≡ record h { maps = t.maps; lists = t.lists; pool = t.pool })
     (eb : b ≡ record t { proxies = with_place t.proxies q a; words = set t.words a w })
     (en : n ≡ record b {
@@ -301,7 +301,7 @@ module _ (h t b n : Heap) (a q c w : ℕ) (et : t ≡ record h { maps = t.maps; 
   unfolding with_tables
   all_changes = by_taken ∙ ap with_tables (sym on_taken)
 
--- from these parts: the object is added
+-- the whole malloc, from the clauses of the functions that it calls
 pub given_from : (h : Heap) (k : IsValid h) (bytes c : ℕ) → Some c ≡ class_of h.classes.sizes bytes → len h.proxies.places ≢ h.settings.proxies
     → h.needed + opens (slots h.classes.page_words h.classes.sizes c) (get_or h.live c 0) ≤ h.settings.pages → (t b n : Heap) (a q : ℕ)
     → TakesAt h.classes (tables_in h) c a (tables_in t) → AreTables h.classes (tables_in t) → t ≡ record h { maps = t.maps; lists = t.lists; pool = t.pool }

@@ -29,7 +29,7 @@ use Rattle.slice_model.specs.Words.{HasWords}
 use Rattle.sliced_heap.specs.Heap.{Heap}
 use Rattle.sliced_heap.specs.Layout.{IsNew, IsValid, completed, order_in, paging_at, paging_for, plan_of, profile_at, state_of, tables_in}
 
--- the parts of a heap that was just opened
+-- the fields of a heap that was just opened
 pub record IsFirst (s : Settings) (n : ℕ) (h : Heap) : Type 0 where
   pub settings : h.settings ≡ s
   pub asked : h.quantum ≡ n

@@ -1,4 +1,4 @@
--- The order of an open heap is one of its objects, with the job's slot as a taken one.
+-- For the clauses `ordered` and `order`: the lists of an open heap are an order of its objects and of the placeholder in the job's slot (`IsOrderBeside`).
 use Rattle.std.proofs.Common.{◌≡◌, ℕ, ◌+◌, ◌<◌, List, Option, Some, None, length, arith, ◌∙◌}
 use Rattle.std.specs.List.{Contains}
 use Rattle.std.specs.FinMap.{get, len}
@@ -13,7 +13,7 @@ use Rattle.sliced_heap.specs.Heap.{Heap}
 use Rattle.sliced_heap.specs.Layout.{IsValid, order_in, plan_of, state_of}
 use Rattle.sliced_heap.proofs.Facts.{held_len, no_place, paging_ok}
 
--- the numbers that no object has, beside the placeholder of a job
+-- the spare numbers are those that neither an object nor the placeholder of a job has
 module _ (plan : Plan) (m : Held) (none : get m plan.proxies ≡ None) (spare : List ℕ) where
   free_beside : (o : Option JobSlot) → ((q : ℕ) → Contains spare q → (q < plan.proxies) × (get m q ≡ None)) → (q : ℕ) → Contains spare q
       → (q < numbers_beside plan o) × (get (with_slot plan m o) q ≡ None)

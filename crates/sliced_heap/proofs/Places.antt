@@ -11,7 +11,7 @@ use Rattle.page_slots.specs.Tables.{Tables, IsUsed, slot_at}
 use Rattle.page_slots.specs.Occupying.{Occupies, class_table}
 use Rattle.page_slots.proofs.CallerLemmas.{renumbered_occupied, rewritten_occupied}
 
--- the tables stay right if an object is replaced by a placeholder of its class at its address
+-- the tables still hold the used slots if an object is replaced by a placeholder of its class at its address
 pub stood_in : (p : Paging) (m : Held) (t : Tables) → Occupies p m t → (q : ℕ) (x : Placed) → get m q ≡ Some x → (P : ℕ) → get m P ≡ None
     → (bytes : List ℕ) → class_at p (record { place = x.place; bytes = bytes }) ≡ class_at p x
     → Occupies p (insert (remove m q) P (record { place = x.place; bytes = bytes })) t
@@ -26,7 +26,7 @@ stood_in p m t o q x there P none bytes class =
     without (inl is) = ap (get (remove m q)) is ∙ get_removed m q
     without (inr ne) = get_remove_other m q P ne ∙ none
 
--- The tables stay right if an object and the placeholder of its class exchange addresses.
+-- The tables still hold the used slots if an object and the placeholder of its class exchange addresses.
 module _ (p : Paging) (m : Held) (t : Tables) (P : ℕ) (f : Placed) (o : Occupies p (insert m P f) t) (q : ℕ) (y : Placed) (there : get m q ≡ Some y)
     (ne : q ≢ P)
     (class : class_at p y ≡ class_at p f) where

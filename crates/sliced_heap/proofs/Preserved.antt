@@ -1,4 +1,4 @@
--- An open heap whose objects, words, tables and counts changed together keeps its invariant, and has that state.
+-- For each call that changes a heap: if the objects, words, tables and counts that it leaves fit each other (`Becomes`), the heap is valid (`IsValid`).
 use Rattle.std.proofs.Common.{◌≡◌, ℕ, ◌<◌, ◌≤◌, length, get_or, Some, arith, sym, ◌∙◌, ap, subst}
 use Rattle.std.specs.FinMap.{get}
 use Rattle.page_model.specs.Arrangement.{live, pages_needed}
@@ -14,7 +14,7 @@ use Rattle.sliced_heap.specs.Layout.{IsValid, paging_at, plan_of, state_of, tabl
 use Rattle.sliced_heap.proofs.Facts.{plan_ok}
 use Rattle.sliced_heap.proofs.HeldFromWords.{held_shown}
 
--- n has the state s, and what no call changes is as in h
+-- heap h becomes heap n, whose words, tables and counts are those of the state s; what no call changes is as in h
 pub record Becomes (h n : Heap) (s : Sliced) : Type 0 where
   pub settings : n.settings ≡ h.settings
   pub quantum : n.quantum ≡ h.quantum
@@ -34,7 +34,7 @@ pub record Becomes (h n : Heap) (s : Sliced) : Type 0 where
   pub needed : n.needed ≡ pages_needed (paging_at h) (objects s.held)
   pub within : n.needed ≤ h.settings.pages
 
--- n with this job; what no call changes is as in h
+-- heap n with the job of the state s; the settings, the quantum and the classes are those of heap h
 abbrev with_rest : Heap → Heap → Sliced → Heap
 with_rest h n s = record n { settings = h.settings; quantum = h.quantum; classes = h.classes; job = s.job }
 

@@ -1,4 +1,4 @@
--- An open heap keeps the rules that callers see.
+-- For `is_open` and the clauses `rules`: a heap that is open and valid keeps the rules that callers see (`KeepsRules`).
 use Rattle.std.proofs.Common.{◌≡◌, ℕ, List, Option, Some, None, refl, sym, ◌∙◌, ap, subst}
 use Rattle.std.specs.Prelude.{IsTrue, is_some, option_map}
 use Rattle.std.proofs.lemmas.Bool.{false≢true}
@@ -28,7 +28,7 @@ keeps h k = record {
   order = order_ok (seen h) k;
 }
 
--- as above, for the value s that contracts show
+-- the same for the value s that contracts show of the heap
 pub keeps_of : (o : Option OpenHeap) → IsValidIn o → (s : SlicedState) → shown o ≡ s → IsTrue s.is_open → KeepsRules s
 keeps_of None k s is open_now = absurd (false≢true (ap (λ (t : SlicedState). t.is_open) is ∙ open_now))
 keeps_of (Some h) k s is open_now = subst KeepsRules is (keeps h k)

@@ -21,11 +21,11 @@ use Rattle.sliced_heap.proofs.Facts.{held_bytes, places_are, plan_ok}
 use Rattle.sliced_heap.proofs.HeldFromWords.{AreEnded}
 use Rattle.sliced_heap.proofs.Preserved.{Becomes, becomes_plan, becomes_state, becomes_valid}
 
--- the state of a heap whose job is j
+-- the state of a heap whose job is j, with j written out
 pub state_at : (h : Heap) (j : Job) → h.job ≡ j → state_of h ≡ record { held = (state_of h).held; job = j }
 state_at h j at = ap (λ j. record { held = (state_of h).held; job = j }) at
 
--- a slice of the job j is a slice of the heap, if j is its job
+-- if j is the pending job, a slice of j is a slice as the model has it
 pub slices_at : (plan : Plan) (old : Working) (j : Job) → old.state.job ≡ j → (new : Working)
     → IsSlice plan (record { held = old.state.held; job = j }) new.state
     → DoesWords old.state.held j (words_of_slice plan (job_slot j)) old.words new.words → Slices plan old new
@@ -33,7 +33,7 @@ slices_at plan old j at new slice does =
     subst (λ j. Slices plan (record { state = record { held = old.state.held; job = j }; words = old.words }) new) (sym at)
     (record { slice = slice; words = does })
 
--- the objects, tables and counts of n are those of h
+-- heap n has the settings, tables, addresses and counts of heap h; only the words and the job may differ
 pub record KeepsTables (h n : Heap) : Type 0 where
   pub settings : n.settings ≡ h.settings
   pub quantum : n.quantum ≡ h.quantum
@@ -44,7 +44,7 @@ pub record KeepsTables (h n : Heap) : Type 0 where
   pub proxies : n.proxies ≡ h.proxies
   pub long : length n.words ≡ length h.words
 
--- the heap stays valid with another job of the same slot and other words
+-- the heap n is valid if its job j has the same slot as before, and its words are right for j
 module _ (h n : Heap) (k : IsValid h) (same : KeepsTables h n) (j : Job) (is : n.job ≡ j)
     (kept : IsKept (plan_of h) (record { held = (state_of h).held; job = j }))
     (words : HasWords (paging_at h) (record { held = (state_of h).held; job = j }) n.words)
@@ -83,7 +83,7 @@ module _ (h n : Heap) (k : IsValid h) (same : KeepsTables h n) (j : Job) (is : n
   pub job_plan : plan_of n ≡ plan_of h
   job_plan = becomes_plan h n k s becomes
 
--- the job of a heap is j, and its slot g
+-- a slice leads from heap h, whose job is j with slot g, to heap n
 module _ (h n : Heap) (k : IsValid h) (same : KeepsTables h n) (j : Job) (at : h.job ≡ j) (g : JobSlot) (slot : job_slot j ≡ Some g) where
   abbrev m : Held
   m = (state_of h).held
@@ -97,12 +97,12 @@ module _ (h n : Heap) (k : IsValid h) (same : KeepsTables h n) (j : Job) (at : h
   slot_at : job_slot h.job ≡ Some g
   slot_at = ap job_slot at ∙ slot
 
-  -- the number of words that a slice does
+  -- the slice does the words that the quantum allows
   module _ (does : DoesWords (state_of h).held j (min h.quantum (slot_words (paging_at h) g.class - g.done)) h.words n.words) where
     does_slice : DoesWords m j (words_of_slice (plan_of h) (job_slot j)) h.words n.words
     does_slice = subst (λ o. DoesWords m j (words_of_slice (plan_of h) o) h.words n.words) (sym slot) does
 
-    -- some words of the job are left
+    -- some words of the job are left after the slice
     module _ (left : done_after (plan_of h) g < slot_words (paging_at h) g.class) (is : n.job ≡ advanced j (done_after (plan_of h) g)) where
       goes : IsSlice (plan_of h) (record { held = m; job = j }) (record { held = m; job = advanced j (done_after (plan_of h) g) })
       goes = subst (λ o. SliceOf (plan_of h) (record { held = m; job = j }) o (record { held = m; job = advanced j (done_after (plan_of h) g) })) (sym slot)
@@ -131,7 +131,7 @@ module _ (h n : Heap) (k : IsValid h) (same : KeepsTables h n) (j : Job) (at : h
           (advanced j (done_after (plan_of h) g)) is kept_on words_on same_slot)) goes)
           does_slice
 
-    -- all are done, and the slot is vacant
+    -- all words of the job are done, and heap z is the one after `end`
     module _ (all : done_after (plan_of h) g ≡ slot_words (paging_at h) g.class) (z : Heap)
         (ends : Ends (paging_at h) (state_of h).held (record g { done = 0 }) (state_of z)) (same_words : z.words ≡ n.words) where
       pub end_slices : Slices (plan_of h) (working_of h) (working_of z)
@@ -143,7 +143,7 @@ module _ (h n : Heap) (k : IsValid h) (same : KeepsTables h n) (j : Job) (at : h
           from_fresh (inl over) = inl over
           from_fresh (inr c) = inr (record { two = c.two; object = c.object; beside = c.beside; carries = c.carries })
 
-  -- the slot of a job whose words are all done is to be cleared, as if nothing were done
+  -- when all words are done, the job becomes one that clears the same slot with no word done yet: the heap is still valid
   module _ (ended : AreEnded (paging_at h) (state_of h).held g n.words) (is : n.job ≡ Clear (record g { done = 0 })) where
     under : IsUnderWay (paging_at h) g
     under = job_class (paging_at h) m j kept_at.job g slot
@@ -220,7 +220,7 @@ module _ (h : Heap) (k : IsValid h) (j : Job) (at : h.job ≡ j) (g : JobSlot) (
   held_slot : job_slot h.job ≡ Some g
   held_slot = ap job_slot at ∙ slot
 
-  -- some words are left
+  -- some words are left after the slice
   module _ (left : g.done + n < get_or h.classes.sizes g.class 0) where
     left_so : done_after (plan_of h) g < slot_words (paging_at h) g.class
     left_so = (let e = sizes_are in let d = done_is in omega arith)
@@ -241,7 +241,7 @@ module _ (h : Heap) (k : IsValid h) (j : Job) (at : h.job ≡ j) (g : JobSlot) (
           (record { goes_on = λ _. refl; ends = λ all. absurd (let l = left_so in omega arith) });
     }
 
-  -- all words are done
+  -- all words are done after the slice
   module _ (past : get_or h.classes.sizes g.class 0 ≤ g.done + n) where
     all : g.done + n ≡ slot_words (paging_at h) g.class
     all = (let e = sizes_are in let c = count_is in let u = under_way in omega arith)

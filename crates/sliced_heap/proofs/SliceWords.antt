@@ -1,4 +1,4 @@
--- A slice of a job that clears its slot, and of one that moves an object, by the words that it leaves.
+-- For `clear_slice` and `move_slice`: the words that a slice clears or moves lie in the region, and what the region's words are after the slice.
 use Rattle.std.proofs.Common.{◌≡◌, ℕ, ◌+◌, ◌-◌, ◌≤◌, List, length, get_or, Some, None, arith, refl, sym, ◌∙◌, ap, subst}
 use Rattle.std.specs.Prelude.{min}
 use Rattle.std.specs.FinMap.{get}
@@ -49,7 +49,7 @@ module _ (h : Heap) (k : IsValid h) (g : JobSlot) where
     abbrev o : (x : Placed) × (get (state_of h).held q ≡ Some x) × (class_at (paging_at h) x ≡ g.class)
     o = kept_move.job.1
 
-    -- the object has an address
+    -- the object that moves has an address
     pub move_known : None ≡ get h.proxies.places q → ⊥
     move_known none = (let z : None ≡ Some o.0.place = none ∙ place_known h k q o.0 o.1 in cc)
 

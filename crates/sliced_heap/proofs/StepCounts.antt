@@ -1,4 +1,4 @@
--- For the clauses `steps`: the most steps of a slice and of a free.
+-- For the clauses `steps` of `slice` and `free_live`: the most steps of each, as the sum of their parts.
 use Rattle.std.proofs.Common.{◌≡◌, ℕ, ◌+◌, ◌-◌, ◌<◌, ◌≤◌, length, Some, arith, refl, sym, ◌∙◌, ap, subst, inl, inr}
 use Rattle.std.specs.Prelude.{Bool, true, false, IsTrue, if◌then◌else◌, nat_eq}
 use Rattle.std.proofs.lemmas.Bool.{cases_lt}
@@ -31,7 +31,7 @@ drop_partly used n lt = (let e = eq_no used n (λ same. absurd (omega arith)) in
     by_test true = omega arith
     by_test false = omega arith
 
--- the words of a slice, if some are left after it and if none is
+-- `words_steps`, if some words are left after the slice and if none is
 words_on : (q n last : ℕ) → q < n → words_steps q n last ≡ q
 words_on q n last lt = (let e = le_no n q lt in rw e refl)
 
@@ -44,20 +44,20 @@ words_more q n a b le = elim (cases_lt q n) [
   | inr all ↦ (let x = words_last q n a all in let y = words_last q n b all in omega arith)
 ]
 
--- the end of a job
+-- the end of a job costs at most 14 steps
 end_within : (h : Heap) (k : JobSlot) → end_most h k ≤ 14
 end_within h k =
     let d = drop_most (used_in (slots_on (tables_in h) (page_at h.classes k.address))) (length (slots_on (tables_in h) (page_at h.classes k.address))) in
     omega arith
 
--- the words of the freed object are those of its slot, with nothing done
+-- the words left of the job after `forget` are all those of the freed object's slot
 gone_words : (h a : Heap) (q : ℕ) (g : JobSlot) → Forgets h q g a → slot_words (paging_at h) g.class - 0 ≡ words_of (plan_of h) (state_of h) q
 gone_words h a q g f =
     let none : slot_words (paging_at h) g.class - 0 ≡ slot_words (paging_at h) g.class = omega arith in
     let there = f.found in
     none ∙ ap (λ (k : JobSlot). slot_words (paging_at h) k.class) f.slot ∙ sym (rw (words_of, there) refl)
 
--- A free: an object is removed, its slot is filled or not, and the first slice follows.
+-- The steps of a free: those of `forget`, of `fill` and of the first slice.
 pub free_takes : (h a b : Heap) (q : ℕ) (g : JobSlot) (filled : Bool) (w x y z : ℕ) → Forgets h q g a → Fills a g filled b
     → (IsTrue filled → (k : JobSlot) → job_slot b.job ≡ Some k → IsPartlyFull b k)
     → RoseBy w x 4 → RoseBy x y (if filled then 6 else 1) → RoseAtMost y z (job_most b b.job)

@@ -1,4 +1,4 @@
--- The results of reads and writes, and finding the words that they need.
+-- For `read` and `write` of a sliced heap: their results as the model has them, and what `find` returns.
 use Rattle.std.specs.Prelude.{◌≡◌, ℕ, ◌+◌, ◌≤◌, List, length, Option, Some, None, Result, Ok, Err}
 use Rattle.std.specs.FinMap.{get}
 use Rattle.cf_base.specs.declared.answers.AccessFault.{AccessFault}
@@ -10,24 +10,24 @@ use Rattle.slice_words.specs.declared.halves.Halves.{Halves}
 use Rattle.sliced_heap.specs.Heap.{Heap}
 use Rattle.sliced_heap.specs.Layout.{state_of}
 
--- the result of a read, as the model has it: the bytes, or the fault
+-- the model's result of a read, from the result of the function and the bytes then in the caller's buffer: those bytes, or the fault
 abbrev pub bytes_or_fault : {T : Type 0} → Result T AccessFault → List ℕ → Result (List ℕ) AccessFault
 bytes_or_fault (Ok u) out = Ok out
 bytes_or_fault (Err e) out = Err e
 
--- the fault of a write, if it was refused
+-- the fault of a write from the function's result; None if it was not refused
 abbrev pub access_fault : {T : Type 0} → Result T AccessFault → Option AccessFault
 access_fault (Ok u) = None
 access_fault (Err e) = Some e
 
--- object `part.number` is live and has `count` bytes from byte `part.from` on, and its words lie in the halves s
+-- in heap h object `part.number` is live and has `count` bytes from byte `part.from` on, and its words lie in the halves s
 pub record Lies (h : Heap) (part : Part) (count : ℕ) (s : Halves) : Type 0 where
   pub object : Placed
   pub found : get (state_of h).held part.number ≡ Some object
   pub within : part.from + count ≤ length object.bytes
   pub halves : s ≡ halves_of h.job part.number object.place
 
--- what `find` returns: the halves in which the object's words lie, or the fault of the call
+-- what `find` returns for object `part.number` and `count` bytes from byte `part.from` on: the halves in which its words lie, or a fault with its cause
 abbrev pub IsFound : Heap → Part → ℕ → Result Halves AccessFault → Type 0
 IsFound h part count (Ok s) = Lies h part count s
 IsFound h part count (Err e) = IsOutOfReach (objects (state_of h).held) part count e

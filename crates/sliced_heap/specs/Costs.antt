@@ -1,4 +1,4 @@
--- The most steps of each call, each reached.
+-- The most steps that each call of a sliced heap costs. For each there is a call that costs as many.
 use Rattle.std.specs.Prelude.{ℕ, ◌+◌, ◌-◌, Option, Some, None, Result, Ok, Err, nat_le, if◌then◌else◌}
 use Rattle.std.specs.FinMap.{get}
 use Rattle.cf_base.specs.declared.answers.AccessFault.{AccessFault}
@@ -12,7 +12,8 @@ use Rattle.slice_model.specs.declared.answers.SliceFault.{SliceFault}
 use Rattle.slice_model.specs.declared.answers.SliceRefusal.{SliceRefusal}
 use Rattle.slice_model.specs.declared.answers.SliceRefusal.TheVariants as refusal
 
--- a malloc: the class, a slot whose use makes its page full, the proxy and the header; refused, the class; refused as `Busy`, also the search for a slot
+-- A malloc that is done: its class is looked up; a slot is taken, and its page becomes full; the proxy is bound; the header is written. A refused malloc
+-- only looks up the class, and for `Busy` also searches for a slot.
 abbrev pub malloc_steps : Result Handle SliceRefusal → ℕ
 malloc_steps (Ok h) = 17
 malloc_steps (Err refusal.Size) = 1
@@ -20,17 +21,17 @@ malloc_steps (Err refusal.Proxy) = 1
 malloc_steps (Err refusal.Space) = 1
 malloc_steps (Err refusal.Busy) = 3
 
--- the steps of a slice of at most q words if n words are left, with `last` steps more if the slice does all of them
+-- the steps of a slice of at most q words, 1 a word, if n words of the job are left; if the slice does all of them, `last` steps more
 abbrev pub words_steps : ℕ → ℕ → ℕ → ℕ
 words_steps q n last = if nat_le n q then n + last else q
 
--- a slice: its words; after the last of them the tables of the slot's page; and the proxy of the object that the job moves, if it moves one
+-- a slice of this job: a step for each word; 14 more, for the tables of the slot's page, if the job ends; 1 more for the proxy of an object that it moves
 abbrev pub job_steps : Plan → Job → ℕ
 job_steps plan Idle = 0
 job_steps plan (Clear k) = words_steps plan.quantum (slot_words plan.paging k.class - k.done) 14
 job_steps plan (Move h k) = 1 + words_steps plan.quantum (slot_words plan.paging k.class - k.done) 14
 
--- the most steps of a slice in this state
+-- the most steps of a slice in the state s
 abbrev pub slice_steps : Plan → Sliced → ℕ
 slice_steps plan s = job_steps plan s.job
 
@@ -38,7 +39,8 @@ slice_steps plan s = job_steps plan s.job
 abbrev pub words_of : Plan → Sliced → ℕ → ℕ
 words_of plan s h = elim (get s.held h) [ None ↦ 0 | Some x ↦ slot_words plan.paging (class_at plan.paging x) ]
 
--- a free: the headers, the proxies and the tables of the object and of one that moves, and the first slice; refused, the proxy
+-- A free of object h in the state s. If it is done, 12 steps are for the headers, the proxies and the tables of the freed object and of one that moves; the
+-- others are those of the first slice. A refused free only looks up the proxy.
 abbrev pub free_steps : Plan → Sliced → ℕ → Option SliceFault → ℕ
 free_steps plan s h None = 12 + words_steps plan.quantum (words_of plan s h) 11
 free_steps plan s h (Some e) = 1

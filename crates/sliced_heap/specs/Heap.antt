@@ -10,6 +10,8 @@ use Rattle.sliced_heap.specs.declared.open_heap.OpenHeap.{OpenHeap}
 use Rattle.sliced_heap.specs.declared.open_heap.Pending.{Pending}
 use Rattle.sliced_heap.specs.declared.open_heap.Pending.TheVariants as pending
 
+-- An open heap: its settings; the most words of a slice; the size classes; the number of live objects of each class; the pages that these objects need; the
+-- words of the region; the used slots of each page; the page lists of each class; the free pages; the addresses by number; and the pending job.
 pub record Heap : Type 0 where
   pub settings : Settings
   pub quantum : ℕ
@@ -23,13 +25,13 @@ pub record Heap : Type 0 where
   pub proxies : Proxies
   pub job : Job
 
--- the model's job of a pending one
+-- the pending job of the code as the model's job
 abbrev pub job_of : Pending → Job
 job_of pending.Idle = Idle
 job_of (pending.Clear k) = Clear k
 job_of (pending.Move h k) = Move h.0 k
 
--- the definitions' view of an open heap
+-- the open heap of the code as the record that the definitions use
 abbrev pub seen : OpenHeap → Heap
 seen h = record {
   settings = h.settings;

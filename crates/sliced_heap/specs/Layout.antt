@@ -22,7 +22,7 @@ use Rattle.slice_model.specs.Words.{HasWords}
 use Rattle.slice_model.specs.Runs.{Working}
 use Rattle.sliced_heap.specs.Heap.{Heap}
 
--- the settings, with bound 1 in place of theirs
+-- the settings as the model has them, with bound 1 in place of their own
 abbrev pub profile_at : Settings → Profile
 profile_at s = record { pages = s.pages; page_words = s.page_words; k = 1; proxies = s.proxies }
 
@@ -34,16 +34,16 @@ paging_for s = paging_of (profile_at s) Words (first_bounds (profile_at s) Words
 abbrev pub paging_at : Heap → Paging
 paging_at h = paging_for h.settings
 
--- the model's settings of an open heap
+-- the model's settings of an open heap: its pages and classes, its proxies and its quantum
 abbrev pub plan_of : Heap → Plan
 plan_of h = record { paging = paging_for h.settings; proxies = h.settings.proxies; quantum = h.quantum }
 
--- the words as they will be after the rest of the job's slot is moved to the object's address a
+-- the words as they will be after those of slot k that are not yet moved are moved to the moving object's address a; unchanged if it has no address
 abbrev pub rest_moved : Paging → JobSlot → Option ℕ → List ℕ → List ℕ
 rest_moved p k None words = words
 rest_moved p k (Some a) words = moved words (k.address + k.done) (a + k.done) (slot_words p k.class - k.done)
 
--- the words as they will be after the rest of the job is done
+-- the words as they will be after the rest of the job is done, with pages and classes p, if `places` has the objects' addresses by number
 abbrev pub completed : Paging → Job → FinMap nat_cmp ℕ → List ℕ → List ℕ
 completed p Idle places words = words
 completed p (Clear k) places words = cleared words (k.address + k.done) (slot_words p k.class - k.done)
@@ -53,7 +53,7 @@ completed p (Move q k) places words = rest_moved p k (get places q) words
 abbrev pub state_of : Heap → Sliced
 state_of h = record { held = held_at (completed (paging_at h) h.job h.proxies.places h.words) h.proxies.places; job = h.job }
 
--- the model's state with the present words
+-- the model's state, and the words as they are now, with the job half done
 abbrev pub working_of : Heap → Working
 working_of h = record { state = state_of h; words = h.words }
 
@@ -61,7 +61,7 @@ working_of h = record { state = state_of h; words = h.words }
 abbrev pub tables_in : Heap → Tables
 tables_in h = tables h.maps h.lists h.pool
 
--- the order: what the tables and the spare numbers list next
+-- the order: what the heap uses next, by its tables and its list of spare numbers
 abbrev pub order_in : Heap → Order
 order_in h = order_of (classes (paging_at h)) (tables_in h) h.proxies.free
 
@@ -69,8 +69,9 @@ order_in h = order_of (classes (paging_at h)) (tables_in h) h.proxies.free
 abbrev pub opens : ℕ → ℕ → ℕ
 opens m n = if nat_eq (n % m) 0 then 1 else 0
 
--- The invariant of an open heap: the state keeps the rules; the words are those of the state; the tables hold the slots that the objects and the job use;
--- the counts are those of the objects.
+-- The invariant of an open heap h. `kept`: the objects and the job keep the rules of the model. `words`: each word of the region is as the objects and the
+-- job determine it. `serve` and `occupied`: the tables have the used slots of the objects and of the job, and no others. `counted` and `needed`: the counts
+-- are those of the objects. The others: the tables and the region have the sizes of the settings, and the quantum is at least one word.
 pub record IsValid (h : Heap) : Type 0 where
   pub table : h.classes ≡ table_of h.settings.page_words Words
   pub quantum : 1 ≤ h.quantum
@@ -86,7 +87,7 @@ pub record IsValid (h : Heap) : Type 0 where
   pub needed : h.needed ≡ pages_needed (paging_at h) (objects (state_of h).held)
   pub within : h.needed ≤ h.settings.pages
 
--- a heap that was just opened, with slices of at most n words
+-- h is a heap that was just opened with the settings s and slices of at most n words: it has no object and no job, and all its words are 0
 pub record IsNew (s : Settings) (n : ℕ) (h : Heap) : Type 0 where
   pub settings : h.settings ≡ s
   pub quantum : h.quantum ≡ n

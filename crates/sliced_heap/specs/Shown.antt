@@ -1,4 +1,4 @@
--- The state of a sliced heap that contracts show.
+-- The state of a sliced heap that public contracts show, and the rules that it keeps.
 use Rattle.std.specs.Prelude.{◌≡◌, ℕ, ◌*◌, Bool, true, false, List, [], Option, Some, None, length, refl, replicate}
 use Rattle.std.specs.FinMap as map
 use Rattle.std.specs.Coded.{Coded, code_by, coded×, coded_ℕ, coded_list, coded_bool, coded_option}
@@ -17,6 +17,7 @@ use Rattle.sliced_heap.specs.declared.open_heap.OpenHeap.{OpenHeap}
 use Rattle.sliced_heap.specs.Heap.{seen}
 use Rattle.sliced_heap.specs.Layout.{IsValid, order_in, paging_for, profile_at, state_of}
 
+-- the state of a sliced heap, closed or open
 pub record SlicedState : Type 0 where
   pub is_open : Bool
   -- the settings, with the bound 1
@@ -25,6 +26,7 @@ pub record SlicedState : Type 0 where
   pub quantum : ℕ
   -- the objects by number, each with its address and its bytes
   pub held : Held
+  -- the pending job, if there is one
   pub job : Job
   -- the words of the region
   pub words : List ℕ
@@ -35,15 +37,15 @@ pub record SlicedState : Type 0 where
 abbrev pub closed_state : SlicedState
 closed_state = record { is_open = false; profile = no_profile; quantum = 0; held = map.empty; job = Idle; words = []; order = record { pool = []; not_full = []; spare = [] } }
 
--- the model's settings of this state
+-- the settings of the state s as the model has them: pages and classes, proxies, quantum
 abbrev pub plan_in : SlicedState → Plan
 plan_in s = record { paging = paging_of s.profile Words (first_bounds s.profile Words); proxies = s.profile.proxies; quantum = s.quantum }
 
--- the model's state, with the words
+-- the objects, the job and the words of the state s, as the model has them
 abbrev pub working_in : SlicedState → Working
 working_in s = record { state = record { held = s.held; job = s.job }; words = s.words }
 
--- a heap without objects and without a job, just opened
+-- the state of a heap that was just opened with these settings and this quantum: no object, no job, and all words 0
 abbrev pub opened_state : Settings → ℕ → SlicedState
 opened_state s quantum = record {
   is_open = true;
@@ -55,21 +57,22 @@ opened_state s quantum = record {
   order = first_order (paging_for s) s.proxies;
 }
 
--- the rules of an open heap
+-- The rules that each open heap keeps: its settings are valid; its objects, its job and its words fit each other; the region has the words of all pages;
+-- and the order lists the free pages, partly full pages and spare numbers that the objects and the job leave.
 pub record KeepsRules (s : SlicedState) : Type 0 where
   pub plan : IsPlan (plan_in s)
   pub consistent : IsConsistent (plan_in s) (working_in s)
   pub region : length s.words ≡ s.profile.pages * s.profile.page_words
   pub order : IsOrderBeside (plan_in s) (working_in s).state s.order
 
--- a call changes neither whether the heap is open nor its settings, its quantum, and the number of its words
+-- from `old` to `new` it stays the same whether the heap is open, and so do its settings, its quantum and the number of its words
 pub record StaysOpen (old new : SlicedState) : Type 0 where
   pub is_open : new.is_open ≡ old.is_open
   pub profile : new.profile ≡ old.profile
   pub quantum : new.quantum ≡ old.quantum
   pub region : length new.words ≡ length old.words
 
--- the state of a heap that may be closed
+-- the state that contracts show of a heap: the closed one if there is no open heap in it
 abbrev pub shown : Option OpenHeap → SlicedState
 shown None = closed_state
 shown (Some h) = record {
@@ -91,30 +94,37 @@ IsValidIn (Some h) = IsValid (seen h)
 abbrev pub JobParts : Type 0
 JobParts = Option (Option ℕ × (ℕ × (ℕ × ℕ)))
 
+-- a job as nested pairs
 abbrev pub parts_of_job : Job → JobParts
 parts_of_job Idle = None
 parts_of_job (Clear k) = Some (None, (k.address, (k.class, k.done)))
 parts_of_job (Move h k) = Some (Some h, (k.address, (k.class, k.done)))
 
+-- the job with this slot: it moves object h, or clears the slot if there is none
 abbrev pub job_by : Option ℕ → JobSlot → Job
 job_by None k = Clear k
 job_by (Some h) k = Move h k
 
+-- the job that these nested pairs represent
 abbrev pub job_of_parts : JobParts → Job
 job_of_parts None = Idle
 job_of_parts (Some q) = job_by q.0 (record { address = q.1.0; class = q.1.1.0; done = q.1.1.1 })
 
+-- a job that is made into nested pairs and back is the same job
 abbrev pub job_again : (j : Job) → job_of_parts (parts_of_job j) ≡ j
 job_again Idle = refl
 job_again (Clear k) = refl
 job_again (Move h k) = refl
 
+-- the conversion of a job to nested pairs and back
 abbrev pub job_code : Coded Job
 job_code = code_by JobParts (coded_option (coded× (coded_option coded_ℕ) (coded× coded_ℕ (coded× coded_ℕ coded_ℕ)))) parts_of_job job_of_parts job_again
 
+-- the state as nested pairs, in the order of its fields
 abbrev pub StateParts : Type 0
 StateParts = Bool × (Profile × (ℕ × (Held × (Job × (List ℕ × Order)))))
 
+-- the conversion of the state to nested pairs and back
 abbrev pub sliced_code : Coded SlicedState
 sliced_code = code_by StateParts (coded× coded_bool (coded× profile_code (coded× coded_ℕ
     (coded× (map.code coded_ℕ placed_code) (coded× job_code (coded× (coded_list coded_ℕ) order_code))))))

@@ -1,4 +1,4 @@
--- What the parts of a free and of a slice do. Of this module, public clauses cite `fault_in` alone.
+-- What `forget`, `fill`, `move_to` and `end`, the parts of a free and of a slice, do and cost. Of this module, public clauses cite `fault_in` alone.
 use Rattle.std.specs.Prelude.{◌≡◌, ℕ, ◌∷◌, ◌+◌, ◌-◌, ◌%◌, ◌^◌, ◌≤◌, Bool, true, false, Option, Some, None, Result, Ok, Err, slice_index}
 use Rattle.std.specs.FinMap.{get, remove}
 use Rattle.page_model.specs.Arrangement.{class_at}
@@ -17,12 +17,12 @@ use Rattle.sliced_heap.specs.Heap.{Heap}
 use Rattle.sliced_heap.specs.Layout.{order_in, paging_at, plan_of, state_of, tables_in}
 use Rattle.sliced_heap.specs.Costs.{words_steps}
 
--- the fault of a free, if it was refused
+-- the fault of a free from the function's result; None if it was not refused
 abbrev pub fault_in : {T : Type 0} → Result T SliceFault → Option SliceFault
 fault_in (Ok u) = None
 fault_in (Err e) = Some e
 
--- what `forget` does: object q is removed, and clearing its slot k is the job
+-- what `forget` does: object q is removed, and its slot k is what the new job clears; no word of the region changes
 pub record Forgets (old : Heap) (q : ℕ) (k : JobSlot) (new : Heap) : Type 0 where
   pub object : Placed
   pub found : get (state_of old).held q ≡ Some object
@@ -34,7 +34,8 @@ pub record Forgets (old : Heap) (q : ℕ) (k : JobSlot) (new : Heap) : Type 0 wh
   pub quantum : new.quantum ≡ old.quantum
   pub order : order_in new ≡ record (order_in old) { spare = q ∷ (order_in old).spare }
 
--- `fill` fills the slot: the object that the order lists next, of another partly full page, gets the slot's address, and moving it there is the job
+-- What `fill` does with slot k if it must be filled: the object that the order lists next to move, on another page of the class, a partly full one, gets
+-- the slot's address, and the new job moves it there. No word of the region changes.
 pub record IsFilled (old : Heap) (k : JobSlot) (new : Heap) : Type 0 where
   pub must : MustMove (paging_at old) (occupied (plan_of old) (state_of old)) (placeholder (paging_at old) k)
   pub object : ℕ
@@ -46,17 +47,18 @@ pub record IsFilled (old : Heap) (k : JobSlot) (new : Heap) : Type 0 where
   pub quantum : new.quantum ≡ old.quantum
   pub order : order_in new ≡ order_in old
 
--- `fill` changes nothing, since the slot need not be filled
+-- what `fill` does with slot k if it need not be filled: nothing
 pub record StaysVacant (old : Heap) (k : JobSlot) (new : Heap) : Type 0 where
   pub stays : ¬ MustMove (paging_at old) (occupied (plan_of old) (state_of old)) (placeholder (paging_at old) k)
   pub same : new ≡ old
 
--- what `fill` does, by its result
+-- what `fill` does with slot k, by its result: true if it fills the slot
 abbrev pub Fills : Heap → JobSlot → Bool → Heap → Type 0
 Fills old k true new = IsFilled old k new
 Fills old k false new = StaysVacant old k new
 
--- what `move_to` does: the filler's proxy gets the address of slot k, and moving it there is the job; the filler's header holds its number
+-- What `move_to` does: the filler is the object that fills slot k. The lower half of the word at its address `from` is its number. Its proxy gets the address
+-- of slot k, and the new job moves it there.
 pub record StartsMove (old : Heap) (k : JobSlot) (new : Heap) : Type 0 where
   pub from : ℕ
   pub filler : IsFiller old.classes old.maps old.lists k.class from
@@ -67,15 +69,15 @@ pub record StartsMove (old : Heap) (k : JobSlot) (new : Heap) : Type 0 where
     job = Move (slice_index old.words from % 2 ^ 32) (fresh_slot from k.class);
   }
 
--- the page of the slot isn't full, in terms of the cost: freeing a slot of it costs at most 10 steps
+-- the page of slot k isn't full; it is claimed as a cost: freeing a slot of the page costs at most 10 steps
 abbrev pub IsPartlyFull : Heap → JobSlot → Type 0
 IsPartlyFull h k = steps_to_drop (tables_in h) (page_at h.classes k.address) ≤ 10
 
--- the most steps of the end of a job of this slot: 1 to look up another partly full page, and those of freeing the slot
+-- the most steps of `end` for a job with slot k: 1 to look up whether the class has a partly full page, and those of freeing the slot
 abbrev pub end_most : Heap → JobSlot → ℕ
 end_most h k = 1 + steps_to_drop (tables_in h) (page_at h.classes k.address)
 
--- the most steps of a slice of a job of this slot, without the lookup of a moving object
+-- the most steps of a slice of a job with slot k, without the step that looks up the proxy of a moving object
 abbrev pub part_most : Heap → JobSlot → ℕ
 part_most h k = words_steps h.quantum (slot_words (paging_at h) k.class - k.done) (end_most h k)
 

@@ -15,7 +15,7 @@ use step_ledger::Steps;
 use word_bytes::Header;
 
 impl OpenHeap {
-    /// Reads a word of the region; none past its end.
+    /// Returns the word of the region with the number `word`, or `None` past the region's end.
     pub fn peek(&self, word: u32, steps: &mut Steps) -> Option<u64>
         ensures value { result ≡ slice_get self.now.region word }
         ensures steps { RoseBy steps.old steps.new (if is_some result then 1 else 0) }
@@ -27,7 +27,7 @@ impl OpenHeap {
         }
     }
 
-    /// Fills `out` with the bytes of an object from byte `at` on. Fails, with `out` unchanged, if the
+    /// Fills `out` with the bytes of object `h` from byte `at` on. Fails, with `out` unchanged, if the
     /// handle is not live or the object has too few bytes.
     pub fn read(
         &self,
@@ -48,8 +48,8 @@ impl OpenHeap {
         Ok(())
     }
 
-    /// Writes `bytes` into an object from byte `at` on. Fails, with nothing changed, if the handle is not
-    /// live or the object has too few bytes.
+    /// Writes `bytes` into object `h` from byte `at` on. Fails, with nothing changed, if the handle is
+    /// not live or the object has too few bytes.
     pub fn write(
         &mut self,
         h: Handle,
@@ -71,8 +71,9 @@ impl OpenHeap {
         Ok(())
     }
 
-    /// Returns the two halves in which the object's words lie. Fails if the handle is not live, or if the
-    /// object has fewer than `count` bytes from byte `at` on.
+    /// Returns the two halves in which the words of object `h` lie: the words that a job has moved, and
+    /// the others. Fails with `Unknown` if the handle is not live, and with `Range` if the object has
+    /// fewer than `count` bytes from byte `at` on.
     fn find(
         &self,
         h: Handle,
@@ -95,8 +96,8 @@ impl OpenHeap {
         Ok(halves)
     }
 
-    /// The two halves in which the words of object h at address `place` lie: they differ only while the
-    /// pending job moves h.
+    /// The two halves in which the words of object `h` with address `place` lie. Unless the pending job
+    /// moves `h`, all words are at that address.
     fn halves(&self, h: Handle, place: u32) -> Halves
         ensures { result ≡ halves_of (job_of self.now.job) h.0 place }
     {

@@ -1,4 +1,4 @@
-//! Ends a job.
+//! The end of a job, when the last word of its slot is cleared or moved.
 ghost use Rattle.std.specs.Prelude.{◌≡◌, ℕ, ◌+◌, ◌<◌, ◌≤◌, slice_index};
 ghost use Rattle.step_ledger.specs.Counting.{RoseAtMost};
 ghost use Rattle.page_model.specs.Paging.{slot_words};
@@ -14,8 +14,8 @@ use slice_model::JobSlot;
 use step_ledger::Steps;
 
 impl OpenHeap {
-    /// Ends the job whose slot is now zeros. If the slot must be filled, the next job moves an object
-    /// into it; else the slot becomes free, and no job is pending.
+    /// Ends the job with slot `k`, whose words are now all zero. If the slot must be filled (`fill`), the
+    /// next job moves an object into it; else the slot becomes free, and no job is pending.
     pub(crate) fn end(&mut self, k: JobSlot, steps: &mut Steps)
         requires kept { IsValid (seen self.old) }
         requires job { job_of self.old.job ≡ Clear k }

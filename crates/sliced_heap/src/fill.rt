@@ -1,4 +1,5 @@
-//! Starts the job that moves an object into a vacant slot, if the slot must be filled.
+//! Starts the job that moves an object into the slot of a job `Clear`, if the slot must be filled. A
+//! free and the end of a job do this.
 ghost use Rattle.std.specs.Prelude.{◌≡◌, ℕ, ◌+◌, ◌%◌, ◌^◌, ◌<◌, ◌≤◌, IsSome, IsTrue, Some, if◌then◌else◌, length, slice_index};
 ghost use Rattle.std.specs.FinMap as map;
 ghost use Rattle.step_ledger.specs.Counting.{RoseBy};
@@ -20,8 +21,9 @@ use step_ledger::Steps;
 use word_bytes::Header;
 
 impl OpenHeap {
-    /// If the slot's page was full and another page of its class is partly full, gives an object of
-    /// that page the slot's address, and makes its move the job. Returns whether it did so.
+    /// Fills slot `k`, the slot of the pending job, if freeing it would give its class two partly full
+    /// pages. An object of the class's partly full page then gets the slot's address, and the new job
+    /// moves the object there. Returns whether this was done; else nothing changes.
     pub(crate) fn fill(&mut self, k: JobSlot, steps: &mut Steps) -> bool
         requires kept { IsValid (seen self.old) }
         requires job { job_of self.old.job ≡ Clear k }
@@ -41,7 +43,8 @@ impl OpenHeap {
         false
     }
 
-    /// Points the proxy of the object that must move at the slot's address, and makes its move the job.
+    /// Chooses the object at the lowest used slot of the class's first partly full page. Sets its proxy
+    /// to the address of slot `k`, and makes it the job to move the object's words there.
     fn move_to(&mut self, k: JobSlot, steps: &mut Steps)
         requires tables { AreTables self.old.tables.classes (tables_with self.old.tables self.old.lists) }
         requires class { k.class < length self.old.tables.classes.sizes }

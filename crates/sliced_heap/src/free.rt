@@ -1,4 +1,4 @@
-//! Frees an object.
+//! The call `free` of an open sliced heap.
 ghost use Rattle.std.specs.Prelude.{◌≡◌, ◌+◌, ◌*◌, ◌-◌, ◌<◌, ◌≤◌, Some, length, slice_index, slice_set};
 ghost use Rattle.std.specs.FinMap as map;
 ghost use Rattle.cf_base.specs.Classes.{slots};
@@ -18,8 +18,8 @@ use step_ledger::Steps;
 use word_bytes::Header;
 
 impl OpenHeap {
-    /// Frees an object, and does the first slice of the job that this leaves. Fails, with nothing changed,
-    /// if the handle is not live, or if a job is pending.
+    /// Frees the object of handle `h`, and does the first slice of the job that this leaves. Fails, with
+    /// nothing changed, with `Unknown` if the handle is not live, else with `Busy` if a job is pending.
     pub fn free(&mut self, h: Handle, steps: &mut Steps) -> Result<(), SliceFault>
         requires { IsValid (seen self.old) }
         ensures step { Happens (plan_of (seen self.old)) (working_of (seen self.old)) (Free h.0 (fault_in result)) (working_of (seen self.new)) }
@@ -40,7 +40,7 @@ impl OpenHeap {
         Ok(())
     }
 
-    /// Frees the live object at `place` while no job is pending.
+    /// Frees the live object `h`, whose address is `place`, while no job is pending.
     fn free_live(&mut self, h: Handle, place: u32, steps: &mut Steps)
         requires kept { IsValid (seen self.old) }
         requires idle { job_of self.old.job ≡ Idle }
@@ -57,7 +57,8 @@ impl OpenHeap {
         self.slice(steps);
     }
 
-    /// Removes the live object at `place`, makes clearing its slot the job, and returns that slot.
+    /// Removes the live object `h`, whose address is `place`: releases its proxy, counts it no more, and
+    /// makes it the job to clear its slot. Returns that slot. No word of the region changes yet.
     fn forget(&mut self, h: Handle, place: u32, steps: &mut Steps) -> JobSlot
         requires kept { IsValid (seen self.old) }
         requires idle { job_of self.old.job ≡ Idle }
@@ -81,7 +82,7 @@ impl OpenHeap {
         k
     }
 
-    /// Subtracts an object of class c from the live objects and from the pages that they need.
+    /// Counts one object of class c less: in `live`, and in `needed` if the others need one page less.
     fn count_out(&mut self, c: u32)
         requires class { c < length self.old.tables.classes.sizes }
         requires listed { c < length self.old.live }

@@ -1,4 +1,4 @@
-//! The sliced heap, closed or open, with its public calls.
+//! The sliced heap, closed or open, with its public calls. All the work is done in `OpenHeap`.
 ghost use Rattle.std.specs.Prelude.{◌≡◌, ◌+◌, ◌*◌, ◌≤◌, if◌then◌else◌, is_some, length, slice_get, IsErr, IsTrue, OnErr, OnOk};
 ghost use Rattle.cf_model.specs.Costs.{words_touched};
 ghost use Rattle.slice_model.specs.Ordered.{HappensInOrder};
@@ -18,8 +18,9 @@ use std::marker::Model;
 use step_ledger::Steps;
 
 /// A moving heap for several tasks. A free leaves its long work as a job: to clear a slot, or to move
-/// an object into it. The free and each step do a slice of the job, at most a quantum of words.
-/// Every class has at most one partly full page, and one more while a job is pending.
+/// an object into it. The free and each `step` do a slice of the job, at most a quantum of words.
+/// Every class has at most one partly full page; while a job is pending, its class may have two.
+/// `inner` is none while the heap is closed, and `alloc` is where open heaps allocate.
 #[derive(Drop)]
 pub struct SlicedHeap {
     alloc: Global,
@@ -48,7 +49,7 @@ impl SlicedHeap {
         SlicedHeap { alloc, inner: None }
     }
 
-    /// Returns whether the heap is open. An open heap keeps its rules.
+    /// Returns whether the heap is open. The state of an open heap keeps the rules of `KeepsRules`.
     pub fn is_open(&self) -> bool
         ensures value { result ≡ self.now.is_open }
         ensures rules { IsTrue result → KeepsRules self.now }
@@ -56,8 +57,8 @@ impl SlicedHeap {
         self.inner.is_some()
     }
 
-    /// Opens the heap without objects, with these settings and slices of at most `quantum` words; an open
-    /// heap is closed before. Each class has bound 1, whatever the settings have. All memory is allocated
+    /// Opens the heap without objects, with the settings `s` and slices of at most `quantum` words; an
+    /// open heap is closed first. Each class has bound 1, whatever bound `s` has. All memory is allocated
     /// here. If this fails with `OutOfMemory`, the heap is closed, and may be opened again.
     pub fn open_heap(&mut self, s: &Settings, quantum: u32) -> Result<(), OutOfMemory>
         requires least { 1 ≤ quantum }
@@ -74,9 +75,9 @@ impl SlicedHeap {
     /// Makes an object of `bytes` bytes, all zero, under a handle that wasn't live. Fails with `Size` if
     /// it needs more than a page, else with `Proxy` if every proxy is in use, else with `Space` if the
     /// objects with it would need more pages than the heap has, else with `Busy` if the slot of the
-    /// pending job leaves no free slot for it. A refusal changes nothing. The object gets the next
-    /// number, and the lowest free slot of the first partly full page, or slot 0 of the first free page;
-    /// the slot of a pending job counts as used.
+    /// pending job leaves no free slot for it. A refusal changes nothing. The object gets the next number
+    /// of the order. It gets the lowest free slot of its class's first partly full page; if the class has
+    /// no such page, slot 0 of the first free page. The slot of a pending job counts as used.
     pub fn malloc(&mut self, bytes: u32, steps: &mut Steps) -> Result<Handle, SliceRefusal>
         requires open { IsTrue self.old.is_open }
         ensures step { Happens (plan_in self.old) (working_in self.old) (Malloc bytes result) (working_in self.new) }
@@ -92,10 +93,11 @@ impl SlicedHeap {
         }
     }
 
-    /// Frees an object and does the first slice of the job that this leaves. Fails with `Unknown` if the
-    /// handle isn't live, else with `Busy` if a job is pending. A refusal changes nothing. If an object
-    /// has to move, it is the one at the lowest used slot of the first partly full page. Its slot, or the
-    /// freed one if no object moves, stays used until the job ends.
+    /// Frees the object of handle `h`, and does the first slice of the job that this leaves. Fails with
+    /// `Unknown` if the handle isn't live, else with `Busy` if a job is pending. A refusal changes nothing.
+    /// If the class would have two partly full pages, another object moves into the freed slot: the one
+    /// at the lowest used slot of the class's first partly full page. The slot that it leaves, or the
+    /// freed slot if no object moves, stays used until the job ends.
     pub fn free(&mut self, h: Handle, steps: &mut Steps) -> Result<(), SliceFault>
         requires open { IsTrue self.old.is_open }
         ensures step { Happens (plan_in self.old) (working_in self.old) (Free h.0 (fault_in result)) (working_in self.new) }
@@ -111,9 +113,10 @@ impl SlicedHeap {
         }
     }
 
-    /// Does one slice of the job, if one is pending. If that ends the job, and two pages of its class
-    /// would be partly full without an object in the job's slot, the next job moves the object at the
-    /// lowest used slot of the first partly full page to that slot.
+    /// Does one slice of the pending job; changes nothing if none is pending. When the job's last word is
+    /// done, its slot becomes free, unless its class would then have two partly full pages. In that case
+    /// the next job moves an object into the slot: the one at the lowest used slot of the class's first
+    /// partly full page.
     pub fn step(&mut self, steps: &mut Steps)
         requires open { IsTrue self.old.is_open }
         ensures step { Happens (plan_in self.old) (working_in self.old) Step (working_in self.new) }
@@ -129,7 +132,7 @@ impl SlicedHeap {
         }
     }
 
-    /// The number of words that the job has yet to do; 0 if none is pending.
+    /// The number of words that the pending job has yet to clear or move; 0 if none is pending.
     pub fn left(&self) -> u32
         requires open { IsTrue self.now.is_open }
         ensures { result ≡ left_of (plan_in self.now) (working_in self.now).state }
@@ -140,8 +143,9 @@ impl SlicedHeap {
         }
     }
 
-    /// Fills `out` with the bytes of an object from byte `at` on, also of an object in motion. Fails, with
-    /// `out` unchanged, if the handle is not live or the object has too few bytes.
+    /// Fills `out` with the bytes of object `h` from byte `at` on, also while a job moves the object.
+    /// Fails, with `out` unchanged, with `Unknown` if the handle is not live, and with `Range` if the
+    /// object has too few bytes.
     pub fn read(
         &self,
         h: Handle,
@@ -162,8 +166,9 @@ impl SlicedHeap {
         }
     }
 
-    /// Writes `bytes` into an object from byte `at` on, also into an object in motion, and changes nothing
-    /// else. Fails, with nothing changed, if the handle is not live or the object has too few bytes.
+    /// Writes `bytes` into object `h` from byte `at` on, also while a job moves the object, and changes
+    /// nothing else. Fails, with nothing changed, with `Unknown` if the handle is not live, and with
+    /// `Range` if the object has too few bytes.
     pub fn write(
         &mut self,
         h: Handle,
@@ -187,7 +192,7 @@ impl SlicedHeap {
         }
     }
 
-    /// Reads a word of the region; none past its end.
+    /// Returns the word of the region with the number `word`, or `None` past the region's end.
     pub fn peek(&self, word: u32, steps: &mut Steps) -> Option<u64>
         requires open { IsTrue self.now.is_open }
         ensures value { result ≡ slice_get self.now.words word }

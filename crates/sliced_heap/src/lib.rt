@@ -1,6 +1,7 @@
-//! A moving heap for several tasks. A free leaves its long work as a job. Each slice does at most a
-//! quantum of words of it. The rules are those of Compact-fit (2008) with one partly full page a class.
-//! An object can be read and written while it moves.
+//! The sliced heap: a moving heap with short calls, for several tasks that call it in turn. A free
+//! leaves a job: to clear a slot, or to move an object into it. Each slice clears or moves at most a
+//! quantum of words. The rules are those of Compact-fit (2008) with bound 1. An object can be read and
+//! written while it moves.
 #![tactic(auto)]
 
 mod access;

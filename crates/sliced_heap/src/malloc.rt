@@ -1,4 +1,4 @@
-//! Makes an object.
+//! The call `malloc` of an open sliced heap, and the counts by which it is refused for space.
 ghost use Rattle.std.specs.Prelude.{◌≡◌, ◌≢◌, ◌+◌, ◌<◌, ◌≤◌, ◌↔◌, ◌∷◌, IsTrue, None, length, slice_index, slice_set};
 ghost use Rattle.std.specs.FinMap as map;
 ghost use Rattle.cf_base.specs.Classes.{slots};
@@ -18,8 +18,9 @@ use step_ledger::Steps;
 use word_bytes::Header;
 
 impl OpenHeap {
-    /// Makes an object of `bytes` bytes, all zero. Refused, with nothing changed, if it is larger than a
-    /// page, all proxies are in use, the pages are too few, or only the job's slot is left.
+    /// Makes an object of `bytes` bytes, all zero, and returns its handle. Refused, with nothing changed,
+    /// in this order: `Size` if it is larger than a page, `Proxy` if all proxies are in use, `Space` if
+    /// the objects with it need too many pages, `Busy` if the job's slot leaves no free slot for it.
     pub fn malloc(&mut self, bytes: u32, steps: &mut Steps) -> Result<Handle, SliceRefusal>
         requires { IsValid (seen self.old) }
         ensures step { Happens (plan_of (seen self.old)) (working_of (seen self.old)) (Malloc bytes result) (working_of (seen self.new)) }
@@ -46,8 +47,8 @@ impl OpenHeap {
         Ok(handle)
     }
 
-    /// The number of pages that one more object of class c adds to those needed by arithmetic: 1 if the
-    /// live objects of the class fill whole pages, else 0.
+    /// The number of pages that one more object of class c adds to the pages that the objects need
+    /// (`needed`): 1 if the live objects of the class fill whole pages exactly, else 0.
     pub(crate) fn opens_page(&self, c: u32) -> u32
         requires class { c < length self.now.tables.classes.sizes }
         requires listed { c < length self.now.live }
@@ -72,8 +73,8 @@ impl OpenHeap {
         self.needed + self.opens_page(c) > self.settings.pages
     }
 
-    /// Binds the next free number to an address, writes the header of an object of `bytes` bytes there,
-    /// and returns the number.
+    /// Binds the next free proxy to the address `place`, writes there the header of an object of `bytes`
+    /// bytes, and returns the proxy's number.
     fn bind(&mut self, place: u32, bytes: u32, steps: &mut Steps) -> Handle
         requires some { map.len self.old.proxies.places ≢ self.old.proxies.limit }
         requires within { place < length self.old.region }
@@ -98,7 +99,7 @@ impl OpenHeap {
         handle
     }
 
-    /// Adds an object of class c to the live objects and to the pages that they need.
+    /// Counts one more object of class c: in `live`, and in `needed` if it needs one more page.
     fn count_in(&mut self, c: u32)
         requires class { c < length self.old.tables.classes.sizes }
         requires listed { c < length self.old.live }

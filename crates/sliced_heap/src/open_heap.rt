@@ -1,4 +1,5 @@
-//! An open heap: its tables, the words of its region, and the pending job.
+//! The body of an open sliced heap: its tables, the words of its region, and the pending job. The calls
+//! are in the other files of this crate.
 ghost use Rattle.std.specs.Prelude.{◌≡◌, ◌*◌, ◌≤◌, length, replicate, IfOk};
 ghost use Rattle.cf_base.specs.declared.kind.Layout.TheVariants.{Words};
 ghost use Rattle.class_lists.specs.PageLists.{empty_lists};
@@ -15,36 +16,45 @@ use region::Region;
 use slice_model::JobSlot;
 use std::alloc::Global;
 
-/// The length of the array by class. No heap has more size classes.
+/// The length of the array `live` of an open heap, with a count for each size class. No heap has more
+/// classes.
 pub const CLASSES: usize = 128;
 
-/// The pending job: none, or to clear its slot, or to move an object from its slot to the object's
-/// address.
+/// The pending job.
 #[derive(Clone, Copy, Debug, PartialEq, Eq)]
 pub enum Pending {
+    /// No job is pending.
     Idle,
+    /// The job clears this slot, which no object has any more.
     Clear(JobSlot),
+    /// The job moves the object of this handle from this slot, its old one, to the address that its
+    /// proxy holds already.
     Move(Handle, JobSlot),
 }
 
-/// An open heap. `live` has the number of live objects of each class, `needed` the pages that they need
-/// by arithmetic. A slice does at most `quantum` words.
+/// An open heap.
 #[derive(Drop)]
 pub struct OpenHeap {
     pub(crate) settings: Settings,
+    /// The most words that a slice clears or moves.
     pub(crate) quantum: u32,
+    /// The number of live objects of each class.
     pub(crate) live: [u32; CLASSES],
+    /// The fewest pages that hold the live objects: the sum over the classes of their number, divided by
+    /// the slots of a page and rounded up.
     pub(crate) needed: u32,
     pub(crate) region: Region,
+    /// The size classes, the used slots of each page, and the free pages.
     pub(crate) tables: PageTables,
+    /// The full and the partly full pages of each class.
     pub(crate) lists: ClassLists,
     pub(crate) proxies: ProxyTable,
     pub(crate) job: Pending,
 }
 
 impl OpenHeap {
-    /// Opens a heap without objects and without a job. Of the functions here it alone allocates; fails if
-    /// out of memory.
+    /// Opens a heap without objects and without a job, with the settings `s`. It alone of the functions of
+    /// `OpenHeap` allocates. Fails if out of memory.
     pub fn new(alloc: Global, s: &Settings, quantum: u32) -> Result<OpenHeap, OutOfMemory>
         requires least { 1 ≤ quantum }
         ensures kept { IfOk result (λ h. IsValid (seen h)) }
@@ -57,7 +67,8 @@ impl OpenHeap {
         Ok(OpenHeap::empty(s, quantum, region, tables, lists, proxies))
     }
 
-    /// Puts these parts, each without objects, together to an open heap.
+    /// Returns the open heap that consists of these parts: a region of zeros, and tables, page lists and
+    /// proxies without an object.
     fn empty(
         s: &Settings,
         quantum: u32,

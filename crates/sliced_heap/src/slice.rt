@@ -1,4 +1,5 @@
-//! Does a slice of the pending job.
+//! The call `step` of an open sliced heap, which does a slice of the pending job: it clears or moves at
+//! most a quantum of words.
 ghost use Rattle.std.specs.Prelude.{◌≡◌, ◌+◌, ◌-◌, ◌<◌, ◌≤◌, length, min, slice_index};
 ghost use Rattle.step_ledger.specs.Counting.{RoseAtMost};
 ghost use Rattle.slice_model.specs.Ordered.{HappensInOrder, SlicesInOrder};
@@ -16,7 +17,8 @@ use slice_words::{clear_next, move_next, words_of_slice};
 use step_ledger::Steps;
 
 impl OpenHeap {
-    /// Does one slice of the job, if one is pending. This is the public call; `free` calls `slice`.
+    /// Does one slice of the job, if one is pending. Does what `slice` does, with the clauses of the
+    /// public call; `free` calls `slice` itself.
     pub fn step(&mut self, steps: &mut Steps)
         requires { IsValid (seen self.old) }
         ensures step { Happens (plan_of (seen self.old)) (working_of (seen self.old)) Step (working_of (seen self.new)) }
@@ -29,7 +31,7 @@ impl OpenHeap {
         self.slice(steps);
     }
 
-    /// The number of words that the job has yet to do; 0 if none is pending.
+    /// The number of words that the pending job has yet to clear or move; 0 if none is pending.
     pub fn left(&self) -> u32
         requires { IsValid (seen self.now) }
         ensures { result ≡ left_of (plan_of (seen self.now)) (state_of (seen self.now)) }
@@ -41,7 +43,8 @@ impl OpenHeap {
         }
     }
 
-    /// Does one slice of the job, of either kind; nothing if none is pending.
+    /// Does one slice of the pending job, whether it clears a slot or moves an object; changes nothing if
+    /// none is pending.
     pub(crate) fn slice(&mut self, steps: &mut Steps)
         requires { IsValid (seen self.old) }
         ensures step { Slices (plan_of (seen self.old)) (working_of (seen self.old)) (working_of (seen self.new)) }
@@ -58,7 +61,8 @@ impl OpenHeap {
         }
     }
 
-    /// The number of words that the next slice of the job of this slot does.
+    /// The number of words that the next slice does of a job with slot `k`: the quantum, or all words
+    /// left if they are fewer.
     fn words_of(&self, k: JobSlot) -> u32
         requires class { k.class < length self.now.tables.classes.sizes }
         requires done { k.done ≤ slice_index self.now.tables.classes.sizes k.class }
@@ -71,7 +75,7 @@ impl OpenHeap {
         )
     }
 
-    /// Does a slice of a job that clears its slot, and ends the job if its last word is cleared.
+    /// Does a slice of the job that clears slot `k`, and ends the job if its last word is cleared.
     fn clear_slice(&mut self, k: JobSlot, steps: &mut Steps)
         requires kept { IsValid (seen self.old) }
         requires job { job_of self.old.job ≡ Clear k }
@@ -94,7 +98,8 @@ impl OpenHeap {
         self.end(vacant, steps);
     }
 
-    /// Does a slice of a job that moves an object, and ends the job if its last word is moved.
+    /// Does a slice of the job that moves object `h` out of slot `k`, and ends the job if the last word
+    /// is moved. Each word that it moves becomes 0 in slot `k`.
     fn move_slice(&mut self, h: Handle, k: JobSlot, steps: &mut Steps)
         requires kept { IsValid (seen self.old) }
         requires job { job_of self.old.job ≡ Move h.0 k }

@@ -1,4 +1,4 @@
--- Slots in words of 64 bits: what writing one bit changes, and what the summaries show.
+-- For the calls of `SlotMap`: slots as bits of words, what writing one bit changes, and what the summaries show.
 use Rattle.std.proofs.Common.{◌≡◌, ◌≢◌, ℕ, ◌+◌, ◌-◌, ◌*◌, ◌/◌, ◌%◌, ◌^◌, ◌<◌, ◌≤◌, ◌==◌, Bool, true, false, cond, not, List, length, get_or, set, replicate}
 use Rattle.std.proofs.Common.{Some, None, arith, refl, ap, sym, ◌∙◌, inl, inr, w64}
 use Rattle.std.specs.Prelude.{slice_get}

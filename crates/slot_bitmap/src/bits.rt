@@ -1,8 +1,8 @@
-//! Words of 64 bits, bit by bit.
+//! Single bits of a word of 64 bits. Bit 0 is the least significant.
 ghost use Rattle.std.specs.Prelude.{◌≡◌, ◌≢◌, ℕ, ◌+◌, ◌^◌, ◌<◌, ◌≤◌, cond};
 ghost use Rattle.std.specs.Int.{bit_at};
 
-/// Whether bit `bit` is set.
+/// Returns whether bit `bit` of the word is set.
 pub(crate) fn has_bit(word: u64, bit: u32) -> bool
     requires { bit < 64 }
     ensures { bit_at word bit ≡ cond result 1 0 }

@@ -1,5 +1,5 @@
-//! The used and the free slots of a page, as bits in two levels of words. Finding the lowest free
-//! slot or the lowest used one reads at most one word of each level.
+//! The used and the free slots of a page (`SlotMap`), as bits in two levels of words. Finding the
+//! lowest free slot or the lowest used one reads at most one word of each level.
 #![tactic(auto)]
 
 mod bits;

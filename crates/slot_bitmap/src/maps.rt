@@ -1,12 +1,12 @@
-//! A map for each page of a heap without objects.
+//! Slot maps for all pages of a heap without objects.
 ghost use Rattle.std.specs.Prelude.{◌≡◌, false, replicate, IfOk};
 
 use crate::SlotMap;
 use cf_base::OutOfMemory;
 use std::alloc::{AllocError, Global};
 
-/// One map for each page, with one free slot each, as a page has that no class uses yet. Only this
-/// call allocates.
+/// Makes a slot map for each of `pages` pages. Each has one free slot, since no class uses the page
+/// yet. Only this call allocates. It fails with `OutOfMemory` if an allocation fails.
 pub fn free_maps(alloc: Global, pages: u32) -> Result<Vec<SlotMap>, OutOfMemory>
     ensures { IfOk result (λ maps. maps.items ≡ replicate pages (replicate 1 false)) }
 {
@@ -16,7 +16,7 @@ pub fn free_maps(alloc: Global, pages: u32) -> Result<Vec<SlotMap>, OutOfMemory>
     }
 }
 
-/// n maps, with one free slot each.
+/// Makes n slot maps, with one free slot each.
 fn maps_of_one(alloc: Global, n: u32) -> Result<Vec<SlotMap>, AllocError>
     ensures { IfOk result (λ maps. maps.items ≡ replicate n (replicate 1 false)) }
 {

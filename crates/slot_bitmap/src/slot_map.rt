@@ -1,4 +1,4 @@
-//! The map of the used slots of a page.
+//! `SlotMap`, the map of the used slots of a page.
 ghost use Rattle.std.specs.Prelude.{◌≡◌, ◌<◌, ◌≤◌, length, replicate, slice_get, slice_set, not, true, false, IfSome, IsNone, is_some, if◌then◌else◌};
 ghost use Rattle.std.specs.List.{position, count_by};
 ghost use Rattle.step_ledger.specs.Counting.{RoseBy};
@@ -15,10 +15,15 @@ use step_ledger::Steps;
 /// with a free slot and those with a used one. It allocates no memory: it has 536 bytes.
 #[derive(Drop)]
 pub struct SlotMap {
+    /// Bit b of word j is set if slot 64 j + b is used.
     words: CellArray<u64, 64>,
+    /// Bit j is set if word j has a free slot.
     with_free: WordCell,
+    /// Bit j is set if word j has a used slot.
     with_used: WordCell,
+    /// How many slots the page has.
     slots: u32,
+    /// How many of them are used.
     used: u32,
 }
 
@@ -35,7 +40,7 @@ impl Model for SlotMap {
 
 #[tactic(auto, using(crate::proofs::Slots::slot_rules))]
 impl SlotMap {
-    /// A map of `slots` slots, all free.
+    /// Makes a map of `slots` slots, all free.
     pub fn new(slots: u32) -> SlotMap
         requires some { 1 ≤ slots }
         requires few { slots ≤ 4096 }
@@ -50,8 +55,8 @@ impl SlotMap {
         }
     }
 
-    /// Makes it a map of `slots` slots, all free. None of its old slots may be used. Costs two
-    /// steps.
+    /// Turns this map, none of whose slots may be used, into one of `slots` slots, all free. A page
+    /// that another class begins to use has another number of slots. Costs two steps.
     pub fn renew(&mut self, slots: u32, steps: &mut Steps)
         requires some { 1 ≤ slots }
         requires few { slots ≤ 4096 }
@@ -64,14 +69,14 @@ impl SlotMap {
         self.with_used.set(0, steps);
     }
 
-    /// The number of slots.
+    /// The number of slots of the page.
     pub fn len(&self) -> u32
         ensures { result ≡ length self.now }
     {
         self.slots
     }
 
-    /// The number of used slots. Costs one step.
+    /// How many slots are used. Costs one step.
     pub fn count(&self, steps: &mut Steps) -> u32
         ensures value { result ≡ count_by (λ used. used) self.now }
         ensures steps { RoseBy steps.old steps.new 1 }
@@ -80,7 +85,7 @@ impl SlotMap {
         self.used
     }
 
-    /// Returns whether a slot is used. Costs one step.
+    /// Returns whether slot `i` is used. Costs one step.
     pub fn is_used(&self, i: u32, steps: &mut Steps) -> bool
         requires { i < length self.now }
         ensures value { slice_get self.now i ≡ Some result }
@@ -89,7 +94,8 @@ impl SlotMap {
         bits::has_bit(self.words.get((i / 64) as usize, steps), i % 64)
     }
 
-    /// The lowest free slot; none if all are used. Costs two steps, or one if it returns none.
+    /// Returns the lowest free slot; none if all are used. Costs two steps, or one if it returns
+    /// none.
     pub fn first_free(&self, steps: &mut Steps) -> Option<u32>
         ensures found { result ≡ position (λ used. not used) self.now }
         ensures free { IfSome result (λ i. slice_get self.now i ≡ Some false) }
@@ -104,7 +110,8 @@ impl SlotMap {
         Some(64 * at + bits::lowest_clear(word))
     }
 
-    /// The lowest used slot; none if all are free. Costs two steps, or one if it returns none.
+    /// Returns the lowest used slot; none if all are free. Costs two steps, or one if it returns
+    /// none.
     pub fn first_used(&self, steps: &mut Steps) -> Option<u32>
         ensures found { result ≡ position (λ used. used) self.now }
         ensures used { IfSome result (λ i. slice_get self.now i ≡ Some true) }
@@ -119,7 +126,7 @@ impl SlotMap {
         Some(64 * at + bits::lowest_set(word))
     }
 
-    /// Marks a free slot as used. Costs three steps.
+    /// Marks slot `i`, which must be free, as used. Costs three steps.
     pub fn set(&mut self, i: u32, steps: &mut Steps)
         requires { slice_get self.old i ≡ Some false }
         ensures value { self.new ≡ slice_set self.old i true }
@@ -157,7 +164,7 @@ impl SlotMap {
         Some(64 * at + bit)
     }
 
-    /// Marks a used slot as free. Costs three steps.
+    /// Marks slot `i`, which must be used, as free. Costs three steps.
     pub fn unset(&mut self, i: u32, steps: &mut Steps)
         requires { slice_get self.old i ≡ Some true }
         ensures value { self.new ≡ slice_set self.old i false }

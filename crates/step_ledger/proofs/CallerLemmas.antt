@@ -1,4 +1,4 @@
--- What other crates' proofs may cite: steps that add up.
+-- What other crates' proofs may cite: how the steps of several calls, one after the other, add up.
 use Rattle.std.proofs.Common.{◌≡◌, ℕ, ◌+◌, ◌^◌, ◌<◌, ◌≤◌, inl, inr, arith, subst}
 use Rattle.std.proofs.lemmas.Bool.{cases_lt}
 use Rattle.step_ledger.specs.Counting.{RoseAtMost, RoseBy}

@@ -1,4 +1,4 @@
--- The steps of calls one after the other, and of the searches of lists.
+-- The steps of calls one after the other, and of the searches in the heads of the lists. For the clauses on steps of all calls.
 use Rattle.std.proofs.Common.{◌≡◌, ℕ, ◌+◌, ◌*◌, ◌/◌, ◌<◌, ◌≤◌, List, Option, Some, None, arith, sym, ap, ◌∙◌, subst, inl, inr}
 use Rattle.std.proofs.lemmas.Bool.{cases_eq}
 use Rattle.step_ledger.specs.Counting.{RoseBy, RoseAtMost}

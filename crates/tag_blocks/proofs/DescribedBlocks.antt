@@ -1,4 +1,4 @@
--- Blocks that words describe: they are read from the words, and words that agree on them describe them too.
+-- Words that describe blocks (`IsDescribed`): the fields of a header, and that words which agree on the blocks describe them too. For all stages.
 use Rattle.std.proofs.Common.{◌≡◌, ℕ, zero, suc, Bool, true, false, ◌+◌, ◌*◌, ◌/◌, ◌^◌, ◌<◌, ◌≤◌, List, [], ◌∷◌, ◌++◌, Option, Some, None, length, cond, get_or}
 use Rattle.std.proofs.Common.{arith, refl, sym, ap, ◌∙◌, inl, inr, subst}
 use Rattle.std.specs.Prelude.{is_none}

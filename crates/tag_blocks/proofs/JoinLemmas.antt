@@ -1,4 +1,4 @@
--- Two neighbours, a used one whose tag is 0 and a free one, become one used block.
+-- For `join`: two neighbours, a used one whose tag is 0 and a free one, become one used block.
 use Rattle.std.proofs.Common.{◌≡◌, ◌≢◌, ℕ, Bool, true, false, ◌+◌, ◌-◌, ◌*◌, ◌^◌, ◌<◌, ◌≤◌, List, [], ◌∷◌, ◌++◌, Some, None, length, cond, get_or, set}
 use Rattle.std.proofs.Common.{arith, refl, sym, ap, ◌∙◌, inl, inr, subst, append_assoc}
 use Rattle.std.specs.Prelude.{◌⊎◌}

@@ -1,4 +1,4 @@
--- How many free blocks a list has, and the steps of adding one.
+-- For the steps of `split` and `make_free`: how many free blocks a list has after one joined it.
 use Rattle.std.proofs.Common.{◌≡◌, ℕ, true, ◌+◌, ◌<◌, ◌≤◌, List, [], ◌∷◌, ◌++◌, length, cond, get_or, arith, refl, sym, ap, ◌∙◌, inl, inr}
 use Rattle.std.specs.Prelude.{◌&&◌, nat_eq}
 use Rattle.std.proofs.lemmas.Bool.{cases_Bool, cases_eq}

@@ -1,4 +1,4 @@
--- The free lists that the words and the heads determine contain exactly the free blocks (`AreListsOf`).
+-- For the clauses `listed`: the free lists that words and heads determine contain exactly the free blocks (`AreListsOf`).
 use Rattle.std.proofs.Common.{◌≡◌, ℕ, List, length, refl, sym, ◌∙◌, subst}
 use Rattle.std.specs.Prelude.{nat_eq}
 use Rattle.std.specs.List.{Contains, IsDistinct}

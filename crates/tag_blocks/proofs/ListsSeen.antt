@@ -1,4 +1,4 @@
--- The free lists that the words show are those that the heads and the links thread.
+-- The free lists read from heads and links (`lists_of`) are the lists that the invariant speaks of. For the clauses `lists`.
 use Rattle.std.proofs.Common.{◌≡◌, ℕ, zero, suc, ◌+◌, ◌%◌, ◌^◌, ◌<◌, ◌≤◌, List, [], ◌∷◌, length, get_or, map, arith, refl, sym, ap, ◌∙◌, inl, inr}
 use Rattle.std.specs.Prelude.{nat_eq}
 use Rattle.std.specs.List.{Contains, IsDistinct}

@@ -1,4 +1,4 @@
--- The first words of a free block become used, and the rest of it a free block: as if all of it became used, and were cut then.
+-- For `split`: the first words of a free block become used and the rest a free block, as if the whole became used and were cut then.
 use Rattle.std.proofs.Common.{◌≡◌, ℕ, true, false, ◌+◌, ◌-◌, ◌^◌, ◌<◌, ◌≤◌, List, length, get_or, set, arith, refl, sym, ap, ◌∙◌, subst}
 use Rattle.std.proofs.lemmas.List.{set-set, set_comm}
 use Rattle.block_model.specs.Buckets.{FreeLists}

@@ -1,9 +1,10 @@
--- The heads of the free lists, and how two levels of bitmaps mark the lists that have one. No public clause cites this module.
+-- The heads of the free lists, the address of the first block of each, and how two levels of bitmaps mark the lists that have one. No public clause cites
+-- this module.
 use Rattle.std.specs.Prelude.{◌≡◌, ◌≢◌, ℕ, ◌+◌, ◌*◌, ◌^◌, ◌<◌, ◌≤◌, ◌==◌, not, List, length, Option, Some, None, cond, slice_index, slice_index_or}
 use Rattle.std.specs.Int.{bit_at}
 pub use Rattle.block_model.specs.FreeOrder.{no_block}
 
--- the head of a list; `no_block` if the list is empty, or if there is no such list
+-- the head of list number `list`; `no_block` if the list is empty, or if there is no such list
 abbrev pub head_of : List ℕ → ℕ → ℕ
 head_of heads list = slice_index_or heads list no_block
 
@@ -15,13 +16,13 @@ pub record AreMarked (heads lists : List ℕ) (groups : ℕ) : Type 0 where
   pub list : (j k : ℕ) → j < 32 → k < 16 → bit_at (slice_index lists j) k ≡ cond (not (head_of heads (16 * j + k) == no_block)) 1 0
   pub group : (j : ℕ) → j < 32 → bit_at groups j ≡ cond (not (slice_index lists j == 0)) 1 0
 
--- the words of bits are in cells: one for each group of lists, and one for the groups
+-- The bitmaps are in cells: 32 words of bits for the lists, one for each group of 16 lists, and one word of bits for the groups.
 pub record AreMarkedCells (heads lists groups : List ℕ) : Type 0 where
   pub marked : AreMarked heads lists (slice_index groups 0)
   pub lists_long : length lists ≡ 32
   pub groups_long : length groups ≡ 1
 
--- the list has a head, and no list from `start` on has one before it
+-- list number `list` has a head, and from list `start` on no list before it has one
 pub record IsFirst (heads : List ℕ) (start list : ℕ) : Type 0 where
   pub within : list < length heads
   pub from : start ≤ list
@@ -33,7 +34,7 @@ abbrev pub IsFirstFrom : List ℕ → ℕ → Option ℕ → Type 0
 IsFirstFrom heads start (Some list) = IsFirst heads start list
 IsFirstFrom heads start None = (k : ℕ) → start ≤ k → head_of heads k ≡ no_block
 
--- the list has a head, and no list after it has one
+-- list number `list` has a head, and no list after it has one
 pub record IsLastAt (heads : List ℕ) (list : ℕ) : Type 0 where
   pub within : list < length heads
   pub some : head_of heads list ≢ no_block

@@ -1,4 +1,4 @@
--- The definitions by kind, for the kinds with blocks.
+-- For all calls: what the definitions by kind are for the two kinds with blocks.
 use Rattle.std.proofs.Common.{◌≡◌, ℕ, [], None, Result, refl, subst}
 use Rattle.cf_base.specs.Settings.{Profile}
 use Rattle.cf_base.specs.declared.answers.Handle.{Handle}

@@ -1,4 +1,4 @@
--- What the calls cost, by the rule of the free lists and by the kind.
+-- For the clauses `exact`, `bound` and `cost` of a malloc and a free: the steps of their parts, added up.
 use Rattle.std.proofs.Common.{◌≡◌, ℕ, ◌+◌, ◌-◌, ◌≤◌, List, Option, Some, None, Result, Ok, Err, arith, refl, ◌∙◌, ap}
 use Rattle.std.specs.Prelude.{IfSome}
 use Rattle.cf_base.specs.Classes.{need}

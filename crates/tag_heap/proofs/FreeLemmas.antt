@@ -1,4 +1,4 @@
--- An object is freed: its block becomes free.
+-- For `free_inner`: the objects and blocks after an object is freed and its block becomes free.
 use Rattle.std.proofs.Common.{◌≡◌, ◌≢◌, ℕ, ◌+◌, ◌-◌, ◌/◌, ◌^◌, ◌≤◌, [], ◌∷◌, Some, None, length, get_or, arith, refl, sym, ◌∙◌, ap, subst}
 use Rattle.std.proofs.lemmas.Option.{same_Some as some_placed}
 use Rattle.std.specs.FinMap.{get, remove}

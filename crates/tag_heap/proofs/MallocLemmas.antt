@@ -1,4 +1,4 @@
--- An object is added, in a block that was carved for it.
+-- For `malloc_inner` and `room`: the objects and blocks after an object is added in a block that was carved for it, and the causes of refusals.
 use Rattle.std.proofs.Common.{◌≡◌, ◌≢◌, ℕ, zero, suc, ◌+◌, ◌^◌, ◌<◌, ◌≤◌, ◌∷◌, Some, None, length, replicate, arith, refl, sym, ◌∙◌, ap, subst, inl, inr}
 use Rattle.std.proofs.lemmas.List.{length-replicate}
 use Rattle.std.specs.FinMap.{get, insert, len}

@@ -1,4 +1,4 @@
--- An open heap whose objects, words, blocks, proxies and counts changed together keeps its invariant.
+-- For all calls: an open heap whose objects, words, blocks, proxies and counts changed together keeps its invariant, and so the rules.
 use Rattle.std.proofs.Common.{◌≡◌, ℕ, ◌+◌, ◌*◌, ◌<◌, List, Option, Some, None, length, arith, refl, sym, ◌∙◌, ap, subst}
 use Rattle.std.specs.Prelude.{option_map}
 use Rattle.std.specs.List.{Contains}

@@ -1,4 +1,4 @@
--- What is at an address, and the parts of objects that are read.
+-- For `place` and `find`, and for calls that look an object up: the object at a number's address, by its header.
 use Rattle.std.proofs.Common.{◌≡◌, ℕ, ◌+◌, ◌/◌, ◌^◌, ◌<◌, ◌≤◌, List, length, Some, arith, sym, ◌∙◌, ap}
 use Rattle.std.specs.Prelude.{option_map}
 use Rattle.std.specs.Ordering.{nat_cmp}

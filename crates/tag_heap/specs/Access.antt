@@ -1,4 +1,4 @@
--- Parts of objects that are read or written. No public clause cites this module.
+-- For `find`: the object whose bytes a call reads or writes, and its address. No public clause cites this module.
 use Rattle.std.specs.Prelude.{◌≡◌, ℕ, ◌+◌, ◌≤◌, length, Result, Ok, Err, Some}
 use Rattle.std.specs.FinMap.{get}
 use Rattle.cf_base.specs.declared.answers.AccessFault.{AccessFault}
@@ -7,12 +7,12 @@ use Rattle.page_model.specs.Bytes.{bytes_at}
 use Rattle.cf_model.specs.Steps.{Part, IsFault}
 use Rattle.tag_heap.specs.Heap.{Heap, held_in, state_of}
 
--- the object's block is at the address, and the object has `count` bytes from the part's first byte on
+-- object `part.number` has its block at the address `place`, and has `count` bytes from byte `part.from` on
 pub record Lies (h : Heap) (part : Part) (count place : ℕ) : Type 0 where
   pub found : get (held_in h) part.number ≡ Some (record { place = place; bytes = bytes_at h.tagged.words (place + 1) })
   pub within : part.from + count ≤ length (bytes_at h.tagged.words (place + 1))
 
--- the address of a part, or why there is none
+-- what `find` returns for `count` bytes of the part: the address of the object, or the fault of the call
 abbrev pub IsFound : Kind → Heap → Part → ℕ → Result ℕ AccessFault → Type 0
 IsFound kind h part count (Ok place) = Lies h part count place
 IsFound kind h part count (Err e) = IsFault (state_of kind h) part count e

@@ -1,4 +1,4 @@
--- Which number and block each call uses, by the order before it, and the order that it leaves. No public clause cites this module.
+-- The numbers and blocks that each call uses are those that the order lists next. No public clause cites this module.
 use Rattle.std.specs.Prelude.{◌≡◌, ℕ, ◌∷◌, IfOk, IfSome, Result}
 use Rattle.cf_base.specs.declared.answers.Freed.{Freed}
 use Rattle.cf_base.specs.declared.answers.Handle.{Handle}
@@ -12,12 +12,14 @@ use Rattle.cf_model.specs.Ordered.{CarvesInOrder}
 use Rattle.cf_model.specs.Rules.{listed_by}
 use Rattle.tag_heap.specs.Heap.{Heap, order_of, state_of}
 
--- a malloc uses the first free number, and carves the next block
+-- a malloc of `bytes` bytes, if it succeeds, uses the number and carves the block that the order of the heap `old` lists next, and leaves the order of the
+-- heap `new`
 abbrev pub MallocChooses : Kind → Heap → ℕ → Result Handle Refusal → Heap → Type 0
 MallocChooses kind old bytes answer new = IfOk answer (λ q. IfSome (place_of (state_of kind new) q.0)
     (λ a. CarvesInOrder (state_of kind old) (record { number = q.0; length = bytes }) a (state_of kind new) (order_of old) (order_of new)))
 
--- a free releases the block, which becomes the first of its list, and the number, which becomes the first free one
+-- a free of object q, if it succeeds, releases its block and its number: in the order of the heap `new` the free block that results is the first of its list,
+-- and the number the first free one
 abbrev pub FreeChooses : Kind → Heap → ℕ → Result Freed NotLive → Heap → Type 0
 FreeChooses kind old q answer new = IfOk answer (λ freed. IfSome (place_of (state_of kind old) q) (λ a. order_of new ≡ record (order_of old) {
   not_full = lists_released (free_lists_of kind) (listed_by (state_of kind old) (order_of old)) a;

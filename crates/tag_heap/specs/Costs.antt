@@ -1,4 +1,4 @@
--- How many steps the calls of a heap of blocks take. A bound is the true worst case.
+-- The steps of the calls of a heap with blocks: exact, or at most.
 use Rattle.std.specs.Prelude.{ℕ, ◌+◌, ◌%◌, Option, Some, None, Result, Ok, Err}
 use Rattle.cf_base.specs.declared.answers.AccessFault.{AccessFault}
 use Rattle.cf_base.specs.declared.answers.AccessFault.TheVariants as access
@@ -13,44 +13,44 @@ use Rattle.cf_model.specs.Families.{free_lists_of, list_count_of}
 use Rattle.cf_model.specs.State.{HeapState}
 use Rattle.word_bytes.specs.Overwriting.{words_with}
 
--- the most steps of a refused malloc
+-- the most steps of a malloc that is refused for this cause
 abbrev pub refused_steps : Refusal → ℕ
 refused_steps refusal.Size = 0
 refused_steps refusal.Proxy = 0
 refused_steps refusal.Space = 2
 
--- the most steps of a test whether a malloc would be refused
+-- the most steps of `has_room`, the test whether a malloc would be refused, by its result
 abbrev pub room_steps : Result Unit Refusal → ℕ
 room_steps (Ok done) = 4
 room_steps (Err e) = refused_steps e
 
--- The steps of a test whether a malloc would be refused: those of the search for a block, if neither the size nor the proxies are a cause. A refused malloc
--- costs the same steps.
+-- The exact steps of the test whether a malloc of `bytes` bytes would be refused: those of the search for a block, if neither the size nor the proxies are a
+-- cause; else none. A malloc that is refused costs the same steps.
 abbrev pub search_steps : HeapState → ℕ → Result ℕ Refusal → ℕ
 search_steps s bytes (Ok place) = find_steps (free_lists_of s.kind) (list_count_of s.kind) s.tiling (block_need bytes) (Some place)
 search_steps s bytes (Err e) = block_malloc_cost s bytes (Err e) s
 
--- the steps of finding the length of an object: its proxy is read, and its header
+-- the exact steps of `length`, by its result: reading the proxy, and if the object is live its header
 abbrev pub length_steps : Option ℕ → ℕ
 length_steps None = 1
 length_steps (Some bytes) = 2
 
--- the most steps of a malloc
+-- the most steps of a malloc, by its result
 abbrev pub malloc_steps : Result Handle Refusal → ℕ
 malloc_steps (Ok handle) = 25
 malloc_steps (Err e) = refused_steps e
 
--- the steps of a refused read or write
+-- the exact steps of a read or a write that is refused: the proxy, and if the number is live the header
 abbrev pub fault_steps : AccessFault → ℕ
 fault_steps access.Unknown = 1
 fault_steps access.Range = 2
 
--- the steps of finding bytes of an object: its proxy is read, and then its length
+-- the exact steps of `find`, by its result: reading the proxy and the header
 abbrev pub found_steps : Result ℕ AccessFault → ℕ
 found_steps (Ok place) = 2
 found_steps (Err e) = fault_steps e
 
--- the steps of a read or a write of `count` bytes from byte `from` of an object on: each word that holds one of them is touched
+-- the exact steps of a read or a write of `count` bytes from byte `from` on: those of `find`, and one for each word that holds one of the bytes
 abbrev pub access_steps : ℕ → ℕ → Result Unit AccessFault → ℕ
 access_steps from count (Ok done) = 2 + words_with (from % 8) count
 access_steps from count (Err e) = fault_steps e

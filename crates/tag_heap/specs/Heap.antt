@@ -1,4 +1,4 @@
--- What contracts see of an open heap of blocks, and its invariant.
+-- What contracts see of an open heap with blocks, and its invariant.
 use Rattle.std.specs.Prelude.{◌≡◌, ℕ, ◌*◌, List, [], true, Option, Some, None, length, refl}
 use Rattle.std.specs.Coded.{Coded, code_by, coded×, coded_ℕ, coded_list}
 use Rattle.cf_base.specs.contracts.Settings as settings
@@ -18,8 +18,8 @@ use Rattle.cf_model.specs.ReadObjects.{read_objects}
 use Rattle.cf_model.specs.Rules.{AreOwned, KeepsRules, content_word}
 use Rattle.cf_model.specs.State.{HeapState, block_code, closed_state}
 
--- An open heap: its settings, its words and blocks, the addresses by number, the bytes of all objects, the words of all used blocks, and the steps of the
--- last malloc or free.
+-- An open heap as definitions see it: its settings; its words, blocks and free lists (`tagged`); the addresses by number (`proxies`); the bytes of all
+-- objects; the words of all used blocks; and the steps of the last malloc or free.
 pub record Heap : Type 0 where
   pub settings : Settings
   pub tagged : Tagged
@@ -28,15 +28,15 @@ pub record Heap : Type 0 where
   pub used_words : ℕ
   pub cost : ℕ
 
--- the objects, by the words at their addresses
+-- the live objects by number; the words at each address hold the object's length and bytes
 abbrev pub held_in : Heap → Held
 held_in h = read_objects h.tagged.words h.proxies.places
 
--- what is used next: the first block of a free list, and the first free number
+-- the order of the heap: its free lists and its free numbers, each list with the next one first
 abbrev pub order_of : Heap → Order
 order_of h = record { pool = []; not_full = h.tagged.lists; spare = h.proxies.free }
 
--- the heap, as callers of a manager see it
+-- the state of a manager of this kind whose open heap is h
 abbrev pub state_of : Kind → Heap → HeapState
 state_of kind h = record {
   kind = kind;
@@ -51,34 +51,40 @@ state_of kind h = record {
   cost = h.cost;
 }
 
--- The invariant: the blocks tile the words, and the used ones are the objects'; the free lists are those of the kind; each block holds what its object has; each
--- number is one of the proxies'; and the counts are those of the objects and of the blocks.
+-- The invariant of an open heap.
 pub record IsValid (kind : Kind) (h : Heap) : Type 0 where
+  -- the blocks fill the words, and each begins with its header and, if used, its tag
   pub tags : AreTags h.tagged
+  -- the free lists are those of the kind
   pub lists : AreListsOf (free_lists_of kind) (list_count_of kind) (listed h.tagged)
+  -- the region has the words of the pages of the settings
   pub words_long : length h.tagged.words ≡ h.settings.pages * h.settings.page_words
+  -- each object has a used block of its own, and each used block an object
   pub owned : AreOwned (held_in h) h.tagged.blocks
+  -- each used block holds its object, and each free one zeros from word 2 on
   pub contents : AreTilingWords (content_word (held_in h)) h.tagged.blocks h.tagged.words
+  -- the numbers of the objects are below the number of proxies
   pub numbers : h.proxies.limit ≡ h.settings.proxies
   pub handles : AreBelowLimit h.proxies
+  -- the counts are those of the objects and of the used blocks
   pub asked_all : h.asked ≡ asked_bytes (objects (held_in h))
   pub used_all : h.used_words ≡ used_words h.tagged.blocks
 
--- a heap that may be closed
+-- the state of a manager of this kind whose heap is open, or closed (`None`)
 abbrev pub state_in : Kind → Option Heap → HeapState
 state_in kind None = closed_state kind
 state_in kind (Some h) = state_of kind h
 
--- the invariant of a heap that may be closed: the rules, if it is open
+-- the invariant of a manager's heap, which is open and keeps the rules, or closed (`None`)
 abbrev pub IsKeptIn : Kind → Option Heap → Type 0
 IsKeptIn kind None = Unit {0}
 IsKeptIn kind (Some h) = KeepsRules (state_of kind h)
 
--- the fields of a heap as nested pairs
+-- the fields of a heap as nested pairs, for `heap_code`
 abbrev pub HeapParts : Type 0
 HeapParts = Settings × (List ℕ × (List Block × (List (List ℕ) × (Proxies × (ℕ × (ℕ × ℕ))))))
 
--- the encoding of a heap by these pairs
+-- the encoding of a heap as nested pairs, which the trait `Model` requires
 abbrev pub heap_code : Coded Heap
 heap_code = code_by HeapParts
     (coded× settings.the_row.coded (coded× (coded_list coded_ℕ)

@@ -1,4 +1,4 @@
--- What a malloc would return now, and how long an object is.
+-- For `has_room` and `length`: what a malloc would return now, and how long an object is.
 use Rattle.std.specs.Prelude.{◌≡◌, ◌≢◌, ℕ, ◌+◌, ◌≤◌, length, Option, Some, Result, Ok, Err, option_map}
 use Rattle.std.specs.FinMap.{get, len}
 use Rattle.cf_base.specs.Classes.{need}
@@ -12,28 +12,29 @@ use Rattle.cf_model.specs.State.{HeapState}
 use Rattle.cf_model.specs.Steps.{IsRefusedBy}
 use Rattle.tag_heap.specs.Heap.{Heap, state_of}
 
--- a malloc of `bytes` bytes has no cause to be refused, or has this cause
+-- what `has_room` returns in the state s: `Ok` if a malloc of `bytes` bytes has no cause to be refused, else `Err` with its cause
 abbrev pub IsRoomAnswer : HeapState → ℕ → Result Unit Refusal → Type 0
 IsRoomAnswer s bytes (Ok done) = (e : Refusal) → ¬ IsRefusedBy s bytes e
 IsRoomAnswer s bytes (Err e) = IsRefusedBy s bytes e
 
--- a result without its value
+-- a result without its address, to compare it with what `has_room` returns
 abbrev pub done_by : Result ℕ Refusal → Result Unit Refusal
 done_by (Ok place) = Ok tt
 done_by (Err e) = Err e
 
--- the bytes of an object, if it is live
+-- the number of bytes of object h; none if it is not live
 abbrev pub length_of : HeapState → ℕ → Option ℕ
 length_of s h = option_map (λ (x : Placed). length x.bytes) (get s.held h)
 
--- the object fits a page, a proxy is free, and this is the block that a malloc takes, the next one
+-- an object of `bytes` bytes fits a page, a proxy is free, and `place` is the address of the free block that a malloc of it takes, which the free lists have
+-- next
 pub record HasRoom (rule : FreeLists) (h : Heap) (bytes place : ℕ) : Type 0 where
   pub fits : need bytes ≤ h.settings.page_words
   pub few : len h.proxies.places ≢ h.proxies.limit
   pub found : Finds rule h.tagged.blocks (need bytes + 1) place
   pub next : next_block rule h.tagged.lists (need bytes + 1) ≡ Some place
 
--- the result is such a block, or the cause of a refusal
+-- what `room` returns in the heap h for `bytes` bytes: the address of the block that a malloc takes, or the cause for which it is refused
 abbrev pub IsRoom : FreeLists → Kind → Heap → ℕ → Result ℕ Refusal → Type 0
 IsRoom rule kind h bytes (Ok place) = HasRoom rule h bytes place
 IsRoom rule kind h bytes (Err e) = IsRefusedBy (state_of kind h) bytes e

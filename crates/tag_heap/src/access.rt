@@ -1,4 +1,5 @@
-//! Reads and writes of an open heap.
+//! Looks objects of an open heap with blocks up by their handles: address, length, and reads and
+//! writes of their bytes.
 ghost use Rattle.std.specs.Prelude.{◌≡◌, ℕ, if◌then◌else◌, is_some, length, slice_get};
 ghost use Rattle.step_ledger.specs.Counting.{RoseBy};
 ghost use Rattle.cf_model.specs.Answers.{place_of};
@@ -25,7 +26,7 @@ impl<B: FitPolicy> OpenHeap<B> {
         self.proxies.lookup(h, steps)
     }
 
-    /// A word of the region; none past its end.
+    /// The word of the region at the index `word`, which costs one step; none past its end.
     pub(crate) fn peek(&self, word: u32, steps: &mut Steps) -> Option<u64>
         ensures value { result ≡ slice_get (state_of B.kind self.now).words word }
         ensures rules { KeepsRules (state_of B.kind self.now) }
@@ -92,7 +93,8 @@ impl<B: FitPolicy> OpenHeap<B> {
         Ok(place)
     }
 
-    /// How many bytes the object has; none if the handle isn't live.
+    /// The number of bytes of an object; none if the handle isn't live. Costs two steps, one if it
+    /// isn't.
     pub(crate) fn length(&self, h: Handle, steps: &mut Steps) -> Option<u32>
         ensures value { result ≡ length_of (state_of B.kind self.now) h.0 }
         ensures steps { RoseBy steps.old steps.new (length_steps result) }
@@ -103,7 +105,8 @@ impl<B: FitPolicy> OpenHeap<B> {
         }
     }
 
-    /// Why a resize of the object is refused: with blocks, always.
+    /// Why a resize of the object to any length is refused: with `Unknown` if the handle isn't
+    /// live, else with `Kind`, since heaps with blocks have no resize. Costs one step.
     pub(crate) fn resize_fault(&self, h: Handle, steps: &mut Steps) -> ResizeFault
         ensures step { (bytes : ℕ) → IsResizeFault (state_of B.kind self.now) (record { number = h.0; length = bytes }) result }
         ensures rules { KeepsRules (state_of B.kind self.now) }

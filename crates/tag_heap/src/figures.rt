@@ -1,4 +1,4 @@
-//! The figures of an open heap.
+//! The figures of an open heap with blocks: counts of live objects, bytes, words and blocks.
 ghost use Rattle.std.specs.Prelude.{◌≡◌, ◌+◌, ◌*◌};
 ghost use Rattle.step_ledger.specs.Counting.{RoseAtMost};
 ghost use Rattle.cf_model.specs.Answers.{block_totals, usage_of};
@@ -11,7 +11,8 @@ use cf_model::Usage;
 use step_ledger::Steps;
 
 impl<B: FitPolicy> OpenHeap<B> {
-    /// The figures of the whole heap. Searches the last free list that isn't empty for the largest free block.
+    /// The figures of the whole heap. Costs at most three steps and two for each free block, since
+    /// it searches the last free list that isn't empty for the largest free block.
     pub(crate) fn totals(&self, steps: &mut Steps) -> Totals
         ensures value { result ≡ block_totals (state_of B.kind self.now) }
         ensures bound { RoseAtMost steps.old steps.new (3 + 2 * result.free) }
@@ -27,7 +28,8 @@ impl<B: FitPolicy> OpenHeap<B> {
         }
     }
 
-    /// The bytes that the heap uses: asked, taken and held.
+    /// The bytes asked for by live objects, those of used blocks, and those of the region. Costs no
+    /// step.
     pub(crate) fn usage(&self) -> Usage
         ensures { result ≡ usage_of (block_totals (state_of B.kind self.now)) }
     {

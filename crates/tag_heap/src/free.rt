@@ -1,4 +1,4 @@
-//! The free of an open heap.
+//! `free` of an open heap with blocks.
 ghost use Rattle.std.specs.Prelude.{◌≡◌, ◌+◌, ◌^◌, ◌≤◌};
 ghost use Rattle.step_ledger.specs.Counting.{RoseAtMost, RoseBy};
 ghost use Rattle.cf_model.specs.Costs.{block_free_bound};
@@ -16,8 +16,10 @@ use step_ledger::Steps;
 use word_bytes::Header;
 
 impl<B: FitPolicy> OpenHeap<B> {
-    /// Removes an object, and counts the steps in `cost`. The block that it leaves becomes the first of
-    /// its list, and its number the first free one. Refused if the handle isn't live.
+    /// Removes an object, and releases its block, which is merged with free neighbours. The free
+    /// block that results becomes the first of its list, and the object's number the first free
+    /// one. Fails if the handle isn't live, and then changes only `cost`. Sets `cost` to the steps
+    /// of this call.
     pub(crate) fn free(&mut self, h: Handle, steps: &mut Steps) -> Result<Freed, NotLive>
         requires { steps.old ≤ 2 ^ 63 }
         ensures same { StaysOpen (state_of B.kind self.old) (state_of B.kind self.new) }
@@ -35,7 +37,7 @@ impl<B: FitPolicy> OpenHeap<B> {
         result
     }
 
-    /// Removes an object.
+    /// Frees an object as `free` does; fails if the handle isn't live. Leaves `cost` unchanged.
     fn free_inner(&mut self, h: Handle, steps: &mut Steps) -> Result<Freed, NotLive>
         ensures same { StaysOpen (state_of B.kind self.old) (state_of B.kind self.new) }
         ensures step { IsFreeStep (state_of B.kind self.old) h.0 result (state_of B.kind self.new) }

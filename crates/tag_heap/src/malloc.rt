@@ -1,4 +1,4 @@
-//! The malloc of an open heap.
+//! `malloc` of an open heap with blocks, and the search for the block that it takes.
 ghost use Rattle.std.specs.Prelude.{◌≡◌, ◌+◌, ◌^◌, ◌≤◌};
 ghost use Rattle.step_ledger.specs.Counting.{RoseAtMost, RoseBy};
 ghost use Rattle.cf_model.specs.ExactCosts.{block_malloc_cost};
@@ -17,8 +17,10 @@ use step_ledger::Steps;
 use word_bytes::Header;
 
 impl<B: FitPolicy> OpenHeap<B> {
-    /// Adds an object of `bytes` bytes, all zero, under the first free number and in the next block of
-    /// the order, and counts the steps in `cost`.
+    /// Adds an object of `bytes` bytes, all zero, under the first free number and in the block that
+    /// the order lists next. Refused, in this order: `Size` if it needs more than a page, `Proxy`
+    /// if no number is free, `Space` if no free list that is searched has a block; then only `cost`
+    /// changes. Sets `cost` to the steps of this call.
     pub(crate) fn malloc(&mut self, bytes: u32, steps: &mut Steps) -> Result<Handle, Refusal>
         requires { steps.old ≤ 2 ^ 63 }
         ensures same { StaysOpen (state_of B.kind self.old) (state_of B.kind self.new) }
@@ -36,8 +38,8 @@ impl<B: FitPolicy> OpenHeap<B> {
         result
     }
 
-    /// Adds an object of `bytes` bytes, all zero. Its block is carved once it has a number, which the
-    /// block's tag holds.
+    /// Adds an object as `malloc` does, or refuses it for the same causes. Leaves `cost` unchanged.
+    /// The block is carved once the object has a number, since the block's tag holds it.
     fn malloc_inner(&mut self, bytes: u32, steps: &mut Steps) -> Result<Handle, Refusal>
         ensures same { StaysOpen (state_of B.kind self.old) (state_of B.kind self.new) }
         ensures step { IsMallocStep (state_of B.kind self.old) bytes result (state_of B.kind self.new) }
@@ -61,8 +63,8 @@ impl<B: FitPolicy> OpenHeap<B> {
         Ok(handle)
     }
 
-    /// The address of the free block that a malloc of `bytes` bytes would take, or why the malloc
-    /// would be refused.
+    /// Returns the address of the free block that a malloc of `bytes` bytes would take now, or
+    /// fails with the refusal that it would return. Changes nothing.
     pub(crate) fn room(&self, bytes: u32, steps: &mut Steps) -> Result<u32, Refusal>
         ensures room { IsRoom B.rule B.kind self.now bytes result }
         ensures answer { IsRoomAnswer (state_of B.kind self.now) bytes (done_by result) }

@@ -1,4 +1,4 @@
-//! The heap that a caller holds: closed, or open.
+//! `TagHeap`: the trait `Manager` over an open heap with blocks, or none while it is closed.
 ghost use Rattle.std.specs.Prelude.{◌≡◌, ◌+◌, ◌*◌, ◌^◌, ◌≤◌, IsTrue, if◌then◌else◌, is_some, length, slice_get};
 ghost use Rattle.step_ledger.specs.Counting.{RoseAtMost, RoseBy};
 ghost use Rattle.cf_model.specs.Answers.{block_in, place_of, totals_in, usage_in};
@@ -23,14 +23,15 @@ use std::alloc::Global;
 use std::marker::Model;
 use step_ledger::Steps;
 
-/// The manager with blocks, whose free lists a `FitPolicy` chooses. It promises an order, open or
-/// closed.
+/// The manager with blocks, whose free lists a `FitPolicy` chooses: `alloc` is the allocator with
+/// which it opens, and `inner` the heap while it is open. It promises an order, open or closed.
 #[derive(Drop)]
 pub struct TagHeap<B: FitPolicy> {
     alloc: Global,
     inner: Option<OpenHeap<B>>,
 }
 
+// In contracts a manager is its state (`state_in`), and its heap keeps the invariant `IsKeptIn`.
 impl<B: FitPolicy> Model for TagHeap<B> {
     ghost use Rattle.cf_model.specs.State.{HeapState, state_code};
 
@@ -46,14 +47,15 @@ impl<B: FitPolicy> Model for TagHeap<B> {
 }
 
 impl<B: FitPolicy> TagHeap<B> {
-    /// A closed manager, which allocates nothing.
+    /// Returns a closed manager, which has allocated nothing.
     pub fn closed(alloc: Global) -> TagHeap<B>
         ensures { result ≡ closed_state B.kind }
     {
         TagHeap { alloc, inner: None }
     }
 
-    /// Whether a malloc of `bytes` bytes would be served now: `Ok`, or the refusal that it would return.
+    /// Returns what a malloc of `bytes` bytes would return now, without the handle: `Ok`, or its
+    /// refusal. Changes nothing, and costs at most four steps.
     pub fn has_room(&self, bytes: u32, steps: &mut Steps) -> Result<(), Refusal>
         requires open { IsTrue self.now.is_open }
         ensures answer { IsRoomAnswer self.now bytes result }
@@ -63,7 +65,7 @@ impl<B: FitPolicy> TagHeap<B> {
         Ok(())
     }
 
-    /// How many bytes the object has; none if the handle isn't live.
+    /// The number of bytes of an object; none if the handle isn't live.
     pub fn length(&self, h: Handle, steps: &mut Steps) -> Option<u32>
         requires open { IsTrue self.now.is_open }
         ensures value { result ≡ length_of self.now h.0 }
@@ -72,7 +74,7 @@ impl<B: FitPolicy> TagHeap<B> {
         self.open().length(h, steps)
     }
 
-    /// The open heap.
+    /// Borrows the open heap, for calls that change nothing.
     fn open(&self) -> &OpenHeap<B>
         requires { IsTrue self.now.is_open }
         ensures { state_of B.kind result.now ≡ self.now }
@@ -84,24 +86,31 @@ impl<B: FitPolicy> TagHeap<B> {
     }
 }
 
+// The calls pass on to the open heap. Their contracts require an open heap, so a closed one is
+// never met. There are neither size classes nor a block table.
 impl<B: FitPolicy> Manager for TagHeap<B> {
     ghost state = { λ h. h };
 
+    // Returns the kind of the fit policy.
     fn kind(&self) -> Kind {
         let _inner = &self.inner;
         B::kind()
     }
 
+    // Returns whether the heap is open.
     fn is_open(&self) -> bool {
         self.inner.is_some()
     }
 
+    // Opens an empty heap, which is one free block.
     fn open_heap(&mut self, s: &Settings) -> Result<(), OutOfMemory> {
         self.inner = None;
         self.inner = Some(OpenHeap::new(self.alloc, s)?);
         Ok(())
     }
 
+    // Adds an object of zeros, or is refused, as the trait says. Costs at most 25 steps, and
+    // exactly `block_malloc_cost`.
     fn malloc(&mut self, bytes: u32, steps: &mut Steps) -> Result<Handle, Refusal>
         requires open { IsTrue self.old.is_open }
         requires room { steps.old ≤ 2 ^ 63 }
@@ -120,6 +129,8 @@ impl<B: FitPolicy> Manager for TagHeap<B> {
         }
     }
 
+    // Removes an object, as the trait says. Costs at most 41 steps and one for each word of its
+    // block, 1 if refused, and exactly `block_free_cost`.
     fn free(&mut self, h: Handle, steps: &mut Steps) -> Result<Freed, NotLive>
         requires open { IsTrue self.old.is_open }
         requires room { steps.old ≤ 2 ^ 63 }
@@ -139,6 +150,7 @@ impl<B: FitPolicy> Manager for TagHeap<B> {
         }
     }
 
+    // Writes bytes into an object, as the trait says. Costs exactly `access_steps` steps.
     fn write(
         &mut self,
         h: Handle,
@@ -160,6 +172,7 @@ impl<B: FitPolicy> Manager for TagHeap<B> {
         }
     }
 
+    // Reads bytes of an object, as the trait says. Costs exactly `access_steps` steps.
     fn read(&self, h: Handle, at: u32, out: &mut [u8], steps: &mut Steps) -> Result<(), AccessFault>
         requires open { IsTrue self.now.is_open }
         requires room { steps.old ≤ 2 ^ 63 }
@@ -174,6 +187,7 @@ impl<B: FitPolicy> Manager for TagHeap<B> {
         }
     }
 
+    // Refuses every resize, since heaps with blocks have none. Costs one step.
     fn resize(&mut self, h: Handle, _bytes: u32, steps: &mut Steps) -> Result<Resized, ResizeFault>
         requires open { IsTrue self.old.is_open }
         requires room { steps.old ≤ 2 ^ 63 }
@@ -192,11 +206,13 @@ impl<B: FitPolicy> Manager for TagHeap<B> {
         }
     }
 
+    // Returns false, since there are no size classes.
     fn set_bound(&mut self, _slot_words: u32, _k: u32) -> bool {
         let _inner = &self.inner;
         false
     }
 
+    // Returns the address of the object; none if the handle isn't live. Costs one step.
     fn place(&self, h: Handle, steps: &mut Steps) -> Option<u32>
         requires { IsTrue self.now.is_open }
         ensures value { result ≡ place_of self.now h.0 }
@@ -206,6 +222,7 @@ impl<B: FitPolicy> Manager for TagHeap<B> {
         self.open().place(h, steps)
     }
 
+    // Returns a word of the region, for one step; none past its end, for no step.
     fn peek(&self, word: u32, steps: &mut Steps) -> Option<u64>
         requires { IsTrue self.now.is_open }
         ensures value { result ≡ slice_get self.now.words word }
@@ -219,6 +236,7 @@ impl<B: FitPolicy> Manager for TagHeap<B> {
         }
     }
 
+    // Returns none, for no step: this kind has no block table.
     fn block(&self, _h: Handle, _i: u32, _steps: &mut Steps) -> Option<u32>
         requires { IsTrue self.now.is_open }
         ensures value { result ≡ block_in self.now.kind self.now _h.0 _i }
@@ -229,17 +247,20 @@ impl<B: FitPolicy> Manager for TagHeap<B> {
         None
     }
 
+    // Returns 0, since there are no size classes.
     fn classes(&self) -> u32 {
         let _open = self.open();
         0
     }
 
+    // Returns none, since there are no size classes.
     fn figures(&self, _c: u32) -> Option<Figures> {
         // For its contract: a heap with blocks has no size classes.
         let _open = self.open();
         None
     }
 
+    // Returns the figures of the whole heap. Costs at most three steps and two for each free block.
     fn totals(&self, steps: &mut Steps) -> Totals
         requires { IsTrue self.now.is_open }
         ensures value { result ≡ totals_in self.now.kind self.now }
@@ -249,6 +270,7 @@ impl<B: FitPolicy> Manager for TagHeap<B> {
         self.open().totals(steps)
     }
 
+    // Returns the bytes asked, taken and held, by counts that the heap keeps. Costs no step.
     fn usage(&self, _steps: &mut Steps) -> Usage
         requires { IsTrue self.now.is_open }
         ensures value { result ≡ usage_in self.now.kind self.now }
@@ -258,6 +280,7 @@ impl<B: FitPolicy> Manager for TagHeap<B> {
         self.open().usage()
     }
 
+    // Returns the steps of the last malloc or free since the opening, 0 before the first one.
     fn cost(&self) -> u64 {
         self.open().cost
     }

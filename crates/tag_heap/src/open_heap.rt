@@ -1,4 +1,4 @@
-//! An open heap: its blocks, and the addresses of its objects.
+//! `OpenHeap`, the heap of the managers with blocks while it is open, and how it is opened.
 ghost use Rattle.std.specs.Prelude.{◌≡◌, ◌*◌, length, IfOk};
 ghost use Rattle.block_model.specs.FreeOrder.{AreListsOf, first_lists};
 ghost use Rattle.block_model.specs.Tiling.{one_free_block};
@@ -15,8 +15,9 @@ use std::alloc::Global;
 use std::marker::Model;
 use tag_blocks::TagBlocks;
 
-/// An open heap. `asked` are the bytes of all objects, `used_words` the words of all used blocks, and
-/// `cost` the steps of the last malloc or free.
+/// An open heap. `blocks` has the region, its used and free blocks, and the free lists; `proxies`
+/// has the objects' addresses by number. `asked` is the bytes of all objects, `used_words` the
+/// words of all used blocks, and `cost` the steps of the last malloc or free.
 #[derive(Drop)]
 pub(crate) struct OpenHeap<B: FitPolicy> {
     pub(crate) settings: Settings,
@@ -27,6 +28,7 @@ pub(crate) struct OpenHeap<B: FitPolicy> {
     pub(crate) cost: u64,
 }
 
+// In contracts an open heap is the `Heap` of its parts, which keeps the invariant `IsValid`.
 impl<B: FitPolicy> Model for OpenHeap<B> {
     ghost use Rattle.tag_heap.specs.Heap.{Heap, IsValid, heap_code};
 
@@ -47,7 +49,8 @@ impl<B: FitPolicy> Model for OpenHeap<B> {
 }
 
 impl<B: FitPolicy> OpenHeap<B> {
-    /// A heap without objects. Only this call allocates.
+    /// Returns a heap without objects, with the settings s. Only this call allocates; it fails if
+    /// out of memory.
     pub(crate) fn new(alloc: Global, s: &Settings) -> Result<OpenHeap<B>, OutOfMemory>
         ensures empty { IfOk result (λ h. IsEmptyHeap B.kind s.now (state_of B.kind h)) }
         ensures rules { IfOk result (λ h. KeepsRules (state_of B.kind h)) }
@@ -57,7 +60,7 @@ impl<B: FitPolicy> OpenHeap<B> {
         Ok(OpenHeap::empty(s, blocks, proxies))
     }
 
-    /// A heap without objects, of these parts.
+    /// Puts these parts, each without objects, together to an open heap.
     fn empty(s: &Settings, blocks: TagBlocks<B>, proxies: ProxyTable) -> OpenHeap<B>
         requires blocks { blocks.blocks ≡ one_free_block (s.now.pages * s.now.page_words) }
         requires words { length blocks.words ≡ s.now.pages * s.now.page_words }

@@ -1,11 +1,11 @@
-//! The free lists of each kind, as the least size of each, in words. A list holds the sizes from its
-//! least one on that are below that of the next list.
+//! The rules of TLSF and Half-Fit for free lists, as a table: for each list the least size of a block in
+//! it, in words. A block is in the last list whose least size isn't above its own.
 ghost use Rattle.std.specs.Prelude.{◌≡◌, IfOk, length};
 
 use std::alloc::{AllocError, Global};
 
-/// The least sizes of the lists of TLSF (2004): a list for each size below 16 words, and 16 lists for
-/// each power of two from there on.
+/// The least size of a block, in words, in each of the 336 lists of TLSF (2004): a list for each size below
+/// 16 words, and 16 lists for each power of two from there on.
 pub fn tlsf_sizes(alloc: Global) -> Result<Vec<u32>, AllocError>
     ensures count { IfOk result (λ sizes. length sizes.items ≡ 336) }
 {
@@ -21,7 +21,8 @@ pub fn tlsf_sizes(alloc: Global) -> Result<Vec<u32>, AllocError>
     Ok(sizes)
 }
 
-/// The least sizes of the lists of Half-Fit (1995): a list for each power of two.
+/// The least size of a block, in words, in each of the 24 lists of Half-Fit (1995): a list for each power
+/// of two.
 pub fn half_fit_sizes(alloc: Global) -> Result<Vec<u32>, AllocError>
     ensures count { IfOk result (λ sizes. length sizes.items ≡ 24) }
 {
@@ -32,7 +33,7 @@ pub fn half_fit_sizes(alloc: Global) -> Result<Vec<u32>, AllocError>
     Ok(sizes)
 }
 
-/// The list of a block of this size: the last one whose least size isn't above it.
+/// The index of the list for a block of `size` words: the last one whose least size isn't above it.
 pub(crate) fn list_of(sizes: &[u32], size: u32) -> usize {
     let mut found = 0;
     for list in 0..sizes.len() {
@@ -43,7 +44,8 @@ pub(crate) fn list_of(sizes: &[u32], size: u32) -> usize {
     found
 }
 
-/// The first list whose blocks all have the words that are needed; past the last one if there is none.
+/// The index of the first list whose blocks all have at least `need` words; the number of lists if there is
+/// none.
 pub(crate) fn first_for(sizes: &[u32], need: u32) -> usize {
     for list in 0..sizes.len() {
         if need <= sizes[list] {

@@ -1,6 +1,6 @@
-//! What the tests of the managers with blocks share: a plain list of blocks with plain free lists, and
-//! calls on a manager that are held against it. Nothing here ends a process: what differs from what was
-//! wanted is returned, and a test fails by it.
+//! What the tests of the managers with blocks, TLSF and Half-Fit, share: a slow reference implementation,
+//! which is a plain list of blocks with plain free lists, and calls on a manager that are compared with it.
+//! Nothing here ends the process: a difference is returned as an error, and the test fails with it.
 #![tactic(auto)]
 
 mod free_lists;

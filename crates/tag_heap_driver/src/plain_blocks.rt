@@ -1,14 +1,16 @@
-//! Blocks as a plain list by address, and free lists as plain lists.
+//! The slow reference implementation of a manager with blocks: the blocks as a plain list in order of
+//! address, and the free lists as plain lists of addresses.
 ghost use Rattle.std.specs.Prelude.{◌≡◌};
 
 use crate::free_lists::{first_for, list_of};
 use std::alloc::Global;
 use test_support::Wrong;
 
-/// The address of no block, in the links of a free list.
+/// The half of a free block's link that means: there is no neighbour in the list on that side.
 const NONE: u64 = 0xffff_ffff;
 
-/// A block of words; none owns a free one.
+/// A block: the number of its first word, its size in words, and the number of the object in it; none if it
+/// is free.
 #[derive(Clone, Copy)]
 pub struct Block {
     pub address: u32,
@@ -16,8 +18,8 @@ pub struct Block {
     pub owner: Option<u32>,
 }
 
-/// The blocks of a region in order of address, and the free ones by list: the last of a list is the next to be
-/// taken.
+/// The blocks of a region in order of address, the addresses of the free ones by list, and the least size
+/// of a block in each list. The last address of a list is taken next.
 #[derive(Drop)]
 pub struct PlainBlocks {
     blocks: Vec<Block>,
@@ -26,7 +28,7 @@ pub struct PlainBlocks {
 }
 
 impl PlainBlocks {
-    /// One free block, and free lists with these least sizes.
+    /// A region of `words` words that is one free block. `sizes` has the least size of each free list.
     pub fn new(alloc: Global, sizes: Vec<u32>, words: u32) -> Result<PlainBlocks, Wrong> {
         let mut lists = Vec::new(alloc);
         for _size in sizes.iter() {
@@ -62,9 +64,10 @@ impl PlainBlocks {
         self.blocks.as_slice()
     }
 
-    /// Splits a free block: the one that was listed last in the first list that isn't empty, from the first
-    /// list on whose blocks all have `need` words. Its first `need` words get the owner; a rest of two words
-    /// or more becomes a free block. Returns its address; none if no such list has a block.
+    /// Takes the block that was listed last in the first list that isn't empty, from the first list on
+    /// whose blocks all have `need` words. Its first `need` words become a used block of the object
+    /// `owner`. A rest of two words or more becomes a free block; one of one word stays with the used
+    /// block. Returns the block's address; none if no such list has a block.
     pub fn carve(&mut self, need: u32, owner: u32) -> Result<Option<u32>, Wrong> {
         for list in first_for(self.sizes.as_slice(), need)..self.lists.len() {
             let taken = match self.lists.get_mut(list) {
@@ -79,7 +82,7 @@ impl PlainBlocks {
         Ok(None)
     }
 
-    /// Whether no free block serves the need.
+    /// Whether `carve` would find no block for `need` words.
     pub fn lacks(&self, need: u32) -> bool {
         let first = first_for(self.sizes.as_slice(), need);
         self.lists
@@ -88,8 +91,8 @@ impl PlainBlocks {
             .all(|addresses| addresses.is_empty())
     }
 
-    /// The block at the address becomes free, and takes in the free block after it, and then that
-    /// before it. The whole is the next to be taken of its list.
+    /// Frees the block at this address, and coalesces it with the free block after it, and with the one
+    /// before it. The whole is the next to be taken of its list. Does nothing if no block begins there.
     pub fn release(&mut self, address: u32) -> Result<(), Wrong> {
         let Some(mut at) = self.index_of(address) else {
             return Ok(());
@@ -109,8 +112,8 @@ impl PlainBlocks {
         self.list(block)
     }
 
-    /// The words of all used blocks; how many are used, and how many are free; the words of the largest
-    /// free block.
+    /// Four figures: the words of all used blocks, the number of used blocks, that of free blocks, and the
+    /// words of the largest free block.
     pub fn figures(&self) -> (u32, u32, u32, u32) {
         let mut words: u32 = 0;
         let mut used: u32 = 0;
@@ -128,7 +131,8 @@ impl PlainBlocks {
         (words, used, free, largest)
     }
 
-    /// Word 1 of a free block: the block that came into its list before it, and the one after it.
+    /// Word 1 of a free block, its link: in the lower half the address of the block that came into its list
+    /// before it, in the upper half that of the one after it.
     pub fn link(&self, block: Block) -> u64 {
         let list = list_of(self.sizes.as_slice(), block.size);
         let Some(addresses) = self.lists.get(list) else {
@@ -142,12 +146,12 @@ impl PlainBlocks {
         link_half(next) | link_half(previous) << 32
     }
 
-    /// The index of the block with this address.
+    /// The index of the block that begins at this address; none if none does.
     fn index_of(&self, address: u32) -> Option<usize> {
         self.blocks.iter().position(|b| b.address == address)
     }
 
-    /// Whether there is such a block, and it is free.
+    /// Whether there is a block with the index `at`, and it is free.
     fn is_free(&self, at: usize) -> bool {
         self.blocks.get(at).is_some_and(|b| b.owner.is_none())
     }
@@ -161,7 +165,7 @@ impl PlainBlocks {
         Ok(())
     }
 
-    /// The free block leaves its list.
+    /// Removes the free block with the index `at` from its free list.
     fn unlist(&mut self, at: usize) {
         if self.blocks.len() <= at {
             return;
@@ -173,7 +177,8 @@ impl PlainBlocks {
         }
     }
 
-    /// The first words of a free block that is in no list any more become the owner's.
+    /// Splits the free block at this address, which is in no list any more: its first `need` words become a
+    /// used block of the object `owner`, and a rest of two words or more a free block.
     fn split(&mut self, address: u32, need: u32, owner: u32) -> Result<(), Wrong> {
         let Some(at) = self.index_of(address) else {
             return Ok(());
@@ -196,7 +201,7 @@ impl PlainBlocks {
         self.list(rest)
     }
 
-    /// Coalesces the block with the one behind it, if that one is free.
+    /// Coalesces the block with the index `at` with the one behind it, if that one is free.
     fn take_in_next(&mut self, at: usize) {
         let after = at.saturating_add(1);
         if !self.is_free(after) {
@@ -213,7 +218,7 @@ impl PlainBlocks {
     }
 }
 
-/// An address as half of a link.
+/// An address as half of a link; `NONE` if there is none.
 fn link_half(address: Option<&u32>) -> u64 {
     match address {
         Some(a) => u64::from(*a),

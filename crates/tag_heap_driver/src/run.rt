@@ -1,4 +1,5 @@
-//! Calls on a manager with blocks, each held against a plain list of blocks.
+//! Calls on a manager with blocks. Each is compared with what a plain list of blocks computes, and fails at a
+//! difference.
 ghost use Rattle.std.specs.Prelude.{◌≡◌, IfOk};
 ghost use Rattle.cf_model.specs.Answers.{totals_in};
 ghost use Rattle.cf_model.specs.Steps.{IsMallocStep};
@@ -10,24 +11,29 @@ use std::alloc::Global;
 use step_ledger::Meter;
 use test_support::{Calls, Draw, Objects, Wrong, hold};
 
-/// A manager with blocks, the plain list of blocks beside it, and the live objects by number.
+/// A manager with blocks under test, and what is expected of it.
 #[derive(Drop)]
 pub struct BlockRun<H: Manager> {
+    /// The manager, with the ledger of its calls.
     calls: Calls<H>,
+    /// The expected blocks and free lists.
     plain: PlainBlocks,
-    /// Each with the address of its block.
+    /// The expected objects by number, each with the address of its block and its bytes.
     objects: Objects<u32>,
+    /// The words of a page: no object may be longer, with its header.
     page_words: u32,
+    /// The words of the region.
     words: u32,
+    /// The number of proxies.
     proxies: u32,
-    /// There are more frees than mallocs now.
+    /// Whether frees are drawn more often than mallocs in this phase.
     drains: bool,
     draw: Draw,
 }
 
 impl<H: Manager> BlockRun<H> {
-    /// The heap is opened with pages, bytes to a page, and proxies. Its free lists have these least
-    /// sizes.
+    /// Opens the heap without objects. `settings` has its pages, the bytes of a page, and its proxies;
+    /// `sizes` has for each free list of its kind the least size of a block in it, in words.
     pub fn new(
         alloc: Global,
         mut heap: H,
@@ -51,7 +57,8 @@ impl<H: Manager> BlockRun<H> {
         })
     }
 
-    /// Makes `calls` drawn calls, and then compares everything. In turn the heap fills and drains.
+    /// Makes `calls` drawn calls, and then compares everything. The first call of `play` draws more mallocs
+    /// than frees, the next one more frees than mallocs, and so on.
     pub fn play(&mut self, calls: u32) -> Result<(), Wrong> {
         self.drains = !self.drains;
         for _i in 0..calls {
@@ -60,7 +67,7 @@ impl<H: Manager> BlockRun<H> {
         self.compare_all()
     }
 
-    /// Frees all that is live, compares all, and returns the words of the largest free block.
+    /// Frees all live objects, compares everything, and returns the words of the largest free block.
     pub fn drain(&mut self) -> Result<u32, Wrong>
         ensures largest { IfOk result (λ largest. largest ≡ (totals_in (H.state self.new.calls.heap).kind (H.state self.new.calls.heap)).largest) }
     {
@@ -73,7 +80,9 @@ impl<H: Manager> BlockRun<H> {
         Ok(self.totals()?.largest)
     }
 
-    /// A malloc, which returns what the plain list predicts.
+    /// Makes an object of `bytes` bytes. Fails unless the heap refuses it for the cause that the plain list
+    /// computes, or places it where the list does; and shows the same figures then. Returns the heap's
+    /// result.
     pub fn malloc(&mut self, bytes: u32) -> Result<Result<Handle, Refusal>, Wrong>
         ensures step { IfOk result (λ given. IsMallocStep (H.state self.old.calls.heap) bytes given (H.state self.new.calls.heap)) }
     {
@@ -89,7 +98,8 @@ impl<H: Manager> BlockRun<H> {
         Ok(given)
     }
 
-    /// A free, which returns what the plain list predicts.
+    /// Frees the object of this handle. Fails unless the heap returns the size of its block, moves nothing,
+    /// and shows the figures of the plain list then. A handle without an object must be refused.
     pub fn free(&mut self, handle: Handle) -> Result<(), Wrong> {
         let freed = self.calls.free(handle)?;
         let Some(object) = self.objects.take(handle.0) else {
@@ -106,7 +116,8 @@ impl<H: Manager> BlockRun<H> {
         Ok(())
     }
 
-    /// Returns the heap's figures. Fails if they differ from those of the plain list.
+    /// Returns the figures of the whole heap. Fails if they differ from those of the plain list and the
+    /// expected objects.
     pub fn totals(&mut self) -> Result<Totals, Wrong>
         ensures shown { IfOk result (λ totals. totals ≡ totals_in (H.state self.new.calls.heap).kind (H.state self.new.calls.heap)) }
         ensures heap { self.new.calls.heap ≡ self.old.calls.heap }
@@ -132,7 +143,7 @@ impl<H: Manager> BlockRun<H> {
         Ok(totals)
     }
 
-    /// Compares each word of the region, and the address of each object.
+    /// Compares each word of the region, and the address of each object; a number without one must have none.
     pub fn compare_all(&mut self) -> Result<(), Wrong> {
         self.compare_words()?;
         for number in 0..self.proxies {
@@ -145,7 +156,7 @@ impl<H: Manager> BlockRun<H> {
         Ok(())
     }
 
-    /// Compares each word of the region, and finds none after it.
+    /// Compares each word of the region with that of its block. The heap must show no word past the end.
     fn compare_words(&mut self) -> Result<(), Wrong> {
         let mut before = 0;
         for i in 0..self.plain.blocks().len() {
@@ -160,7 +171,7 @@ impl<H: Manager> BlockRun<H> {
         self.calls.compare_word(self.words, None)
     }
 
-    /// A length: most are small, and some don't fit a page.
+    /// Draws a length in bytes: most are below 200, and some are too large for a page of 512 bytes.
     fn length(&mut self) -> u32 {
         if self.draw.below(4) > 0 {
             return self.draw.below(200);
@@ -169,7 +180,7 @@ impl<H: Manager> BlockRun<H> {
         self.draw.below(most)
     }
 
-    /// One call, drawn.
+    /// Makes one drawn call, of a handle that may have no object.
     fn draw_call(&mut self) -> Result<(), Wrong> {
         let handle = Handle(self.draw.below(64));
         match self.draw.below(8) {
@@ -186,7 +197,7 @@ impl<H: Manager> BlockRun<H> {
         }
     }
 
-    /// Why a malloc of `bytes` bytes is refused.
+    /// Why a malloc of `bytes` bytes must be refused, by the plain list; none if it must succeed.
     fn refusal(&self, bytes: u32) -> Option<Refusal> {
         if self.page_words < bytes.div_ceil(8).saturating_add(1) {
             Some(Refusal::Size)
@@ -199,7 +210,8 @@ impl<H: Manager> BlockRun<H> {
         }
     }
 
-    /// A resize, which is always refused.
+    /// Resizes the object of this handle. The heap must refuse that always: as unknown if there is no such
+    /// object, else because its kind doesn't resize.
     fn resize(&mut self, handle: Handle) -> Result<(), Wrong> {
         let why = if self.objects.get(handle.0).is_some() {
             ResizeFault::Kind
@@ -210,7 +222,7 @@ impl<H: Manager> BlockRun<H> {
         hold(resized == Err(why), Wrong::Resize(resized))
     }
 
-    /// Writes up to eight bytes.
+    /// Writes up to eight drawn bytes from a drawn byte of the object on; they may pass its end.
     fn write(&mut self, handle: Handle) -> Result<(), Wrong> {
         let at = self.draw.below(200);
         let part = self.draw.number().to_le_bytes();
@@ -219,7 +231,7 @@ impl<H: Manager> BlockRun<H> {
         self.objects.written(handle.0, at, &part[..n], done)
     }
 
-    /// Reads an object from one of its first bytes on.
+    /// Reads the object from one of its first 20 bytes on to its end, and compares the bytes.
     fn read(&mut self, handle: Handle) -> Result<(), Wrong> {
         let length = self.objects.length(handle.0).unwrap_or(0);
         let at = self.draw.below(20).min(length);
@@ -228,7 +240,7 @@ impl<H: Manager> BlockRun<H> {
         self.objects.read(handle.0, at, buffer.as_slice(), done)
     }
 
-    /// Block i.
+    /// Block i of the plain list, in order of address.
     fn block(&self, i: usize) -> Result<Block, Wrong> {
         match self.plain.blocks().get(i) {
             Some(block) => Ok(*block),
@@ -236,7 +248,9 @@ impl<H: Manager> BlockRun<H> {
         }
     }
 
-    /// A word of a block behind one of `before` words.
+    /// The value that word `word` of the block must have, if the block before it has `before` words. Word 0
+    /// has the block's size, `before` in the upper half, and bit 31 if the block is used. Then a used block
+    /// has the words of its object, and a free one its link in the free list and zeros.
     fn word_of(&self, block: Block, before: u32, word: u32) -> u64 {
         let header = u64::from(block.size) | u64::from(before) << 32;
         let Some(owner) = block.owner else {
@@ -256,7 +270,8 @@ impl<H: Manager> BlockRun<H> {
     }
 }
 
-/// The words of a block for `bytes` bytes: two, and one for each eight of them.
+/// The words that an object of `bytes` bytes needs of a block: the block's size and the tag, and a word for
+/// each eight bytes.
 fn block_need(bytes: u32) -> u32 {
     bytes.div_ceil(8).saturating_add(2)
 }

@@ -1,4 +1,5 @@
-//! Calls on a manager, and comparisons of what it shows.
+//! `Calls`: a manager under test with its ledger, calls of it, and comparisons of what it shows with what a
+//! test wants.
 ghost use Rattle.std.specs.Prelude.{◌≡◌, IfOk, IsTrue, OnOk, slice_get};
 ghost use Rattle.cf_model.specs.Answers.{block_in, place_of, totals_in};
 ghost use Rattle.cf_model.specs.Steps.{IsFreeStep, IsMallocStep, IsResizeStep, IsWriteStep};
@@ -8,7 +9,9 @@ use cf_base::{AccessFault, Freed, Handle, NotLive, Refusal, ResizeFault, Resized
 use cf_model::Manager;
 use step_ledger::Meter;
 
-/// A manager with the ledger of its calls. Each call fails with `Closed` unless the heap is open.
+/// A manager with the meter of its calls. Each call sets the count of steps to 0 first, and fails with
+/// `Wrong::Closed` unless the heap is open; else it returns the manager's own result. A comparison fails with
+/// the result that differs from `want`.
 #[derive(Drop)]
 pub struct Calls<H: Manager> {
     pub heap: H,
@@ -16,7 +19,7 @@ pub struct Calls<H: Manager> {
 }
 
 impl<H: Manager> Calls<H> {
-    /// Sets the ledger to 0 for a call.
+    /// Sets the count of steps to 0 for a call. Fails if the heap is closed.
     fn start(&mut self) -> Result<(), Wrong>
         ensures heap { self.new.heap ≡ self.old.heap }
         ensures open { OnOk result (IsTrue (H.state self.new.heap).is_open) }
@@ -29,7 +32,7 @@ impl<H: Manager> Calls<H> {
         Ok(())
     }
 
-    /// A malloc.
+    /// Calls `malloc` for an object of `bytes` bytes.
     pub fn malloc(&mut self, bytes: u32) -> Result<Result<Handle, Refusal>, Wrong>
         ensures { IfOk result (λ given. IsMallocStep (H.state self.old.heap) bytes given (H.state self.new.heap)) }
     {
@@ -37,7 +40,7 @@ impl<H: Manager> Calls<H> {
         Ok(self.heap.malloc(bytes, self.meter.steps()))
     }
 
-    /// A free.
+    /// Calls `free`.
     pub fn free(&mut self, h: Handle) -> Result<Result<Freed, NotLive>, Wrong>
         ensures { IfOk result (λ freed. IsFreeStep (H.state self.old.heap) h.0 freed (H.state self.new.heap)) }
     {
@@ -45,7 +48,7 @@ impl<H: Manager> Calls<H> {
         Ok(self.heap.free(h, self.meter.steps()))
     }
 
-    /// A resize.
+    /// Calls `resize` to `bytes` bytes.
     pub fn resize(&mut self, h: Handle, bytes: u32) -> Result<Result<Resized, ResizeFault>, Wrong>
         ensures { IfOk result (λ done. IsResizeStep (H.state self.old.heap) (record { number = h.0; length = bytes }) done (H.state self.new.heap)) }
     {
@@ -53,7 +56,7 @@ impl<H: Manager> Calls<H> {
         Ok(self.heap.resize(h, bytes, self.meter.steps()))
     }
 
-    /// A write.
+    /// Calls `write`: the bytes go into the object from its byte `at` on.
     pub fn write(
         &mut self,
         h: Handle,
@@ -66,7 +69,7 @@ impl<H: Manager> Calls<H> {
         Ok(self.heap.write(h, at, bytes, self.meter.steps()))
     }
 
-    /// A read.
+    /// Calls `read`: fills `out` with the object's bytes from its byte `at` on.
     pub fn read(
         &mut self,
         h: Handle,
@@ -79,7 +82,7 @@ impl<H: Manager> Calls<H> {
         Ok(self.heap.read(h, at, out, self.meter.steps()))
     }
 
-    /// The figures of the whole heap.
+    /// Returns the figures of the whole heap.
     pub fn totals(&mut self) -> Result<Totals, Wrong>
         ensures value { IfOk result (λ totals. totals ≡ totals_in (H.state self.new.heap).kind (H.state self.new.heap)) }
         ensures heap { self.new.heap ≡ self.old.heap }
@@ -88,7 +91,7 @@ impl<H: Manager> Calls<H> {
         Ok(self.heap.totals(self.meter.steps()))
     }
 
-    /// The address of an object.
+    /// Returns the address of an object in words, `None` if the handle isn't live.
     pub fn place(&mut self, h: Handle) -> Result<Option<u32>, Wrong>
         ensures value { IfOk result (λ place. place ≡ place_of (H.state self.new.heap) h.0) }
         ensures heap { self.new.heap ≡ self.old.heap }
@@ -97,7 +100,7 @@ impl<H: Manager> Calls<H> {
         Ok(self.heap.place(h, self.meter.steps()))
     }
 
-    /// Compares the address of an object.
+    /// Compares the address of an object with `want`.
     pub fn compare_place(&mut self, h: Handle, want: Option<u32>) -> Result<(), Wrong>
         ensures same { OnOk result (place_of (H.state self.new.heap) h.0 ≡ want) }
         ensures heap { self.new.heap ≡ self.old.heap }
@@ -106,7 +109,7 @@ impl<H: Manager> Calls<H> {
         hold(place == want, Wrong::Place(place))
     }
 
-    /// Compares a word of the region.
+    /// Compares word `w` of the region with `want`.
     pub fn compare_word(&mut self, w: u32, want: Option<u64>) -> Result<(), Wrong>
         ensures same { OnOk result (slice_get (H.state self.new.heap).words w ≡ want) }
         ensures heap { self.new.heap ≡ self.old.heap }
@@ -116,7 +119,7 @@ impl<H: Manager> Calls<H> {
         hold(word == want, Wrong::Word(w, word))
     }
 
-    /// Compares block i of an object.
+    /// Compares the physical block of an object's block `i` with `want`.
     pub fn compare_block(&mut self, h: Handle, i: u32, want: Option<u32>) -> Result<(), Wrong>
         ensures same { OnOk result (block_in (H.state self.new.heap).kind (H.state self.new.heap) h.0 i ≡ want) }
         ensures heap { self.new.heap ≡ self.old.heap }
@@ -126,7 +129,8 @@ impl<H: Manager> Calls<H> {
         hold(block == want, Wrong::Block(block))
     }
 
-    /// Compares the steps of the last call.
+    /// Compares the steps since the count was last 0, those of the last call, with `want`, and sets the count
+    /// to 0.
     pub fn compare_steps(&mut self, want: u64) -> Result<(), Wrong>
         ensures { self.new.heap ≡ self.old.heap }
     {

@@ -1,6 +1,6 @@
-//! What the random tests of the heaps share: drawn numbers, the objects that must be live with their
-//! bytes, the pages that these need, calls on a manager, and the ways in which results differ from those
-//! that a test wants.
+//! What the random tests of the heaps share: drawn numbers (`draw`), the objects that must be live, with
+//! their bytes (`objects`), the pages that these need (`sizes`), calls of a manager (`calls`), and the errors
+//! of a test, each with the wrong result (`wrong`).
 #![tactic(auto)]
 
 mod calls;

@@ -1,12 +1,12 @@
-//! The objects that must be live, and their bytes.
+//! The model of a random test: which objects must be live in the heap under test, with their bytes.
 use crate::wrong::{Wrong, hold};
 use cf_base::AccessFault;
 use std::alloc::Global;
 
-/// Each byte of a buffer before a read.
+/// Each byte of a buffer before a read; a refused read must leave them.
 const UNREAD: u8 = 0xee;
 
-/// A live object: where it is, as far as a test computes that, and its bytes.
+/// A live object: its bytes, and its place, which is whatever a test computes of where the object is.
 #[derive(Drop)]
 pub struct Object<P: Drop> {
     pub place: P,
@@ -14,12 +14,13 @@ pub struct Object<P: Drop> {
 }
 
 impl<P: Drop> Object<P> {
-    /// Its length in bytes.
+    /// Returns its length in bytes.
     pub fn length(&self) -> u32 {
         self.bytes.len().min(u32::MAX as usize) as u32
     }
 
-    /// Word i of it under this number: its header, its bytes, then zeros.
+    /// Returns word `i` of its slot if the object has this number: word 0 is the header, then come its
+    /// bytes, eight to a word, then zeros.
     pub fn word(&self, number: u32, i: u32) -> u64 {
         if i == 0 {
             return header(number, self.length());
@@ -35,12 +36,13 @@ impl<P: Drop> Object<P> {
     }
 }
 
-/// The header of an object of this number and length.
+/// Returns the header of an object with this number and length in bytes: the number in the lower half of
+/// the word, the length in the upper half.
 pub fn header(number: u32, length: u32) -> u64 {
     u64::from(number) | u64::from(length) << 32
 }
 
-/// The objects by number.
+/// The objects by number, the handle's number in the heap under test.
 #[derive(Drop)]
 pub struct Objects<P: Drop> {
     alloc: Global,
@@ -48,7 +50,7 @@ pub struct Objects<P: Drop> {
 }
 
 impl<P: Drop> Objects<P> {
-    /// No objects, of `count` numbers.
+    /// Returns a model without objects, for the numbers below `count`.
     pub fn none(alloc: Global, count: u32) -> Result<Objects<P>, Wrong> {
         let mut entries = Vec::new(alloc);
         for _i in 0..count {
@@ -57,7 +59,7 @@ impl<P: Drop> Objects<P> {
         Ok(Objects { alloc, entries })
     }
 
-    /// The object of this number, if there is one.
+    /// Returns the object with this number, if there is one.
     pub fn get(&self, number: u32) -> Option<&Object<P>> {
         match self.entries.get(number as usize) {
             Some(Some(object)) => Some(object),
@@ -65,7 +67,7 @@ impl<P: Drop> Objects<P> {
         }
     }
 
-    /// Its length in bytes, if there is one.
+    /// Returns the length in bytes of the object with this number, if there is one.
     pub fn length(&self, number: u32) -> Option<u32> {
         match self.get(number) {
             Some(object) => Some(object.length()),
@@ -73,12 +75,12 @@ impl<P: Drop> Objects<P> {
         }
     }
 
-    /// How many objects there are.
+    /// Returns how many objects there are.
     pub fn count(&self) -> u32 {
         self.count_at(|_place| true)
     }
 
-    /// How many objects are at these places.
+    /// Returns how many objects are at a place for which `is_counted` returns true.
     pub fn count_at<F: Fn(&P) -> bool>(&self, is_counted: F) -> u32
         requires { F.IsAlwaysCallable is_counted }
     {
@@ -93,7 +95,7 @@ impl<P: Drop> Objects<P> {
         count
     }
 
-    /// The lengths of the objects at these places.
+    /// Returns the lengths in bytes of the objects at a place for which `is_listed` returns true.
     pub fn lengths_at<F: Fn(&P) -> bool>(&self, is_listed: F) -> Result<Vec<u32>, Wrong>
         requires { F.IsAlwaysCallable is_listed }
     {
@@ -108,13 +110,15 @@ impl<P: Drop> Objects<P> {
         Ok(lengths)
     }
 
-    /// Adds an object of `length` zeros under a number that has none.
+    /// Adds an object of `length` zeros with this number. Fails if the number has an object already, or is
+    /// not below the count.
     pub fn add(&mut self, number: u32, place: P, length: u32) -> Result<(), Wrong> {
         let bytes = Vec::from_elem(self.alloc, 0, length as usize)?;
         self.put(number, Object { place, bytes })
     }
 
-    /// Puts an object under a number that has none.
+    /// Adds an object with this number. Fails if the number has an object already, or is not below the
+    /// count.
     pub fn put(&mut self, number: u32, object: Object<P>) -> Result<(), Wrong> {
         match self.entries.get_mut(number as usize) {
             Some(entry) if entry.is_none() => {
@@ -125,7 +129,7 @@ impl<P: Drop> Objects<P> {
         }
     }
 
-    /// Removes the object of this number, and returns it if there was one.
+    /// Removes the object with this number, and returns it if there was one.
     pub fn take(&mut self, number: u32) -> Option<Object<P>> {
         match self.entries.get_mut(number as usize) {
             Some(entry) => entry.take(),
@@ -133,15 +137,15 @@ impl<P: Drop> Objects<P> {
         }
     }
 
-    /// The object of this number, if there is one, is at another place from now on.
+    /// Sets the place of the object with this number, if there is one.
     pub fn move_to(&mut self, number: u32, place: P) {
         if let Some(Some(object)) = self.entries.get_mut(number as usize) {
             object.place = place;
         }
     }
 
-    /// The object of this number, if there is one, has this length from now on: its first bytes stay,
-    /// and added bytes are zeros.
+    /// Sets the length of the object with this number, if there is one: its first bytes stay, and added
+    /// bytes are zeros.
     pub fn resize(&mut self, number: u32, length: u32) -> Result<(), Wrong> {
         if let Some(Some(object)) = self.entries.get_mut(number as usize) {
             object.bytes.resize(length as usize, 0)?;
@@ -149,7 +153,7 @@ impl<P: Drop> Objects<P> {
         Ok(())
     }
 
-    /// What a read or a write of `count` bytes from byte `at` on must return.
+    /// Returns what a read or a write of `count` bytes, from byte `at` of this object on, must return.
     fn access(&self, number: u32, at: u32, count: usize) -> Result<(), AccessFault> {
         let Some(object) = self.get(number) else {
             return Err(AccessFault::Unknown);
@@ -160,8 +164,9 @@ impl<P: Drop> Objects<P> {
         }
     }
 
-    /// Compares what a write of these bytes from byte `at` on returned. The object has them from now on,
-    /// unless the write was refused.
+    /// Takes over a write to the heap under test, of these bytes from byte `at` on: fails if its result
+    /// `done` is not what it must be. Else the object of the model gets the bytes, unless the write was
+    /// refused.
     pub fn written(
         &mut self,
         number: u32,
@@ -179,13 +184,14 @@ impl<P: Drop> Objects<P> {
         Ok(())
     }
 
-    /// A buffer for a read of `count` bytes.
+    /// Returns a buffer for a read of `count` bytes, each byte `UNREAD`.
     pub fn buffer(&self, count: u32) -> Result<Vec<u8>, Wrong> {
         Ok(Vec::from_elem(self.alloc, UNREAD, count as usize)?)
     }
 
-    /// Compares what a read from byte `at` on returned, and what is in its buffer then: the bytes of the
-    /// object, or what was there before if the read was refused.
+    /// Compares a read of the heap under test, from byte `at` on, with the model: its result `done`, and what
+    /// its buffer then has, the object's bytes or, if the read was refused, `UNREAD` alone. Fails if one
+    /// differs.
     pub fn read(
         &self,
         number: u32,
@@ -205,14 +211,14 @@ impl<P: Drop> Objects<P> {
     }
 }
 
-/// Puts the bytes into the object from byte `at` on, if they are within it.
+/// Puts the bytes into the object from byte `at` on; does nothing if they pass its end.
 fn overwrite(object: &mut [u8], at: usize, bytes: &[u8]) {
     if at <= object.len() && bytes.len() <= object.len() - at {
         object[at..at + bytes.len()].copy_from_slice(bytes);
     }
 }
 
-/// Whether the object has these bytes from byte `at` on.
+/// Returns whether the object has these bytes from byte `at` on.
 fn begins_at(object: &[u8], at: usize, bytes: &[u8]) -> bool {
     match object.get(at..) {
         Some(rest) => rest.starts_with(bytes),

@@ -1,7 +1,9 @@
-//! Sizes of slots in words, and the pages that objects need, by plain arithmetic.
+//! The sizes of slots in words, and the pages that objects need, computed by simple loops to compare with a
+//! heap.
 use std::alloc::{AllocError, Global};
 
-/// The sizes of slots: 4 words, then nine eighths of the size before, rounded up, and at last the page.
+/// Returns the sizes of slots in words, in rising order: 4, then nine eighths of the size before, rounded up,
+/// and at last the page.
 pub fn slot_sizes(alloc: Global, page_words: u32) -> Result<Vec<u32>, AllocError> {
     let mut sizes = Vec::new(alloc);
     let mut size = 4_u32;
@@ -15,7 +17,8 @@ pub fn slot_sizes(alloc: Global, page_words: u32) -> Result<Vec<u32>, AllocError
     Ok(sizes)
 }
 
-/// The least of these sizes that holds an object of this length and its header; 0 if none does.
+/// Returns the least of these sizes, in words, that holds an object of `length` bytes and its header; 0 if
+/// none does.
 pub fn slot_for(sizes: &[u32], length: u32) -> u32 {
     let words = length.div_ceil(8).saturating_add(1);
     match sizes.iter().find(|size| words <= **size) {
@@ -24,8 +27,8 @@ pub fn slot_for(sizes: &[u32], length: u32) -> u32 {
     }
 }
 
-/// The pages that objects of these lengths need: for each size of slots their number, over the slots of
-/// a page, rounded up. The last size is the page.
+/// Returns how many pages objects of these lengths in bytes need, if every bound is 1: for each size of slots
+/// the number of its objects, divided by the slots of a page, rounded up. The last of `sizes` is the page.
 pub fn pages_needed(sizes: &[u32], lengths: &[u32]) -> u32 {
     let Some(page) = sizes.last() else {
         return 0;

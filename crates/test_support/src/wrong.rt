@@ -1,4 +1,4 @@
-//! The ways in which a manager's results differ from those that a test wants.
+//! `Wrong`: the error of a test, with the result that differs from the wanted one.
 ghost use Rattle.std.specs.Prelude.{◌≡◌, IfErr, IsTrue, OnErr, OnOk, false};
 
 use cf_base::{
@@ -7,36 +7,46 @@ use cf_base::{
 };
 use std::alloc::{AllocError, AllocFailed};
 
-/// The result that a call returned instead of the wanted one, or why there was no call.
+/// Why a test fails: a call returned this result instead of the wanted one, or there was no call.
 #[derive(Debug, Drop)]
 pub enum Wrong {
     /// A line isn't a call, or has a number out of range.
     Line,
     /// The settings are out of range.
     Settings(SettingFault),
-    /// No class has slots of this size to get its bound.
+    /// A bound was to be set, and no class has slots of that size.
     Bound,
+    /// Out of memory.
     Memory,
     /// The heap is closed.
     Closed,
+    /// What a malloc returned.
     Malloc(Result<Handle, Refusal>),
+    /// What a free returned.
     Free(Result<Freed, NotLive>),
+    /// What a resize returned.
     Resize(Result<Resized, ResizeFault>),
+    /// What a read or a write returned.
     Access(Result<(), AccessFault>),
+    /// The address of an object.
     Place(Option<u32>),
+    /// The physical block of a block of an object.
     Block(Option<u32>),
-    /// The word at this address.
+    /// The address of a word, and the word.
     Word(u32, Option<u64>),
+    /// The figures of a class.
     Class(Option<Figures>),
+    /// The figures of the whole heap.
     Whole(Totals),
     /// The steps of the last call.
     Steps(u64),
     /// The number of objects that moved: fewer than wanted, or some although none may.
     Moves(u32),
-    /// This part differs from the reference.
+    /// What is named here differs from the reference implementation or the model.
     Differs(&'static str),
 }
 
+// For `?` in tests: each error of an allocation is `Memory`, and one of settings is `Settings`.
 impl From<OutOfMemory> for Wrong {
     fn from(_error: OutOfMemory) -> Wrong {
         Wrong::Memory

@@ -1,13 +1,13 @@
-//! The free lists of TLSF (2004), as a rule for tagged blocks.
+//! `TlsfBuckets`: the free lists of TLSF (2004), as a rule for the blocks of `tag_blocks`.
 ghost use Rattle.block_model.specs.Buckets.{tlsf as tlsf_lists};
 ghost use Rattle.block_model.proofs.CallerLemmas.{tlsf_lawful};
 
 use block_model::tlsf;
 use tag_blocks::Buckets;
 
-/// TLSF (2004): a free list for each size below 16 words, and 16 for each power of two from there on.
-/// A need is rounded up before the search, so that every block of the first searched list is large
-/// enough.
+/// TLSF (2004): a free list for each size below 16 words, and 16 lists for each power of two from
+/// there on, each for an equal range of sizes. A request is rounded up before the search, so that
+/// every block of the first list that is searched is large enough.
 #[derive(Drop)]
 pub struct TlsfBuckets;
 
@@ -18,10 +18,12 @@ impl Buckets for TlsfBuckets {
 
     ghost rule = { tlsf_lists };
 
+    // Returns the number of the free list for blocks of `size` words.
     fn bucket(size: u32) -> u32 {
         tlsf::bucket_of(size)
     }
 
+    // Returns the number of the first free list that is searched for a block of `need` words.
     fn search(need: u32) -> u32 {
         tlsf::search_for(need)
     }

@@ -1,4 +1,4 @@
-//! The TLSF manager.
+//! `TlsfHeap`, the TLSF manager: the heap of `tag_heap` with the free lists of TLSF.
 ghost use Rattle.std.specs.Prelude.{refl};
 ghost use Rattle.cf_base.specs.declared.kind.Kind.TheVariants.{Tlsf};
 
@@ -12,6 +12,7 @@ pub type TlsfHeap = TagHeap<TlsfBuckets>;
 impl FitPolicy for TlsfBuckets {
     ghost kind = { Tlsf };
 
+    // Returns the kind `Tlsf`.
     fn kind() -> Kind {
         Kind::Tlsf
     }

@@ -1,4 +1,4 @@
--- From the outcome of the chosen mode to that of the whole call.
+-- For `cf_main` and `run_mode`: from `Ends` of the chosen mode to each clause of `cf_main`.
 use Rattle.std.proofs.Common.{◌≡◌, ◌≢◌, ℕ, List, Option, Some, None, ap, inl, inr, refl, subst, sym}
 use Rattle.clap.specs.Words.{Text}
 use Rattle.cf_base.specs.declared.kind.Kind.TheVariants.{Moving}

@@ -1,4 +1,4 @@
--- Two calls with the same arguments and the same script print the same.
+-- For the laws of `cf_main`: two calls with the same arguments and the same script print the same, mode by mode.
 use Rattle.std.proofs.Common.{◌≡◌, ℕ, Bool, true, false, List, [], ◌∷◌, Option, Some, None, cond, refl, sym, ◌∙◌, ap, subst, length, get_or, map, inl, inr}
 use Rattle.std.proofs.lemmas.Bool.{cases_lt, le-leb, lt-leb}
 use Rattle.std.proofs.lemmas.List.{get_or_past}

@@ -1,4 +1,4 @@
--- When the words and the script fix the output of a call.
+-- The words of the laws of `cf_main`: conditions under which the arguments (here `words`) and the script determine the output of a call.
 use Rattle.std.specs.Prelude.{◌≡◌, ⊤, ℕ, IsSome, List, [], Option, None, Some, if◌then◌else◌, length, nat_le}
 use Rattle.std.specs.List.{All}
 use Rattle.clap.specs.Words.{Text}
@@ -27,14 +27,14 @@ pub record TopCall : Type 0 where
   pub status : Status
   pub new : Handed
 
--- the call keeps the contract of `cf_main` for these words
+-- the call keeps the contract of `cf_main` for the arguments `words`
 pub record KeepsContract (words : List Text) (call : TopCall) : Type 0 where
   pub outcome : EndsWell words call.old call.status call.new
   pub claimed : PrintsAsClaimed words call.old call.status call.new
   pub kinds : kinds_in call.new ≡ kinds_in call.old
   pub orders : orders_in call.new ≡ orders_in call.old
 
--- the source had these bytes, in whatever chunks, and the call answered every item within the limit, or loaded the image that they are
+-- the source had the bytes `all`, in whatever chunks, and the call has a status after which every item within the limit was answered or the image was loaded
 pub record AnswersWhole (all : List ℕ) (call : TopCall) : Type 0 where
   pub had : call.old.source.rest ≡ Some all
   pub answered : AnswersAll call.status
@@ -54,14 +54,14 @@ LeavesNoChoice mode choice managers = ⊤
 abbrev pub status_of : List ℕ → Status
 status_of all = if has_bad (items_within all) then BadScript else (if nat_le (length all) MOST_BYTES then Done else TooLong)
 
--- replies to the items of these bytes were printed, and they are as claimed
+-- one reply for each item of the bytes `all` was printed, `Claim` holds of the items and these replies, and the status follows from the bytes
 pub record PrintsReplies (Claim : List Item → List Reply → Type 0) (all : List ℕ) (call : TopCall) : Type 0 where
   pub status : call.status ≡ status_of all
   pub replies : List Reply
   pub written : call.new.sink.written ≡ appended call.old.sink.written (text_of [] replies)
   pub claimed : Claim (items_within all) replies
 
--- the replies of a run whose manager has an order: the order determines each address, choice, word and count of steps
+-- these are the replies of a run on a manager that promises an order; so the order determines each address, choice, word and count of steps in them
 pub record IsRunInOrder (kind : Kind) (items : List Item) (replies : List Reply) : Type 0 where
   pub end : Option RunState
   pub run : RunOver kind None items replies end

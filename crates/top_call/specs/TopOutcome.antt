@@ -1,4 +1,4 @@
--- How the top call may end, by the mode that the arguments choose.
+-- The contract of `cf_main`: what a call did, and what it printed, by the mode that the arguments (here `words`) choose.
 use Rattle.std.specs.Prelude.{◌≡◌, ⊤, ℕ, List, Option, Some, None}
 use Rattle.std.specs.FinMap.{empty}
 use Rattle.clap.specs.Words.{Text}
@@ -26,23 +26,23 @@ use Rattle.quota_session.specs.QuotaRun.{QuotaRun, first_session, quota_run}
 use Rattle.manager_modes.specs.Claims.{HoldsImage, MeetsClaim}
 use Rattle.manager_modes.specs.Outcomes.{Benches, Compares, Handed, Loads, OrLacks, PlaysLarge, PlaysOwn, Runs, Saves, effects_of, kinds_in}
 
--- a sliced heap that was never open, for slices of at most `quantum` words, and no id is live
+-- the state of a new run in mode `slice`: no id is live, and the sliced heap, for slices of at most `quantum` words, was never open
 abbrev pub IsMadeSliced : ℕ → SlicePlay → Type 0
 IsMadeSliced quantum s = s ≡ slice_play empty quantum sliced_state.closed_state
 
--- a session was just begun over a heap of tasks that was never open
+-- the state of a new run in mode `quota`: the session is new, and the heap of tasks was never open
 abbrev pub IsMadeForTasks : QuotaRun → Type 0
 IsMadeForTasks s = s ≡ quota_run None first_session quota_state.closed_state
 
--- Mode `slice`: a free leaves work to later slices.
+-- Mode `slice`: a script ran on a sliced heap made for it, in which a free leaves work to later slices.
 abbrev pub PlaysSlices : ℕ → Handed → Status → Handed → Type 0
 PlaysSlices quantum = PlaysOwn slices (IsMadeSliced quantum)
 
--- Mode `quota`: tasks share the pages, each with a quota.
+-- Mode `quota`: a script of tasks ran on a heap made for it, whose pages they share, each with a quota.
 abbrev pub PlaysQuotas : Handed → Status → Handed → Type 0
 PlaysQuotas = PlaysOwn quota_tasks IsMadeForTasks
 
--- what a call does in each mode
+-- the record of what a call in this mode did, for the values of the arguments
 abbrev pub InMode : Mode → Choice → Handed → Status → Handed → Type 0
 InMode Run choice = Runs choice.kind
 InMode Compare choice = Compares
@@ -53,25 +53,25 @@ InMode Load choice = Loads
 InMode Slice choice = PlaysSlices choice.quantum
 InMode Quota choice = PlaysQuotas
 
--- the arguments make a choice, and the call did what it asks
+-- the arguments choose a mode and its values, and the call did what these ask
 pub record DoesChosen (words : List Text) (old : Handed) (status : Status) (new : Handed) : Type 0 where
   pub choice : Choice
   pub chosen : Chooses words choice
   pub done : InMode choice.mode choice old status new
 
--- the arguments are refused, and nothing is touched; or the call does what they choose
+-- with the status `Words`, the arguments are refused, and the call changed nothing; with any other, it did what they choose
 abbrev pub EndsWell : List Text → Handed → Status → Handed → Type 0
 EndsWell words old Words new = AreRefused words × (new ≡ old)
 EndsWell words old status new = OrLacks (DoesChosen words) old status new
 
--- if the source is observable, the bytes printed are as claimed for the status and the bytes read
+-- if the source is observable, `Claim` holds of the status, the bytes read and the bytes printed; else nothing is claimed
 abbrev pub PrintsBytes : (Status → List ℕ → List ℕ → Type 0) → Option (List ℕ) → Effects → Type 0
 PrintsBytes Claim None call = ⊤
 PrintsBytes Claim (Some read) call = Prints Claim read call
 
--- By the mode: the replies meet the headline; side by side they interleave those of each manager, which meet it; each reply is a function of the lines in the
--- modes `large`, `quota` and, but for the word that `p` prints, `slice`; an image is that of the objects that the script leaves, and a script that of the image
--- read. Of mode `bench`, which reads nothing, `outcome` says all.
+-- What is claimed of the output, by the mode. `run`: the replies meet the headline. `compare`: those of each manager do. `large`, `quota` and, but for the word
+-- that `p` prints, `slice`: each reply is a function of the lines. `save` (`SavesAs`): if all is done, the image of the objects that the script leaves. `load`
+-- (`LoadsAs`): the script of the image read. Of `bench`, which reads nothing, clause `outcome` of `cf_main` has the whole claim.
 abbrev pub PrintsInMode : Mode → Choice → List Kind → Effects → Type 0
 PrintsInMode Run choice kinds call = MeetsClaim (MeetsHeadline choice.kind) call.had call
 PrintsInMode Compare choice kinds call = MeetsClaim (MeetHeadlines kinds) call.had call
@@ -88,7 +88,7 @@ pub record PrintsChosen (words : List Text) (kinds : List Kind) (call : Effects)
   pub chosen : Chooses words choice
   pub shows : PrintsInMode choice.mode choice kinds call
 
--- the statuses at which every item within the limit was answered, or an image was loaded or refused
+-- the statuses after which every item within the limit was answered, or an image was loaded or refused
 abbrev pub AnswersInput : Status → Type 0
 AnswersInput BadImage = ⊤
 AnswersInput status = AnswersAll status

@@ -1,4 +1,5 @@
-//! Laws of calls of `cf_main`: when two calls print the same, and what one call prints in order.
+//! Theorems on calls of `cf_main`: when two calls print the same bytes, and that on a manager with an order a
+//! call prints the replies of a run in that order.
 ghost use Rattle.std.specs.Prelude.{◌≡◌, ℕ, IsSome, List, Option, map};
 ghost use Rattle.clap.specs.Words.{Text};
 ghost use Rattle.cf_base.specs.declared.kind.Kind.{Kind};

@@ -1,4 +1,4 @@
-//! Mode `quota`.
+//! Mode `quota`: runs a script of sixteen tasks that share the pages of one heap.
 ghost use Rattle.manager_modes.specs.Outcomes.{EndsBeside, sink_seen, source_seen};
 ghost use Rattle.top_call.specs.TopOutcome.{PlaysQuotas};
 
@@ -8,7 +8,7 @@ use quota_heap::QuotaHeap;
 use quota_session::{QuotaPlayer, run_quotas};
 use std::alloc::Global;
 
-/// Runs a script of tasks, each with a quota of pages, on a heap that is made for it.
+/// Runs a script of tasks, each with a quota of pages, on a heap of tasks that is made for it.
 pub fn play_quotas<S: Source, K: Sink>(
     rt: &HostRuntime,
     alloc: Global,

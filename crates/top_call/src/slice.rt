@@ -1,4 +1,4 @@
-//! Mode `slice`.
+//! Mode `slice`: runs a script on a heap whose frees leave work to later calls.
 ghost use Rattle.std.specs.Prelude.{◌≤◌};
 ghost use Rattle.manager_modes.specs.Outcomes.{EndsBeside, sink_seen, source_seen};
 ghost use Rattle.top_call.specs.TopOutcome.{PlaysSlices};
@@ -9,7 +9,8 @@ use slice_session::{SlicePlayer, run_slices};
 use sliced_heap::SlicedHeap;
 use std::alloc::Global;
 
-/// Runs a script on a sliced heap that is made for it, with slices of at most `quantum` words.
+/// Runs a script on a sliced heap that is made for it. Each free and each command `s` does at most `quantum`
+/// words of the pending work.
 pub fn play_slices<S: Source, K: Sink>(
     rt: &HostRuntime,
     alloc: Global,

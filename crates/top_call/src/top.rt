@@ -1,4 +1,4 @@
-//! The top call.
+//! `cf_main`, the top call: parses the arguments and runs the chosen mode.
 ghost use Rattle.std.specs.Prelude.{◌≡◌, ◌<◌, ◌≤◌, ◌+◌, ◌⊎◌, is_some, map, string_bytes, ◌≢◌};
 ghost use Rattle.cf_io.specs.Feeds.{FailsLast, last_count};
 ghost use Rattle.script_loop.specs.ScriptOutcome.{MOST_BYTES};
@@ -16,18 +16,19 @@ use std::alloc::Global;
 
 /// Parses the arguments, the first of them the program's name, and runs the mode that they choose.
 ///
-/// In mode `run` the first manager of the chosen kind runs a script of at most 268,435,455 bytes; if
-/// there is none of the kind, a closed one that is made for it. The `heap` line opens the manager, and
-/// the reply to each command is written before the next chunk is taken from the source. No other manager
-/// is touched. In mode `compare` every given manager runs the script, in order: each line of its replies
-/// follows its name; `bad line` is printed once and without a name. Mode `save` prints no reply, and at
-/// the end the objects that are live, as an image; mode `load` reads an image, and prints the script that
-/// makes its objects, or returns `BadImage`. In the modes `large`, `slice` and `quota` a heap that is made
-/// for it runs the script.
-/// The call returns `Done` at the end of the script; `BadScript` at a line that the grammar does not allow
-/// at its place; `TooLong` if more bytes come; `ReadFault` or `WriteFault` at a fault; and `OutOfMemory`
-/// before any reply. It returns `Words` if and only if `clap` refuses the arguments for another cause than
-/// memory.
+/// In mode `run` the first of `managers` of the chosen kind runs a script of at most 268,435,455 bytes; if there
+/// is none of the kind, a closed one that is made for it. The `heap` line opens the manager, and the reply to
+/// each command is written before the next chunk is taken from the source. No other manager is touched. In mode
+/// `compare` every given manager runs the script, in order: each line of its replies begins with the name of
+/// its kind; `bad line` is printed once and without a name. Mode `bench` reads nothing: it runs generated
+/// commands on a manager made for them, and prints counts. Mode `save` prints no reply, but at the end the live
+/// objects as an image; mode `load` reads an image, and prints the script that makes its objects, or returns
+/// `BadImage`. In the modes `large`, `slice` and `quota` a heap that is made for it runs the script.
+///
+/// The call returns `Done` at the end of the input; `BadScript` at a line that the grammar does not allow at its
+/// place; `TooLong` if the script has more bytes; `ReadFault` if the source failed; `WriteFault` if the sink
+/// did; and `OutOfMemory`, before any reply, if an allocation failed. It returns `Words` if and only if `clap`
+/// refuses the arguments for another cause than memory.
 pub fn cf_main<H: Manager, S: Source, K: Sink>(
     rt: &HostRuntime,
     alloc: Global,
@@ -66,7 +67,7 @@ pub fn cf_main<H: Manager, S: Source, K: Sink>(
     }
 }
 
-/// Runs the chosen mode.
+/// Runs the mode of `choice`, which has the values of the arguments.
 fn run_mode<H: Manager, S: Source, K: Sink>(
     rt: &HostRuntime,
     alloc: Global,

@@ -1,4 +1,5 @@
--- The values by id of a session: how many there are, what sums over them are, and how they change with the values by number.
+-- A session's ids name numbers, and numbers have values. The lemmas are about the map from ids to these values: its length, sums over it, and how it changes
+-- with the values.
 use Rattle.std.proofs.Common.{◌≡◌, ◌≢◌, ℕ, List, [], Option, Some, None, sym, ◌∙◌, ap, refl, inl, inr}
 use Rattle.std.specs.Prelude.{option_map}
 use Rattle.std.specs.Option.{unwrap_or}
@@ -14,7 +15,7 @@ use Rattle.run_model.specs.Sessions.{Ids}
 use Rattle.id_table.specs.Ties.{AreTiedTo}
 use Rattle.transcript_laws.specs.Histories.{objects_by_id}
 
--- Of any values: `d` is that of a number without one.
+-- For any type of values; `d` is the value used for a number that has none.
 module _ {V : Type 0} (d : V) where
   abbrev pub under : FinMap nat_cmp V → ℕ → V
   under m h = unwrap_or (get m h) d

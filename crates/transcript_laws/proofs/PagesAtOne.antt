@@ -1,4 +1,4 @@
--- The figures if every bound is 1.
+-- The figures of a sound arrangement if every bound is 1 are those of `AtOne`, computed from the objects alone. `headline_laws` cites them.
 use Rattle.std.proofs.Common.{◌≡◌, ℕ, zero, suc, ◌+◌, ◌-◌, ◌*◌, ◌%◌, ◌<◌, ◌≤◌, Bool, true, false, ◌∷◌, length, map, arith, sym, ◌∙◌, ap, refl, subst, cond}
 use Rattle.std.specs.Prelude.{filter, nat_eq}
 use Rattle.std.specs.List.{range_with_len}

@@ -1,4 +1,4 @@
--- Finite maps of objects, step by step.
+-- Look-up, list and length of a finite map of objects after one insertion, for the small scripts that proofs work out.
 use Rattle.std.proofs.Common.{◌≡◌, ℕ, List, [], Some, None, length, cond, sym, ◌∙◌}
 use Rattle.std.proofs.lemmas.List.{nil_from_length}
 use Rattle.std.specs.Ordering.{nat_cmp, eq_by_cmp}

@@ -1,4 +1,4 @@
--- A small script, worked out.
+-- For `a_small_transcript`: the small script worked out, from its bytes to its items, states and replies.
 use Rattle.std.proofs.Common.{◌≡◌, ℕ, true, false, List, [], ◌∷◌, Some, length, cond, refl, sym, ◌∙◌, ap, inl, inr}
 use Rattle.std.proofs.lemmas.Bool.{cases_eq, eq-eqb}
 use Rattle.cf_lemmas.proofs.Tests.{eq_no}
@@ -135,7 +135,7 @@ step11 : Steps o8 (Frag) (codes "frag asked 856 taken 880 held 1024") o8
 unfolding sizes_from class_for live pages_needed pages_needed_with asked_bytes taken_bytes digits encode_with
 step11 = (simp maps, refl)
 
--- what is left at the end
+-- the objects that are live at the end, by id
 abbrev left : List (ℕ × List ℕ)
 left = (2, written (replicate 176 0) 0 (161 ∷ 178 ∷ [])) ∷ (4, replicate 176 0) ∷ (6, replicate 504 0) ∷ []
 
@@ -185,7 +185,7 @@ before : (old : Objects) (c : Command) (text : List ℕ) (new : Objects) (rest :
     → replies_from Moving (Some (with new)) rest ≡ replies → replies_from Moving (Some (with old)) (asks c ∷ rest) ≡ said text ∷ replies
 before old c text new rest replies step more = (λ i. step.0 i ∷ replies_from Moving (Some (step.1 i)) rest) ∙ ap (λ l. said text ∷ l) more
 
--- what is left of the script after each command
+-- the items of the script from a command on, one definition for each
 abbrev rest11 : List Item
 rest11 = asks Walk ∷ []
 

@@ -1,4 +1,4 @@
--- A run without its addresses, and what may follow it.
+-- For `equal_objects_get_equal_replies`: two states of runs with the same objects by id, and the items after which they still get the same replies.
 use Rattle.std.specs.Prelude.{◌≡◌, ⊤, ℕ, List, [], ◌∷◌, Option, option_map}
 use Rattle.std.specs.Option.{unwrap_or}
 use Rattle.std.specs.FinMap.{get}
@@ -10,26 +10,27 @@ use Rattle.run_model.specs.Replies.{object_of}
 use Rattle.run_model.specs.Sessions.{Ids, RunState}
 use Rattle.transcript_laws.specs.Transcripts.{IsPlaceless}
 
--- each id with the bytes of the object that its number names
+-- each id of `ids` with the bytes of the object under its handle's number in `m`; no bytes if there is no such object
 abbrev pub objects_by_id : Ids → Objects → Objects
 objects_by_id ids m = map_values (λ h. unwrap_or (get m h) []) ids
 
--- the bytes of the object that an id names, if it is live
+-- in state `s` of a run, the bytes of the object that an id names, if it is live
 abbrev pub bytes_of : RunState → ℕ → Option (List ℕ)
 bytes_of s id = option_map (λ (x : Placed). x.bytes) (object_of s id)
 
--- two runs of one kind under equal settings, with equal objects by id
+-- two states of runs have the same kind and settings, and each id names the same bytes in both
 pub record AreAlike (one other : RunState) : Type 0 where
   pub kind : other.heap.kind ≡ one.heap.kind
   pub profile : other.heap.profile ≡ one.heap.profile
   pub objects : (id : ℕ) → bytes_of other id ≡ bytes_of one id
 
--- an item that may follow: no `heap` line, and no command that sets a bound, or asks for an address or a cost
+-- an item that may follow: no `heap` line, no command that sets a bound, and none that asks for an address or a cost
 abbrev pub IsFurther : Item → Type 0
 IsFurther (starts p) = ⊥
 IsFurther (asks (Bound slot_words k)) = ⊥
 IsFurther item = IsPlaceless item
 
+-- each item may follow
 abbrev pub AreFurther : List Item → Type 0
 AreFurther [] = ⊤
 AreFurther (item ∷ rest) = IsFurther item × AreFurther rest

@@ -1,4 +1,4 @@
--- Clearing and moving whole blocks, as changes of virtual words.
+-- For `clear_blocks` and `move_blocks`: clearing and moving whole blocks of the region, as changes of virtual words.
 use Rattle.std.proofs.Common.{◌≡◌, ◌≢◌, ℕ, ◌+◌, ◌*◌, ◌/◌, ◌%◌, ◌<◌, ◌≤◌, inl, inr, List, length, get_or, take, drop, arith, sym, ◌∙◌, ap}
 use Rattle.std.proofs.lemmas.Bool.{cases_lt}
 use Rattle.std.proofs.lemmas.List.{get_or-take, get_or-drop}

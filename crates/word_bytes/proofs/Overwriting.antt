@@ -1,4 +1,4 @@
--- Overwriting bytes, word by word.
+-- For `write_bytes` and the other calls of `cells.rt`: bytes are overwritten word by word.
 use Rattle.std.proofs.Common.{◌≡◌, ℕ, zero, suc, ◌+◌, ◌-◌, ◌/◌, ◌%◌, ◌<◌, ◌≤◌, true, false, List, [], ◌∷◌, length, get_or, set, take, drop, arith, lit<, ◌^◌, sym, ◌∙◌}
 use Rattle.std.proofs.Common.{inl, inr, ap, refl}
 use Rattle.std.specs.Prelude.{◌⊎◌, nat_le, nat_lt}

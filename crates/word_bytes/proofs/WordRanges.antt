@@ -1,4 +1,4 @@
--- Words of a region that are cleared or moved, as `Clears` and `MovesWords`.
+-- For the proofs of other crates: a call of `Region` that clears or moves words does what `Clears` and `MovesWords` say.
 use Rattle.std.proofs.Common.{ℕ, ◌+◌, ◌≤◌, List, length}
 use Rattle.page_model.specs.Image.{Clears, IsDisjoint, MovesWords}
 use Rattle.region.specs.Words.{cleared, moved}

@@ -1,11 +1,11 @@
--- The bytes of words, eight to a word, the least significant first.
+-- The bytes of a list of words, eight to a word, the least significant first.
 use Rattle.std.specs.Prelude.{ℕ, ◌+◌, ◌-◌, ◌/◌, ◌%◌, ◌&&◌, List, length, slice_index, nat_le, nat_lt, if◌then◌else◌}
 use Rattle.page_model.specs.Bytes.{byte_of}
 
--- byte k of the words
+-- byte k of the list of words
 abbrev pub byte_in : List ℕ → ℕ → ℕ
 byte_in words k = byte_of (k % 8) (slice_index words (k / 8))
 
--- byte k after `part` overwrites the bytes of f from `at` on
+-- byte k of a row of bytes, where f k is its byte k before, after the bytes of `part` replaced those from byte `at` on
 abbrev pub overwritten : (ℕ → ℕ) → ℕ → List ℕ → ℕ → ℕ
 overwritten f at part k = if nat_le at k && nat_lt k (at + length part) then slice_index part (k - at) else f k

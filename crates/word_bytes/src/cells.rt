@@ -1,12 +1,14 @@
-//! Reading and writing the bytes of words.
+//! Reading and writing the bytes of words, without counting steps. Byte k of a list of words is
+//! byte k modulo 8 of word k / 8, the least significant first.
 ghost use Rattle.std.specs.Prelude.{◌≡◌, ℕ, ◌+◌, ◌*◌, ◌<◌, ◌≤◌, length, slice_index};
 ghost use Rattle.page_model.specs.Bytes.{byte_of, written};
 ghost use Rattle.word_bytes.specs.Cells.{byte_in, overwritten};
 
-/// The bytes in a word.
+/// How many bytes a word has.
 const CELL: usize = 8;
 
-/// Overwrites bytes of a cell with `part`, from byte `from` on.
+/// Replaces the bytes of `cell` from byte `from` on by those of `part`. A cell is the eight bytes
+/// of a word.
 fn overwrite(cell: &mut [u8], from: usize, part: &[u8])
     requires { from + length part.now ≤ length cell.old }
     ensures { cell.new ≡ written cell.old from part.now }
@@ -19,7 +21,7 @@ fn overwrite(cell: &mut [u8], from: usize, part: &[u8])
     }
 }
 
-/// The word after `part` overwrote its bytes from byte `from` on.
+/// Returns `word` after its bytes from byte `from` on were replaced by those of `part`.
 pub(crate) fn patched(word: u64, from: usize, part: &[u8]) -> u64
     requires { from + length part.now ≤ 8 }
     ensures { (j : ℕ) → j < 8 → byte_of j result ≡ overwritten (λ k. byte_of k word) from part.now j }
@@ -29,7 +31,7 @@ pub(crate) fn patched(word: u64, from: usize, part: &[u8]) -> u64
     u64::from_le_bytes(cell)
 }
 
-/// The word with these eight bytes, the least significant first.
+/// Returns the word whose eight bytes are `part`, the least significant first.
 fn word_of(part: &[u8]) -> u64
     requires { length part.now ≡ 8 }
     ensures { (j : ℕ) → j < 8 → byte_of j result ≡ slice_index part.now j }
@@ -40,7 +42,7 @@ fn word_of(part: &[u8]) -> u64
     ])
 }
 
-/// Fills `out` with bytes of a word, from byte `from` on.
+/// Fills `out` with the bytes of `word` from byte `from` on.
 pub(crate) fn copy_cell(word: u64, from: usize, out: &mut [u8])
     requires { from + length out.old ≤ 8 }
     ensures { (j : ℕ) → j < length out.new → slice_index out.new j ≡ byte_of (from + j) word }
@@ -54,7 +56,7 @@ pub(crate) fn copy_cell(word: u64, from: usize, out: &mut [u8])
     }
 }
 
-/// Fills `out` with bytes of the words, from byte `at` on.
+/// Fills `out` with the bytes of the words from byte `at` on. Counts no step.
 #[inline(always)]
 pub fn read_bytes(words: &[u64], at: usize, out: &mut [u8])
     requires { at + length out.old ≤ 8 * length words.now }
@@ -74,7 +76,8 @@ pub fn read_bytes(words: &[u64], at: usize, out: &mut [u8])
     }
 }
 
-/// Overwrites bytes of the words with `bytes`, from byte `at` on.
+/// Replaces the bytes of the words from byte `at` on by `bytes`. Every other byte stays. Counts no
+/// step.
 #[inline(always)]
 pub fn write_bytes(words: &mut [u64], at: usize, bytes: &[u8])
     requires { at + length bytes.now ≤ 8 * length words.old }

@@ -1,5 +1,6 @@
 //! Bytes in words, eight to a word, the least significant first: reading and writing the bytes of a
-//! slice of words, or of a run of words of a region.
+//! slice of words, or of a run of consecutive words of a region. Also the header of an object as a
+//! word.
 #![tactic(auto)]
 
 mod cells;

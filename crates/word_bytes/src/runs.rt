@@ -1,4 +1,5 @@
-//! Bytes of a run of words of a region.
+//! Reading and writing bytes in a run of consecutive words of a region, at a step for each word of
+//! the run.
 ghost use Rattle.std.specs.Prelude.{◌≡◌, ℕ, ◌+◌, ◌*◌, ◌<◌, ◌≤◌, length, slice_index};
 ghost use Rattle.step_ledger.specs.Counting.{RoseBy};
 ghost use Rattle.word_bytes.specs.Overwriting.{Overwrites, byte_from, words_with};
@@ -7,7 +8,7 @@ use crate::cells::{copy_cell, patched, read_bytes, write_bytes};
 use region::Region;
 use step_ledger::Steps;
 
-/// The number of words that hold `count` bytes, from byte `at` of the first word on.
+/// How many words hold `count` bytes, if the first of these is byte `at` of the first word.
 pub fn words_with(at: usize, count: usize) -> u32
     requires { words_with at count < 4294967296 }
     ensures { result ≡ words_with at count }
@@ -15,8 +16,8 @@ pub fn words_with(at: usize, count: usize) -> u32
     (at + count).div_ceil(8) as u32
 }
 
-/// Fills `out` with bytes of the `n` words from `first` on, starting at their byte `at`. The words
-/// are borrowed as one slice. Costs n steps.
+/// Fills `out` with bytes of the `n` words of the region from word `first` on, beginning with byte
+/// `at` of these words. The words are borrowed as one slice. Costs n steps.
 pub fn read_run(region: &Region, first: u32, n: u32, at: usize, out: &mut [u8], steps: &mut Steps)
     requires within { first + n ≤ length region.now }
     requires fits { at + length out.old ≤ 8 * n }
@@ -27,8 +28,8 @@ pub fn read_run(region: &Region, first: u32, n: u32, at: usize, out: &mut [u8], 
     read_bytes(words, at, out);
 }
 
-/// Overwrites bytes of the `n` words from `first` on with `bytes`, starting at their byte `at`. The
-/// words are borrowed as one slice. Costs n steps.
+/// Writes `bytes` into the `n` words of the region from word `first` on, beginning with byte `at`
+/// of these words. Every other byte stays. The words are borrowed as one slice. Costs n steps.
 pub fn write_run(
     region: &mut Region,
     first: u32,
@@ -47,8 +48,8 @@ pub fn write_run(
     write_bytes(words, at, bytes);
 }
 
-/// Does what `read_run` does. If all 32 bytes of four words are read, length and offset are constants,
-/// and the copy compiles to eight moves.
+/// Does what `read_run` does, for words that are often a whole block of four. If all 32 bytes of
+/// four words are read, length and offset are constants, and the copy compiles to eight moves.
 pub fn read_in_block(
     region: &Region,
     first: u32,
@@ -70,7 +71,8 @@ pub fn read_in_block(
     }
 }
 
-/// Does what `write_run` does, and writes all 32 bytes of four words as `read_in_block` reads them.
+/// Does what `write_run` does, for words that are often a whole block of four. If all 32 bytes of
+/// four words are written, length and offset are constants, as in `read_in_block`.
 pub fn write_in_block(
     region: &mut Region,
     first: u32,
@@ -93,7 +95,7 @@ pub fn write_in_block(
     }
 }
 
-/// Fills `out` with bytes of word `i`, from its byte `at` on. Costs one step.
+/// Fills `out` with the bytes of word `i` of the region, from its byte `at` on. Costs one step.
 pub fn read_word(region: &Region, i: u32, at: usize, out: &mut [u8], steps: &mut Steps)
     requires within { i < length region.now }
     requires fits { at + length out.old ≤ 8 }
@@ -103,7 +105,8 @@ pub fn read_word(region: &Region, i: u32, at: usize, out: &mut [u8], steps: &mut
     copy_cell(region.read(i, steps), at, out);
 }
 
-/// Overwrites bytes of word `i` with `bytes`, from its byte `at` on. Costs one step.
+/// Writes `bytes` into word `i` of the region, from its byte `at` on. Every other byte stays. Costs
+/// one step.
 pub fn write_word(region: &mut Region, i: u32, at: usize, bytes: &[u8], steps: &mut Steps)
     requires within { i < length region.old }
     requires fits { at + length bytes.now ≤ 8 }

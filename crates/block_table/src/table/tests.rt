@@ -1,4 +1,4 @@
-//! The fields of the table.
+//! A test of the fields of `BlockTable`.
 use super::BlockTable;
 use counted_cells::Cells;
 use std::test::Fail;

@@ -1,4 +1,5 @@
-//! Random bytes, damaged scripts, and scripts that end anywhere.
+//! Tests with random bytes, damaged scripts, and a script that is cut at each byte: in modes `run` and
+//! `compare` the lines before the first bad line get their replies, however the input is chunked.
 ghost use Rattle.std.specs.Prelude.{◌<◌};
 
 use super::keeping::keeps_rules;
@@ -8,7 +9,7 @@ use cf_io::{MemSink, MemSource, number_of};
 use cf_model::Manager;
 use std::test::Fail;
 
-/// The arguments of each mode that is tried, and the kinds of the managers.
+/// The ways to run a script: the arguments, and the kinds of the managers passed in.
 const WAYS: [(&[&str], &[Kind]); 5] = [
     (&["run"], &[Kind::Moving]),
     (&["--manager", "nm"], &[Kind::NonMoving]),
@@ -20,7 +21,7 @@ const WAYS: [(&[&str], &[Kind]); 5] = [
     ),
 ];
 
-/// How many seeds are tried.
+/// How many seeds are tried, with one script each.
 const SEEDS: u64 = 10_000;
 
 /// Lines that open a heap of a few small pages.
@@ -31,7 +32,7 @@ const HEADS: [&[u8]; 4] = [
     b"\theap 4 512 64  08\n",
 ];
 
-/// Lines of commands on a few ids.
+/// Lines with commands on a few ids, and a comment.
 const LINES: [&[u8]; 32] = [
     b"m 0 24\n",
     b"m 0 176\n",
@@ -67,17 +68,17 @@ const LINES: [&[u8]; 32] = [
     b"# a comment\n\n",
 ];
 
-/// Bytes that scripts are made of.
+/// Most bytes of a random script are of these.
 const ALPHABET: &[u8; 30] = b"heapmfwrqbzkst0123456789 \t\r\n\n#";
 
-/// Numbers from a seed.
+/// Pseudo-random numbers of SplitMix64; the state begins as the seed.
 #[derive(Drop)]
 struct Draws {
     state: u64,
 }
 
 impl Draws {
-    /// The next number drawn, below `count`.
+    /// Draws the next number, below `count`.
     fn below(&mut self, count: usize) -> usize
         requires { 0 < count }
         ensures { result < count }
@@ -90,7 +91,7 @@ impl Draws {
     }
 }
 
-/// A script of a `heap` line, or none, and then random bytes.
+/// Returns a script of a `heap` line, or none, and then random bytes.
 fn random_bytes(rt: &HostRuntime, draws: &mut Draws) -> Result<Vec<u8>, Fail> {
     let mut bytes = Vec::new(rt.alloc());
     if draws.below(2) == 0 {
@@ -107,7 +108,7 @@ fn random_bytes(rt: &HostRuntime, draws: &mut Draws) -> Result<Vec<u8>, Fail> {
     Ok(bytes)
 }
 
-/// A `heap` line and command lines. One of the lines is removed, doubled or swapped with another one.
+/// Returns a `heap` line and command lines, of which one may be removed, doubled or swapped with another one.
 fn damaged_lines(rt: &HostRuntime, draws: &mut Draws) -> Result<Vec<u8>, Fail> {
     let mut lines: Vec<&'static [u8]> = Vec::new(rt.alloc());
     lines.push(HEADS[draws.below(4)])?;
@@ -136,7 +137,7 @@ fn damaged_lines(rt: &HostRuntime, draws: &mut Draws) -> Result<Vec<u8>, Fail> {
     Ok(bytes)
 }
 
-/// Flips one bit each of up to two bytes.
+/// Flips one bit of up to two bytes each.
 fn flip_bits(bytes: &mut Vec<u8>, draws: &mut Draws) {
     for _i in 0..draws.below(3) {
         if bytes.len() > 0 {
@@ -147,7 +148,7 @@ fn flip_bits(bytes: &mut Vec<u8>, draws: &mut Draws) {
     }
 }
 
-/// The length of the first `count` lines of a script, with their line feeds.
+/// Returns the length in bytes of the first `count` lines of a script, with their line feeds.
 fn first_lines(script: &[u8], count: usize) -> usize {
     let mut seen: usize = 0;
     for (i, byte) in script.iter().enumerate() {
@@ -161,8 +162,8 @@ fn first_lines(script: &[u8], count: usize) -> usize {
     script.len()
 }
 
-/// The outcome of a script: the status, what was printed, and whether each open manager keeps its rules
-/// afterwards.
+/// The outcome of a script: the status, the sink with what was printed, and whether each open manager keeps
+/// its rules afterwards (`keeps`).
 #[derive(Drop)]
 struct Played {
     status: Status,
@@ -170,7 +171,8 @@ struct Played {
     keeps: bool,
 }
 
-/// Runs a script with the arguments and kinds of one row of `WAYS`, from a source with these chunks.
+/// Runs a script in way number `way` of `WAYS`. `cuts` are the lengths in bytes of the source's chunks; empty
+/// if it is one chunk.
 fn play(rt: &HostRuntime, way: usize, script: &[u8], cuts: Vec<usize>) -> Result<Played, Fail> {
     let (words, kinds) = WAYS[way % 5];
     let mut managers = closed_managers(rt, kinds)?;
@@ -188,7 +190,7 @@ fn play(rt: &HostRuntime, way: usize, script: &[u8], cuts: Vec<usize>) -> Result
     })
 }
 
-/// The text before a last line `bad line N`, and N.
+/// Returns the text before its last line, which is `bad line N`, and N; `None` if it is another line.
 fn bad_line_of(text: &[u8]) -> Option<(&[u8], usize)> {
     let mut begin: usize = 0;
     for (i, byte) in text.iter().enumerate() {
@@ -202,8 +204,9 @@ fn bad_line_of(text: &[u8]) -> Option<(&[u8], usize)> {
     Some((text.get(..begin)?, number as usize))
 }
 
-/// Whether a script with a bad line prints what its lines before that one do, from a source that cuts
-/// these, and then names it.
+/// For a script that printed `text` and ended at a bad line: returns whether the last line of `text` is
+/// `bad line N`, and the first N - 1 lines alone, in these chunks, print the rest of `text` and end with
+/// `Done`.
 fn names_first_bad(
     rt: &HostRuntime,
     way: usize,
@@ -220,8 +223,8 @@ fn names_first_bad(
     Ok(good.keeps && good.status == Status::Done && good.sink.written() == before)
 }
 
-/// Whether a script without a bad line prints the same replies if a bad line follows it, under another
-/// chunking too, and then the number of that line.
+/// For a script that printed `text` and ended with `Done`: returns whether, with a bad line behind it and in
+/// these chunks, it prints `text` and then the number of that line.
 fn names_one_more(
     rt: &HostRuntime,
     way: usize,
@@ -245,8 +248,8 @@ fn names_one_more(
     Ok(named && bad.keeps && bad.status == Status::BadScript)
 }
 
-/// Whether a script has the right outcome in one of the modes: replies to the lines before the first
-/// bad one, and the same output under every chunking.
+/// Returns whether a script has the right outcome in way number `way` of `WAYS`: replies to the lines before
+/// the first bad one, and the same output in one chunk and in chunks of `chunk` bytes.
 fn is_answered(rt: &HostRuntime, way: usize, script: &[u8], chunk: usize) -> Result<bool, Fail> {
     let alloc = rt.alloc();
     let whole = play(rt, way, script, Vec::new(alloc))?;
@@ -264,7 +267,7 @@ fn is_answered(rt: &HostRuntime, way: usize, script: &[u8], chunk: usize) -> Res
     }
 }
 
-/// Random bytes or damaged lines, with bits flipped.
+/// Returns random bytes or damaged lines, in which bits may be flipped.
 fn damaged_script(rt: &HostRuntime, draws: &mut Draws) -> Result<Vec<u8>, Fail> {
     let mut script = if draws.below(4) == 0 {
         random_bytes(rt, draws)?
@@ -275,7 +278,7 @@ fn damaged_script(rt: &HostRuntime, draws: &mut Draws) -> Result<Vec<u8>, Fail> 
     Ok(script)
 }
 
-/// Whether the script of a seed has the right outcome.
+/// Returns whether the script of a seed, in a drawn way and in drawn chunks, has the right outcome.
 fn is_seed_answered(rt: &HostRuntime, seed: u64) -> Result<bool, Fail> {
     let mut draws = Draws { state: seed };
     let script = damaged_script(rt, &mut draws)?;
@@ -292,10 +295,11 @@ fn damaged_scripts_are_answered_up_to_their_first_bad_line(rt: HostRuntime) -> R
     Ok(())
 }
 
-/// A line for each command.
+/// A script with a line for each command, the last one without its line feed.
 const EACH_COMMAND: &[u8] =
     b"heap 2 512 1 4\nk 23 1\nm 0 176\nm 1 176\r\nm 2 176\nw 1 2 a1B2c3\nr 1 0 6\nf 0\n\tq 1\n# note\n\nb 1 0\np 64\nz 1 200\nz 2 24\nwalk\nfrag\nsteps\ns\nt 3\nquota 3 1\nneed 3 8 1\nadmit 3\nf 1\nr 2 0 24\nwalk";
 
+/// `EACH_COMMAND`, cut after each number of bytes, has the right outcome in each way, read byte by byte too.
 #[test]
 fn a_script_may_end_at_any_byte(rt: HostRuntime) -> Result<(), Fail> {
     for way in 0..5 {

@@ -1,4 +1,5 @@
-//! A read or a write that fails, at each call, on each manager and side by side.
+//! Tests of modes `run` and `compare` on each kind: each call of the source, then each call of the sink, fails
+//! in turn, while the script `MOVE` runs.
 
 use super::rows::{MOVE, MOVED};
 use super::{ROOM, answer_by, answer_on, answered_from, closed_managers, failing_sink};
@@ -10,13 +11,14 @@ use std::alloc::{AllocError, Global};
 use std::test::Fail;
 use step_ledger::Meter;
 
-/// The number of live objects of an open manager, and the address of object number 1, if it is live.
+/// The state of an open manager: the number of its live objects, and the address in words of the object with
+/// handle 1 (id 2), if it is live.
 type LieOn = (u32, Option<u32>);
 
-/// The state of a manager after each number of lines; `None` while it is closed.
+/// The state of a manager after 0, 1, and so on up to 14 lines of `MOVE`; `None` while it is closed.
 type Stands = [Option<LieOn>; 15];
 
-/// The moving manager: the last free of four objects moves object number 1.
+/// The moving manager: the line `f 3` moves the object with handle 1 from word 23 to word 64.
 const MOVING: Stands = [
     None,
     Some((0, None)),
@@ -35,7 +37,7 @@ const MOVING: Stands = [
     Some((3, Some(64))),
 ];
 
-/// The non-moving manager, whose slots have 24 words.
+/// The non-moving manager, whose slots have 24 words: the same line moves it from word 24 to word 64.
 const NON_MOVING: Stands = [
     None,
     Some((0, None)),
@@ -73,9 +75,8 @@ const BLOCKS: Stands = [
     Some((3, Some(24))),
 ];
 
-/// One mode on the script that moves an object: the arguments, the kinds of the managers, the whole
-/// output, the state of each manager after each number of lines, and how often a sink that takes
-/// 5 bytes a call is called.
+/// One way to run `MOVE`, and what it leads to: the arguments, the kinds of the managers, the whole output,
+/// the states of each manager, and how often a sink that takes at most 5 bytes a call is called.
 #[derive(Clone, Copy)]
 struct Answers {
     words: &'static [&'static str],
@@ -85,6 +86,7 @@ struct Answers {
     calls: u64,
 }
 
+/// The four kinds in mode `run`, and all of them in mode `compare`.
 const ANSWERS: [Answers; 5] = [
     Answers {
         words: &[],
@@ -126,7 +128,7 @@ const ANSWERS: [Answers; 5] = [
 /// How many whole lines a source that returns 7 bytes a call has returned before each call.
 const LINES: [usize; 16] = [0, 0, 0, 1, 2, 3, 4, 5, 6, 6, 8, 9, 11, 12, 13, 14];
 
-/// The state of an open manager; `None` if it is closed.
+/// Returns the state of a manager; `None` if it is closed.
 fn stand_of(rt: &HostRuntime, manager: &Boxed) -> Option<LieOn> {
     let mut meter = Meter::new(rt);
     if manager.is_open() {
@@ -137,9 +139,9 @@ fn stand_of(rt: &HostRuntime, manager: &Boxed) -> Option<LieOn> {
     }
 }
 
-/// A call that fails, of a source that gives 7 bytes a call or of a sink that takes 5 bytes a call, and
-/// what is left then: the status, the bytes written, and how many lines have taken effect; on the
-/// managers after the one whose reply was `cut`, one line less.
+/// A call that fails, and what is left then. `take` is the number of the source's call, which returns 7 bytes,
+/// `put` that of the sink's, which takes at most 5 bytes. `written` counts the bytes written, and `lines` the
+/// lines that have taken effect, on the managers behind number `cut`, whose reply was cut, one line less.
 #[derive(Clone, Copy, Debug)]
 struct Fault {
     take: Option<u64>,
@@ -150,7 +152,7 @@ struct Fault {
     cut: usize,
 }
 
-/// The numbers of the calls that fail: this one, or none.
+/// Returns the list of the calls that fail: this one, or none.
 fn failing(alloc: Global, call: Option<u64>) -> Result<Vec<u64>, AllocError> {
     let mut fails = Vec::new(alloc);
     if let Some(call) = call {
@@ -159,7 +161,7 @@ fn failing(alloc: Global, call: Option<u64>) -> Result<Vec<u64>, AllocError> {
     Ok(fails)
 }
 
-/// Whether each manager has the state that the lines before the fault lead to. The `heap` line opens all
+/// Returns whether each manager has the state that the lines before the fault lead to. The `heap` line opens all
 /// managers before the first reply.
 fn stand_so(rt: &HostRuntime, answers: &Answers, managers: &Vec<Boxed>, fault: &Fault) -> bool {
     for (i, manager) in managers.iter().enumerate() {
@@ -175,7 +177,7 @@ fn stand_so(rt: &HostRuntime, answers: &Answers, managers: &Vec<Boxed>, fault: &
     true
 }
 
-/// Runs the script while a call fails. Whether status, output and managers are afterwards as the fault has them.
+/// Runs `MOVE` while a call fails. Returns whether status, output and managers are then as `fault` says.
 fn leaves_so(rt: &HostRuntime, answers: &Answers, fault: &Fault) -> Result<bool, Fail> {
     let alloc = rt.alloc();
     let (chunks, parts) = (vec![in alloc; 7; 16]?, vec![in alloc; 5; 128]?);
@@ -188,7 +190,7 @@ fn leaves_so(rt: &HostRuntime, answers: &Answers, fault: &Fault) -> Result<bool,
     Ok(status == fault.status && sink.written() == text && stand_so(rt, answers, &managers, fault))
 }
 
-/// The length of the first `count` lines of a text.
+/// Returns the length in bytes of the first `count` lines of a text.
 fn length_of_lines(text: &[u8], count: usize) -> usize {
     let mut left = count;
     for (i, byte) in text.iter().enumerate() {
@@ -202,7 +204,7 @@ fn length_of_lines(text: &[u8], count: usize) -> usize {
     text.len()
 }
 
-/// The outcome if nothing fails.
+/// Returns the outcome if no call fails because the script ends before the calls with these numbers.
 fn whole(answers: &Answers, take: Option<u64>, put: Option<u64>) -> Fault {
     Fault {
         take,
@@ -238,7 +240,7 @@ fn a_read_fault_leaves_the_replies_of_the_whole_lines(rt: HostRuntime) -> Result
     Ok(())
 }
 
-/// Where a call of the sink fails, what the calls before it took was written. The line whose reply
+/// If a call of the sink fails, what the calls before it took is written, and no more. The line whose reply
 /// was cut has taken effect on the managers up to the one whose reply it was.
 #[test]
 fn a_write_fault_leaves_a_prefix_of_the_text(rt: HostRuntime) -> Result<(), Fail> {
@@ -270,10 +272,10 @@ fn a_write_fault_leaves_a_prefix_of_the_text(rt: HostRuntime) -> Result<(), Fail
     Ok(())
 }
 
-/// Two lines. The reply to the first one is written before the fault.
+/// A script of two lines. The reply to the first one is written before the fault.
 const TWO_LINES: &[u8] = b"heap 1 512 1 4\nm 1 8\n";
 
-/// Whether a source that fails within the second line ends the run after the reply to the first one.
+/// Returns whether a source that fails within the second line ends the run after the reply to the first one.
 fn ends_at_the_second_line(rt: &HostRuntime) -> Result<bool, Fail> {
     let alloc = rt.alloc();
     let (cuts, fails) = (vec![in alloc; 18; 1]?, vec![in alloc; 1; 1]?);
@@ -282,13 +284,14 @@ fn ends_at_the_second_line(rt: &HostRuntime) -> Result<bool, Fail> {
     Ok(got.is(Status::ReadFault, b"ok\n"))
 }
 
+/// A line of which only a part was read before a fault takes no effect.
 #[test]
 fn a_part_of_a_line_is_not_done(rt: HostRuntime) -> Result<(), Fail> {
     assert!(rt; ends_at_the_second_line(&rt)?);
     Ok(())
 }
 
-/// Whether a sink that does not take the second reply ends the run, and has the first one.
+/// Returns whether a sink that fails at the second reply ends the run, and has the first one.
 fn ends_at_the_second_reply(rt: &HostRuntime) -> Result<bool, Fail> {
     let mut source = SureSource::new(TWO_LINES.to_vec(rt.alloc())?);
     let mut sink = failing_sink(rt, 1)?;
@@ -296,6 +299,7 @@ fn ends_at_the_second_reply(rt: &HostRuntime) -> Result<bool, Fail> {
     Ok(status == Status::WriteFault && sink.written() == b"ok\n".as_slice())
 }
 
+/// A sink that fails at a reply ends the run with `WriteFault`.
 #[test]
 fn a_reply_that_is_not_taken_ends_the_run(rt: HostRuntime) -> Result<(), Fail> {
     assert!(rt; ends_at_the_second_reply(&rt)?);

@@ -1,4 +1,4 @@
-//! Whether a manager keeps its rules, as its calls show.
+//! A check for tests: whether an open manager keeps its rules, worked out from its words and figures.
 ghost use Rattle.std.specs.Prelude.{IsTrue};
 
 use cf_base::Handle;
@@ -8,8 +8,8 @@ use step_ledger::{Meter, Steps};
 /// More handles than the managers of these tests have proxies.
 const HANDLES: u32 = 16;
 
-/// Whether the header of each live object holds its handle, and the totals match the number and the
-/// bytes of the objects. The header is word `header` of the slot or block.
+/// Returns whether the header of each live object holds its handle, and the totals match the number and the
+/// bytes of the objects. The header is word `header` of the slot or block, from 0.
 fn objects_agree<H: Manager>(heap: &H, header: u32, steps: &mut Steps) -> bool
     requires { IsTrue (H.state heap.now).is_open }
 {
@@ -31,8 +31,8 @@ fn objects_agree<H: Manager>(heap: &H, header: u32, steps: &mut Steps) -> bool
     live == totals.live && asked == totals.asked
 }
 
-/// Whether each class has objects for just its pages, none of them empty, and the totals are the sums
-/// over the classes. False for a manager without classes.
+/// For a manager with pages: returns whether each class has as many objects as its full and partly full pages
+/// can hold, none of them empty, and the totals are the sums over the classes.
 fn pages_agree<H: Manager>(heap: &H, steps: &mut Steps) -> bool
     requires { IsTrue (H.state heap.now).is_open }
 {
@@ -60,8 +60,8 @@ fn pages_agree<H: Manager>(heap: &H, steps: &mut Steps) -> bool
     live == totals.live && pages == totals.used && taken == totals.taken
 }
 
-/// Whether the headers of the blocks tile the region, each with the size of the block before it, no two
-/// neighbours free, and the totals are the sums over the blocks.
+/// For a manager with blocks: returns whether the blocks fill the region, each with the size of the block
+/// before it in its header, no two neighbours are free, and the totals are the sums over the blocks.
 fn blocks_agree<H: Manager>(heap: &H, steps: &mut Steps) -> bool
     requires { IsTrue (H.state heap.now).is_open }
 {
@@ -96,7 +96,7 @@ fn blocks_agree<H: Manager>(heap: &H, steps: &mut Steps) -> bool
     used == totals.used && free == totals.free && largest == totals.largest && used == totals.live
 }
 
-/// Whether an open manager keeps its rules, as its words and figures show.
+/// Returns whether an open manager keeps its rules, as its words and figures show.
 pub fn keeps_rules<H: Manager>(rt: &HostRuntime, heap: &H) -> bool
     requires { IsTrue (H.state heap.now).is_open }
 {

@@ -1,4 +1,5 @@
-//! Scripts on managers that the caller passes in, and the state of these managers afterwards.
+//! Tests with managers that the caller passes in: what modes `run`, `compare` and `bench` print, and which
+//! objects these managers have afterwards. And `save` and `load` undo each other.
 
 use super::rows::{MOVE, MOVED};
 use super::{OutputOn, answer_with, answered, answered_on, failing_sink};
@@ -7,7 +8,8 @@ use cf_io::{Line, MemSink, SureSource};
 use generator::{Generator, command_text};
 use std::test::Fail;
 
-/// A call with managers that are closed at first.
+/// A call of `cf_main`: what it shows, the arguments, the kinds of the managers passed in, which are closed,
+/// the script, and then the status and the text that it must print.
 #[derive(Clone, Copy)]
 struct Case {
     shows: &'static str,
@@ -23,6 +25,7 @@ struct Case {
 /// The kinds of the program's managers, in its order.
 const FOUR: [Kind; 4] = [Kind::Moving, Kind::NonMoving, Kind::Tlsf, Kind::HalfFit];
 
+/// Calls in modes `run`, `compare` and `bench`.
 static CASES: [Case; 16] = [
     Case {
         shows: "the first of the kind answers, and no other one is touched",
@@ -170,13 +173,13 @@ static CASES: [Case; 16] = [
     },
 ];
 
-/// Whether a case has the status, the output and the live objects that it should have.
+/// Returns whether a case has the status, the output and the live objects that it names.
 fn is_answered_so(rt: &HostRuntime, case: &Case) -> Result<bool, Fail> {
     let got = answered_on(rt, case.words, case.managers, case.script)?;
     Ok(got.is(case.status, case.text, case.live))
 }
 
-/// The name of the first case with another outcome; empty if there is none.
+/// Returns the name of the first case with another outcome; empty if there is none.
 fn first_other(rt: &HostRuntime, cases: &[Case]) -> Result<&'static str, Fail> {
     for case in cases {
         if !is_answered_so(rt, case)? {
@@ -186,14 +189,15 @@ fn first_other(rt: &HostRuntime, cases: &[Case]) -> Result<&'static str, Fail> {
     Ok("")
 }
 
+/// Each call of `CASES` has its status and output, and leaves the managers with the live objects that it names.
 #[test]
 fn a_mode_answers_on_the_managers_that_it_names(rt: HostRuntime) -> Result<(), Fail> {
     assert_eq!(rt; first_other(&rt, CASES.as_slice())?, "");
     Ok(())
 }
 
-/// A script as mode `load` prints it. It makes an object of more bytes than one `w` line can hold, and
-/// an empty one.
+/// Returns a script as mode `load` prints it. It makes an object of more bytes than one `w` line can hold,
+/// and an empty one.
 fn long_script(rt: &HostRuntime) -> Result<Vec<u8>, Fail> {
     let alloc = rt.alloc();
     let mut script = b"heap 2 32768 1 2\nm 3 4098\nw 3 0 ".to_vec(alloc)?;
@@ -204,7 +208,7 @@ fn long_script(rt: &HostRuntime) -> Result<Vec<u8>, Fail> {
     Ok(script)
 }
 
-/// Whether a script is saved, and what is saved is loaded as the script.
+/// Returns whether mode `save` ends with `Done` on a script, and mode `load` prints this script of its image.
 fn is_loaded_again(rt: &HostRuntime, script: &[u8]) -> Result<bool, Fail> {
     let saved = answered(rt, &["save"], script)?;
     let image = saved.sink.written();
@@ -238,12 +242,14 @@ fn answered_until(rt: &HostRuntime, call: u64) -> Result<OutputOn, Fail> {
     Ok(OutputOn { left, sink })
 }
 
-/// Whether after this call of the sink failed, this text is written and the managers have these live objects.
+/// Returns whether, if this call of the sink fails, this text is written and the managers have these numbers
+/// of live objects.
 fn is_cut_so(rt: &HostRuntime, call: u64, text: &[u8], live: &[Option<u32>]) -> Result<bool, Fail> {
     let got = answered_until(rt, call)?;
     Ok(got.is(Status::WriteFault, text, live))
 }
 
+/// If the sink fails in mode `compare`, the managers up to the one whose reply was cut have done the command.
 #[test]
 fn a_cut_stops_between_two_managers(rt: HostRuntime) -> Result<(), Fail> {
     for (call, text, live) in CUTS {
@@ -252,7 +258,7 @@ fn a_cut_stops_between_two_managers(rt: HostRuntime) -> Result<(), Fail> {
     Ok(())
 }
 
-/// A script of a `heap` line and the first `count` commands of the seed.
+/// Returns a script of a `heap` line and the first `count` commands that the generator makes of the seed.
 fn generated_script(rt: &HostRuntime, seed: u64, count: u32) -> Result<Vec<u8>, Fail> {
     let mut script = b"heap 1024 16384 1 4096\n".to_vec(rt.alloc())?;
     let mut generator = Generator::new(seed);
@@ -269,7 +275,8 @@ fn generated_script(rt: &HostRuntime, seed: u64, count: u32) -> Result<Vec<u8>, 
 /// The lead of each line of the four managers.
 const NAMES: [&[u8]; 4] = [b"cf ", b"nm ", b"tlsf ", b"half "];
 
-/// How many lines four managers printed, if all of them printed the same and none is `refused space`.
+/// Returns how many lines four managers printed; `None` unless all printed the same replies, none of them
+/// `refused space`.
 fn lines_alike(text: &[u8]) -> Option<u32> {
     let mut count = 0u32;
     let mut reply: &[u8] = b"";
@@ -286,7 +293,7 @@ fn lines_alike(text: &[u8]) -> Option<u32> {
     Some(count)
 }
 
-/// A sink that takes every chunk whole, and can hold a long text.
+/// Returns a sink that takes every chunk whole, and can hold a long text.
 fn wide_sink(rt: &HostRuntime) -> Result<MemSink, Fail> {
     let alloc = rt.alloc();
     let sink = MemSink::new(alloc, 1 << 20, Vec::new(alloc), Vec::new(alloc)).map_err(|_| "room")?;
@@ -301,7 +308,8 @@ fn compared(rt: &HostRuntime, script: Vec<u8>) -> Result<OutputOn, Fail> {
     Ok(OutputOn { left, sink })
 }
 
-/// Whether four managers run a script to its end, and each prints the same `lines` lines.
+/// Returns whether four managers run a generated script to its end, and print the same replies, `lines` lines
+/// in all.
 fn prints_alike(rt: &HostRuntime, lines: u32) -> Result<bool, Fail> {
     let script = generated_script(rt, 1, 3_000)?;
     let got = compared(rt, script)?;

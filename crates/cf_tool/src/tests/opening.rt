@@ -1,4 +1,5 @@
-//! A heap can be opened after an allocation failed.
+//! Tests of opening: a heap whose opening failed for lack of memory can be opened again, and a closed heap
+//! takes no memory. `checks/refused-memory` runs them while allocations are refused.
 ghost use Rattle.std.specs.Prelude.{IsTrue};
 
 use cf_base::{Handle, Settings};
@@ -12,9 +13,9 @@ use std::test::Fail;
 use step_ledger::Meter;
 use tlsf_heap::TlsfHeap;
 
-/// Whether a closed manager opens: at the first try, or at the second one if an allocation failed and
-/// left it closed. The open heap is empty: its one page has space for an object of that page's bytes,
-/// and not for a second one.
+/// Returns whether a closed manager opens: at the first try, or at the second one if an allocation failed and
+/// left it closed. The open heap must be empty: it has space for one object of `page` bytes, the most that a
+/// page or the region holds, and not for a second one.
 fn opens_in_two<H: Manager>(
     rt: &HostRuntime,
     heap: &mut H,
@@ -35,7 +36,7 @@ fn opens_in_two<H: Manager>(
     heap.cost() == 0 && fills_once(rt, heap, page)
 }
 
-/// Whether an open manager has space for one object of `page` bytes, and not for a second one.
+/// Returns whether an open manager has space for one object of `page` bytes, and not for a second one.
 fn fills_once<H: Manager>(rt: &HostRuntime, heap: &mut H, page: u32) -> bool
     requires { IsTrue (H.state heap.old).is_open }
 {

@@ -1,5 +1,6 @@
-//! A read or a write that fails, at each call, in the modes with a heap of their own and in those of
-//! images. The reply to each command is written before the next chunk is read.
+//! Tests of modes `slice`, `quota`, `large`, `save` and `load`: each call of the source, then each call of the
+//! sink, fails in turn, and no call follows it. In each mode with replies a line is answered before the next
+//! one is read.
 
 use super::own_heaps::{IMAGES, LARGES, QUOTAS, SLICES};
 use super::rows::{MOVE, MOVED};
@@ -10,18 +11,18 @@ use cf_io::{MemSink, MemSource};
 use std::test::Fail;
 use top_call::cf_main;
 
-/// How a mode is tried: the arguments, the input, the output if nothing fails, and whether each line of
-/// the input gets one line of output at once.
+/// How a mode is tried: the arguments, the input, the output if no call fails, and whether each line of the
+/// input gets one line of output (else the output comes at the end).
 type Case = (&'static [&'static str], &'static [u8], &'static [u8], bool);
 
-/// The lines of `large` but the last, whose reply has three lines.
+/// The first script of `LARGES` without its last line, whose reply has three lines.
 const LARGE: &[u8] =
     b"heap 4 512 1 16\nm 1 1000\nm 2 505\nm 3 505\nw 1 500 0102030405060708\nr 1 500 8\nr 1 996 5\nf 1\nm 3 505\n";
 
 /// Their replies.
 const LARGE_REPLIES: &[u8] = b"ok\nok\nok\nrefused space\nok\n=0102030405060708\nrange\nok\nok\n";
 
-/// Five modes.
+/// Returns a case for each of five modes.
 fn cases() -> [Case; 5] {
     let (slice, slice_read, _, slice_text) = SLICES[0];
     let (quota, quota_read, _, quota_text) = QUOTAS[0];
@@ -37,7 +38,8 @@ fn cases() -> [Case; 5] {
     ]
 }
 
-/// How a call ended: its status, what was written, and whether nothing was taken or put after a fault.
+/// How a call ended: its status, the sink with what was written, and whether no call of source or sink came
+/// after one that failed (`stopped`).
 #[derive(Drop)]
 struct Ended {
     status: Status,
@@ -45,8 +47,8 @@ struct Ended {
     stopped: bool,
 }
 
-/// Runs a case on a source that returns 7 bytes a call and a sink that takes 5. Call `take` of the
-/// source and call `put` of the sink fail.
+/// Runs a case on a source that returns 7 bytes a call and a sink that takes 5. Call number `take` of the
+/// source and call number `put` of the sink fail.
 fn played(rt: &HostRuntime, case: &Case, take: u64, put: u64) -> Result<Ended, Fail> {
     let alloc = rt.alloc();
     let (words, read, _, _) = *case;
@@ -81,10 +83,10 @@ fn played(rt: &HostRuntime, case: &Case, take: u64, put: u64) -> Result<Ended, F
     })
 }
 
-/// No call of a device has this number.
+/// In place of the number of a call: no call of that device fails.
 const NEVER: u64 = u64::MAX;
 
-/// The first `count` lines of a text.
+/// Returns the first `count` lines of a text.
 fn first_lines(text: &[u8], count: usize) -> &[u8] {
     let mut left = count;
     for (i, byte) in text.iter().enumerate() {
@@ -98,7 +100,7 @@ fn first_lines(text: &[u8], count: usize) -> &[u8] {
     text
 }
 
-/// How many lines end within the first bytes.
+/// Returns how many lines end within the first `bytes` bytes.
 fn lines_within(read: &[u8], bytes: usize) -> usize {
     read.get(..bytes)
         .unwrap_or(read)
@@ -107,8 +109,8 @@ fn lines_within(read: &[u8], bytes: usize) -> usize {
         .count()
 }
 
-/// What is written when this call of the source fails: the replies to the whole lines taken by then; in
-/// the modes of images nothing.
+/// Returns what is written if this call of the source fails: the replies to the whole lines read by then; in
+/// modes `save` and `load` nothing.
 fn written_at(case: &Case, call: u64) -> &'static [u8] {
     let (_, read, text, by_line) = *case;
     if by_line {
@@ -118,8 +120,8 @@ fn written_at(case: &Case, call: u64) -> &'static [u8] {
     }
 }
 
-/// The number of calls of the source that were made to fail, one run for each. `None` if one of these
-/// runs has a wrong outcome.
+/// Lets call 0, 1, and so on of the source fail, in a run each, until a run makes no such call and ends with
+/// `Done`. Returns the number of calls that failed, `None` if a run has a wrong outcome.
 fn read_faults(rt: &HostRuntime, case: &Case) -> Result<Option<u64>, Fail> {
     for call in 0..64u64 {
         let ended = played(rt, case, call, NEVER)?;
@@ -136,7 +138,8 @@ fn read_faults(rt: &HostRuntime, case: &Case) -> Result<Option<u64>, Fail> {
     Ok(None)
 }
 
-/// How many calls of the sink fail, in turn, until the whole text is written. Each leaves a longer prefix.
+/// The same of the sink: returns the number of calls that failed, `None` if a run has a wrong outcome. Each
+/// failed call must leave a longer prefix of the text than the one before.
 fn write_faults(rt: &HostRuntime, case: &Case) -> Result<Option<u64>, Fail> {
     let (_, _, text, _) = *case;
     let mut shorter = 0;
@@ -159,8 +162,8 @@ fn write_faults(rt: &HostRuntime, case: &Case) -> Result<Option<u64>, Fail> {
     Ok(None)
 }
 
-/// The calls of the source and of the sink that a run without a fault makes, for each case: a script of n
-/// bytes takes n / 7 calls, rounded up, and one that finds the end; a line of n bytes is put in n / 5 calls, rounded up.
+/// Each call of the source and of the sink fails in turn, and ends the run. A script of n bytes takes n / 7
+/// calls of the source, rounded up, and one that finds the end.
 #[test]
 fn each_fault_ends_the_run_in_the_other_modes(rt: HostRuntime) -> Result<(), Fail> {
     for case in cases() {
@@ -182,7 +185,7 @@ fn each_fault_ends_the_run_in_the_other_modes(rt: HostRuntime) -> Result<(), Fai
     Ok(())
 }
 
-/// The lengths of the lines of a script.
+/// Returns the lengths in bytes of the lines of a script, each with its line feed.
 fn line_lengths(rt: &HostRuntime, script: &[u8]) -> Result<Vec<usize>, Fail> {
     let mut lengths = Vec::new(rt.alloc());
     let mut begin = 0;
@@ -195,7 +198,7 @@ fn line_lengths(rt: &HostRuntime, script: &[u8]) -> Result<Vec<usize>, Fail> {
     Ok(lengths)
 }
 
-/// Whether each line of a script that arrives line by line gets its `replies` lines of output before the
+/// Returns whether each line of a script that arrives line by line gets `replies` lines of output before the
 /// next line is read, and the script is run to its end.
 fn is_in_turn(
     rt: &HostRuntime,
@@ -232,6 +235,7 @@ fn is_in_turn(
     Ok(status == Status::Done && log.is_in_turn() && source.taken == lines.saturating_add(1))
 }
 
+/// In each mode with replies, the reply to a line is written before the next line is read.
 #[test]
 fn each_line_is_answered_before_the_next_is_taken(rt: HostRuntime) -> Result<(), Fail> {
     let four = [Kind::Moving, Kind::NonMoving, Kind::Tlsf, Kind::HalfFit];

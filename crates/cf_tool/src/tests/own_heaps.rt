@@ -1,10 +1,11 @@
-//! Scripts in the modes that play them on a heap of their own, and images.
+//! Worked scripts of the modes that have a heap of their own (`slice`, `quota`, `large`), and worked images of
+//! `save` and `load`, each with what must be written.
 
 use super::answered_on;
 use cf_base::{Kind, Status};
 use std::test::Fail;
 
-/// The words of a call, what is read, the status, and what is written.
+/// A call of `cf_main`: the arguments, what is read, the status, and what is written.
 pub type Row = (
     &'static [&'static str],
     &'static [u8],
@@ -12,10 +13,10 @@ pub type Row = (
     &'static [u8],
 );
 
-/// Of mode `slice`.
+/// Calls in mode `slice`; the last one in mode `run`, to compare.
 pub const SLICES: [Row; 4] = [
-    // An object in motion is read in the right half, and another free has to wait; so has a malloc whose
-    // only room a job holds.
+    // An object in motion is read in the right half. Meanwhile another free is `busy`, and so is a malloc that
+    // only the slot of the job could serve.
     (
         &["slice", "--quantum", "8"],
         b"heap 2 512 1 8\nm 1 176\nm 2 176\nm 3 176\nm 4 176\nw 2 0 a1\nw 2 175 b2\nf 1\nf 3\ns\ns\nf 3\nr 2 0 1\nr 2 175 1\nm 6 504\ns\ns\nm 6 504\nr 2 175 1\n",
@@ -29,14 +30,14 @@ pub const SLICES: [Row; 4] = [
         Status::Done,
         b"ok\nok\nok\nok\nok\nleft 23\nleft 7\nleft 0\n000000b000000000\n0000000000000000\n",
     ),
-    // The default quantum of 16 words, a bound that does nothing, and commands of other modes.
+    // The default quantum of 16 words, a bound without effect, and commands of other modes.
     (
         &["slice", "--manager=nm"],
         b"heap 1 512 5 4\nm 1 504\nm 1 8\nf 1\ns\ns\ns\nf 1\nq 1\nt 3\nwalk\nm 1 505\np 64\nx\n",
         Status::BadScript,
         b"ok\nok\nlive\nok\nleft 32\nleft 16\nleft 0\nunknown\nnone\nnone\nnone\nrefused size\nrange\nbad line 14\n",
     ),
-    // Mode `run` takes the option, and has no slices.
+    // Mode `run` accepts the option `--quantum`, and has no slices.
     (
         &["run", "--quantum=1"],
         b"heap 1 512 1 4\nm 1 504\nf 1\ns\np 0\n",
@@ -45,7 +46,7 @@ pub const SLICES: [Row; 4] = [
     ),
 ];
 
-/// Of mode `quota`.
+/// Calls in mode `quota`.
 pub const QUOTAS: [Row; 3] = [
     // A task is refused space by its own quota alone.
     (
@@ -54,14 +55,14 @@ pub const QUOTAS: [Row; 3] = [
         Status::Done,
         b"ok\nok\nok\nrefused sum\nok\nok\nok\nrefused space\nok\nok\nrefused space\nok\nok\nok\nrefused space\nrefused used\nok\nok\nok\n",
     ),
-    // What a quota is enough for.
+    // Whether a quota is enough for the objects that a task declares.
     (
         &["quota"],
         b"heap 3 512 1 8\nquota 0 2\nneed 0 176 3\nadmit 0\nneed 0 8 1\nadmit 0\nneed 0 8 8\nadmit 0\n",
         Status::Done,
         b"ok\nok\nok\nyes\nok\nno 4\nok\nproxies\n",
     ),
-    // Ids and reports of the present task, a bound that does nothing, and words of other modes.
+    // Ids and reports of the present task, a bound without effect, and commands of other modes.
     (
         &["quota", "--quantum=1"],
         b"heap 3 512 7 8\nquota 3 2\nt 3\nm 1 176\nm 1 8\nw 1 0 a1b2\nr 1 0 2\nwalk\nt 0\nr 1 0 2\nf 1\nq 1\ns\nadmit 3\nquota 3 0\nneed 3 505 1\nadmit 3\nx\n",
@@ -70,9 +71,9 @@ pub const QUOTAS: [Row; 3] = [
     ),
 ];
 
-/// Of mode `large`.
+/// Calls in mode `large`.
 pub const LARGES: [Row; 3] = [
-    // Objects above one page, their ranges, and room again after a free.
+    // Objects longer than a page, reads up to their end and past it, and space again after a free.
     (
         &["large"],
         b"heap 4 512 1 16\nm 1 1000\nm 2 505\nm 3 505\nw 1 500 0102030405060708\nr 1 500 8\nr 1 996 5\nf 1\nm 3 505\nwalk\n",
@@ -86,7 +87,7 @@ pub const LARGES: [Row; 3] = [
         Status::Done,
         b"ok\nok\nrefused size\n",
     ),
-    // Words that this mode doesn't have, and a bad line.
+    // Commands that this mode doesn't have, and a bad line.
     (
         &["large"],
         b"heap 4 512 3 16\nm 1 1000\nq 1\nz 1 8\nsteps\nk 23 2\n",
@@ -95,7 +96,7 @@ pub const LARGES: [Row; 3] = [
     ),
 ];
 
-/// Of modes `save` and `load`.
+/// Calls in modes `save` and `load`.
 pub const IMAGES: [Row; 7] = [
     (
         &["save"],
@@ -140,8 +141,8 @@ pub const IMAGES: [Row; 7] = [
     ),
 ];
 
-/// Whether each call ends with its status and writes what it should, and a manager that is handed in
-/// stays as it was: closed but in mode `run`.
+/// Returns whether each call ends with its status and writes its text, and a non-moving manager that is passed
+/// in stays closed.
 fn are_answered(rt: &HostRuntime, rows: &[Row]) -> Result<bool, Fail> {
     for row in rows {
         let (words, read, status, text) = *row;
@@ -153,6 +154,7 @@ fn are_answered(rt: &HostRuntime, rows: &[Row]) -> Result<bool, Fail> {
     Ok(true)
 }
 
+/// Each call above has its status and output.
 #[test]
 fn each_mode_with_a_heap_of_its_own_answers(rt: HostRuntime) -> Result<(), Fail> {
     assert!(rt; are_answered(&rt, SLICES.as_slice())?);

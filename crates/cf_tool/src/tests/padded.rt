@@ -1,4 +1,5 @@
-//! A manager whose calls take their step bound less a slack, and the replies to `steps` that show it.
+//! Tests with a padded manager: each of its calls ticks until it has taken its step bound less a slack, and
+//! `steps` must print just this count.
 ghost use Rattle.std.specs.Prelude.{◌≡◌, ◌≤◌, ◌+◌, ◌^◌, None};
 ghost use Rattle.step_ledger.specs.Counting.{RoseAtMost};
 ghost use Rattle.cf_base.specs.declared.kind.Kind.TheVariants.{Moving};
@@ -18,8 +19,9 @@ use std::alloc::{AllocError, Global};
 use std::test::Fail;
 use step_ledger::Steps;
 
-/// A moving manager whose mallocs, frees and resizes each tick until they have added their bound less
-/// the slack, refused or not. It promises no order, because an order fixes the cost of each call.
+/// A moving manager whose mallocs, frees and resizes, refused or not, each tick until they have added their
+/// bound for mode `run` less `slack` steps. `cost` is the steps of the last of them. It promises no order,
+/// because an order fixes the cost of each call.
 #[derive(Drop)]
 struct PaddedHeap {
     heap: MovingHeap,
@@ -28,7 +30,7 @@ struct PaddedHeap {
     ghost moving: { heap.kind ≡ Moving },
 }
 
-/// The most steps of a free.
+/// Returns the most steps of a free with this result, the bound of `Manager`.
 fn free_steps(answer: &Result<Freed, NotLive>) -> u64
     ensures value { result ≡ free_bound answer.now }
     ensures low { result ≤ 2 ^ 36 }
@@ -39,7 +41,7 @@ fn free_steps(answer: &Result<Freed, NotLive>) -> u64
     }
 }
 
-/// The most steps of a resize.
+/// Returns the most steps of a resize with this result, the bound of `Manager`.
 fn resize_steps(answer: &Result<Resized, ResizeFault>) -> u64
     ensures value { result ≡ resize_bound answer.now }
     ensures low { result ≤ 2 ^ 36 }
@@ -50,8 +52,8 @@ fn resize_steps(answer: &Result<Resized, ResizeFault>) -> u64
     }
 }
 
-/// Ticks until the call that began at this count has added its bound less the slack, and returns how
-/// many steps it has added.
+/// Ticks until the call that began when the count was `began` has added `bound - slack` steps, and returns
+/// how many steps it has added.
 fn pad(bound: u64, slack: u64, began: u64, steps: &mut Steps) -> u64
     requires low { bound ≤ 2 ^ 36 }
     requires early { began ≤ 2 ^ 63 }
@@ -65,6 +67,7 @@ fn pad(bound: u64, slack: u64, began: u64, steps: &mut Steps) -> u64
     added + more
 }
 
+// As the moving heap, but for the steps of a malloc, a free and a resize.
 impl Manager for PaddedHeap {
     ghost state = { λ p. record p.heap { order = None; cost = p.cost } };
 
@@ -155,7 +158,7 @@ impl Manager for PaddedHeap {
     }
 }
 
-/// A text whose lines each begin with the lead.
+/// Returns the text with the lead before each of its lines.
 fn led(rt: &HostRuntime, lead: &[u8], text: &[u8]) -> Result<Vec<u8>, Fail> {
     let mut all = Vec::new(rt.alloc());
     for line in text.split_inclusive(|b| *b == b'\n') {
@@ -165,7 +168,7 @@ fn led(rt: &HostRuntime, lead: &[u8], text: &[u8]) -> Result<Vec<u8>, Fail> {
     Ok(all)
 }
 
-/// A closed padded manager, in a box.
+/// Returns a list of one closed padded manager, in a box.
 fn padded_managers(alloc: Global, slack: u64) -> Result<Vec<Boxed>, AllocError> {
     let padded = PaddedHeap {
         heap: MovingHeap::closed(alloc),
@@ -179,7 +182,7 @@ fn padded_managers(alloc: Global, slack: u64) -> Result<Vec<Boxed>, AllocError> 
     Ok(managers)
 }
 
-/// Answers a script on a padded manager, in this mode.
+/// Runs a script on a padded manager, in this mode, and returns the status.
 fn answer_padded(
     rt: &HostRuntime,
     mode: &str,
@@ -191,7 +194,7 @@ fn answer_padded(
     answer_on(rt, &[mode], &mut managers, source, sink)
 }
 
-/// Whether a script on a padded manager, in this mode, is run to its end and prints this text.
+/// Returns whether a script on a padded manager, in this mode, is run to its end and prints this text.
 fn prints_in(
     rt: &HostRuntime,
     mode: &str,
@@ -205,15 +208,15 @@ fn prints_in(
     Ok(status == Status::Done && sink.written() == text)
 }
 
-/// Whether a script prints this text on a padded manager, in mode `run`, and in mode `compare` after
-/// its name.
+/// Returns whether a script on a padded manager prints this text in mode `run`, and in mode `compare` the same
+/// with the manager's name before each line.
 fn prints_padded(rt: &HostRuntime, slack: u64, script: &[u8], text: &[u8]) -> Result<bool, Fail> {
     let beside = led(rt, b"cf ", text)?;
     let is_beside = prints_in(rt, "compare", slack, script, beside.as_slice())?;
     Ok(is_beside && prints_in(rt, "run", slack, script, text)?)
 }
 
-/// What a `steps` line prints is what the manager handed in has ticked, to the step.
+/// `steps` prints exactly the steps that the manager passed in has ticked, and their bound.
 #[test]
 fn each_steps_line_shows_the_steps_of_the_manager_handed_in(rt: HostRuntime) -> Result<(), Fail> {
     for (slack, calls, resizes) in PADDED {

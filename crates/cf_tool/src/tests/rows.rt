@@ -1,18 +1,20 @@
-//! Worked scripts.
+//! Worked scripts of mode `run`, with the status and the replies of each, and scripts whose replies have counts
+//! of steps.
 
 use cf_base::Status;
 
-/// A free that moves an object to the hole and returns a page.
+/// A script with a free that moves an object into the freed slot and returns a page to the pool.
 pub const MOVE: &[u8] =
     b"heap 2 512 1 8\nm 1 176\nm 2 176\nm 3 176\nm 4 176\nm 5 176\nw 2 0 a1b2\nf 1\nq 2\nq 3\nf 3\nq 2\nm 6 504\nr 2 0 2\n";
 
-/// What it prints.
+/// What `MOVE` prints on the moving manager.
 pub const MOVED: &[u8] =
     b"ok\nok\nok\nok\nok\nrefused space\nok\nok\nat 23\nat 64\nok\nat 64\nok\n=a1b2\n";
 
-/// What a row shows, the script, the status, and what is printed.
+/// A script on the moving manager: what it shows, the script, the status, and what is printed.
 pub type Row = (&'static str, &'static [u8], Status, &'static [u8]);
 
+/// The scripts whose replies are known beforehand.
 pub static ROWS: [Row; 30] = [
     (
         "an object reads as zeros",
@@ -191,9 +193,9 @@ pub static ROWS: [Row; 30] = [
     ),
 ];
 
-/// Scripts whose output contains a count of steps: the text before the count, its least and its
-/// greatest value, and the text after it. The first and the third script clear a slot of 23 words, and
-/// the last one a slot of 24 words, at a step a word.
+/// Scripts whose output contains a count of steps: the arguments, the script, the text before the count, its
+/// least and its greatest value, and the text after it. The first and the third script clear a slot of 23
+/// words, and the last one a slot of 24 words, at a step a word.
 pub const STEPS: [(&[&str], &[u8], &[u8], u32, u32, &[u8]); 4] = [
     (
         &[],
@@ -229,15 +231,18 @@ pub const STEPS: [(&[&str], &[u8], &[u8], u32, u32, &[u8]); 4] = [
     ),
 ];
 
-/// Mallocs, a free that moves and a malloc that is refused, and their steps.
+/// A script for a padded manager: mallocs, a free that moves an object and a refused malloc, and `steps` after
+/// three of them.
 pub const PADDED_CALLS: &[u8] =
     b"heap 2 512 1 8\nm 1 176\nsteps\nm 2 176\nm 3 176\nf 1\nsteps\nm 4 505\nsteps\n";
 
-/// A resize that moves, one within its class and one that is refused, and their steps.
+/// A script for a padded manager: a resize that moves an object, one within its class and a refused one, and
+/// `steps` after each.
 pub const PADDED_RESIZES: &[u8] =
     b"heap 3 512 1 8\nm 1 176\nm 2 176\nm 3 176\nz 1 504\nsteps\nz 2 175\nsteps\nz 1 505\nsteps\n";
 
-/// How many steps below the bound each call stops, and what the two scripts print then. A malloc has
+/// The slack of a padded manager, how many steps below its bound each call stops, and what the two scripts
+/// print then. A malloc has
 /// a bound of 64 steps; a free of a slot of 23 words 142; a resize to 64 words 352, one within 23
 /// words 229, a refused one 160.
 pub const PADDED: [(u64, &[u8], &[u8]); 4] = [

@@ -1,4 +1,5 @@
-//! A source and a sink that share a cell: what is taken when, what is put when, and what comes after a fault.
+//! A source and a sink that note their calls in one log: whether the replies to a chunk are written before the
+//! next chunk is read, and whether a call follows one that failed.
 ghost use Rattle.std.specs.Prelude.{◌≡◌};
 
 use cf_base::Failed;
@@ -19,6 +20,7 @@ pub struct Log {
 }
 
 impl Log {
+    /// Returns a log without calls.
     pub fn new() -> Log {
         Log {
             lines: Cell::new(0),
@@ -28,16 +30,17 @@ impl Log {
         }
     }
 
-    /// Whether no call came after a fault.
+    /// Returns whether no call came after one that failed.
     pub fn ends_at_a_fault(&self) -> bool {
         self.after.get() == 0
     }
 
-    /// Whether the replies to each chunk were written before the next chunk was read.
+    /// Returns whether the replies to each chunk were written before the next chunk was read.
     pub fn is_in_turn(&self) -> bool {
         !self.early.get()
     }
 
+    /// Notes a call of the source or the sink.
     fn note_call(&self) {
         if self.failed.get() {
             self.after.set(self.after.get().saturating_add(1));
@@ -45,7 +48,8 @@ impl Log {
     }
 }
 
-/// A source that writes its calls into the log. Each of its chunks asks for `replies` lines.
+/// A source that notes its calls in the log. `taken` counts its calls; each of its chunks must get `replies`
+/// lines of output.
 #[derive(Drop)]
 pub struct WatchedSource<'a, S> {
     pub source: S,
@@ -79,7 +83,7 @@ impl<'a, S: Source> Source for WatchedSource<'a, S> {
     }
 }
 
-/// A sink that writes its calls into the log.
+/// A sink that notes its calls, and the lines that it takes, in the log.
 #[derive(Drop)]
 pub struct WatchedSink<'a, K> {
     pub sink: K,

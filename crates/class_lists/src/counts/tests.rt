@@ -1,4 +1,4 @@
-//! The fields of the counts.
+//! A test of the fields of `Counts`.
 use super::Counts;
 use crate::Which;
 use std::test::Fail;

@@ -1,4 +1,5 @@
-//! Heaps on which many drawn commands were done.
+//! Images of heaps on which many random commands, drawn from a seed, were done. Each image is loaded, and
+//! saved again unchanged.
 ghost use Rattle.std.specs.Prelude.{◌≡◌};
 ghost use Rattle.cf_base.specs.Settings.{Profile};
 ghost use Rattle.cf_base.specs.declared.kind.Kind.TheVariants.{Moving};
@@ -16,10 +17,10 @@ use std::alloc::Global;
 use std::test::Fail;
 use test_support::{Draw, Wrong};
 
-/// How many commands are done on a heap.
+/// How many commands are done on a heap before its image is saved.
 const COMMANDS: u32 = 3_000;
 
-/// A length of up to 540 bytes. Half of them are of few classes, so that objects move.
+/// Draws a length of 0 to 539 bytes. Half of the lengths are of two classes, so that objects move.
 fn length(draw: &mut Draw) -> u32 {
     if draw.below(2) == 0 {
         140 + draw.below(24)
@@ -28,8 +29,9 @@ fn length(draw: &mut Draw) -> u32 {
     }
 }
 
-/// A malloc, a free, a resize or a write, drawn, of one of 64 ids. Some are refused: a write is of up
-/// to 40 bytes, which may pass the end of the object.
+/// Draws a malloc, a free, a resize, or a write of up to 40 of these bytes, for one of 64 ids. Some are
+/// refused: a malloc may be for an id that is live, the others for one that isn't, and a write may pass the
+/// end of the object.
 fn drawn<'a>(draw: &mut Draw, bytes: &'a [u8; 1_200]) -> CommandRef<'a> {
     let id = 1_040 * draw.below(64) as u16;
     match draw.below(8) {
@@ -50,7 +52,7 @@ fn drawn<'a>(draw: &mut Draw, bytes: &'a [u8; 1_200]) -> CommandRef<'a> {
     }
 }
 
-/// Does many drawn commands.
+/// Does all the drawn commands on the heap, through the session.
 fn churn<H: Manager>(heap: &mut H, session: &mut Session, draw: &mut Draw)
     requires { IsGoing (run_at session.old (H.state heap.old)) }
     ensures { (p : Profile) → IsReady p (run_at session.old (H.state heap.old)) → IsReady p (run_at session.new (H.state heap.new)) }
@@ -61,7 +63,8 @@ fn churn<H: Manager>(heap: &mut H, session: &mut Session, draw: &mut Draw)
     }
 }
 
-/// The image of what lives in the heap after many drawn commands, with this bound.
+/// Opens the heap with bound k for each class, does the drawn commands, and returns the image of the live
+/// objects.
 fn churned_image<H: Manager>(
     rt: &HostRuntime,
     alloc: Global,
@@ -78,7 +81,8 @@ fn churned_image<H: Manager>(
     image(rt, alloc, heap, &session, &settings)
 }
 
-/// Whether the image is loaded and saved again unchanged, at most `most` bytes at a time.
+/// Loads the image, at most `most` bytes in a call, and saves it again. Returns whether that gives the same
+/// bytes.
 fn is_saved_again<H: Manager>(
     rt: &HostRuntime,
     alloc: Global,
@@ -95,7 +99,9 @@ fn is_saved_again<H: Manager>(
     }
 }
 
-/// With each bound a heap has its image, which is loaded at a bound of 1 and saved again, whatever the chunks.
+/// `load` accepts what `save` has written, and the loaded heap has the same image. The heaps that are saved
+/// have bound 1, 2 and 64; an image has no bound, and is loaded at bound 1. It is read in chunks of 1, 7
+/// and 4,096 bytes.
 #[test]
 fn what_was_saved_is_loaded_and_saved_again(rt: HostRuntime) -> Result<(), Fail> {
     let alloc = rt.alloc();

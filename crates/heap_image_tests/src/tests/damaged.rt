@@ -1,4 +1,5 @@
-//! Images that were cut, and images with a byte changed.
+//! Images that were cut, and images with one byte changed: `load` must accept or refuse each as the slow
+//! program in `reference` does.
 ghost use Rattle.std.specs.Prelude.{◌≡◌};
 ghost use Rattle.cf_base.specs.declared.kind.Kind.TheVariants.{Moving};
 
@@ -12,8 +13,8 @@ use std::alloc::Global;
 use std::test::Fail;
 use test_support::Wrong;
 
-/// Whether what is loaded of the bytes is what the rules require: the same image again, or `Bad` at the
-/// first field that is broken.
+/// Loads the bytes, and returns whether the result is the required one: if they are an image, the loaded
+/// heap has that image; else `load` fails with `Bad` at the offset of the first field that breaks a rule.
 fn is_loaded_as_shown<H: Manager>(
     rt: &HostRuntime,
     alloc: Global,
@@ -32,7 +33,8 @@ fn is_loaded_as_shown<H: Manager>(
     })
 }
 
-/// The first length at which the image without its last bytes is not loaded so; none if there is none.
+/// Cuts the image to each shorter length, and returns the first length for which the result of `load` is
+/// not the required one; none if there is no such length.
 fn cut_each<H: Manager>(
     rt: &HostRuntime,
     alloc: Global,
@@ -50,8 +52,9 @@ fn cut_each<H: Manager>(
     Ok(None)
 }
 
-/// The first byte, and its value, with which the image is not loaded so, of those with one byte changed: to
-/// 0, to 255, and to its two neighbours. None if there is none.
+/// Changes each byte of the image alone: to 0, to 255, to one less and to one more. Returns the first
+/// index and value for which the result of `load` is not the required one; none if there is no such
+/// change.
 fn change_each<H: Manager>(
     rt: &HostRuntime,
     alloc: Global,
@@ -74,6 +77,8 @@ fn change_each<H: Manager>(
     Ok(None)
 }
 
+// `load` of each image of `ROWS`, cut at each length, or with one byte changed, returns what `broken_at`
+// requires.
 #[test]
 fn each_cut_and_each_changed_byte_is_loaded_as_defined(rt: HostRuntime) -> Result<(), Fail> {
     let alloc = rt.alloc();

@@ -1,4 +1,5 @@
-//! Heaps, their images, and what is loaded of bytes.
+//! What the tests of this crate do with a heap: open it, do commands on it, save its image, and load an
+//! image.
 ghost use Rattle.std.specs.Prelude.{◌≡◌, OnOk};
 ghost use Rattle.std.specs.Bool.{OnTrue};
 ghost use Rattle.cf_base.specs.Settings.{Profile, profile_of};
@@ -19,10 +20,10 @@ use std::alloc::Global;
 use step_ledger::Meter;
 use test_support::Wrong;
 
-/// No image here is longer.
+/// The most bytes of an image in these tests.
 const ROOM: usize = 16_384;
 
-/// Opens the heap, for a session that was just begun.
+/// Opens the heap with these settings. The session was just begun, so it belongs to the empty heap.
 pub fn open<H: Manager>(heap: &mut H, session: &Session, settings: &Settings) -> Result<(), Wrong>
     requires moving { (H.state heap.old).kind ≡ Moving }
     requires fresh { session.now ≡ fresh_session }
@@ -44,7 +45,7 @@ fn is_change(command: CommandRef) -> bool
     }
 }
 
-/// Does the command, whatever its reply, if it is a change.
+/// Does the command if it is one of those of `is_change`, and drops its reply. Else nothing is done.
 pub fn give<H: Manager>(heap: &mut H, session: &mut Session, command: CommandRef)
     requires { IsGoing (run_at session.old (H.state heap.old)) }
     ensures going { IsGoing (run_at session.new (H.state heap.new)) }
@@ -59,7 +60,8 @@ pub fn give<H: Manager>(heap: &mut H, session: &mut Session, command: CommandRef
     }
 }
 
-/// The image of what lives in the heap.
+/// Saves the heap, and returns the image. `settings` are those of the heap, and `session` has the ids of
+/// its live objects.
 pub fn image<H: Manager>(
     rt: &HostRuntime,
     alloc: Global,
@@ -76,8 +78,8 @@ pub fn image<H: Manager>(
     }
 }
 
-/// Loads bytes, at most `most` at a time, into the heap, and returns the image of what it
-/// holds then; or why it loads nothing.
+/// Loads the bytes into the heap, at most `most` in a call of the source, and returns the image of the
+/// loaded heap; or the fault of `load`.
 pub fn load_and_save<H: Manager>(
     rt: &HostRuntime,
     alloc: Global,

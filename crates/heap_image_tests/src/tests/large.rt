@@ -1,4 +1,5 @@
-//! The largest region, full, from a stream and to a stream: neither keeps what passes.
+//! The image of the largest region, full of objects. It is loaded from a source that computes its bytes,
+//! and saved to a sink that compares them. So its 64 MiB are never kept beside the heap.
 ghost use Rattle.std.specs.Prelude.{◌≡◌, false, None, Ok, length};
 
 use cf_base::Failed;
@@ -9,16 +10,18 @@ use moving_heap::MovingHeap;
 use std::test::Fail;
 use step_ledger::Meter;
 
-/// The fields before the entries: 2,048 pages of 32,768 bytes, as many proxies, and as many objects.
+/// The fields before the entries: 2,048 pages of 32,768 bytes, 2,048 proxies and 2,048 objects.
 static HEADER: [u8; 20] = *b"CFI1\0\x08\0\0\0\x80\0\0\0\x08\0\0\0\x08\0\0";
 
-/// An entry: its id, its length, and the bytes that fill a page with their header.
+/// The bytes of an entry: two of the id, four of the length, and 32,760 of the object, which fills a page
+/// with its header.
 const ENTRY: u64 = 6 + 32_760;
 
-/// The bytes of the image.
+/// The length of the image in bytes.
 const TOTAL: u64 = 20 + 2_048 * ENTRY;
 
-/// A byte of the image. The ids are multiples of 31, and each object has bytes of its own.
+/// The byte of the image at offset `at`. Entry e has the id 31 e, the length 32,760 (0x7ff8), and bytes
+/// that depend on e and on their place.
 fn byte_at(at: u64) -> u8 {
     if at < 20 {
         return HEADER[at as usize];
@@ -34,7 +37,7 @@ fn byte_at(at: u64) -> u8 {
     }
 }
 
-/// Gives the image.
+/// A source of the image, which never fails. It has returned `at` bytes in `calls` calls.
 #[derive(Drop)]
 struct Stream {
     at: u64,
@@ -52,6 +55,7 @@ impl Source for Stream {
 
     ghost last_failed = { λ _. false };
 
+    // Fills the buffer with the next bytes of the image, or with those that are left, and returns how many.
     fn take(&mut self, buf: &mut [u8]) -> Result<usize, Failed> {
         let n = buf.len().min(TOTAL.saturating_sub(self.at) as usize);
         put_image(&mut buf[..n], self.at);
@@ -61,7 +65,7 @@ impl Source for Stream {
     }
 }
 
-/// Fills the buffer with the image from this byte on.
+/// Fills the buffer with the bytes of the image from offset `from` on.
 fn put_image(buffer: &mut [u8], from: u64) {
     let mut at = from;
     for byte in buffer.iter_mut() {
@@ -70,7 +74,8 @@ fn put_image(buffer: &mut [u8], from: u64) {
     }
 }
 
-/// Counts what it takes, and whether it differs from the image.
+/// A sink that accepts all bytes and keeps none. It has got `at` bytes, and `differs` is whether one of
+/// them was not that of the image.
 #[derive(Drop)]
 struct Comparison {
     at: u64,
@@ -84,6 +89,7 @@ impl Sink for Comparison {
 
     ghost last_failed = { λ _. false };
 
+    // Compares the bytes with the next ones of the image, and returns their number.
     fn put(&mut self, bytes: &[u8]) -> Result<usize, Failed>
         ensures { result ≡ Ok (length bytes.now) }
     {
@@ -97,6 +103,7 @@ impl Sink for Comparison {
     }
 }
 
+// `load` reads the whole image, and `save` writes the same one of the loaded heap.
 #[test]
 fn the_largest_image_passes_in_a_stream(rt: HostRuntime) -> Result<(), Fail> {
     let alloc = rt.alloc();

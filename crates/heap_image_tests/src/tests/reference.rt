@@ -1,14 +1,17 @@
-//! Which bytes are an image: a plain program, slow, with the rules in their order.
+//! A slow program that decides whether bytes are a heap image. It tests the rules of the format in the
+//! order of the fields: the mark `CFI1`, pages, page bytes, proxies and the number of objects, each in four
+//! bytes; then for each object its id in two bytes, its length in four, and its bytes. Numbers begin with
+//! the least byte.
 
 use std::alloc::{AllocError, Global};
 use test_support::{pages_needed, slot_for, slot_sizes};
 
-/// The sizes of a page in bytes.
+/// The sizes that a page may have, in bytes.
 const PAGE_BYTES: [u32; 9] = [
     512, 1_024, 2_048, 4_096, 8_192, 16_384, 32_768, 65_536, 131_072,
 ];
 
-/// The fields before the entries.
+/// The fields before the objects: the pages, the words of a page, and the number of objects.
 #[derive(Clone, Copy)]
 struct Header {
     pages: u32,
@@ -25,7 +28,9 @@ pub fn broken_at(alloc: Global, bytes: &[u8]) -> Result<Option<usize>, AllocErro
     }
 }
 
-/// The fields before the entries, or the offset of the first of them that is broken.
+/// Reads the fields before the objects. Fails with the offset of the first that breaks a rule or is cut.
+/// The rules: There are 1 to 4,096 pages. A page has a power of two of bytes, 512 to 131,072, and all
+/// pages at most 64 MiB. There are 1 to 65,536 proxies, and no more objects than proxies.
 fn read_header(bytes: &[u8]) -> Result<Header, usize> {
     if !bytes.starts_with(b"CFI1") {
         return Err(0);
@@ -53,7 +58,9 @@ fn read_header(bytes: &[u8]) -> Result<Header, usize> {
     })
 }
 
-/// The offset of the first field from the entries on that is broken.
+/// Reads the objects. Returns the offset of the first field that breaks a rule or is cut, or of the first
+/// byte past the last object; none if there is no such byte. The rules: The ids rise. An object fits a
+/// page, and the objects so far need no more pages than there are.
 fn read_entries(alloc: Global, bytes: &[u8], header: Header) -> Result<Option<usize>, AllocError> {
     let sizes = slot_sizes(alloc, header.page_words)?;
     let mut lengths = Vec::new(alloc);
@@ -81,7 +88,7 @@ fn read_entries(alloc: Global, bytes: &[u8], header: Header) -> Result<Option<us
     Ok(if at < bytes.len() { Some(at) } else { None })
 }
 
-/// The number of `width` bytes at this offset, the least byte first; none if it is cut.
+/// The number in the `width` bytes from offset `at` on, the least byte first; none if they pass the end.
 fn number(bytes: &[u8], at: usize, width: usize) -> Option<u32> {
     let field = bytes.get(at..at.checked_add(width)?)?;
     let mut number = 0_u32;

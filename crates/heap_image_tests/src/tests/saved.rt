@@ -1,4 +1,4 @@
-//! Images worked out by hand.
+//! Images worked out by hand, each with the commands that make its heap.
 ghost use Rattle.std.specs.Prelude.{◌≡◌};
 ghost use Rattle.cf_base.specs.Settings.{Profile};
 ghost use Rattle.cf_base.specs.declared.kind.Kind.TheVariants.{Moving};
@@ -16,15 +16,20 @@ use std::alloc::Global;
 use std::test::Fail;
 use test_support::Wrong;
 
-/// A heap, what is done on it, and its image.
+/// An image, and the heap of which it must be saved.
 pub struct Row {
+    /// What is special in the image.
     pub shows: &'static str,
-    /// Pages, bytes of a page, the bound of partly full pages, proxies.
+    /// The pages, the bytes of a page, the bound k, and the proxies.
     settings: [u32; 4],
+    /// The commands on the empty heap.
     commands: &'static [CommandRef<'static>],
+    /// The image after them: `CFI1`, pages, page bytes, proxies and objects; then id, length and bytes of
+    /// each.
     pub image: &'static [u8],
 }
 
+/// The images, which are also those that `damaged` cuts and changes.
 pub static ROWS: [Row; 4] = [
     Row {
         shows: "an object of three bytes",
@@ -84,7 +89,7 @@ pub static ROWS: [Row; 4] = [
     },
 ];
 
-/// Does these commands, one after another.
+/// Does these commands on the heap in order, through the session.
 fn give_all<H: Manager>(heap: &mut H, session: &mut Session, commands: &[CommandRef])
     requires { IsGoing (run_at session.old (H.state heap.old)) }
     ensures { (p : Profile) → IsReady p (run_at session.old (H.state heap.old)) → IsReady p (run_at session.new (H.state heap.new)) }
@@ -94,7 +99,7 @@ fn give_all<H: Manager>(heap: &mut H, session: &mut Session, commands: &[Command
     }
 }
 
-/// The image of what lives in the heap after the commands of a row.
+/// Opens the heap with the settings of a row, does its commands, and returns the image of the live objects.
 fn image_of_row<H: Manager>(
     rt: &HostRuntime,
     alloc: Global,
@@ -112,6 +117,7 @@ fn image_of_row<H: Manager>(
     image(rt, alloc, heap, &session, &settings)
 }
 
+// `save` writes the image of each row.
 #[test]
 fn images_are_as_worked_out_by_hand(rt: HostRuntime) -> Result<(), Fail> {
     let mut heap = MovingHeap::closed(rt.alloc());

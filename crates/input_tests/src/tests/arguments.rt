@@ -1,10 +1,11 @@
-//! Arguments that are accepted, with their choices, and arguments that are refused.
+//! Tests of `read_words`, which reads the arguments of the command line: arguments that are accepted, each
+//! with the choice that it must return, and arguments that are refused.
 use cf_base::Kind;
 use command_line::{Choice, Mode, WordsFault, read_words};
 use std::alloc::{AllocError, Global};
 use std::test::Fail;
 
-/// The program's name and these words.
+/// All arguments: the program's name, then these.
 fn texts(alloc: Global, words: &[&str]) -> Result<Vec<String>, AllocError> {
     let mut all = Vec::new(alloc);
     all.push(String::from_str(alloc, "cf_tool")?)?;
@@ -14,6 +15,10 @@ fn texts(alloc: Global, words: &[&str]) -> Result<Vec<String>, AllocError> {
     Ok(all)
 }
 
+// Each row has arguments, and the mode, kind of manager, seed and count of commands that they choose. What
+// they don't name has its default: mode `run`, the moving manager, seed 0, 1,000 commands, slices of 16
+// words. An option may be before or after the mode, with `=` or a space before its value. A number may have
+// a `+` and leading zeros.
 #[test]
 fn words_are_taken(rt: HostRuntime) -> Result<(), Fail> {
     for (words, mode, kind, seed, count) in [
@@ -103,6 +108,7 @@ fn words_are_taken(rt: HostRuntime) -> Result<(), Fail> {
     Ok(())
 }
 
+// `--quantum`, the words of a slice, is accepted from 1 to 16,384, and not just in mode `slice`.
 #[test]
 fn a_quantum_is_taken_in_each_mode(rt: HostRuntime) -> Result<(), Fail> {
     for (words, mode, quantum) in [
@@ -132,6 +138,9 @@ fn a_quantum_is_taken_in_each_mode(rt: HostRuntime) -> Result<(), Fail> {
     Ok(())
 }
 
+// `read_words` returns `Refused` for each of these: requests for help; unknown names of modes and managers
+// (upper and lower case differ); a second mode; an option that is unknown, given twice, or without a value;
+// and a number that is malformed or out of range.
 #[test]
 fn words_are_refused(rt: HostRuntime) -> Result<(), Fail> {
     for words in [

@@ -1,5 +1,5 @@
-//! Sources and sinks with their failures and short writes, the buffer of a line, and numbers as
-//! text.
+//! Tests of `cf_io`: sources and sinks with their failures and short calls, the line that a reply is
+//! written into, and numbers in a script.
 use cf_base::Failed;
 use cf_io::{
     Full, Line, LoopSource, MemSink, MemSource, NullSink, Sink, Source, StdSink, StdSource,
@@ -10,7 +10,8 @@ use std::io::{Read, Write};
 use std::process::Abort;
 use std::test::Fail;
 
-/// Reads into buffers of these lengths, and compares each result and the buffer's content.
+/// Calls `take` once for each entry of `wanted`: the length of the buffer, the result, and what four bytes,
+/// which were all `.` before and of which the buffer is the first ones, hold then.
 fn gives<S: Source + Drop>(
     rt: &impl Abort,
     mut source: S,
@@ -23,13 +24,16 @@ fn gives<S: Source + Drop>(
     }
 }
 
-/// Writes these bytes, and compares each result.
+/// Calls `put` once for each entry of `wanted`: the bytes, and the result.
 fn takes<K: Sink>(rt: &impl Abort, sink: &mut K, wanted: &[(&[u8], Result<usize, Failed>)]) {
     for (bytes, answer) in wanted {
         assert_eq!(rt; sink.put(bytes), *answer);
     }
 }
 
+// `MemSource` follows its schedule. Calls 0 and 1 return one byte each: `cuts` has 1 and 0, and no call
+// with bytes left returns less than one. Call 2 is in `fails`, and leaves the buffer. The other calls
+// return what fits. After the last byte a call returns 0.
 #[test]
 fn a_source_fails_and_is_cut_as_planned(rt: HostRuntime) -> Result<(), Fail> {
     let alloc = rt.alloc();
@@ -55,6 +59,8 @@ fn a_source_fails_and_is_cut_as_planned(rt: HostRuntime) -> Result<(), Fail> {
     Ok(())
 }
 
+// `SureSource` and `StdSource` fill each buffer until their bytes end, and then return 0. `LoopSource`
+// starts its pattern again in each call, and never ends.
 #[test]
 fn other_sources_give_what_they_have(rt: HostRuntime) -> Result<(), Fail> {
     let alloc = rt.alloc();
@@ -82,6 +88,8 @@ fn other_sources_give_what_they_have(rt: HostRuntime) -> Result<(), Fail> {
     Ok(())
 }
 
+// A `MemSink` with room for two bytes writes two of three, and fails when no room is left; a call without
+// bytes doesn't fail. `NullSink` accepts all.
 #[test]
 fn sinks_take_what_they_have_room_for(rt: HostRuntime) -> Result<(), Fail> {
     let alloc = rt.alloc();
@@ -97,6 +105,8 @@ fn sinks_take_what_they_have_room_for(rt: HostRuntime) -> Result<(), Fail> {
     Ok(())
 }
 
+// `MemSink` follows its schedule, and `put_all` calls it until all bytes are written or a call fails. Call
+// 0 writes one byte of `one`, and call 1 fails, so `put_all` does. Call 2 writes all of `two`.
 #[test]
 fn a_sink_fails_and_is_cut_as_planned(rt: HostRuntime) -> Result<(), Fail> {
     let alloc = rt.alloc();
@@ -108,8 +118,8 @@ fn a_sink_fails_and_is_cut_as_planned(rt: HostRuntime) -> Result<(), Fail> {
     Ok(())
 }
 
-/// Reads or writes at most `moves` bytes in each call; without a number each call fails. A flush
-/// fails unless `flushes` is set.
+/// A reader and writer of std for tests. Each call reads or writes at most `moves` bytes; without a number
+/// each call fails. A flush fails unless `flushes` is set.
 #[derive(Drop)]
 struct Pipe {
     moves: Option<usize>,
@@ -117,6 +127,7 @@ struct Pipe {
 }
 
 impl Pipe {
+    /// How many of `len` bytes a call reads or writes, or its failure.
     fn turn(&self, len: usize) -> io::Result<usize> {
         match self.moves {
             Some(n) => Ok(n.min(len)),
@@ -126,16 +137,19 @@ impl Pipe {
 }
 
 impl Read for Pipe {
+    // Returns how many bytes it would read, and leaves the buffer unchanged.
     fn read(&mut self, buf: &mut [u8]) -> io::Result<usize> {
         Ok(self.turn(buf.len())?.min(buf.len()))
     }
 }
 
 impl Write for Pipe {
+    // Returns how many of the bytes it would write, and drops them.
     fn write(&mut self, buf: &[u8]) -> io::Result<usize> {
         Ok(self.turn(buf.len())?.min(buf.len()))
     }
 
+    // Fails unless `flushes` is set.
     fn flush(&mut self) -> io::Result<()> {
         if self.flushes {
             Ok(())
@@ -145,6 +159,9 @@ impl Write for Pipe {
     }
 }
 
+// Each row has the two fields of a `Pipe`, and the results of `StdSource` and of `StdSink` over it. The
+// source fails if the reader does. The sink also fails if the writer takes none of the bytes, or if the
+// flush fails. Over a vector the sink appends all bytes.
 #[test]
 fn devices_of_std_fail_as_their_reader_or_writer_does(rt: HostRuntime) -> Result<(), Fail> {
     for (moves, flushes, taken, put) in [
@@ -170,6 +187,7 @@ fn devices_of_std_fail_as_their_reader_or_writer_does(rt: HostRuntime) -> Result
     Ok(())
 }
 
+/// Appends text, the largest number, two bytes in hex, and a word in hex.
 fn pushed(line: &mut Line) -> Result<(), Full> {
     line.push(b"last ")?;
     line.push_number(18_446_744_073_709_551_615)?;
@@ -178,6 +196,9 @@ fn pushed(line: &mut Line) -> Result<(), Full> {
     line.push_word(0xb_0000_00ab)
 }
 
+// Each push of `Line` appends what it must. A push that would pass 9,000 bytes fails with `Full` and
+// appends nothing: after 8,998 bytes neither three bytes fit nor the four digits of two, but the two digits
+// of one do.
 #[test]
 fn a_line_is_full_past_nine_thousand_bytes(rt: HostRuntime) -> Result<(), Fail> {
     let mut line = Line::new();
@@ -193,6 +214,8 @@ fn a_line_is_full_past_nine_thousand_bytes(rt: HostRuntime) -> Result<(), Fail> 
     Ok(())
 }
 
+// `number_of` returns the number that decimal digits spell, with any leading zeros, up to 4,294,967,295. It
+// returns none for a larger one, for no digit, and for any other byte.
 #[test]
 fn texts_of_digits_are_numbers_up_to_the_last_of_a_u32(rt: HostRuntime) -> Result<(), Fail> {
     let cases: [(&[u8], Option<u32>); 10] = [

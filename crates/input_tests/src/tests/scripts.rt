@@ -1,11 +1,13 @@
-//! Scripts and their items under every chunking, payloads, and a command that borrows its bytes.
+//! Tests of `Reader`, which reads the lines of a script as items, from chunks of any length; of the limits
+//! of a write's bytes; and of an item that borrows them.
 ghost use Rattle.std.specs.Prelude.{◌≡◌, ◌<◌, false};
 
 use script_reader::{Command, CommandRef, Next, NextRef, Payload, PayloadBuffer, Reader};
 use std::alloc::{AllocError, Global};
 use std::test::Fail;
 
-/// Scripts, and their items, each followed by `;`.
+/// Scripts, each with the items that the reader must return, as `shown` writes them. `bad` has the number
+/// of the first line that isn't in the grammar, after which nothing is read.
 static SCRIPTS: [(&str, &str); 60] = [
     ("", "end;"),
     (
@@ -105,7 +107,9 @@ static SCRIPTS: [(&str, &str); 60] = [
     ("Heap 1 512 1 4\n", "bad 1;"),
 ];
 
-/// Scripts with a byte repeated in the middle.
+/// Long scripts: a beginning, a byte that is repeated, how often, an end, and the items. A line has at most
+/// 9,000 bytes with its line feed, or 8,999 without one at the end of the script; a write has at most 4,096
+/// bytes.
 static LONG_SCRIPTS: [(&str, u8, usize, &str, &str); 12] = [
     ("#", b'x', 8_998, "\nx", "bad 2;"),
     ("#", b'x', 8_999, "\nx", "bad 1;"),
@@ -145,6 +149,8 @@ static LONG_SCRIPTS: [(&str, u8, usize, &str, &str); 12] = [
     ),
 ];
 
+/// The item as text that ends with `;`. A `heap` line has its pages, the words of a page, k and the
+/// proxies. The text is empty if the reader needs more bytes.
 fn shown(alloc: Global, next: &Next) -> Result<String, AllocError> {
     match next {
         Next::Start(s) => {
@@ -157,6 +163,7 @@ fn shown(alloc: Global, next: &Next) -> Result<String, AllocError> {
     }
 }
 
+/// The command as text that ends with `;`. A write has the number of its bytes, the first and the last one.
 fn shown_command(alloc: Global, command: &Command) -> Result<String, AllocError> {
     match command {
         Command::Malloc { id, bytes } => format!(in alloc; "m {id} {bytes};"),
@@ -183,7 +190,7 @@ fn shown_command(alloc: Global, command: &Command) -> Result<String, AllocError>
     }
 }
 
-/// Takes all commands from the reader, and returns whether a line was bad.
+/// Takes the items that the reader has, and appends each to the text. Returns whether a line was bad.
 fn drain(alloc: Global, reader: &mut Reader, text: &mut String) -> Result<bool, AllocError>
     ensures { reader.new.ended ≡ reader.old.ended }
 {
@@ -199,7 +206,8 @@ fn drain(alloc: Global, reader: &mut Reader, text: &mut String) -> Result<bool, 
     Ok(false)
 }
 
-/// The items that a reader returns for the script in chunks of `size` bytes.
+/// The items, as text, that a reader returns for the script in chunks of `size` bytes. `feed` may take just
+/// a part of a chunk; the rest is fed after the items that are read from it.
 fn read(alloc: Global, script: &[u8], size: usize) -> Result<String, AllocError>
     requires { 0 < size }
 {
@@ -220,6 +228,8 @@ fn read(alloc: Global, script: &[u8], size: usize) -> Result<String, AllocError>
     Ok(text)
 }
 
+// The reader returns the wanted items of each script, in chunks of 1, 3 and 4,096 bytes, and the long
+// scripts also in chunks of 9,000.
 #[test]
 fn scripts_are_read_alike_in_every_cut(rt: HostRuntime) -> Result<(), Fail> {
     for (script, items) in &SCRIPTS {
@@ -242,6 +252,7 @@ fn scripts_are_read_alike_in_every_cut(rt: HostRuntime) -> Result<(), Fail> {
     Ok(())
 }
 
+// `Payload::new` makes the bytes of a write from 1 to 4,096 bytes, and returns none for 0 or more than that.
 #[test]
 fn payloads_have_1_to_4096_bytes(rt: HostRuntime) {
     let bytes = [7; 4097];
@@ -250,6 +261,8 @@ fn payloads_have_1_to_4096_bytes(rt: HostRuntime) {
     }
 }
 
+// `next_ref` decodes the bytes of a write into `payload`, and returns a command that borrows them: `0Aff`
+// are the bytes 10 and 255. `as_ref` returns such a command for one that owns its bytes.
 #[test]
 fn a_write_borrows_its_bytes(rt: HostRuntime) {
     let mut reader = Reader::new();

@@ -1,4 +1,5 @@
-//! Drawn calls on small and long objects, against a plain map of byte lists.
+//! Random calls on short and long objects, drawn from a seed, each compared with the expected objects
+//! (`Compared`).
 ghost use Rattle.cf_model.specs.Families.{IsPaged};
 
 use crate::tests::compared::{Compared, Shape};
@@ -11,20 +12,23 @@ use std::test::Fail;
 use step_ledger::Meter;
 use test_support::{Draw, Wrong, hold};
 
-/// The bytes of a part, and proxies.
+/// The bytes of a full part, on pages of 512 bytes.
 const PART: u32 = 504;
 
+/// The proxies of the heap.
 const PROXIES: u32 = 64;
 
 /// How often a run compares everything, each time after `BETWEEN` calls.
 const COMPARISONS: u32 = 40;
 
+/// The calls between two comparisons of everything.
 const BETWEEN: u32 = 50;
 
-/// How often at least a malloc is refused for each cause, and a free of a part.
+/// In a run a malloc must be refused at least this often for each cause, and also a free of a part.
 const LEAST: u32 = 10;
 
-/// The heap and the map, the calls that are drawn, and what was refused.
+/// The heap with the expected objects, the source of drawn numbers, and how many mallocs were refused for
+/// size, for proxies and for space.
 #[derive(Drop)]
 struct Churn<H: Manager> {
     both: Compared<H>,
@@ -33,7 +37,8 @@ struct Churn<H: Manager> {
 }
 
 impl<H: Manager> Churn<H> {
-    /// A length: of a small object, at or near a multiple of a part, or at or past the longest.
+    /// Draws a length in bytes. Most are of a short object. The others are up to nine parts, some of them
+    /// a multiple of a part or one byte more; or near 63,504, the length of the longest object.
     fn length(&mut self) -> u32 {
         match self.draw.below(16) {
             0 => 63_500 + self.draw.below(9),
@@ -43,7 +48,7 @@ impl<H: Manager> Churn<H> {
         }
     }
 
-    /// One call.
+    /// Makes one drawn call, of a handle that may name no object, or a part.
     fn call(&mut self) -> Result<(), Wrong> {
         let h = Handle(self.draw.below(PROXIES + 1));
         match self.draw.below(8) {
@@ -54,7 +59,7 @@ impl<H: Manager> Churn<H> {
         }
     }
 
-    /// A malloc, whose refusal is counted.
+    /// Makes an object of a drawn length. A refusal is counted by its cause.
     fn malloc(&mut self) -> Result<(), Wrong> {
         let bytes = self.length();
         let Err(cause) = self.both.malloc(bytes)? else {
@@ -69,13 +74,13 @@ impl<H: Manager> Churn<H> {
         Ok(())
     }
 
-    /// A place in an object, or a little past its end.
+    /// Draws a byte of the object with this handle, or one a little past its end.
     fn place(&mut self, h: Handle) -> u32 {
         let length = self.both.objects.length(h.0).unwrap_or(0).min(100_000);
         self.draw.below(length + 9)
     }
 
-    /// A write of up to 1,200 bytes, which may pass the end.
+    /// Writes up to 1,200 drawn bytes, which may pass the end of the object.
     fn write(&mut self, h: Handle) -> Result<(), Wrong> {
         let at = self.place(h);
         let count = self.draw.below(1_201) as usize;
@@ -83,7 +88,7 @@ impl<H: Manager> Churn<H> {
         self.both.write(h, at, &bytes[..count])
     }
 
-    /// A read of up to 1,200 bytes, which may pass the end.
+    /// Reads up to 1,200 bytes, which may pass the end of the object.
     fn read(&mut self, h: Handle) -> Result<(), Wrong> {
         let at = self.place(h);
         let count = self.draw.below(1_201);
@@ -91,7 +96,8 @@ impl<H: Manager> Churn<H> {
     }
 }
 
-/// Long runs of drawn calls. Each cause of a refusal occurs, and so does a free of a part.
+/// Makes 2,000 drawn calls on a heap over this manager, and compares everything after each 50. Fails at the
+/// first difference, or if a cause of a refusal, or a free of a part, occurred too seldom.
 fn play<H: Manager>(alloc: Global, inner: H, meter: Meter, layout: Layout) -> Result<(), Wrong>
     requires { IsPaged (H.state inner).kind }
 {
@@ -121,6 +127,8 @@ fn play<H: Manager>(alloc: Global, inner: H, meter: Meter, layout: Layout) -> Re
     )
 }
 
+// The results of `LargeHeap` over the moving manager are those of the expected objects, and a part can't
+// be freed by its own handle.
 #[test]
 fn churn_on_the_moving_manager(rt: HostRuntime) -> Result<(), Fail> {
     let inner = MovingHeap::closed(rt.alloc());
@@ -128,6 +136,8 @@ fn churn_on_the_moving_manager(rt: HostRuntime) -> Result<(), Fail> {
     Ok(())
 }
 
+// The results of `LargeHeap` over the non-moving manager are those of the expected objects, and a part
+// can't be freed by its own handle.
 #[test]
 fn churn_on_the_non_moving_manager(rt: HostRuntime) -> Result<(), Fail> {
     let inner = NonMovingHeap::closed(rt.alloc());

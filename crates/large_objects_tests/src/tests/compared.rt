@@ -1,4 +1,5 @@
-//! A heap of large objects. Each call is compared with a map of byte lists.
+//! A heap of long objects, and beside it the expected objects: a plain list of bytes for each handle. Each
+//! call is made on both, and fails if their results differ.
 ghost use Rattle.cf_model.specs.Families.{IsPaged};
 
 use crate::tests::driver::Driver;
@@ -9,32 +10,38 @@ use std::alloc::Global;
 use step_ledger::Meter;
 use test_support::{Objects, Wrong, hold, pages_needed};
 
-/// Pages, the bytes of a page, the bytes that it has for one object, and proxies; and how slots are laid
-/// out.
+/// The sizes of a heap.
 #[derive(Clone, Copy)]
 pub struct Shape {
+    /// The number of pages.
     pub pages: u32,
+    /// The bytes of a page.
     pub page_bytes: u32,
+    /// The bytes of a full part: those of a page but for the header.
     pub part_bytes: u32,
+    /// The number of proxies.
     pub proxies: u32,
+    /// The slot sizes: in words for the moving manager, in blocks for the non-moving one.
     pub layout: Layout,
 }
 
-/// A heap, and the bytes of each object by handle.
+/// A heap of long objects, and the bytes that each of them must have.
 #[derive(Drop)]
 pub struct Compared<H: Manager> {
+    /// The heap under test.
     pub driver: Driver<H>,
     alloc: Global,
     shape: Shape,
-    /// The sizes of slots.
+    /// The sizes of slots in words.
     sizes: Vec<u32>,
+    /// The expected objects by handle.
     pub objects: Objects<()>,
-    /// How often a free was refused of a handle that the inner manager has.
+    /// How often a free was refused although the manager below has an object of that handle: a part.
     pub parts_kept: u32,
 }
 
 impl<H: Manager> Compared<H> {
-    /// Without objects.
+    /// Opens a heap of this shape over the manager, without objects.
     pub fn open(alloc: Global, inner: H, meter: Meter, shape: Shape) -> Result<Compared<H>, Wrong>
         requires { IsPaged (H.state inner).kind }
     {
@@ -55,7 +62,7 @@ impl<H: Manager> Compared<H> {
         })
     }
 
-    /// The lengths of the inner objects of all objects.
+    /// The lengths in bytes of all inner objects that the manager below must have.
     fn inner_lengths(&self) -> Result<Vec<u32>, Wrong> {
         let mut inner = Vec::new(self.alloc);
         let lengths = self.objects.lengths_at(|_place| true)?;
@@ -65,7 +72,9 @@ impl<H: Manager> Compared<H> {
         Ok(inner)
     }
 
-    /// Why an object of this length is refused, if it is.
+    /// Why a malloc of `bytes` bytes must be refused; none if it must succeed. The cause is `Size` if its
+    /// spine is longer than a part; else `Proxy` if all inner objects are more than the proxies; else
+    /// `Space` if they need more pages than there are.
     fn refusal(&self, bytes: u32) -> Result<Option<Refusal>, Wrong> {
         let mut lengths = self.inner_lengths()?;
         let last = push_inner(&mut lengths, self.shape.part_bytes, bytes)?;
@@ -80,7 +89,8 @@ impl<H: Manager> Compared<H> {
         })
     }
 
-    /// Makes an object in the heap, compares the answer with the expected one, and adds the expected object.
+    /// Makes an object of `bytes` bytes in the heap, and adds the expected one. Fails unless the heap
+    /// refuses it exactly if it must, and for that cause. Returns the heap's result.
     pub fn malloc(&mut self, bytes: u32) -> Result<Result<Handle, Refusal>, Wrong> {
         let want = self.refusal(bytes)?;
         let answer = self.driver.malloc(bytes)?;
@@ -91,7 +101,9 @@ impl<H: Manager> Compared<H> {
         Ok(answer)
     }
 
-    /// Frees an object of the heap and the expected one. Fails if just one of them was live.
+    /// Frees this handle in the heap, and removes the expected object. Fails unless the heap refuses the
+    /// free exactly if no object has the handle. A long object has the handle of its spine; those of its
+    /// parts name no object.
     pub fn free(&mut self, h: Handle) -> Result<(), Wrong> {
         let is_part = self.is_part(h)?;
         let answer = self.driver.free(h)?;
@@ -106,7 +118,7 @@ impl<H: Manager> Compared<H> {
         Ok(())
     }
 
-    /// Whether the inner manager has an object of this handle.
+    /// Whether the manager below has an inner object of this handle: an object, a spine or a part.
     fn is_part(&mut self, h: Handle) -> Result<bool, Wrong> {
         let inner = self.driver.heap.inner();
         if !inner.is_open() {
@@ -115,21 +127,23 @@ impl<H: Manager> Compared<H> {
         Ok(inner.place(h, self.driver.meter.steps()).is_some())
     }
 
-    /// Writes the bytes, compares the answer with the expected one, and writes them to the expected object.
+    /// Writes the bytes from byte `at` on, into the heap and into the expected object. Fails unless the heap
+    /// refuses the write exactly if it must, and for the same cause.
     pub fn write(&mut self, h: Handle, at: u32, bytes: &[u8]) -> Result<(), Wrong> {
         let answer = self.driver.write(h, at, bytes)?;
         self.objects.written(h.0, at, bytes, answer)
     }
 
-    /// A read of `count` bytes. One that is refused leaves the buffer as it was.
+    /// Reads `count` bytes from byte `at` on. Fails unless the heap returns those of the expected object, or
+    /// refuses the read as it must and leaves the buffer unchanged.
     pub fn read(&mut self, h: Handle, at: u32, count: u32) -> Result<(), Wrong> {
         let mut buffer = self.objects.buffer(count)?;
         let answer = self.driver.read(h, at, buffer.as_mut_slice())?;
         self.objects.read(h.0, at, buffer.as_slice(), answer)
     }
 
-    /// Reads every object whole, and compares the inner objects and the pages of all with those of the
-    /// inner manager.
+    /// Reads every object whole. Then fails unless the manager below has as many inner objects and as many
+    /// pages in use as the expected objects need.
     pub fn compare(&mut self) -> Result<(), Wrong> {
         for number in 0..self.shape.proxies {
             let length = self.objects.length(number).unwrap_or(0);
@@ -149,9 +163,10 @@ impl<H: Manager> Compared<H> {
     }
 }
 
-/// Adds the lengths of the inner objects of an object whose parts have `part_bytes` bytes each: of the
-/// object alone; or of its parts, and at last of the spine, which has four bytes for each. Returns the
-/// last one.
+/// Adds the lengths of the inner objects that an object of `bytes` bytes has, if a full part has
+/// `part_bytes`. An object of at most one part is its own inner object. A longer one has its parts, and
+/// at last its spine, with four bytes for each part. Returns the length that was added last, so that of
+/// the spine if there is one. Fails if `part_bytes` is 0.
 fn push_inner(lengths: &mut Vec<u32>, part_bytes: u32, bytes: u32) -> Result<u32, Wrong> {
     if part_bytes == 0 {
         return Err(Wrong::Line);

@@ -1,4 +1,5 @@
-//! The calls of a heap of large objects, each made only if it is open.
+//! The calls of a heap of long objects, for the tests of this crate. Each tests that the heap is open, as its
+//! contract requires, and fails with `Closed` if it isn't.
 ghost use Rattle.cf_model.specs.Families.{IsPaged};
 
 use cf_base::{AccessFault, Handle, NotLive, Refusal, Settings};
@@ -8,7 +9,7 @@ use std::alloc::Global;
 use step_ledger::Meter;
 use test_support::{Wrong, hold};
 
-/// A heap of large objects, with the meter of its calls.
+/// A heap of long objects over a manager with pages, with the meter of its calls.
 #[derive(Drop)]
 pub struct Driver<H: Manager> {
     pub heap: LargeHeap<H>,
@@ -16,7 +17,7 @@ pub struct Driver<H: Manager> {
 }
 
 impl<H: Manager> Driver<H> {
-    /// An empty heap over this manager: its pages, the bytes of a page, and its proxies.
+    /// Opens an empty heap over this manager. `settings` has its pages, the bytes of a page, and its proxies.
     pub fn open(
         alloc: Global,
         inner: H,
@@ -38,7 +39,7 @@ impl<H: Manager> Driver<H> {
         Ok(Driver { heap, meter })
     }
 
-    /// Returns the heap's answer to a malloc. Fails if the heap is closed.
+    /// Makes an object of `bytes` bytes, and returns the heap's result. Fails if the heap is closed.
     pub fn malloc(&mut self, bytes: u32) -> Result<Result<Handle, Refusal>, Wrong> {
         if !self.heap.is_open() {
             return Err(Wrong::Closed);
@@ -46,7 +47,7 @@ impl<H: Manager> Driver<H> {
         Ok(self.heap.malloc(bytes, &mut self.meter))
     }
 
-    /// Returns the handle of a new object. Fails if the malloc is refused.
+    /// Makes an object of `bytes` bytes, and returns its handle. Fails if the malloc is refused.
     pub fn given(&mut self, bytes: u32) -> Result<Handle, Wrong> {
         match self.malloc(bytes)? {
             Ok(h) => Ok(h),
@@ -54,7 +55,7 @@ impl<H: Manager> Driver<H> {
         }
     }
 
-    /// Returns the heap's answer to a free. Fails if the heap is closed.
+    /// Frees the object of this handle, and returns the heap's result. Fails if the heap is closed.
     pub fn free(&mut self, h: Handle) -> Result<Result<(), NotLive>, Wrong> {
         if !self.heap.is_open() {
             return Err(Wrong::Closed);
@@ -62,7 +63,8 @@ impl<H: Manager> Driver<H> {
         Ok(self.heap.free(h, &mut self.meter))
     }
 
-    /// Writes the bytes, and returns the heap's answer. Fails if the heap is closed.
+    /// Writes the bytes into the object from byte `at` on, and returns the heap's result. Fails if the heap
+    /// is closed.
     pub fn write(
         &mut self,
         h: Handle,
@@ -75,13 +77,14 @@ impl<H: Manager> Driver<H> {
         Ok(self.heap.write(h, at, bytes, &mut self.meter))
     }
 
-    /// A write that isn't refused.
+    /// Writes the bytes from byte `at` on. Fails if the write is refused.
     pub fn put(&mut self, h: Handle, at: u32, bytes: &[u8]) -> Result<(), Wrong> {
         let done = self.write(h, at, bytes)?;
         hold(done.is_ok(), Wrong::Access(done))
     }
 
-    /// Reads bytes into `out`, and returns the heap's answer. Fails if the heap is closed.
+    /// Reads the object's bytes from byte `at` on into `out`, and returns the heap's result. Fails if the
+    /// heap is closed.
     pub fn read(
         &mut self,
         h: Handle,
@@ -94,7 +97,8 @@ impl<H: Manager> Driver<H> {
         Ok(self.heap.read(h, at, out, &mut self.meter))
     }
 
-    /// A read that isn't refused, and returns these bytes.
+    /// Reads into `out` from byte `at` on. Fails if the read is refused, or returns other bytes than
+    /// `want`. Before it, `out` is filled with other bytes.
     pub fn gives(&mut self, h: Handle, at: u32, out: &mut [u8], want: &[u8]) -> Result<(), Wrong> {
         out.fill(0xee);
         let done = self.read(h, at, out)?;

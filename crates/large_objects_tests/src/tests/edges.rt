@@ -1,4 +1,4 @@
-//! Reads and writes across the edges of parts.
+//! Reads and writes of long objects across the edges of parts: where one part ends and the next begins.
 ghost use Rattle.std.specs.Prelude.{◌≤◌};
 ghost use Rattle.cf_model.specs.Families.{IsPaged};
 
@@ -12,10 +12,11 @@ use std::test::Fail;
 use step_ledger::Meter;
 use test_support::Wrong;
 
-/// The bytes of a page, and those of a part.
+/// Three page sizes: the bytes of a page, and those of a part, which fills a page with its header.
 static PAGES: [(u32, u32); 3] = [(512, 504), (4_096, 4_088), (131_072, 131_064)];
 
-/// An object of five parts and seven bytes.
+/// Makes an object of five parts and seven bytes on pages of this size, and reads and writes around each
+/// edge and over several parts. Fails if a result differs from that of a plain list of bytes (`Compared`).
 fn across_edges<H: Manager>(
     alloc: Global,
     inner: H,
@@ -47,8 +48,8 @@ fn across_edges<H: Manager>(
     both.compare()
 }
 
-/// Writes eight bytes across an edge, and then from it on and up to it; and reads from each byte near it
-/// to each.
+/// Writes eight bytes across the edge before byte `edge`, then from it on, then up to it. Then reads up to
+/// six bytes from each of the six bytes around it.
 fn around_edge<H: Manager>(both: &mut Compared<H>, h: Handle, edge: u32) -> Result<(), Wrong>
     requires first { 16 ≤ edge }
     requires last { edge ≤ 5000000 }
@@ -65,7 +66,9 @@ fn around_edge<H: Manager>(both: &mut Compared<H>, h: Handle, edge: u32) -> Resu
     Ok(())
 }
 
-/// Writes from the last byte of a part over two whole parts into a fourth, and reads around that.
+/// Writes from the last byte of the first part over two whole parts into the fourth, and reads around that.
+/// Then reads up to the last byte of the object. The last read and the last write pass its end, and must be
+/// refused.
 fn over_many<H: Manager>(
     alloc: Global,
     both: &mut Compared<H>,
@@ -83,11 +86,13 @@ fn over_many<H: Manager>(
     both.write(h, part_bytes - 1, &bytes)?;
     both.read(h, part_bytes - 2, count)?;
     both.read(h, 4 * part_bytes, part_bytes + 7)?;
-    // A byte too many.
+    // One byte past the end.
     both.read(h, 4 * part_bytes, part_bytes + 8)?;
     both.write(h, 3 * part_bytes + 8, &bytes)
 }
 
+// `LargeHeap::read` and `LargeHeap::write` find each byte in its part, for each page size of `PAGES`, over
+// the moving manager.
 #[test]
 fn edges_on_the_moving_manager(rt: HostRuntime) -> Result<(), Fail> {
     for page in PAGES.iter() {
@@ -97,6 +102,8 @@ fn edges_on_the_moving_manager(rt: HostRuntime) -> Result<(), Fail> {
     Ok(())
 }
 
+// `LargeHeap::read` and `LargeHeap::write` find each byte in its part, for each page size of `PAGES`, over
+// the non-moving manager.
 #[test]
 fn edges_on_the_non_moving_manager(rt: HostRuntime) -> Result<(), Fail> {
     for page in PAGES.iter() {

@@ -1,4 +1,4 @@
-//! An object of 60 MB.
+//! One object of 60,000,000 bytes, written and read in chunks, and then read across each edge of its parts.
 ghost use Rattle.std.specs.Prelude.{◌≡◌, ◌≤◌, ◌<◌, length};
 ghost use Rattle.cf_model.specs.Families.{IsPaged};
 
@@ -12,23 +12,24 @@ use std::test::Fail;
 use step_ledger::Meter;
 use test_support::Wrong;
 
-/// The bytes of the object.
+/// The length of the object in bytes.
 const BYTES: u32 = 60_000_000;
 
 /// How many bytes are written and read at once.
 const CHUNK: usize = 4_096;
 
-/// The byte at each place is its place over 251, the rest: no length of a page or of a part is a
-/// multiple of that.
+/// The byte at place i has the value i mod 251. No length of a page, a part or a chunk is a multiple of
+/// that, so a byte from a wrong part or chunk shows.
 const PERIOD: u32 = 251;
 
-/// Pages, the bytes of a page, and proxies; and the bytes of a part.
+/// Two heaps: the pages, the bytes of a page, and the proxies; and beside them the bytes of a part.
 static PAGES: [([u32; 3], u32); 2] = [
     ([4_096, 16_384, 4_096], 16_376),
     ([512, 131_072, 512], 131_064),
 ];
 
-/// The bytes from byte `at` on: a chunk, or what the object has left.
+/// The bytes that the object must have from byte `at` on: a chunk, or less at its end. They are a slice of
+/// `table`, which repeats the period for more than a chunk.
 fn bytes_at(table: &[u8], at: u32) -> Result<&[u8], Wrong> {
     let from = (at % PERIOD) as usize;
     let left = BYTES.saturating_sub(at) as usize;
@@ -38,7 +39,8 @@ fn bytes_at(table: &[u8], at: u32) -> Result<&[u8], Wrong> {
     }
 }
 
-/// Writes the object chunk by chunk, and reads it back; and then around each edge of its parts.
+/// Makes the object on this heap, writes it chunk by chunk, and reads it back, then again across each edge
+/// of its parts. Fails if a byte differs. `page` is an entry of `PAGES`.
 fn written_and_read<H: Manager>(
     alloc: Global,
     inner: H,
@@ -59,7 +61,7 @@ fn written_and_read<H: Manager>(
     read_edges(&mut driver, h, &table, part_bytes)
 }
 
-/// Writes the object, chunk by chunk.
+/// Writes the whole object, chunk by chunk.
 fn write_chunks<H: Manager>(driver: &mut Driver<H>, h: Handle, table: &[u8]) -> Result<(), Wrong> {
     for i in 0..BYTES.div_ceil(CHUNK as u32) {
         let at = i * CHUNK as u32;
@@ -68,7 +70,7 @@ fn write_chunks<H: Manager>(driver: &mut Driver<H>, h: Handle, table: &[u8]) -> 
     Ok(())
 }
 
-/// Reads the object, chunk by chunk.
+/// Reads the whole object, chunk by chunk, and fails if a byte differs.
 fn read_chunks<H: Manager>(driver: &mut Driver<H>, h: Handle, table: &[u8]) -> Result<(), Wrong> {
     let mut room = [0; CHUNK];
     for i in 0..BYTES.div_ceil(CHUNK as u32) {
@@ -82,7 +84,7 @@ fn read_chunks<H: Manager>(driver: &mut Driver<H>, h: Handle, table: &[u8]) -> R
     Ok(())
 }
 
-/// Reads eight bytes across each edge of the parts.
+/// Reads eight bytes across each edge of the parts, four on each side, and fails if a byte differs.
 fn read_edges<H: Manager>(
     driver: &mut Driver<H>,
     h: Handle,
@@ -101,6 +103,8 @@ fn read_edges<H: Manager>(
     Ok(())
 }
 
+// A `LargeHeap` over the moving manager keeps each byte of a very long object in its place, on pages of 16
+// KiB and of 128 KiB.
 #[test]
 fn sixty_megabytes_on_the_moving_manager(rt: HostRuntime) -> Result<(), Fail> {
     for page in PAGES.iter() {
@@ -110,6 +114,8 @@ fn sixty_megabytes_on_the_moving_manager(rt: HostRuntime) -> Result<(), Fail> {
     Ok(())
 }
 
+// A `LargeHeap` over the non-moving manager keeps each byte of a very long object in its place, on pages of
+// 16 KiB and of 128 KiB.
 #[test]
 fn sixty_megabytes_on_the_non_moving_manager(rt: HostRuntime) -> Result<(), Fail> {
     for page in PAGES.iter() {

@@ -1,4 +1,4 @@
-//! Rows of calls, with what was worked out by hand that they return.
+//! Short lists of calls on a heap of long objects, each call with what it must return, worked out by hand.
 ghost use Rattle.cf_model.specs.Families.{IsPaged};
 
 use crate::tests::driver::Driver;
@@ -11,45 +11,48 @@ use std::test::Fail;
 use step_ledger::Meter;
 use test_support::{Wrong, hold};
 
-/// The bytes that are written.
+/// The bytes that `Write` writes, and `Read` must find.
 static EIGHT: [u8; 8] = [1, 2, 3, 4, 5, 6, 7, 8];
 
-/// No object has this number.
+/// A handle that no object has.
 const NOBODY: Handle = Handle(4_294_967_295);
 
-/// A call, and what it returns. Objects have ids from 0 to 2.
+/// A call, and what it must return. The test names its objects by ids from 0 to 2.
 #[derive(Clone, Copy)]
 enum Call {
-    /// A malloc of this length under an id ..
+    /// A malloc that succeeds: the id of the new object, and its length in bytes.
     Malloc(usize, u32),
-    /// .. and one that is refused.
+    /// A malloc of this many bytes that is refused for this cause.
     Refused(u32, Refusal),
+    /// A free of the object with this id, which succeeds.
     Free(usize),
-    /// A free of an id that isn't live.
+    /// A free of an id whose object isn't live any more.
     NotLive(usize),
-    /// The eight bytes are written from this byte on ..
+    /// A write of the eight bytes into the object with this id, from this byte on.
     Write(usize, u32),
-    /// .. and are read there.
+    /// A read that must find them there.
     Read(usize, u32),
-    /// A read of five bytes from this byte on is refused.
+    /// A read of five bytes of the object with this id, from this byte on, which fails with this fault.
     Fault(usize, u32, AccessFault),
-    /// The figures of the class with slots of this many words: slots a page, used slots, pages, and partly
-    /// full pages.
+    /// The figures of the manager's class with slots of this many words: the slots of a page, the live inner
+    /// objects, the pages, and the partly full pages.
     Class(u32, [u32; 4]),
-    /// How many inner objects there are, the pages in use, and the free ones.
+    /// Of the manager below: the live inner objects, the pages in use, and the free pages.
     Totals([u32; 3]),
 }
 
-/// Pages, the bytes of a page, proxies; and calls.
+/// A list of calls, and the heap for it: its pages, the bytes of a page, and its proxies.
 struct Row {
     settings: [u32; 3],
     calls: &'static [Call],
 }
 
-/// First, on pages of 512 bytes, of 4 KiB and of 128 KiB: of four pages an object of two parts has two, and
-/// its spine one, which the other spines and parts of one byte share; so that of two objects of a
-/// byte more than a part the second waits until the long one goes. Then the longest objects: their
-/// spines take a page, or would take more. With a spine and two parts an object has three proxies.
+/// The first three rows do the same on pages of 512 bytes, 4 KiB and 128 KiB: a part has 504, 4,088 and
+/// 131,064 bytes. Of the four pages, object 0 of two parts has two. Its spine is on a third, which it
+/// shares with other spines and with parts of one byte. Object 1 is one byte longer than a part, so it has
+/// the fourth page. A second such object is refused until object 0 is freed. The eight bytes are written
+/// over the end of the first part. At the end two objects have six inner ones: two full parts, two parts of
+/// one byte, and two spines.
 static ROWS: [Row; 9] = [
     Row {
         settings: [4, 512, 16],
@@ -101,6 +104,8 @@ static ROWS: [Row; 9] = [
             Call::Totals([6, 3, 1]),
         ],
     },
+    // The longest object on pages of 512 bytes: 126 parts, and a spine of four bytes for each, which fills a
+    // page too. With one byte more the spine would be longer than a page.
     Row {
         settings: [200, 512, 512],
         calls: &[
@@ -109,6 +114,7 @@ static ROWS: [Row; 9] = [
             Call::Totals([127, 127, 73]),
         ],
     },
+    // The longest object on pages of 4 KiB: 1,022 parts and the spine use all proxies.
     Row {
         settings: [1_024, 4_096, 1_023],
         calls: &[
@@ -118,6 +124,8 @@ static ROWS: [Row; 9] = [
             Call::Totals([1_023, 1_023, 1]),
         ],
     },
+    // The longest object on pages of 128 KiB, 32,766 parts and a spine: there are proxies, but not pages
+    // enough.
     Row {
         settings: [8, 131_072, 32_767],
         calls: &[
@@ -133,6 +141,7 @@ static ROWS: [Row; 9] = [
             Call::Refused(4_294_443_025, Refusal::Size),
         ],
     },
+    // Two parts and a spine need three proxies. Of two proxies none is used by the refused malloc.
     Row {
         settings: [4, 512, 2],
         calls: &[
@@ -141,6 +150,7 @@ static ROWS: [Row; 9] = [
             Call::Malloc(0, 504),
         ],
     },
+    // Of three proxies none is left.
     Row {
         settings: [4, 512, 3],
         calls: &[
@@ -151,7 +161,8 @@ static ROWS: [Row; 9] = [
     },
 ];
 
-/// A row that came out otherwise: which one, which of its calls, and what was wrong.
+/// The error of a call that returned something else: the index of its row, its index in the row, and the
+/// result.
 #[derive(Debug, Drop)]
 struct Failure {
     row: usize,
@@ -159,7 +170,8 @@ struct Failure {
     wrong: Wrong,
 }
 
-/// Plays a row on a heap over this manager.
+/// Makes the calls of a row on a heap of long objects over this manager. Fails at the first call that returns
+/// something else than it must. `call` is the index of the last call that was begun.
 fn play<H: Manager>(
     alloc: Global,
     inner: H,
@@ -178,7 +190,7 @@ fn play<H: Manager>(
     Ok(())
 }
 
-/// Makes a call, and compares what it returns.
+/// Makes a call, and fails unless it returns what it must. `handles` has the handle of each id.
 fn play_call<H: Manager>(
     driver: &mut Driver<H>,
     handles: &mut [Handle; 3],
@@ -219,7 +231,7 @@ fn play_call<H: Manager>(
     }
 }
 
-/// The handle of an id.
+/// The handle of an id; `NOBODY` if the id is not 0 to 2.
 fn handle(handles: &[Handle; 3], id: usize) -> Handle {
     match handles.get(id) {
         Some(h) => *h,
@@ -227,7 +239,8 @@ fn handle(handles: &[Handle; 3], id: usize) -> Handle {
     }
 }
 
-/// Compares the figures of the class with slots of this size.
+/// Fails unless the manager has a class with slots of `slot_words` words and these figures: the slots of a
+/// page, the live objects, the pages, and the partly full pages.
 fn compare_class<H: Manager>(
     driver: &Driver<H>,
     slot_words: u32,
@@ -254,7 +267,7 @@ fn compare_class<H: Manager>(
     Err(Wrong::Class(None))
 }
 
-/// Compares the figures of the inner manager: its objects, and its pages in use and free.
+/// Fails unless the manager has these figures: its live objects, its pages in use, and its free pages.
 fn compare_totals<H: Manager>(driver: &mut Driver<H>, want: [u32; 3]) -> Result<(), Wrong> {
     let inner = driver.heap.inner();
     if !inner.is_open() {
@@ -267,6 +280,7 @@ fn compare_totals<H: Manager>(driver: &mut Driver<H>, want: [u32; 3]) -> Result<
     )
 }
 
+// Each call of `ROWS` returns what it must, on a `LargeHeap` over the moving manager.
 #[test]
 fn rows_on_the_moving_manager(rt: HostRuntime) -> Result<(), Fail> {
     for (i, row) in ROWS.iter().enumerate() {
@@ -283,6 +297,7 @@ fn rows_on_the_moving_manager(rt: HostRuntime) -> Result<(), Fail> {
     Ok(())
 }
 
+// Each call of `ROWS` returns what it must, on a `LargeHeap` over the non-moving manager.
 #[test]
 fn rows_on_the_non_moving_manager(rt: HostRuntime) -> Result<(), Fail> {
     for (i, row) in ROWS.iter().enumerate() {

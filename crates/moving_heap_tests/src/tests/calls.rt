@@ -1,4 +1,4 @@
-//! Long runs of drawn calls.
+//! Long runs of random calls on the moving manager, which `heap_driver` draws from a seed.
 use cf_base::Layout;
 use cf_model::Manager;
 use heap_driver::RandomRun;
@@ -6,7 +6,8 @@ use moving_heap::MovingHeap;
 use std::test::Fail;
 use step_ledger::Meter;
 
-/// The pages that are free, or counted in a class that shows the same number in its figures.
+/// The number of free pages and of the pages of all classes together. None if the heap is closed, or if the
+/// counts of a class differ from its figures.
 fn pages_shown(heap: &MovingHeap) -> Option<u32> {
     if !heap.is_open() {
         return None;
@@ -18,7 +19,8 @@ fn pages_shown(heap: &MovingHeap) -> Option<u32> {
     Some(pages)
 }
 
-/// The pages of class c, if its figures show that number, and that of the partly full ones.
+/// The pages of class c. None if `pages_of` or `not_full` returns another number than the figures of the
+/// class have, or if there is no such class.
 fn class_pages(heap: &MovingHeap, c: u32) -> Option<u32> {
     if !heap.is_open() || c >= heap.classes() {
         return None;
@@ -31,7 +33,8 @@ fn class_pages(heap: &MovingHeap, c: u32) -> Option<u32> {
     }
 }
 
-/// After them each of the 16 pages is free, or counted in its class.
+/// `MovingHeap` has the results, words and steps that the reference implementation computes. After the runs
+/// each of the 16 pages is free or counted in a class.
 #[test]
 fn long_runs_agree_with_the_reference_implementation(rt: HostRuntime) -> Result<(), Fail> {
     let alloc = rt.alloc();

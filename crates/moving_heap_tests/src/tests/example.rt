@@ -1,3 +1,5 @@
+//! Tests of the examples in `library_example`: of an object on the moving manager, and of a control loop on
+//! the sliced heap.
 use cf_base::{AccessFault, Settings};
 use library_example::{Missed, first_object, next_frame, take_out};
 use slice_model::{SliceFault, SliceRefusal};
@@ -5,7 +7,8 @@ use sliced_heap::SlicedHeap;
 use std::test::Fail;
 use step_ledger::Meter;
 
-/// The caller that the README prints: its object is taken out with the bytes that were stored.
+/// `first_object`, which the README prints, stores two bytes, and `take_out` returns them and frees the
+/// object. So a second `take_out` fails with `Unknown`.
 #[test]
 fn what_was_stored_is_taken_out(rt: HostRuntime) -> Result<(), Fail> {
     let (mut heap, object) = first_object(&rt, rt.alloc()).ok_or("out of memory")?;
@@ -18,8 +21,11 @@ fn what_was_stored_is_taken_out(rt: HostRuntime) -> Result<(), Fail> {
     Ok(())
 }
 
-/// Two pages of 64 words, slices of 16: a frame fills a page, whose clearing takes the free's slice and three steps. With
-/// three the next frame is made. With two it is missed, and the frame before is gone.
+/// `next_frame` frees a frame, does slices of the job that the free leaves, and makes the next frame. On
+/// two pages of 64 words a frame fills a page, so to clear it takes four slices of 16 words: that of the
+/// free, and three steps. With three steps the next frame is made. With two its malloc is refused as
+/// `Busy`, and the frame before is freed: to free it again fails with `Unknown`. The job is still pending,
+/// so to free the other object fails with `Busy`.
 #[test]
 fn a_cycle_replaces_a_frame(rt: HostRuntime) -> Result<(), Fail> {
     let mut heap = SlicedHeap::closed(rt.alloc());

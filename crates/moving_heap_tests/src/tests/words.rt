@@ -1,30 +1,32 @@
-//! Words that are borrowed.
+//! Test of `payload` and `payload_mut`, which lend the whole words of an object without a copy.
 use cf_base::{Handle, Settings};
 use cf_model::Manager;
 use moving_heap::MovingHeap;
 use std::test::Fail;
 use step_ledger::Meter;
 
-/// The bytes of the first object: its last five are no part of the borrow.
+/// The bytes of the first object. Its last five are no whole word, so they are not lent.
 static LONG: [u8; 21] = [
     1, 2, 3, 4, 5, 6, 7, 8, 9, 0, 0, 0, 0, 0, 0, 128, 255, 255, 255, 255, 255,
 ];
 
-/// The whole words of the first object, and those that the third one gets.
+/// The two whole words of the first object: the first byte is the lowest of its word.
 static TWO: [u64; 2] = [0x0807_0605_0403_0201, 0x8000_0000_0000_0009];
 
+/// The words that are written into the third object.
 static THREE: [u64; 3] = [
     0x0807_0605_0403_0201,
     0x100f_0e0d_0c0b_0a09,
     0xff16_1514_1312_1110,
 ];
 
-/// The bytes of these three words.
+/// The bytes that the third object must have then.
 static BYTES: [u8; 24] = [
     1, 2, 3, 4, 5, 6, 7, 8, 9, 10, 11, 12, 13, 14, 15, 16, 16, 17, 18, 19, 20, 21, 22, 255,
 ];
 
-/// Opens the heap and makes objects of 21 bytes, of 7 and of 24; the first holds `LONG`.
+/// Opens the heap, makes objects of 21, 7 and 24 bytes, and writes `LONG` into the first. Returns their
+/// handles; none if a call fails.
 fn three_objects(heap: &mut MovingHeap, meter: &mut Meter) -> Option<[Handle; 3]> {
     let settings = Settings::check(1, 512, 1, 4).ok()?;
     heap.open_heap(&settings).ok()?;
@@ -36,7 +38,7 @@ fn three_objects(heap: &mut MovingHeap, meter: &mut Meter) -> Option<[Handle; 3]
     Some([long, short, whole])
 }
 
-/// Whether an object holds these bytes, and is then freed.
+/// Reads the object, and frees it if its bytes are `BYTES`. Returns whether they are, and the free succeeds.
 fn holds_bytes(heap: &mut MovingHeap, h: Handle, meter: &mut Meter) -> bool {
     if !heap.is_open() {
         return false;
@@ -48,7 +50,8 @@ fn holds_bytes(heap: &mut MovingHeap, h: Handle, meter: &mut Meter) -> bool {
         && heap.free(h, meter.steps()).is_ok()
 }
 
-/// Whether the whole words of an object are these; if there are none to compare, whether it isn't live.
+/// Whether `payload` lends the words of `want`; if `want` is none, whether it lends none, because the
+/// object isn't live.
 fn has_words(heap: &MovingHeap, h: Handle, want: Option<&[u64]>, meter: &mut Meter) -> bool {
     if !heap.is_open() {
         return false;
@@ -60,7 +63,8 @@ fn has_words(heap: &MovingHeap, h: Handle, want: Option<&[u64]>, meter: &mut Met
     }
 }
 
-/// Writes the whole words of an object; false if it isn't live or has another number of words.
+/// Writes the whole words of an object through `payload_mut`. Returns false, with nothing written, if it
+/// isn't live or has another number of whole words.
 fn write_words(heap: &mut MovingHeap, h: Handle, words: &[u64], meter: &mut Meter) -> bool {
     if !heap.is_open() {
         return false;
@@ -75,8 +79,8 @@ fn write_words(heap: &mut MovingHeap, h: Handle, words: &[u64], meter: &mut Mete
     true
 }
 
-/// Whether objects of 21, 7 and 24 bytes have two whole words, none and three, and these three are
-/// written.
+/// Whether the objects of 21 and 7 bytes have the whole words `TWO` and none, and `THREE` are written into
+/// that of 24 bytes.
 fn words_agree(heap: &mut MovingHeap, handles: [Handle; 3], meter: &mut Meter) -> bool {
     let [long, short, whole] = handles;
     has_words(heap, long, Some(&TWO), meter)
@@ -84,8 +88,9 @@ fn words_agree(heap: &mut MovingHeap, handles: [Handle; 3], meter: &mut Meter) -
         && write_words(heap, whole, &THREE, meter)
 }
 
-/// An object of 21 bytes has two whole words; its last five bytes are no part of the borrow. Three words
-/// that are written are the 24 bytes of an object.
+/// `payload` lends the two whole words of an object of 21 bytes, and no word of one of 7. The words that
+/// are written through `payload_mut` are then read as the bytes of the object. After the object is freed,
+/// both lend nothing.
 #[test]
 fn whole_words_are_read_and_written(rt: HostRuntime) -> Result<(), Fail> {
     let mut heap = MovingHeap::closed(rt.alloc());

@@ -1,4 +1,5 @@
-//! Tests by name and type of each field that the heap has no list of its objects.
+//! A test that names each field of `NonMovingHeap` and of its open heap, with its type: none is a
+//! list of the objects.
 use super::NonMovingHeap;
 use block_table::BlockTable;
 use cf_base::Settings;

@@ -1,4 +1,4 @@
-//! Long runs of drawn calls.
+//! Long runs of random calls on the non-moving manager, which `heap_driver` draws from a seed.
 use cf_base::Layout;
 use cf_model::Manager;
 use heap_driver::RandomRun;
@@ -6,7 +6,9 @@ use nonmoving_heap::NonMovingHeap;
 use std::test::Fail;
 use step_ledger::Meter;
 
-/// After them each of the 16 pages is free, or counted in its class.
+/// `NonMovingHeap` has the results, words, blocks and steps that the reference implementation computes.
+/// After the runs `pages_of` and `not_full` return the numbers in the figures of each class. Each of the
+/// 16 pages is free or counted in a class.
 #[test]
 fn long_runs_agree_with_the_reference_implementation(rt: HostRuntime) -> Result<(), Fail> {
     let alloc = rt.alloc();

@@ -1,4 +1,5 @@
-//! The steps of single calls, each worked out by hand; the longest of each kind are among them.
+//! The steps of single calls of `NonMovingHeap`, each worked out by hand; the longest of each kind are
+//! among them.
 
 use cf_base::{Handle, Refusal, Settings};
 use cf_model::Manager;
@@ -7,18 +8,22 @@ use nonmoving_heap::NonMovingHeap;
 use std::test::Fail;
 use step_ledger::Meter;
 
-/// Four objects of 176 bytes fill two pages; slots have 24 words.
+/// Calls on two pages, each with its steps. Four objects of 176 bytes, in slots of 24 words, fill both. An
+/// access of a word also takes a step to look up its block; of words of one block, one look-up serves all.
 ///
 /// A malloc reads the entry of its class (1) and the front of the class's list (1). On a free page it takes
-/// the page (1), renews its map (2), sets a slot (3) and links the page (4); on a partly full page it
-/// takes the least slot (3), counts (1), and unlinks and links a page that is full now (8). Then it
-/// takes a proxy (2) and writes the header (2).
+/// the page (1), renews its bitmap (2), sets a slot (3) and links the page (4). On a partly full page it
+/// takes the lowest free slot (3) and counts it (1). If that page is full then, it is unlinked and linked
+/// again (8). At last a malloc takes a proxy (2) and writes the header (2).
 ///
-/// A free reads the proxy (1), the header (2), the class (1) and the count of the page (1), and gives
-/// the proxy back (2). Alone it clears the slot (30), finds the page's list (1), frees the slot (3),
-/// counts (1), and unlinks and links the page (8), or unlinks it and gives it back (5). With a move it
-/// finds the filler (3), frees its slot (3), counts (1), unlinks the page and gives it back (5), reads
-/// its header (2), moves the slot (36) and sets its proxy (1).
+/// A free reads the proxy (1), the header (2), the class (1) and the count of the page (1), and returns the
+/// proxy (2). If no object moves, it clears the slot (30), finds the page's list (1), frees the slot (3) and
+/// counts it (1). Then it unlinks the page, and links it again (8) or returns it to the pool (5).
+///
+/// If another object moves into the freed slot, the free finds that object (3), frees its slot (3) and
+/// counts it (1). It unlinks the page, which is empty now, and returns it to the pool (5). It reads the
+/// object's header (2), moves the slot's 24 words with two look-ups for each block (36), and changes the
+/// object's proxy (1).
 const CALLS: [(Call, u64); 22] = [
     (Call::Malloc(176), 16),
     (Call::Malloc(176), 18),
@@ -27,36 +32,43 @@ const CALLS: [(Call, u64); 22] = [
     // Refused for space, and for size.
     (Call::Malloc(176), 1),
     (Call::Malloc(505), 1),
-    // The proxy, the header, and two words of one block.
+    // The proxy (1), the header (2), and two words of one block (3). Then the address, and a word of the
+    // region; word 128 is past its end.
     (Call::Write(Handle(0)), 6),
     (Call::Read(Handle(0)), 6),
     (Call::Place(Handle(0)), 1),
     (Call::Peek(0), 2),
     (Call::Peek(128), 0),
-    // No object.
+    // No object has the number 4.
     (Call::Read(Handle(4)), 1),
     (Call::Write(Handle(4)), 1),
-    // The proxy, the header, the class, and the entry.
+    // The proxy (1), the header (2), the class (1), and the entry of the block (1). A slot of 24 words has
+    // no block 6.
     (Call::Block(Handle(0), 5), 5),
     (Call::Block(Handle(0), 6), 4),
     (Call::Block(Handle(4), 0), 1),
     (Call::Totals, 0),
     // A full page becomes partly full.
     (Call::Free(Handle(0)), 50),
-    // An object moves, and its page is given back: the longest free.
+    // An object moves, and the page that it leaves is returned: the longest free.
     (Call::Free(Handle(2)), 58),
     (Call::Free(Handle(2)), 1),
     (Call::Free(Handle(1)), 50),
-    // The last object of its page.
+    // The last object of its page, which is returned.
     (Call::Free(Handle(3)), 47),
 ];
 
-/// On three pages of slots of 24 words, two to a page, and slots of 20, three to a page. A resize reads the
-/// proxy (1), the class of the new length (1), the header (2) and its class (1). In its slot it cuts a
-/// word (2), clears those after it, of one block (4), and writes the header (2). To another class it
-/// counts the page (1), takes a slot that fills its page (13), moves the words that stay, of five blocks
-/// (29), and cuts the last (2), writes the header (2) and the proxy (1); then an object moves, as in a
-/// free, and its page is given back (51).
+/// Calls on three pages, most of them resizes, between slots of 24 words, two to a page, and slots of 20,
+/// three to a page.
+///
+/// A resize reads the proxy (1), the class of the new length (1), the header (2) and its class (1). If the
+/// object stays in its slot, it cuts a word (2), clears the three words after it, which are in one block (4),
+/// and writes the header (2).
+///
+/// A resize to another class counts the page (1) and takes a slot, the last one of its page (13). It copies
+/// the 19 words that stay, with two look-ups for each of five blocks (29), and cuts the last of them (2). It
+/// writes the header (2) and the proxy (1). Then another object moves into the old slot, as in a free, and
+/// the page that it leaves is returned (51).
 const RESIZES: [(Call, u64); 15] = [
     (Call::Malloc(184), 16),
     (Call::Malloc(184), 18),
@@ -64,21 +76,23 @@ const RESIZES: [(Call, u64); 15] = [
     (Call::Malloc(152), 16),
     (Call::Malloc(5), 1),
     (Call::Malloc(152), 10),
-    // The longest that stays in its slot, and back.
+    // The longest resize in its slot, and one back to the old length.
     (Call::Resize(Handle(0), 153), 13),
     (Call::Resize(Handle(0), 184), 7),
     // Refused as unknown, for size, and for space.
     (Call::Resize(Handle(5), 8), 1),
     (Call::Resize(Handle(0), 505), 2),
     (Call::Resize(Handle(0), 8), 6),
-    // The longest.
+    // The longest resize: to another class, with a move into the old slot.
     (Call::Resize(Handle(0), 151), 104),
-    // On a page that is free now; past the end of the object.
+    // A resize whose new slot is on the page that has become free. Then accesses that pass the object's new
+    // end.
     (Call::Resize(Handle(0), 5), 63),
     (Call::Read(Handle(0)), 3),
     (Call::Write(Handle(0)), 3),
 ];
 
+// Each call of `CALLS` takes exactly its steps.
 #[test]
 fn each_call_takes_its_steps(rt: HostRuntime) -> Result<(), Fail> {
     let mut heap = NonMovingHeap::closed(rt.alloc());
@@ -87,6 +101,7 @@ fn each_call_takes_its_steps(rt: HostRuntime) -> Result<(), Fail> {
     Ok(())
 }
 
+// Each call of `RESIZES` takes exactly its steps.
 #[test]
 fn each_resize_takes_its_steps(rt: HostRuntime) -> Result<(), Fail> {
     let mut heap = NonMovingHeap::closed(rt.alloc());
@@ -95,7 +110,9 @@ fn each_resize_takes_its_steps(rt: HostRuntime) -> Result<(), Fail> {
     Ok(())
 }
 
-/// One page and two proxies: a step for each question, two mallocs, and the look for a length.
+/// `has_room` returns what a malloc of the same length would: on one page with two proxies, `Ok`; then
+/// `Space` for another class, `Proxy` when both proxies are in use, and `Size` for more than a page. It
+/// takes one step each time. The mallocs take 16 and 18, and `length` three: 41 steps in all.
 #[test]
 fn has_room_says_what_a_malloc_returns(rt: HostRuntime) -> Result<(), Fail> {
     let mut heap = NonMovingHeap::closed(rt.alloc());

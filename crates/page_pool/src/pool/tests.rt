@@ -1,4 +1,4 @@
-//! The fields of a pool.
+//! A test of the fields of `PagePool`.
 use super::PagePool;
 use counted_cells::Cells;
 use std::test::Fail;

@@ -1,8 +1,14 @@
-//! Admissions worked out by hand, and compared with all short lists of calls.
+//! Tests of `admit`, which decides whether a quota of pages is enough for the objects that a task declares.
+//! Some decisions are worked out by hand; others are compared with a search of all short lists of calls.
 use admission::{Admission, Need, admit};
 use cf_base::Settings;
 use std::test::Fail;
 
+// `admit` returns each of its results by its cause. Pages have 512 bytes, and there are 8 proxies. A page
+// has two slots for 176 bytes, and 8 bytes have another class. So `half`, three objects, needs two pages,
+// and `small` one more. `No` has the number of the first malloc that is refused, from 1 on. The last two
+// cases are tested before the quota. `half`, `small` and `many` are 12 objects, more than the proxies.
+// And `large`, the entry with index 1, has 505 bytes, more than a page, though it declares no object.
 #[test]
 fn each_answer_comes_by_its_cause(rt: HostRuntime) -> Result<(), Fail> {
     let Ok(s) = Settings::check(3, 512, 1, 8) else {
@@ -18,7 +24,6 @@ fn each_answer_comes_by_its_cause(rt: HostRuntime) -> Result<(), Fail> {
         bytes: 505,
         count: 0,
     };
-    // Three objects with two slots on a page, and one of another class, need three pages.
     assert_eq!(rt; admit(&s, 0, &[]), Admission::Yes, "nothing is declared");
     assert_eq!(rt;
         admit(&s, 2, &[half]),
@@ -49,13 +54,15 @@ fn each_answer_comes_by_its_cause(rt: HostRuntime) -> Result<(), Fail> {
     Ok(())
 }
 
-// The pages that objects of 8, 176 and 504 bytes need: 16, 2 and 1 of them fit a page of 64 words.
+// The pages that the objects need, of which `live` counts those of 8, of 176 and of 504 bytes: 16, 2 and 1 of
+// them fit a page of 64 words.
 fn pages_of(live: &[u32; 3]) -> u64 {
     live[0].div_ceil(16) as u64 + live[1].div_ceil(2) as u64 + live[2] as u64
 }
 
-// Whether some list of at most `calls` calls within the declared needs has a malloc refused for
-// space.
+// Searches all lists of at most `calls` mallocs and frees that start with the live objects and never have
+// more than the declared ones; `live` and `declared` count those of 8, of 176 and of 504 bytes. Returns
+// whether some list has a malloc that is refused for space: the objects would need more than `quota` pages.
 fn runs_short(quota: u64, declared: &[u32; 3], live: &[u32; 3], calls: u32) -> bool {
     if calls == 0 {
         return false;
@@ -79,6 +86,9 @@ fn runs_short(quota: u64, declared: &[u32; 3], live: &[u32; 3], calls: u32) -> b
     false
 }
 
+// `admit` returns `Yes` if and only if no list of calls within the declared needs has a malloc refused for
+// space. It is called for each quota of 0 to 4 pages, and up to 2 objects of 8 bytes, 3 of 176 and 2 of 504.
+// Lists of 7 calls are long enough to make all declared objects.
 #[test]
 fn a_quota_is_enough_where_no_list_of_calls_runs_short(rt: HostRuntime) -> Result<(), Fail> {
     let Ok(s) = Settings::check(4, 512, 1, 8) else {

@@ -1,4 +1,6 @@
-//! Arrangements worked out by hand, and the reference implementation's results for them.
+//! Tests of the reference implementation (`page_reference`): arrangements, which are objects with their
+//! addresses, and what it must compute for them. Each was worked out by hand. Pages have 64 words. An
+//! object of 176 bytes has a slot of 23 words, two to a page, and one of 504 bytes a page.
 use cf_base::{Figures, Layout, Settings, Totals};
 use page_reference::Plain;
 use page_reference::frames::{block_of, exchange, new_frames};
@@ -6,29 +8,32 @@ use std::alloc::{AllocError, Global};
 use std::process::Abort;
 use std::test::Fail;
 
-/// The numbers of an arrangement.
+/// What the reference implementation must compute for an arrangement.
 #[derive(Clone, Copy)]
 struct Numbers {
-    /// A length, and the figures of its class: slot words, slots, live, pages, not full.
+    /// The length in bytes that `figures`, `needed` and `lacks` are for.
     bytes: u32,
+    /// The figures of the class for that length: the words of a slot, the slots of a page, its live
+    /// objects, its pages, and those of them that are partly full.
     figures: [u32; 5],
-    /// Live, used, free, largest.
+    /// Of the whole heap: the live objects, the used pages, the free pages, and the words of a page if
+    /// one is free, else 0.
     totals: [u32; 4],
-    /// Asked, taken, held.
+    /// The bytes requested for all objects, those of their slots, and those of the used pages.
     in_bytes: [u64; 3],
-    /// The pages that the objects need, and with one more object of that length.
+    /// The pages that the objects need by arithmetic, and those with one more object of that length.
     needed: [u32; 2],
-    /// Whether no slot is left for that length.
+    /// Whether no slot is left for one more object of that length.
     lacks: bool,
 }
 
-/// The number, the address and the length of an object.
+/// An object: its number, its address in words, and its length in bytes.
 type Entry = (u16, u32, u32);
 
-/// The number of pages of 64 words, the objects on them, and their numbers.
+/// The number of pages of 64 words, the objects on them, and what must be computed for these.
 type Case = (u32, &'static [Entry], Numbers);
 
-/// Arrangements in slots of words.
+/// Arrangements of the moving manager, whose slots have any number of words.
 static CASES: [Case; 14] = [
     // two pages of two slots, exactly full
     (
@@ -43,7 +48,8 @@ static CASES: [Case; 14] = [
             lacks: true,
         },
     ),
-    // a page of two objects, and one that has a page to itself
+    // a page of two objects, and one that has a page to itself: the numbers for the smaller class, then those
+    // for the larger one
     (
         2,
         &[(1, 64, 176), (3, 87, 176), (2, 0, 504)],
@@ -68,7 +74,8 @@ static CASES: [Case; 14] = [
             lacks: true,
         },
     ),
-    // two half-full pages: no space for a whole page, but for half of one
+    // two pages, each with one object and a free slot: no slot is left for 504 bytes, but there is one for
+    // 176
     (
         2,
         &[(1, 23, 176), (3, 87, 176)],
@@ -93,7 +100,7 @@ static CASES: [Case; 14] = [
             lacks: false,
         },
     ),
-    // three pages, before and after the object at 87 moves to the freed slot at 128
+    // three pages, before and after object 4 at 128 is freed: object 3 moves there from 87
     (
         3,
         &[(1, 23, 176), (3, 87, 176), (4, 128, 176), (5, 151, 176)],
@@ -144,8 +151,8 @@ static CASES: [Case; 14] = [
             lacks: false,
         },
     ),
-    // an object before, during and after a resize into a class of one slot to a page: in between it
-    // is in both slots, and afterwards the object at 64 moves to the freed slot at 0
+    // object 0 before, during and after a resize from 176 to 504 bytes: during it, its copy at 128 counts as
+    // an object under the unused number 3; afterwards object 2 moves from 64 to the freed slot at 0
     (
         3,
         &[(0, 0, 176), (1, 23, 176), (2, 64, 176)],
@@ -210,7 +217,8 @@ static CASES: [Case; 14] = [
     ),
 ];
 
-/// Arrangements in slots of whole blocks.
+/// Arrangements of the non-moving manager, whose slots are whole blocks of four words: 176 bytes have 24
+/// words.
 static BLOCK_CASES: [Case; 2] = [
     // two pages of two slots, exactly full
     (
@@ -240,8 +248,8 @@ static BLOCK_CASES: [Case; 2] = [
     ),
 ];
 
-/// The number of pages, the bound k, the objects, the number that is freed, and whether another
-/// object must move.
+/// The number of pages, the bound k, the objects, the number that is freed, and whether another object must
+/// move: it must if the freed object's page is full, and its class has k partly full pages already.
 static FREES: [(u32, u32, &[Entry], u16, bool); 13] = [
     // the first free of a class finds no partly full page to move an object from; the second does
     (
@@ -257,7 +265,7 @@ static FREES: [(u32, u32, &[Entry], u16, bool); 13] = [
     (2, 1, &[(1, 23, 176), (2, 64, 176), (3, 87, 176)], 1, false),
     (2, 1, &[(1, 23, 176), (2, 64, 176), (3, 87, 176)], 0, false),
     (2, 1, &[(1, 23, 176), (2, 64, 176), (3, 87, 176)], 7, false),
-    // with a bound of 2 only the third free moves an object
+    // with bound 2 the class may have two partly full pages, so only the third free moves an object
     (2, 2, &[(1, 23, 176), (2, 64, 176), (3, 87, 176)], 2, false),
     (
         3,
@@ -279,7 +287,8 @@ static FREES: [(u32, u32, &[Entry], u16, bool); 13] = [
         4,
         true,
     ),
-    // a resize into another class, while the object is in both slots
+    // the resize of object 0 to 504 bytes, as in `CASES`, while its copy at 128 counts as object 3: its old
+    // slot is left as by a free
     (
         3,
         1,
@@ -294,7 +303,8 @@ static FREES: [(u32, u32, &[Entry], u16, bool); 13] = [
     (2, 1, &[(0, 0, 505)], 0, false),
 ];
 
-/// Pages of 64 words with this bound k, and the objects on them.
+/// The reference implementation with `pages` pages of 64 words, in which each class has bound k, and with
+/// these objects, whose bytes are zeros.
 fn laid(
     rt: &impl Abort,
     alloc: Global,
@@ -313,7 +323,8 @@ fn laid(
     Ok(plain)
 }
 
-/// Whether the figures of a class are these: slot words, slots, live, pages, not full.
+/// Whether the figures of a class are these: the words of a slot, the slots of a page, its live objects, its
+/// pages, and the partly full ones.
 fn has_figures(plain: &Plain, class: u32, want: [u32; 5]) -> bool {
     let [slot_words, slots, live, pages, not_full] = want;
     let want = Figures {
@@ -326,7 +337,7 @@ fn has_figures(plain: &Plain, class: u32, want: [u32; 5]) -> bool {
     class < plain.classes() && plain.figures(class) == want
 }
 
-/// Whether the figures of the whole heap are these.
+/// Whether the figures of the whole heap are those of `want`.
 fn has_totals(plain: &Plain, want: &Numbers) -> bool {
     let [live, used, free, largest] = want.totals;
     let [asked, taken, held] = want.in_bytes;
@@ -342,7 +353,7 @@ fn has_totals(plain: &Plain, want: &Numbers) -> bool {
     plain.totals() == want
 }
 
-/// Whether the arrangement has these numbers.
+/// Whether the reference implementation computes these numbers for its objects.
 fn has_numbers(plain: &Plain, want: &Numbers) -> bool {
     let class = plain.class_for(want.bytes);
     has_figures(plain, class, want.figures)
@@ -353,7 +364,8 @@ fn has_numbers(plain: &Plain, want: &Numbers) -> bool {
         && plain.lacks_room(class) == want.lacks
 }
 
-/// The first case with other numbers.
+/// The index of the first case for which other numbers are computed, with bound 1; none if there is no such
+/// case.
 fn first_wrong(
     rt: &impl Abort,
     alloc: Global,
@@ -369,6 +381,8 @@ fn first_wrong(
     Ok(None)
 }
 
+// For each arrangement of `CASES` and `BLOCK_CASES`, `Plain` computes the numbers that were worked out by
+// hand: the figures, the pages that are needed, and whether a slot is left.
 #[test]
 fn worked_arrangements_have_their_numbers(rt: HostRuntime) -> Result<(), Fail> {
     let alloc = rt.alloc();
@@ -380,6 +394,7 @@ fn worked_arrangements_have_their_numbers(rt: HostRuntime) -> Result<(), Fail> {
     Ok(())
 }
 
+// `Plain::must_move` returns for each free of `FREES` whether another object must move.
 #[test]
 fn a_free_moves_an_object_where_it_must(rt: HostRuntime) -> Result<(), Fail> {
     let alloc = rt.alloc();
@@ -394,6 +409,8 @@ fn a_free_moves_an_object_where_it_must(rt: HostRuntime) -> Result<(), Fail> {
     Ok(())
 }
 
+// After `Plain::remove` of both objects none is left, and no page is used. To remove number 7, which has no
+// object, changes nothing.
 #[test]
 fn what_was_put_and_removed_again_is_as_nothing(rt: HostRuntime) -> Result<(), Fail> {
     let objects = [(0, 0, 504), (1, 64, 504)];
@@ -405,6 +422,8 @@ fn what_was_put_and_removed_again_is_as_nothing(rt: HostRuntime) -> Result<(), F
     Ok(())
 }
 
+// `Plain::move_to` puts object 3 at word 128, so page 1 has no object left, and page 2 has two. Numbers 4
+// and 7 have no object, so for them it changes nothing.
 #[test]
 fn an_object_that_moves_leaves_its_page(rt: HostRuntime) -> Result<(), Fail> {
     let objects = [(1, 23, 176), (3, 87, 176), (5, 151, 176)];
@@ -417,7 +436,8 @@ fn an_object_that_moves_leaves_its_page(rt: HostRuntime) -> Result<(), Fail> {
     Ok(())
 }
 
-/// Whether the region has `count` words, with these among them.
+/// Whether the image that `plain` computes for the region has `count` words, and these among them. Each of
+/// `wants` is the number of a word, and its value.
 fn has_words(
     alloc: Global,
     plain: &Plain,
@@ -428,7 +448,7 @@ fn has_words(
     Ok(words.len() == count && are_words(&words, wants))
 }
 
-/// Whether these are among the words.
+/// Whether each of these words has its wanted value. Each of `wants` is the number of a word, and its value.
 fn are_words(words: &[u64], wants: &[(usize, u64)]) -> bool {
     for (w, want) in wants {
         if words.get(*w) != Some(want) {
@@ -438,6 +458,9 @@ fn are_words(words: &[u64], wants: &[(usize, u64)]) -> bool {
     true
 }
 
+// `Plain::image` computes the words of the region. The first word of an object is its header: its length,
+// 176 or 0xb0, in the upper half, and its number in the lower one. Then come its bytes, the first one
+// lowest in its word. All other words are zero.
 #[test]
 fn words_are_headers_and_bytes_and_zeros(rt: HostRuntime) -> Result<(), Fail> {
     let alloc = rt.alloc();
@@ -456,6 +479,7 @@ fn words_are_headers_and_bytes_and_zeros(rt: HostRuntime) -> Result<(), Fail> {
     Ok(())
 }
 
+// `Plain::put` cuts the bytes to the object's length: of four bytes, an object of three has the first three.
 #[test]
 fn bytes_past_the_length_dont_count(rt: HostRuntime) -> Result<(), Fail> {
     let alloc = rt.alloc();
@@ -466,6 +490,9 @@ fn bytes_past_the_length_dont_count(rt: HostRuntime) -> Result<(), Fail> {
     Ok(())
 }
 
+// The words after a resize of object 0 from 176 to 504 bytes (0x1f8), by `Plain::put` and
+// `Plain::move_to`: the object is at word 128 with its two first bytes. Object 2 has moved from word 64
+// to the old slot at word 0, and word 64 is zero.
 #[test]
 fn a_resized_object_keeps_its_first_bytes(rt: HostRuntime) -> Result<(), Fail> {
     let alloc = rt.alloc();
@@ -485,7 +512,8 @@ fn a_resized_object_keeps_its_first_bytes(rt: HostRuntime) -> Result<(), Fail> {
     Ok(())
 }
 
-/// Whether each of these blocks of an object at this address is the wanted one.
+/// Whether the object at word `place` has the wanted physical blocks by this block table. Each of `wants` is
+/// the number of one of its blocks, from 0 on, and the physical block.
 fn has_blocks(frames: &[u32], place: u32, wants: &[(u32, u32)]) -> bool {
     for (i, want) in wants {
         if !has_block(frames, place, *i, *want) {
@@ -495,18 +523,19 @@ fn has_blocks(frames: &[u32], place: u32, wants: &[(u32, u32)]) -> bool {
     true
 }
 
-/// Whether block i is the wanted one.
+/// Whether block i of the object at word `place` is the wanted physical block.
 fn has_block(frames: &[u32], place: u32, i: u32, want: u32) -> bool {
     (place / 4) as usize + (i as usize) < frames.len() && block_of(frames, place, i) == want
 }
 
-/// The six blocks of an object, starting with this one.
+/// Blocks 0 to 5 of an object, each with its physical block: `first` and the five that follow.
 fn six_from(first: u32) -> [(u32, u32); 6] {
     [0, 1, 2, 3, 4, 5].map(|i| (i, first.wrapping_add(i)))
 }
 
-// Two pages of 16 blocks: the object at word 24 has blocks 6 to 11, and moves to the freed slot at
-// word 64. The free page has the other blocks of both.
+// `exchange` lets an object keep its physical blocks when it moves. There are two pages of 16 blocks. The
+// object at word 24 has blocks 6 to 11, and moves to the freed slot at word 64. That slot had blocks 16
+// to 21, which the old slot at word 24 gets.
 #[test]
 fn an_object_that_moves_keeps_its_blocks(rt: HostRuntime) -> Result<(), Fail> {
     let alloc = rt.alloc();
@@ -522,6 +551,8 @@ fn an_object_that_moves_keeps_its_blocks(rt: HostRuntime) -> Result<(), Fail> {
     Ok(())
 }
 
+// In slots of blocks: a free of object 2 must move object 1 from word 24 to word 64. After `Plain::remove`
+// and `Plain::move_to`, the image has its header at word 64, and zero at word 24.
 #[test]
 fn an_object_that_fills_a_hole_leaves_zeros(rt: HostRuntime) -> Result<(), Fail> {
     let alloc = rt.alloc();

@@ -1,7 +1,13 @@
-//! The free lists of sizes and needs, for both kinds with blocks.
+//! Tests of the rules of TLSF and Half-Fit by which a block's size, or a malloc's need, determines a free
+//! list.
 use block_model::{half_fit, tlsf};
 use std::test::Fail;
 
+// Each row has n words; for TLSF the list of a block of n words (`bucket_of`), and the first list in which
+// every block has at least n words (`search_for`); then both for Half-Fit. Half-Fit's list i has the sizes
+// from 2^i on that are below 2^(i+1): a block of 24 words is in list 4, but that list has smaller blocks too,
+// so a malloc that needs 24 words starts at list 5. TLSF splits each power of two into 16 lists, so below 32
+// words each size has a list of its own.
 #[test]
 fn sizes_and_needs_have_their_free_lists(rt: HostRuntime) -> Result<(), Fail> {
     for (words, tlsf_list, tlsf_first, half_list, half_first) in [

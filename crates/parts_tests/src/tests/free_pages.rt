@@ -1,8 +1,10 @@
-//! Pages taken and returned.
+//! Tests of `PagePool`, the stack of free pages.
 use page_pool::PagePool;
 use std::test::Fail;
 use step_ledger::Meter;
 
+// `PagePool::take` returns pages 0 and 1 of a new pool in turn, then none. After pages 0 and 1 are returned
+// by `give`, it takes the one that was given last. Each of the six calls with a ledger costs one step.
 #[test]
 fn the_page_that_was_given_last_is_taken_first(rt: HostRuntime) -> Result<(), Fail> {
     let mut meter = Meter::new(&rt);

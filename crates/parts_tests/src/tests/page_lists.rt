@@ -1,8 +1,11 @@
-//! Pages that join lists and leave them.
+//! Tests of `ClassLists`, which has two lists of pages for each class: the full ones and the others.
 use class_lists::{ClassLists, Which};
 use std::test::Fail;
 use step_ledger::Meter;
 
+// `push` puts a page at the front of its list, and `unlink` takes it out from any place. Pages 7, 0 and 4
+// join the list of partly full pages of class 1 in turn, and page 2 that of its full pages. The page in
+// front is then the last one pushed of those that are left. The lists of the other classes stay empty.
 #[test]
 fn a_page_that_joins_becomes_the_front(rt: HostRuntime) -> Result<(), Fail> {
     let mut meter = Meter::new(&rt);

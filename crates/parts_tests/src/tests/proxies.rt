@@ -1,9 +1,13 @@
-//! Numbers bound, released and bound again.
+//! Tests of `ProxyTable`, which maps the number of an object, its handle, to its address.
 use cf_base::Handle;
 use proxy_table::ProxyTable;
 use std::test::Fail;
 use step_ledger::Meter;
 
+// `bind` gives an address the first number that is free, or none if all are in use: a table of one proxy
+// has a number for one address alone. New numbers rise from 0; of those that were released, the last one
+// comes first: after 0 and 2 were released, 2 is bound, then 0, then the new number 3. `lookup` returns the
+// address of a bound number, and none for the number 4, which a table of four proxies doesn't have.
 #[test]
 fn the_number_that_was_released_last_comes_first(rt: HostRuntime) -> Result<(), Fail> {
     let mut meter = Meter::new(&rt);

@@ -1,9 +1,12 @@
-//! Words that are moved, lent, cleared and written by halves, and the steps of each call.
+//! Test of `Region`: its words are moved, lent, cleared and written by halves, and each call costs its steps.
 use region::Region;
 use std::test::Fail;
 use step_ledger::Meter;
 
-// Of 8 words, 7 and 9 at 1 and 2 move to 5. A borrow of both writes 4 over the first.
+// Of 8 words, `move_words` moves words 1 and 2, which are 7 and 9, to words 5 and 6; their old place is
+// cleared. `payload_mut` lends words 5 and 6, and word 5 becomes 4 by that. `clear` makes it 0. `set_low`
+// and `set_high` replace the halves of word 6. A step is counted for each word that a call reads, writes,
+// moves, lends or clears, and two for a half, whose word is read and written.
 #[test]
 fn words_are_moved_lent_and_cleared(rt: HostRuntime) -> Result<(), Fail> {
     let mut meter = Meter::new(&rt);

@@ -1,17 +1,20 @@
-//! The slots of each class, and the classes of requests.
+//! Tests of `Classes`, the table of size classes of a page: the slots of each class, and the class of a
+//! request.
 use cf_base::Layout;
 use size_classes::Classes;
 use std::process::Abort;
 use std::test::Fail;
 use step_ledger::Meter;
 
+/// The slots on a page of 64 words, by class, if slot sizes are in words.
 const SLOTS_BY_WORDS: [u32; 20] = [
     16, 12, 10, 9, 8, 7, 5, 4, 4, 3, 3, 2, 2, 2, 1, 1, 1, 1, 1, 1,
 ];
 
+/// The slots on a page of 64 words, by class, if slot sizes are in blocks of four words.
 const SLOTS_BY_BLOCKS: [u32; 13] = [16, 8, 5, 4, 3, 2, 2, 2, 1, 1, 1, 1, 1];
 
-/// Asserts the slots of each class.
+/// Asserts that there are these classes alone, each with the wanted number of slots on a page.
 fn assert_slots(rt: &impl Abort, classes: &Classes, want: &[u32]) {
     assert_eq!(rt; classes.len() as usize, want.len());
     for c in 0..classes.len() {
@@ -23,6 +26,9 @@ fn assert_slots(rt: &impl Abort, classes: &Classes, want: &[u32]) {
     }
 }
 
+// A page of 64 words has the classes of the two tables above. `class_of` returns the smallest class whose
+// slots hold the bytes and a header word, or none: 24 bytes need 4 words, 25 need 5, and 504 the whole
+// page. A page of 16,384 words has 67 classes, or 58 with blocks; its largest slot holds 131,064 bytes.
 #[test]
 fn requests_find_the_classes_of_the_tables(rt: HostRuntime) -> Result<(), Fail> {
     let alloc = rt.alloc();
@@ -32,7 +38,7 @@ fn requests_find_the_classes_of_the_tables(rt: HostRuntime) -> Result<(), Fail> 
     let blocks = Classes::new(alloc, 64, Layout::Blocks)?;
     assert_slots(&rt, &words, &SLOTS_BY_WORDS);
     assert_slots(&rt, &blocks, &SLOTS_BY_BLOCKS);
-    // bytes, and the words of the class in either sequence
+    // the bytes of a request, and the slot size in words that it gets by either layout
     for (bytes, in_words, in_blocks) in [
         (0, Some(4), Some(4)),
         (24, Some(4), Some(4)),

@@ -1,8 +1,10 @@
-//! Ids bound, bound again and unbound.
+//! Test of `IdTable`, which maps the ids of a script to handles.
 use cf_base::Handle;
 use id_table::IdTable;
 use std::test::Fail;
 
+// `bind` replaces the handle of an id that is bound, so that the id still counts once as live. `unbind` of
+// an id that isn't bound, as 1, or 0 the second time, changes nothing.
 #[test]
 fn an_id_names_what_it_was_last_bound_to(rt: HostRuntime) -> Result<(), Fail> {
     let Ok(mut ids) = IdTable::new(rt.alloc()) else {

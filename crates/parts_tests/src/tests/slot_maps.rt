@@ -1,7 +1,10 @@
-//! Slots taken and freed, on pages of 1 to 4,096 slots.
+//! Test of `SlotMap`, the bitmap of the used slots of a page, with 1 to 4,096 slots.
 use slot_bitmap::SlotMap;
 use step_ledger::Meter;
 
+// `first_free` and `first_used` return the lowest slot that is free or used. So slots are taken from 0 up
+// until none is free, then freed from 0 up, after which slot 0 is always the first free one. `take_first`
+// finds the lowest free slot and marks it used in one call. `count` is the number of used slots.
 #[test]
 fn slots_are_taken_and_given_back_in_order(rt: HostRuntime) {
     let mut meter = Meter::new(&rt);

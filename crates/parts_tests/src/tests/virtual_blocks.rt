@@ -1,9 +1,13 @@
-//! Runs of entries that change places, and runs that are lent.
+//! Test of `BlockTable`, which has the physical block of each virtual block: runs of its entries are
+//! exchanged and lent.
 use block_table::BlockTable;
 use std::test::Fail;
 use step_ledger::Meter;
 
-// Two pages of 16 blocks; blocks 6 to 11 change places with 16 to 21.
+// Two pages of 16 blocks; at first each virtual block has the physical block of the same number. `swap_run`
+// exchanges the entries of virtual blocks 6 to 11 with those of 16 to 21, pair by pair; all others stay.
+// `frame` takes a page and a block on it, `block` the number of a virtual block. A look-up costs a step,
+// and `swap_run` one for each pair.
 #[test]
 fn runs_of_entries_change_places(rt: HostRuntime) -> Result<(), Fail> {
     let mut meter = Meter::new(&rt);
@@ -28,7 +32,7 @@ fn runs_of_entries_change_places(rt: HostRuntime) -> Result<(), Fail> {
     assert_eq!(rt; table.block(19, meter.steps()), 9);
     assert_eq!(rt; table.block(16, meter.steps()), 6);
     assert_eq!(rt; meter.lap(), 1 + 6 + 7 + 2);
-    // Lending the entries of blocks 6 to 17 costs a step each.
+    // `run` lends the entries of virtual blocks 6 to 17, for a step each.
     let run = table.run(6, 12, meter.steps());
     assert_eq!(rt; meter.lap(), 12);
     assert_eq!(rt; run.len(), 12);

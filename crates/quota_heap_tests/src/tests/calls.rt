@@ -1,24 +1,30 @@
-//! Calls of a task on the heap of tasks, each with its result in a word.
+//! Makes the calls of a task on the heap of tasks, for the other tests. A result is returned as a short
+//! text, so that a test can list calls with their results.
 ghost use Rattle.std.specs.Prelude.{◌<◌, ◌≤◌, ◌^◌, IsTrue};
 
 use quota_heap::{Handle, NotLive, QuotaFault, QuotaHeap, Refusal};
 use step_ledger::{Meter, Steps};
 
-/// A call of a task; an object is named by the number that it got. A write is of the first byte, and so
-/// is a read, with what it is to be; a fill writes as many ones from the first byte on. A peek names a
-/// word of the region.
+/// A call of a task. An object is named by its handle's number, which counts for each task on its own.
 #[derive(Clone, Copy)]
 pub enum Call {
+    /// A new quota for the task, in pages.
     Quota(u32),
+    /// A malloc of this many bytes.
     Malloc(u32),
     Free(u32),
+    /// A write of this value to the first byte of the object.
     Write(u32, u8),
+    /// A read of the first byte of the object, and the value that it must have.
     Read(u32, u8),
+    /// A write of this many bytes, all ones, from the first byte of the object on.
     Fill(u32, usize),
+    /// A read of the word of the region with this number.
     Peek(u32),
 }
 
-/// What a heap returns to a call of a task.
+/// Makes a call of task `task`, and returns its result as a text; `no task` if the number is above 15. Sets
+/// the ledger to 0 before, so that it has the steps of this call afterwards.
 pub fn answer(heap: &mut QuotaHeap, meter: &mut Meter, task: u32, call: Call) -> &'static str
     requires opened { IsTrue heap.old.is_open }
     ensures { IsTrue heap.new.is_open }
@@ -39,6 +45,7 @@ pub fn answer(heap: &mut QuotaHeap, meter: &mut Meter, task: u32, call: Call) ->
     }
 }
 
+/// Sets the quota: `ok`, `sum` if the quotas would exceed the region, or `used` if the task uses more.
 fn quota(heap: &mut QuotaHeap, task: u32, pages: u32) -> &'static str
     requires opened { IsTrue heap.old.is_open }
     requires sixteen { task < 16 }
@@ -51,6 +58,7 @@ fn quota(heap: &mut QuotaHeap, task: u32, pages: u32) -> &'static str
     }
 }
 
+/// Makes an object of `bytes` bytes: `ok`, or the cause of the refusal.
 fn malloc(heap: &mut QuotaHeap, task: u32, bytes: u32, steps: &mut Steps) -> &'static str
     requires opened { IsTrue heap.old.is_open }
     requires sixteen { task < 16 }
@@ -65,6 +73,7 @@ fn malloc(heap: &mut QuotaHeap, task: u32, bytes: u32, steps: &mut Steps) -> &'s
     }
 }
 
+/// Frees an object: `ok`, `moves` if another object moved into its slot, or `not live`.
 fn free(heap: &mut QuotaHeap, task: u32, h: Handle, steps: &mut Steps) -> &'static str
     requires opened { IsTrue heap.old.is_open }
     requires sixteen { task < 16 }
@@ -77,6 +86,7 @@ fn free(heap: &mut QuotaHeap, task: u32, h: Handle, steps: &mut Steps) -> &'stat
     }
 }
 
+/// Writes the first byte of an object: `ok` or `refused`.
 fn write(heap: &mut QuotaHeap, task: u32, h: Handle, byte: u8, steps: &mut Steps) -> &'static str
     requires opened { IsTrue heap.old.is_open }
     requires sixteen { task < 16 }
@@ -90,6 +100,7 @@ fn write(heap: &mut QuotaHeap, task: u32, h: Handle, byte: u8, steps: &mut Steps
     }
 }
 
+/// Reads the first byte of an object: `as written` if it is `byte`, `otherwise` if it isn't, or `refused`.
 fn read(heap: &QuotaHeap, task: u32, h: Handle, byte: u8, steps: &mut Steps) -> &'static str
     requires opened { IsTrue heap.now.is_open }
     requires sixteen { task < 16 }
@@ -105,6 +116,7 @@ fn read(heap: &QuotaHeap, task: u32, h: Handle, byte: u8, steps: &mut Steps) -> 
     }
 }
 
+/// Writes `count` ones, at most 512, from the first byte of an object on: `ok` or `refused`.
 fn fill(heap: &mut QuotaHeap, task: u32, h: Handle, count: usize, steps: &mut Steps) -> &'static str
     requires opened { IsTrue heap.old.is_open }
     requires sixteen { task < 16 }
@@ -122,6 +134,7 @@ fn fill(heap: &mut QuotaHeap, task: u32, h: Handle, count: usize, steps: &mut St
     }
 }
 
+/// Reads a word of the region: `a word`, or `no word` past its end.
 fn peek(heap: &QuotaHeap, word: u32, steps: &mut Steps) -> &'static str
     requires opened { IsTrue heap.now.is_open }
     requires room { steps.old ≤ 2 ^ 63 }

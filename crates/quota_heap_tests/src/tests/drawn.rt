@@ -1,4 +1,5 @@
-//! Drawn calls of sixteen tasks, against a plain table of their objects' bytes.
+//! Random calls of all sixteen tasks, drawn from a seed, each compared with a plain table of the expected
+//! objects.
 ghost use Rattle.std.specs.Prelude.{◌≡◌, ◌<◌, IsTrue, OnOk};
 
 use quota_heap::{Handle, QuotaHeap, Refusal, Settings};
@@ -7,11 +8,11 @@ use std::test::Fail;
 use step_ledger::Meter;
 use test_support::{Draw, Objects, Wrong, hold, pages_needed, slot_sizes};
 
-/// Objects that a task may have.
+/// The proxies of each task: no more of its objects are live at a time.
 const PROXIES: u32 = 8;
 
-/// The heap, and the table: object n of task t has number 8 t + n there, and the task in place of an
-/// address.
+/// The heap under test, and the table of expected objects: object n of task t has the number 8 t + n there.
+/// Where other tests keep an address, the table has the task. `sizes` has the slot sizes in words.
 #[derive(Drop)]
 struct Drawn {
     heap: QuotaHeap,
@@ -21,13 +22,13 @@ struct Drawn {
     draw: Draw,
 }
 
-/// The quota of a task.
+/// The quota of a task: one page if its number is even, two if it is odd.
 fn quota_of(task: u32) -> u32 {
     1 + task % 2
 }
 
 impl Drawn {
-    /// Without objects.
+    /// Opens a heap without objects, of 24 pages, which is the sum of the quotas, and sets the quotas.
     fn open(alloc: Global, meter: Meter) -> Result<Drawn, Wrong> {
         let mut heap = QuotaHeap::closed(alloc);
         heap.open_heap(&Settings::check(24, 512, 1, PROXIES)?)?;
@@ -44,7 +45,7 @@ impl Drawn {
         })
     }
 
-    /// Sets the ledger to 0 for a call, if the heap is open.
+    /// Sets the ledger to 0 for the next call. Fails with `Closed` if the heap isn't open.
     fn start(&mut self) -> Result<(), Wrong>
         ensures open { OnOk result (IsTrue self.new.heap.is_open) }
         ensures ledger { OnOk result (self.new.meter ≡ 0) }
@@ -53,7 +54,8 @@ impl Drawn {
         hold(self.heap.is_open(), Wrong::Closed)
     }
 
-    /// A malloc or a free, and a read of another object.
+    /// Makes a drawn call of a drawn task: a malloc, or a free of a number that may have no object. Then
+    /// reads the object with the same number of a drawn task.
     fn call(&mut self) -> Result<(), Wrong> {
         let task = self.draw.below(16);
         let number = self.draw.below(PROXIES);
@@ -66,7 +68,8 @@ impl Drawn {
         self.read(other, number)
     }
 
-    /// The refusal that a malloc must return.
+    /// Why a malloc of `bytes` bytes of the task must be refused; none if it must succeed. Only the task's
+    /// own objects count.
     fn refusal(&self, task: u32, bytes: u32) -> Result<Option<Refusal>, Wrong> {
         let mut lengths = self.objects.lengths_at(|owner| *owner == task)?;
         lengths.push(bytes)?;
@@ -79,7 +82,8 @@ impl Drawn {
         })
     }
 
-    /// A malloc. All bytes of the object are written.
+    /// The task makes an object of a drawn length that fits a page, and writes all its bytes. Fails unless
+    /// the heap refuses the malloc exactly if it must, and for that cause.
     fn malloc(&mut self, task: u32) -> Result<(), Wrong>
         requires { task < 16 }
     {
@@ -101,7 +105,8 @@ impl Drawn {
         self.objects.written(number, 0, part, done)
     }
 
-    /// Frees an object of the heap and the expected one, and fails if just one of them was live.
+    /// Frees this number of the task in the heap, and removes the expected object. Fails unless the heap
+    /// refuses the free exactly if there is no such object.
     fn free(&mut self, task: u32, number: u32) -> Result<(), Wrong>
         requires task { task < 16 }
         requires number { number < 8 }
@@ -112,7 +117,8 @@ impl Drawn {
         hold(freed.is_ok() == object.is_some(), Wrong::Free(freed))
     }
 
-    /// A read of all bytes.
+    /// Reads all bytes of this number of the task, and compares them. The read must be refused if there is
+    /// no such object.
     fn read(&mut self, task: u32, number: u32) -> Result<(), Wrong>
         requires task { task < 16 }
         requires number { number < 8 }
@@ -129,6 +135,7 @@ impl Drawn {
     }
 }
 
+// In 4,000 drawn calls `QuotaHeap` returns to each task what follows from that task's objects alone.
 #[test]
 fn drawn_calls_of_all_tasks_are_answered_as_by_a_table(rt: HostRuntime) -> Result<(), Fail> {
     let mut drawn = Drawn::open(rt.alloc(), Meter::new(&rt))?;

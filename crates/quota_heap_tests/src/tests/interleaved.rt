@@ -1,4 +1,4 @@
-//! Two tasks under every order of their calls: each gets the results that it would get alone.
+//! Two tasks of eight calls each, in every order of the calls: each task gets the results that it gets alone.
 ghost use Rattle.std.specs.Prelude.{IsTrue, OnOk};
 
 use super::calls::{Call, answer};
@@ -6,12 +6,13 @@ use quota_heap::{OutOfMemory, QuotaHeap, Settings};
 use std::test::Fail;
 use step_ledger::Meter;
 
-/// The calls of a task.
+/// How many calls a task makes.
 const COUNT: usize = 8;
 
-/// Each task's calls and their results, worked out by hand. Two objects of 176 bytes fill a
-/// page. Task 0 has two pages; a free moves the third object, and the last malloc finds no space. Task
-/// 1 begins with one page, asks for a second, asks for more than there are, and gives the second back.
+/// The calls of tasks 0 and 1, each with its result, worked out by hand. Two objects of 176 bytes fill a
+/// page. Task 0 has a quota of two pages; its free moves object 2 into the freed slot, and its last
+/// malloc finds no space. Task 1 begins with a quota of one page, and gets a second. A third is refused,
+/// since the quotas would exceed the four pages. Then it returns the second.
 static CALLS: [[(Call, &str); COUNT]; 2] = [
     [
         (Call::Malloc(176), "ok"),
@@ -35,7 +36,7 @@ static CALLS: [[(Call, &str); COUNT]; 2] = [
     ],
 ];
 
-/// The heap with no objects, of four pages: task 0 has two of them, and task 1 has one.
+/// Opens the heap without objects, and gives task 0 a quota of two pages and task 1 one of one page.
 fn open(heap: &mut QuotaHeap, meter: &mut Meter, settings: &Settings) -> Result<(), OutOfMemory>
     ensures { OnOk result (IsTrue heap.new.is_open) }
 {
@@ -45,7 +46,8 @@ fn open(heap: &mut QuotaHeap, meter: &mut Meter, settings: &Settings) -> Result<
     Ok(())
 }
 
-/// Whether call `at` of a task, if there is one, returns what it must.
+/// Makes the call with index `at` of the task. Returns whether it has its result; false if there is no such
+/// call.
 fn agrees(heap: &mut QuotaHeap, meter: &mut Meter, task: usize, at: usize) -> bool
     requires { IsTrue heap.old.is_open }
     ensures { IsTrue heap.new.is_open }
@@ -57,7 +59,7 @@ fn agrees(heap: &mut QuotaHeap, meter: &mut Meter, task: usize, at: usize) -> bo
     answer(heap, meter, task as u32, call) == want
 }
 
-/// Whether a task alone gets these results.
+/// Makes all calls of one task in order, and returns whether each has the result that `CALLS` requires.
 fn alone(heap: &mut QuotaHeap, meter: &mut Meter, task: usize) -> bool
     requires { IsTrue heap.old.is_open }
     ensures { IsTrue heap.new.is_open }
@@ -70,7 +72,8 @@ fn alone(heap: &mut QuotaHeap, meter: &mut Meter, task: usize) -> bool
     true
 }
 
-/// Whether both are, in this order: bit i is the task of call i.
+/// Makes the calls of both tasks in this order: bit i of `order` is the task of call i. Returns whether
+/// each has its result.
 fn together(heap: &mut QuotaHeap, meter: &mut Meter, order: u32) -> bool
     requires { IsTrue heap.old.is_open }
     ensures { IsTrue heap.new.is_open }
@@ -88,6 +91,8 @@ fn together(heap: &mut QuotaHeap, meter: &mut Meter, order: u32) -> bool
     true
 }
 
+// `QuotaHeap` returns the same results to a task, alone and in each of the 12,870 orders of its calls and
+// those of another task: these are the numbers of 16 bits in which eight bits are set.
 #[test]
 fn two_tasks_are_answered_in_every_order_as_each_alone(rt: HostRuntime) -> Result<(), Fail> {
     let settings = Settings::check(4, 512, 1, 8)?;

@@ -1,11 +1,13 @@
-//! Worked calls.
+//! A short list of calls of several tasks, with the results worked out by hand.
 use super::calls::{Call, answer};
 use quota_heap::{QuotaHeap, Settings};
 use std::test::Fail;
 use step_ledger::Meter;
 
-// Three pages of 512 bytes. Task 0 frees one of its two, and task 1 may not take it: its quota is one
-// page. Task 1 gets what task 0 returns of its quota.
+// Of three pages, task 0 has a quota of two and task 1 of one, so `set_quota` refuses one for task 2: the sum
+// would exceed them. Task 0 frees one of its two pages, but a malloc of task 1 is still refused for space:
+// the page stays in the quota of task 0. That quota can't become 0, since task 0 uses a page, but it can
+// become 1. Then task 1 gets a quota of two, and its malloc succeeds.
 #[test]
 fn a_page_that_is_freed_stays_in_the_quota(rt: HostRuntime) -> Result<(), Fail> {
     let mut meter = Meter::new(&rt);

@@ -1,4 +1,4 @@
-//! The fields of a table.
+//! A test of the fields of `Classes`.
 use super::Classes;
 use cf_base::Layout;
 use counted_cells::Cells;

@@ -1,5 +1,6 @@
-//! Long runs of drawn calls of four tasks on a sliced heap, each compared with what the slow program
-//! computes.
+//! Long runs of random calls on a sliced heap, drawn from a seed. Each is compared with what the slow
+//! reference implementation (`slow`) computes. Four tasks call in a random order; a task writes and frees
+//! only the objects that it made. The heap itself doesn't know the tasks.
 ghost use Rattle.std.specs.Prelude.{◌≡◌, ◌≤◌, IsTrue, OnOk};
 
 use super::slow::{MOST, PAGE_WORDS, PAGES, PROXIES, Slot, Slow, slot_at, slots};
@@ -11,17 +12,18 @@ use std::test::Fail;
 use step_ledger::Meter;
 use test_support::{Draw, Wrong, header, hold};
 
-/// How many tasks call.
+/// How many tasks call in turns.
 const TASKS: u32 = 4;
 
-/// The calls of a run.
+/// How many calls a run makes.
 const CALLS: u32 = 20_000;
 
 /// All words are compared after every 100 calls.
 const BETWEEN: u32 = 100;
 
-/// How often a malloc had to wait for a job, or was refused for space; how often a job followed another
-/// one, and an object in motion was read or written.
+/// How often something has occurred in a run: a malloc was refused because of a job (`waits`) or for
+/// space (`over`), a job followed another one (`follows`), an object in motion was read or written
+/// (`moving`).
 #[derive(Clone, Copy, Debug, PartialEq, Eq)]
 struct Seen {
     waits: u32,
@@ -30,7 +32,8 @@ struct Seen {
     moving: u32,
 }
 
-/// The heap, the slow program, and what is counted on the way.
+/// The heap, the slow reference implementation beside it, and what the run has met. A slice of the heap has
+/// at most `quantum` words.
 #[derive(Drop)]
 struct Churn {
     heap: SlicedHeap,
@@ -42,7 +45,7 @@ struct Churn {
 }
 
 impl Churn {
-    /// An open heap without objects, whose slices have `quantum` words.
+    /// An open heap without objects, whose slices have at most `quantum` words.
     fn new(alloc: Global, quantum: u32, meter: Meter) -> Result<Churn, Wrong>
         requires least { 1 ≤ quantum }
         requires most { quantum ≤ 16384 }
@@ -65,7 +68,8 @@ impl Churn {
         })
     }
 
-    /// The whole run, whose calls are counted.
+    /// Makes all calls of the run, and compares all words after every hundred. `call` is the index of the
+    /// last call that was begun.
     fn play(&mut self, call: &mut u32) -> Result<(), Wrong> {
         for i in 0..CALLS {
             *call = i;
@@ -77,7 +81,7 @@ impl Churn {
         self.compare_words()
     }
 
-    /// Sets the ledger to 0 for a call, if the heap is open.
+    /// Sets the ledger to 0 for the next call. Fails with `Closed` if the heap isn't open.
     fn start(&mut self) -> Result<(), Wrong>
         ensures open { OnOk result (IsTrue self.new.heap.is_open) }
         ensures ledger { OnOk result (self.new.meter ≡ 0) }
@@ -86,7 +90,7 @@ impl Churn {
         hold(self.heap.is_open(), Wrong::Closed)
     }
 
-    /// One call, drawn, of a drawn task. The shorter the slices, the more of the calls are steps.
+    /// Makes one drawn call of a drawn task. The shorter the slices, the more of the calls are steps.
     fn call(&mut self) -> Result<(), Wrong> {
         let task = self.draw.below(TASKS);
         let number = self.number();
@@ -100,7 +104,7 @@ impl Churn {
         }
     }
 
-    /// The number of an object; often of the one in motion.
+    /// Draws the number of an object, which may not be live; in half of the draws, that of the one in motion.
     fn number(&mut self) -> u32 {
         let number = self.draw.below(PROXIES);
         let often = self.draw.below(2) == 0;
@@ -110,8 +114,8 @@ impl Churn {
         }
     }
 
-    /// A length. Half of them are of one class with two slots to a page, so that objects move; the last
-    /// ones are too large.
+    /// Draws a length in bytes. Half of the lengths are of one class with two slots to a page, so that
+    /// objects move. The largest are too large for a page.
     fn length(&mut self) -> u32 {
         if self.draw.below(2) == 0 {
             return 860 + self.draw.below(100);
@@ -120,7 +124,8 @@ impl Churn {
         1 + self.draw.below(most)
     }
 
-    /// Makes an object in the heap, and compares the answer with that of the slow program.
+    /// Makes an object of a drawn length for the task. Fails unless the heap refuses it exactly if the slow
+    /// implementation does, and for the same cause.
     fn malloc(&mut self, task: u32) -> Result<(), Wrong> {
         let length = self.length();
         let want = self.slow.refusal(length)?;
@@ -136,7 +141,9 @@ impl Churn {
         Ok(())
     }
 
-    /// Places a new object of zeros at the heap's address, if one may be there: its header is there.
+    /// Adds the object that the heap has just made to the slow implementation, all zeros. The heap doesn't
+    /// show its address: it is the slot with the object's header, of those that a malloc may use. Fails if
+    /// no such slot has it.
     fn placed(&mut self, task: u32, number: u32, length: u32) -> Result<(), Wrong> {
         let words = self.slow.slot_words(length);
         let usable = self.slow.has_usable(words);
@@ -154,7 +161,7 @@ impl Churn {
         Err(Wrong::Differs("the address of a new object"))
     }
 
-    /// Whether the object is another task's.
+    /// Whether the number is that of another task's object.
     fn is_of_other(&self, task: u32, number: u32) -> bool {
         match self.slow.objects.get(number) {
             Some(object) => object.place.task != task,
@@ -162,7 +169,8 @@ impl Churn {
         }
     }
 
-    /// A task frees an object of its own, or one that isn't live.
+    /// The task frees an object of its own, or one that isn't live. Fails unless the heap refuses that
+    /// exactly if the slow implementation does, and for the same cause.
     fn free(&mut self, task: u32, number: u32) -> Result<(), Wrong> {
         if self.is_of_other(task, number) {
             return Ok(());
@@ -178,14 +186,16 @@ impl Churn {
         self.sliced()
     }
 
-    /// Does a slice in the heap and in the slow program, and compares what the heap shows then.
+    /// Does a slice of the job in the heap and in the slow implementation, and compares the words left.
     fn step(&mut self) -> Result<(), Wrong> {
         self.start()?;
         self.heap.step(self.meter.steps());
         self.sliced()
     }
 
-    /// The heap has done a slice. It shows which object moves, by its header at the new address.
+    /// Follows a slice that the heap has just done, in a free or a step. If an object was to move into the
+    /// job's slot, its header is now there and shows which one; it must be one that may. Then the slow
+    /// implementation does the slice too, and both must have the same number of words left.
     fn sliced(&mut self) -> Result<(), Wrong> {
         if let Some(place) = self.slow.awaited() {
             let word = self.word(place)?;
@@ -204,22 +214,22 @@ impl Churn {
         )
     }
 
-    /// The length of an object; 0 if there is none.
+    /// The length in bytes of the expected object with this number; 0 if there is none.
     fn length_of(&self, number: u32) -> u32
         ensures { result ≤ 2040 }
     {
         self.slow.objects.length(number).unwrap_or(0).min(MOST)
     }
 
-    /// Counts a read or a write of an object in motion.
+    /// Counts an access in `seen.moving` if the object with this number is in motion.
     fn count_moving(&mut self, number: u32) {
         if self.slow.moving() == Some(number) {
             self.seen.moving = self.seen.moving.saturating_add(1);
         }
     }
 
-    /// A task writes up to 300 bytes into an object of its own, or one that isn't live; they may pass
-    /// its end.
+    /// The task writes up to 299 bytes into an object of its own, or one that isn't live; they may pass its
+    /// end.
     fn write(&mut self, task: u32, number: u32) -> Result<(), Wrong> {
         if self.is_of_other(task, number) {
             return Ok(());
@@ -237,7 +247,7 @@ impl Churn {
         self.slow.objects.written(number, at, part, done)
     }
 
-    /// A task reads an object, whoever's it is: all of it, or some bytes, which may pass its end.
+    /// Reads an object, whoever made it: all of it, or up to 299 bytes, which may pass its end.
     fn read(&mut self, number: u32) -> Result<(), Wrong> {
         let length = self.length_of(number);
         let (at, count) = if self.draw.below(2) == 0 {
@@ -253,7 +263,8 @@ impl Churn {
         self.slow.objects.read(number, at, buffer.as_slice(), done)
     }
 
-    /// Compares all words that the job doesn't leave open with those of the objects.
+    /// Compares the words of the region, but for those that the job leaves undetermined. The heap must show
+    /// no word past the end of the region.
     fn compare_words(&mut self) -> Result<(), Wrong> {
         for w in 0..PAGES * PAGE_WORDS {
             let word = self.word(w)?;
@@ -265,14 +276,17 @@ impl Churn {
         hold(past.is_none(), Wrong::Word(PAGES * PAGE_WORDS, past))
     }
 
-    /// A word of the region.
+    /// Word w of the region, as the heap shows it; none past its end.
     fn word(&mut self, w: u32) -> Result<Option<u64>, Wrong> {
         self.start()?;
         Ok(self.heap.peek(w, self.meter.steps()))
     }
 }
 
-// With slices of one word, of 7, of 64, and of more words than any slot has.
+// The results and the words of `SlicedHeap` are those that the slow implementation computes. There are
+// runs of 20,000 calls with slices of 1, 7, 64 and 16,384 words. A slice of 16,384 words is more than any
+// slot, so no job is ever left pending. In each other run a malloc must have been refused because of a
+// job, a job followed another one, and an object in motion been read or written.
 #[test]
 fn calls_of_four_tasks_are_answered_as_the_slow_program_computes(
     rt: HostRuntime,

@@ -1,4 +1,5 @@
-//! The steps of single calls, each worked out by hand; the longest of each call are among them.
+//! The steps of single calls of `SlicedHeap`, each worked out by hand; the longest of each kind are among
+//! them.
 ghost use Rattle.std.specs.Prelude.{IsTrue};
 
 use cf_base::{Handle, Settings};
@@ -6,19 +7,23 @@ use sliced_heap::SlicedHeap;
 use std::test::Fail;
 use step_ledger::Meter;
 
-/// A call: a malloc with its bytes, a free, a slice, a read and a write with their offset and bytes, and
-/// a word.
+/// A call. An object is named by its handle's number.
 #[derive(Clone, Copy, Debug)]
 enum Call {
+    /// A malloc of this many bytes.
     Malloc(u32),
     Free(u32),
+    /// A slice of the pending job, if there is one.
     Step,
+    /// A read from the object: the first byte that is read, and how many bytes.
     Read(u32, u32, usize),
+    /// A write to the object: the first byte that is written, and how many bytes.
     Write(u32, u32, usize),
+    /// A read of the word of the region with this number.
     Peek(u32),
 }
 
-/// The steps of the call.
+/// Makes the call, and returns its steps, whether it succeeds or is refused.
 fn steps_of(heap: &mut SlicedHeap, call: Call, meter: &mut Meter) -> u64
     requires { IsTrue heap.old.is_open }
 {
@@ -46,7 +51,8 @@ fn steps_of(heap: &mut SlicedHeap, call: Call, meter: &mut Meter) -> u64
     meter.lap()
 }
 
-/// The first call that takes another number of steps.
+/// Makes the calls in order, each with the steps that it must take. Returns the index of the first that takes
+/// another number, or finds the heap closed; none if there is no such call.
 fn first_with_other_steps(
     heap: &mut SlicedHeap,
     calls: &[(Call, u64)],
@@ -60,14 +66,15 @@ fn first_with_other_steps(
     None
 }
 
-/// Slices of 10 words; 232 bytes have a slot of 30 words, two of them to a page.
+/// Calls on four pages of 64 words, with 8 proxies and slices of 10 words. An object of 232 bytes has a
+/// slot of 30 words, two to a page.
 const CALLS: [(Call, u64); 30] = [
-    // More than a page.
+    // Refused: the object and its header are more than a page.
     (Call::Malloc(505), 1),
-    // On a free page, and in a slot that fills it.
+    // In a slot of a free page, and in the last free slot of that page: the longest malloc.
     (Call::Malloc(232), 15),
     (Call::Malloc(232), 17),
-    // The slot is cleared, and its page was full.
+    // The job clears the slot in three slices. Its page was full, and is partly full when the job ends.
     (Call::Free(0), 16),
     (Call::Step, 10),
     (Call::Step, 24),
@@ -79,17 +86,19 @@ const CALLS: [(Call, u64); 30] = [
     (Call::Malloc(504), 15),
     // No page is left.
     (Call::Malloc(504), 1),
-    // Object 2 is to be moved to the slot.
+    // A job that moves object 2 into the freed slot begins.
     (Call::Free(0), 22),
-    // Unknown, and busy.
+    // Refused: no object has the number 7, and a job is pending.
     (Call::Free(7), 1),
     (Call::Free(1), 1),
-    // All of its words; two words in different slots; past its end; unknown.
+    // Object 2 is in motion: all of its words; two words, one in its new slot and one in the old; a byte
+    // past its end; and an object that isn't live.
     (Call::Read(2, 0, 232), 31),
     (Call::Write(2, 68, 8), 4),
     (Call::Read(2, 232, 1), 2),
     (Call::Write(6, 0, 1), 1),
-    // Busy; and beside the job, in a slot that fills the job's page.
+    // Refused until the job ends; and, while it is pending, an object in the last free slot of the job's
+    // page.
     (Call::Malloc(504), 3),
     (Call::Malloc(232), 17),
     (Call::Step, 11),
@@ -104,7 +113,7 @@ const CALLS: [(Call, u64); 30] = [
     (Call::Peek(256), 0),
 ];
 
-/// A slice of 30 words moves an object of that slot whole.
+/// With slices of 30 words the free moves the whole object, which has a slot of 30 words: the longest free.
 const AT_ONCE: [(Call, u64); 4] = [
     (Call::Malloc(232), 15),
     (Call::Malloc(232), 17),
@@ -112,6 +121,7 @@ const AT_ONCE: [(Call, u64); 4] = [
     (Call::Free(0), 53),
 ];
 
+// Each call of `CALLS` and `AT_ONCE` takes exactly its steps.
 #[test]
 fn each_call_takes_its_steps(rt: HostRuntime) -> Result<(), Fail> {
     let settings = Settings::check(4, 512, 1, 8)?;

@@ -1,4 +1,4 @@
-//! Worked calls on the sliced heap, each with what it is to return.
+//! Short lists of calls on the sliced heap, each call with what it must return, worked out by hand.
 ghost use Rattle.std.specs.Prelude.{◌≤◌, IsTrue};
 
 use cf_base::{Handle, OutOfMemory, Settings};
@@ -8,19 +8,24 @@ use std::process::Abort;
 use std::test::Fail;
 use step_ledger::{Meter, Steps};
 
-/// A call, with what it is to return: of a step the words that are left, of a read and a write one
-/// byte, and of a peek the word.
+/// A call, with what it must return. An object is named by its handle's number.
 #[derive(Clone, Copy, Debug)]
 enum Call {
+    /// A malloc of this many bytes, with its result.
     Malloc(u32, Result<Handle, SliceRefusal>),
+    /// A free of this object, with its result.
     Free(u32, Result<(), SliceFault>),
+    /// A step, with the number of words that the job has left after it.
     Step(u32),
+    /// A write of one byte that succeeds: the object, the byte's place in it, and its value.
     Write(u32, u32, u8),
+    /// A read of one byte that succeeds: the object, the byte's place in it, and the value read.
     Read(u32, u32, u8),
+    /// A word of the region by its number, and its value.
     Peek(u32, u64),
 }
 
-/// Whether the call returns what it is to.
+/// Makes the call, and returns whether its result is the one that it must have.
 fn returns(heap: &mut SlicedHeap, call: Call, steps: &mut Steps) -> bool
     requires { IsTrue heap.old.is_open }
 {
@@ -40,7 +45,8 @@ fn returns(heap: &mut SlicedHeap, call: Call, steps: &mut Steps) -> bool
     }
 }
 
-/// Plays the calls on a heap with this number of pages of 512 bytes, and 8 proxies.
+/// Opens the heap with `pages` pages of 512 bytes, 8 proxies, and slices of `quantum` words. Makes the
+/// calls in order, and ends the test at the first that doesn't return what it must.
 fn play(
     rt: &impl Abort,
     mut heap: SlicedHeap,
@@ -63,8 +69,11 @@ fn play(
     Ok(())
 }
 
-// Two full pages. A free moves the second object, which is read and written in motion; the second
-// free and a malloc of a page wait for the job.
+// `free` and `malloc` return `Busy` while a job is in the way, and `read` returns the bytes of an object in
+// motion. Objects 0 to 3 have slots of 23 words and fill two pages. The free of 0 leaves a job that clears
+// its slot, by 8 words in a call; so the free of 2 must wait for two steps. Then it leaves a job that moves
+// object 1 into the freed slot: both bytes are read as written. A malloc of a whole page must wait until
+// object 1 has left its page.
 #[test]
 fn an_object_in_motion_is_read_and_calls_wait(rt: HostRuntime) -> Result<(), Fail> {
     play(
@@ -97,8 +106,11 @@ fn an_object_in_motion_is_read_and_calls_wait(rt: HostRuntime) -> Result<(), Fai
     Ok(())
 }
 
-// A malloc beside the job takes a page of its own class, so two pages are partly full when the job
-// ends, and another one follows.
+// `step` starts another job if two pages of the class are partly full when a job ends. The free of object 0
+// leaves a job that clears its slot. Meanwhile a malloc can't use that slot, so it takes another page. The
+// job's end leaves one object on each of the two pages. So the next job moves the new object, again number
+// 0, into the cleared slot at word 0: its header is there at the end (176 bytes, 0xb0), and its old slot at
+// word 64 is zero.
 #[test]
 fn a_job_follows_where_two_pages_are_partly_full(rt: HostRuntime) -> Result<(), Fail> {
     play(

@@ -1,4 +1,4 @@
-//! The fields of a map.
+//! A test of the fields of `SlotMap`.
 use super::SlotMap;
 use counted_cells::{CellArray, WordCell};
 

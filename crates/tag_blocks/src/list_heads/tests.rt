@@ -1,11 +1,11 @@
-//! What the heads of the free lists keep.
+//! A test of the fields of `ListHeads`.
 use super::ListHeads;
 use counted_cells::{CellArray, Cells};
 use std::test::Fail;
 use step_ledger::Meter;
 
-/// Each field has a name and a written type here: all are counted cells. List 22 of 24 has a head, so bit 6
-/// of group 1 is set, and bit 1 of the groups.
+/// Names each field with its type, so that no field is added unseen: all are counted cells. List 22
+/// of 24 has a head, so bit 6 of group 1 is set, and bit 1 of the groups.
 #[test]
 fn the_heads_and_their_bits_are_in_cells(rt: HostRuntime) -> Result<(), Fail> {
     let mut meter = Meter::new(&rt);

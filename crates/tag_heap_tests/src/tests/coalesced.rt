@@ -1,4 +1,5 @@
-//! Free neighbours are coalesced: what words hold after a free, worked out by hand.
+//! A free coalesces the block with its free neighbours: what the words of the region hold after it, worked
+//! out by hand.
 use crate::tests::costs::{Call, last_steps};
 use cf_base::Settings;
 use cf_model::Manager;
@@ -7,18 +8,22 @@ use std::test::Fail;
 use step_ledger::Meter;
 use tlsf_heap::TlsfHeap;
 
-/// Words 0 and 1 of a block of 10 words; words 0 to 3 of one of 12 after it; words 0 and 1 of the rest.
+/// The words that are compared. Of a block of 10 words these are words 0 and 1, of one of 12 words after
+/// it words 0 to 3, and of the rest of the region words 0 and 1.
 const WORDS: [u32; 8] = [0, 1, 10, 11, 12, 13, 22, 23];
 
-/// A script, and what those words hold after it.
+/// A script, and the values that those words must have after it.
 struct Row {
     script: &'static [Call],
     hold: [u64; 8],
 }
 
-/// An object of 64 bytes is freed, and then one of 80, which has free neighbours on both sides. The two
-/// bytes that are written are the last of its first word and the first of the next. A list with one
-/// block links it with none, which is `u64::MAX`.
+/// In the first row object 0 of 64 bytes is freed. In the second row also object 1 of 80 bytes is freed,
+/// between two free blocks: all 64 words are one free block then. Before, byte 7 of object 1 and byte 8
+/// in the next word are written, each with the value 7. Word 0 of a block has its size, the size of the
+/// block before it above, and bit 31 if the block is used. Word 1 of a used block is its tag: the
+/// object's length above its number. Word 1 of a free block is its link: `u64::MAX` if it is the only one
+/// in its list.
 static ROWS: [Row; 2] = [
     Row {
         script: &[
@@ -50,7 +55,7 @@ static ROWS: [Row; 2] = [
     },
 ];
 
-/// Whether the words hold this.
+/// Whether the words of the region that `WORDS` lists have the values of `hold`, in this order.
 fn holds<H: Manager>(heap: &H, hold: &[u64; 8], meter: &mut Meter) -> bool {
     if !heap.is_open() {
         return false;
@@ -63,7 +68,8 @@ fn holds<H: Manager>(heap: &H, hold: &[u64; 8], meter: &mut Meter) -> bool {
     true
 }
 
-/// The number of the first row whose words hold something else, on one page of 64 words.
+/// Plays each row on one page of 64 words. Returns the index of the first whose words have other values, or
+/// whose heap can't be opened; none if there is no such row.
 fn first_wrong<H: Manager>(heap: &mut H, meter: &mut Meter) -> Option<usize> {
     for i in 0..2 {
         let Ok(settings) = Settings::check(1, 512, 1, 2) else {
@@ -80,6 +86,7 @@ fn first_wrong<H: Manager>(heap: &mut H, meter: &mut Meter) -> Option<usize> {
     None
 }
 
+// `free` of `TlsfHeap` and of `HalfFitHeap` leaves the words of each row.
 #[test]
 fn free_neighbours_are_coalesced(rt: HostRuntime) -> Result<(), Fail> {
     let mut meter = Meter::new(&rt);

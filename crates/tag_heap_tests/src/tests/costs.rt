@@ -1,4 +1,5 @@
-//! The longest calls of both managers of blocks, in steps: each bound is reached by a script.
+//! The steps of single calls of TLSF and Half-Fit, each worked out by hand. The longest calls are among
+//! them: they reach the proved bounds.
 use cf_base::{Handle, Settings};
 use cf_model::Manager;
 use half_fit_heap::HalfFitHeap;
@@ -6,31 +7,40 @@ use std::test::Fail;
 use step_ledger::Meter;
 use tlsf_heap::TlsfHeap;
 
-/// A call. The objects of a script have the handles 0, 1, and on.
+/// A call. An object is named by its handle: those of a script get 0, 1, 2 and so on.
 #[derive(Clone, Copy)]
 pub(super) enum Call {
-    /// An object of this many bytes.
+    /// A malloc of this many bytes.
     Malloc(u32),
     Free(u32),
-    /// The object, its first byte that is read, and how many.
+    /// A read from the object: the first byte that is read, and how many bytes.
     Read(u32, u32, usize),
+    /// A write to the object: the first byte that is written, and how many bytes, all of value 7.
     Write(u32, u32, usize),
+    /// A resize of the object to eight bytes, which these kinds always refuse.
     Resize(u32),
+    /// A look-up of the object's address.
     Place(u32),
+    /// A read of the word of the region with this number.
     Peek(u32),
+    /// The figures of the whole heap.
     Totals,
+    /// The bytes asked, taken and held.
     Usage,
 }
 
-/// A script on pages, bytes of a page and proxies, and the steps of its last call.
+/// A script on a heap with these pages, bytes of a page and proxies, and the steps that its last call must
+/// take.
 struct Row {
     settings: [u32; 3],
     script: &'static [Call],
     steps: u64,
 }
 
-/// A malloc of TLSF: the lists of the need's group are empty, the list that is found has two blocks of
-/// 17 words, and the list of the two words that are over has one.
+/// The longest malloc of TLSF, which finds a list by bitmaps, in groups of 16 lists. It needs 15 words.
+/// The rest of its group of lists is empty, so the next group is searched. The list that is found has two
+/// blocks of 17 words; one is taken, and the other becomes the head. The two words that are over go into
+/// a list that has a block already.
 static TLSF_MALLOC: [Row; 1] = [Row {
     settings: [16, 512, 16],
     script: &[
@@ -48,8 +58,9 @@ static TLSF_MALLOC: [Row; 1] = [Row {
     steps: 25,
 }];
 
-/// A malloc of Half-Fit. Five freed objects of a page and the rest of the region are two free blocks, both in
-/// the first list of the second group. The rest of the split block stays in that list.
+/// The longest malloc of Half-Fit. Five freed objects of a page are one free block; it and the rest of the
+/// region are both in list 16, the first of the second group. The malloc takes two words of one, and what
+/// is over goes into the same list.
 static HALF_FIT_MALLOC: [Row; 1] = [Row {
     settings: [16, 131_072, 16],
     script: &[
@@ -71,12 +82,9 @@ static HALF_FIT_MALLOC: [Row; 1] = [Row {
     steps: 25,
 }];
 
-/// Mallocs that are refused: for size and for proxies, which read no list, and for space. A free of 20
-/// words between two free blocks of 4, the first two of the three in their list; the list of the 28
-/// words that they become has a block. Reads and writes of three words, of none, and of none in the
-/// middle of a word; past the end; and of no object. The largest of one free block, and of three in one
-/// list.
+/// Calls that take the same steps with both kinds.
 static BOTH: [Row; 22] = [
+    // Mallocs that are refused: for size and for proxies, which read no list, and for space.
     Row {
         settings: [16, 512, 16],
         script: &[Call::Malloc(505)],
@@ -92,6 +100,8 @@ static BOTH: [Row; 22] = [
         script: &[Call::Malloc(504)],
         steps: 2,
     },
+    // The longest free: a block of 20 words between two free blocks of 4, which are the first two of the
+    // three in their list. They become one of 28 words, whose list has a block already.
     Row {
         settings: [16, 512, 16],
         script: &[
@@ -111,11 +121,14 @@ static BOTH: [Row; 22] = [
         ],
         steps: 41 + 20,
     },
+    // A free of no object.
     Row {
         settings: [16, 512, 16],
         script: &[Call::Free(0)],
         steps: 1,
     },
+    // Reads: of bytes in three words; of no bytes, at the start of a word and in the middle of one; past
+    // the end; and of no object.
     Row {
         settings: [16, 512, 16],
         script: &[Call::Malloc(20), Call::Read(0, 4, 16)],
@@ -141,6 +154,7 @@ static BOTH: [Row; 22] = [
         script: &[Call::Read(0, 0, 1)],
         steps: 1,
     },
+    // Writes: of bytes in three words, of no bytes in the middle of a word, past the end, and of no object.
     Row {
         settings: [16, 512, 16],
         script: &[Call::Malloc(20), Call::Write(0, 4, 16)],
@@ -161,6 +175,7 @@ static BOTH: [Row; 22] = [
         script: &[Call::Write(0, 0, 1)],
         steps: 1,
     },
+    // Resizes, always refused: of an object and of none.
     Row {
         settings: [16, 512, 16],
         script: &[Call::Malloc(20), Call::Resize(0)],
@@ -171,6 +186,7 @@ static BOTH: [Row; 22] = [
         script: &[Call::Resize(0)],
         steps: 1,
     },
+    // The address of an object; the last word of the region, and the word past it.
     Row {
         settings: [16, 512, 16],
         script: &[Call::Malloc(20), Call::Place(0)],
@@ -186,6 +202,7 @@ static BOTH: [Row; 22] = [
         script: &[Call::Peek(1_024)],
         steps: 0,
     },
+    // The figures, which look for the largest free block: with one free block, and with three in one list.
     Row {
         settings: [16, 512, 16],
         script: &[Call::Totals],
@@ -204,6 +221,7 @@ static BOTH: [Row; 22] = [
         ],
         steps: 3 + 2 * 3,
     },
+    // The bytes asked, taken and held, which are counted as they change.
     Row {
         settings: [16, 512, 16],
         script: &[Call::Malloc(20), Call::Usage],
@@ -211,7 +229,8 @@ static BOTH: [Row; 22] = [
     },
 ];
 
-/// The steps of a call.
+/// Makes the call, and returns its steps, whether it succeeds or is refused; `u64::MAX` if the heap is
+/// closed.
 fn steps_of<H: Manager>(heap: &mut H, call: Call, meter: &mut Meter) -> u64 {
     let mut room = [7; 64];
     meter.lap();
@@ -254,7 +273,7 @@ fn steps_of<H: Manager>(heap: &mut H, call: Call, meter: &mut Meter) -> u64 {
     meter.lap()
 }
 
-/// The steps of the last call of a script, on an open heap.
+/// Makes the calls of a script on an open heap, and returns the steps of the last one.
 pub(super) fn last_steps<H: Manager>(heap: &mut H, script: &[Call], meter: &mut Meter) -> u64 {
     let mut last = 0;
     for call in script.iter() {
@@ -263,7 +282,8 @@ pub(super) fn last_steps<H: Manager>(heap: &mut H, script: &[Call], meter: &mut 
     last
 }
 
-/// The number of the first row that takes other steps.
+/// Plays each row on a heap that is opened for it. Returns the index of the first whose last call takes
+/// other steps, or whose heap can't be opened; none if there is no such row.
 fn first_wrong<H: Manager>(heap: &mut H, rows: &[Row], meter: &mut Meter) -> Option<usize> {
     for i in 0..rows.len() {
         let [pages, page_bytes, proxies] = rows[i].settings;
@@ -280,6 +300,7 @@ fn first_wrong<H: Manager>(heap: &mut H, rows: &[Row], meter: &mut Meter) -> Opt
     None
 }
 
+// The last call of each script takes the steps of its row, on `TlsfHeap`.
 #[test]
 fn each_bound_of_tlsf_is_reached(rt: HostRuntime) -> Result<(), Fail> {
     let mut meter = Meter::new(&rt);
@@ -289,6 +310,7 @@ fn each_bound_of_tlsf_is_reached(rt: HostRuntime) -> Result<(), Fail> {
     Ok(())
 }
 
+// The last call of each script takes the steps of its row, on `HalfFitHeap`.
 #[test]
 fn each_bound_of_half_fit_is_reached(rt: HostRuntime) -> Result<(), Fail> {
     let mut meter = Meter::new(&rt);

@@ -1,11 +1,13 @@
-//! A block carved for TLSF, and the list that a need is searched from.
+//! Test of `TagBlocks` with the free lists of TLSF: which free block is carved for a need.
 use std::test::Fail;
 use step_ledger::Meter;
 use tag_blocks::TagBlocks;
 use tlsf_heap::TlsfBuckets;
 
-// 31 words of 64 are taken, and 33 are over. A need of 33 is searched from the list of 33 on, and
-// the block of 33 is in that of 32; a need of 32 is served, and the word that is over stays.
+// Of 64 free words `carve` takes 31, so a free block of 33 is left, at word 31. It is in list 32, which
+// also has blocks of 32 words. So a need of 33 words is searched from list 33 on, and finds none. A need of
+// 32 words finds it, and gets the word that is over too: the header of the block has size 33, bit 31 for a
+// used block, and above it the size 31 of the block before.
 #[test]
 fn a_block_is_carved(rt: HostRuntime) -> Result<(), Fail> {
     let mut meter = Meter::new(&rt);

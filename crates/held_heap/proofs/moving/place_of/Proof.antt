@@ -1,4 +1,5 @@
--- `place_of` keeps the address, and with it what lies there.
+-- By hand, the contract of `place_of`: it keeps the address, and the place owns the block there.
+-- The proof steps through the compiled body; a comment in brackets lists what is owned at that point, in order.
 use Rattle.std.proofs.Common.{◌≡◌, List, [], ◌∷◌, ◌++◌, refl, Some}
 use Rattle.std.proofs.raw_atomic.Walks.{proved_at, leaves}
 use base.Logic.{SProp, emp}

@@ -1,4 +1,5 @@
--- `unboxed_of` takes the address out of a place, and with it what lies there.
+-- By hand, the contract of `unboxed_of`: it takes the address out of the place, and the result owns the block there.
+-- The proof steps through the compiled body; a comment in brackets lists what is owned at that point, in order.
 use Rattle.std.proofs.Common.{◌≡◌, List, [], ◌∷◌, ◌++◌, refl, Some, IsSome}
 use Rattle.std.proofs.raw_atomic.Walks.{proved_at, leaves}
 use base.Logic.{SProp, emp}

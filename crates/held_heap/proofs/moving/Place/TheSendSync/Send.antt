@@ -1,4 +1,4 @@
--- The open heap of a place, and so the place, may go to another thread.
+-- For `unsafe impl Send for Place`: the open heap of a place, and so the place, may go to another thread.
 use denote.Param.Send.{AllSend, IsSend, owning_send, sendable, struct_send}
 use denote.Struct.Owning.{fields, shape, to}
 use denote.Struct.Struct.{exits_of}

@@ -1,4 +1,5 @@
--- `lend` lends the heap at the address; the heap that the borrow leaves becomes the place's.
+-- By hand, the contract of `Place::lend`: it borrows the heap at the address, and the heap as the borrow leaves it is the place's again.
+-- The proof steps through the compiled body; a comment in brackets lists what is owned at that point, in order.
 use Rattle.std.proofs.Common.{◌≡◌, ℕ, List, [], ◌∷◌, refl, sym, Some, IsSome, MutBor}
 use Rattle.std.proofs.raw_atomic.Walks.{proved, leaves}
 use base.Fraction.{full_share}

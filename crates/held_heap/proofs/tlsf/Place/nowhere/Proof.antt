@@ -1,4 +1,5 @@
--- `nowhere` has the null pointer, and owns nothing.
+-- By hand, the contract of `Place::nowhere`: the place has the null pointer, and owns nothing.
+-- The proof steps through the compiled body; a comment in brackets lists what is owned at that point, in order.
 use Rattle.std.proofs.Common.{◌≡◌, [], ◌∷◌, refl, Option, None, lit<}
 use Rattle.std.proofs.raw_atomic.Walks.{proved_at, leaves}
 use base.Logic.{SProp, emp}

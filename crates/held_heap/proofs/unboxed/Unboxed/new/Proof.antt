@@ -1,4 +1,5 @@
--- `new` takes the box apart: the call leaves the address and the allocator, and the block is the unboxed value's.
+-- By hand, the contract of `Unboxed::new`: it takes the box apart into address and allocator, and the result owns the block.
+-- The proof steps through the compiled body; a comment in brackets lists what is owned at that point, in order.
 use Rattle.std.proofs.Common.{◌≡◌, List, [], ◌∷◌, ◌++◌, refl}
 use Rattle.std.proofs.raw_atomic.Walks.{proved_at, leaves}
 use base.Fml.{ftrue, fsep, flft}
