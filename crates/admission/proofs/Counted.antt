@@ -13,7 +13,7 @@ use Rattle.cf_lemmas.proofs.Tests.{lt_yes}
 use Rattle.page_model.specs.Counts.{ceil_div}
 use Rattle.page_model.specs.Paging.{Paging, class_for, classes, slots_of}
 use Rattle.page_model.proofs.CallerLemmas.{class_fits}
-use Rattle.quota_model.specs.Admission.{CanBeAsked, IsEnough, Share, count_of_class, first_short, in_order, pages_of}
+use Rattle.quota_model.specs.Admission.{CanBeAsked, IsEnough, Share, count_of_class, first_refused_for_space, in_order, pages_of}
 use Rattle.quota_model.specs.Refusals.{task_paging}
 use Rattle.quota_model.specs.declared.answers.Need.{Need}
 use Rattle.quota_model.proofs.CallerLemmas.{all_fail, enough_iff, length-in_order, none_iff, pages_few, pages_of_none, some_iff, zeros}
@@ -49,7 +49,7 @@ fewer_is_short t needs asked pages is less = λ enough. (let within = (enough_if
 
 -- if the quota has at least the number of proxies in pages, no request is refused for space
 pub never_short : (t : Share) (needs : List Need) → CanBeAsked t.profile needs → t.profile.proxies ≤ t.quota
-    → (nth : ℕ) → first_short t empty 0 (in_order needs) ≡ Some nth → ⊥
+    → (nth : ℕ) → first_refused_for_space t empty 0 (in_order needs) ≡ Some nth → ⊥
 never_short t needs asked wide nth short =
     let few = asked.few in
     let count = length-in_order needs in
@@ -172,7 +172,7 @@ module _ (t : Share) (is_page : IsTrue (is_page_size t.profile.page_words)) (nee
           })
 
       pub short_here : (fit : ℕ) → IsPast t.quota (pages - ceil_div (get_or counts class 0) slots) (get_or counts class 0) (get_or needs i d).count slots fit
-          → first_short t empty 0 (in_order needs) ≡ Some (before + fit + 1)
+          → first_refused_for_space t empty 0 (in_order needs) ≡ Some (before + fit + 1)
       short_here fit past =
           let fewer = past.fewer in
           let within = past.within in

@@ -7,7 +7,7 @@ ghost use Rattle.cf_base.specs.Settings.{profile_of};
 ghost use Rattle.cf_base.specs.declared.kind.Layout.TheVariants.{Words};
 ghost use Rattle.page_model.specs.Counts.{ceil_div};
 ghost use Rattle.admission.specs.Layout.{IsPast};
-ghost use Rattle.quota_model.specs.Admission.{CanBeAsked, IsAdmission, IsEnough, declared_in_all, first_short, in_order, pages_of};
+ghost use Rattle.quota_model.specs.Admission.{CanBeAsked, IsAdmission, IsEnough, declared_in_all, first_refused_for_space, in_order, pages_of};
 ghost use Rattle.quota_model.specs.Refusals.{task_paging};
 ghost use Rattle.quota_model.specs.declared.answers.Admission.TheVariants.{Yes};
 
@@ -117,7 +117,7 @@ fn pages_within(s: &Settings, quota: u32, needs: &[Need]) -> Result<u32, u32>
     requires asked { CanBeAsked (profile_of s.now) needs.now }
     ensures pages { IfOk result (λ pages. pages ≡ pages_of (task_paging (profile_of s.now)) (in_order needs.now)) }
     ensures within { IfOk result (λ pages. pages ≤ quota) }
-    ensures short { IfErr result (λ nth. first_short (record { profile = profile_of s.now; quota = quota }) empty 0 (in_order needs.now) ≡ Some nth) }
+    ensures short { IfErr result (λ nth. first_refused_for_space (record { profile = profile_of s.now; quota = quota }) empty 0 (in_order needs.now) ≡ Some nth) }
 {
     let mut table = [0; CLASSES];
     let classes = fill_sizes(s.page_words, &mut table);
@@ -130,7 +130,7 @@ fn count_pages(s: &Settings, quota: u32, slot_sizes: &[u32], needs: &[Need]) -> 
     requires asked { CanBeAsked (profile_of s.now) needs.now }
     ensures pages { IfOk result (λ pages. pages ≡ pages_of (task_paging (profile_of s.now)) (in_order needs.now)) }
     ensures within { IfOk result (λ pages. pages ≤ quota) }
-    ensures short { IfErr result (λ nth. first_short (record { profile = profile_of s.now; quota = quota }) empty 0 (in_order needs.now) ≡ Some nth) }
+    ensures short { IfErr result (λ nth. first_refused_for_space (record { profile = profile_of s.now; quota = quota }) empty 0 (in_order needs.now) ≡ Some nth) }
 {
     let mut counts = [0u32; CLASSES];
     let mut pages = 0u64;

@@ -1,14 +1,11 @@
 //! Runs the commands of a generated script on a manager, without a session and without printing replies.
 ghost use Rattle.std.specs.Prelude.{IsTrue};
 
-use crate::script::Table;
+use crate::script::{NONE, Table};
 use cf_model::Manager;
 use generator::Generator;
 use script_reader::CommandRef;
 use step_ledger::Meter;
-
-/// The number that stands for no object.
-const NONE: u32 = 4_294_967_295;
 
 /// Runs one command of a generated script, and returns whether it succeeded.
 fn call<H: Manager>(heap: &mut H, c: CommandRef, table: &mut Table, meter: &mut Meter) -> bool

@@ -6,10 +6,11 @@ use std::alloc::Global;
 /// The number of bytes of a line.
 pub(crate) const LINE: usize = 24;
 
-/// The number of ids, and the number that stands for no object.
+/// The number of ids.
 const IDS: usize = 65_536;
 
-const NONE: u32 = 4_294_967_295;
+/// No object has this number: it marks an id without an object.
+pub(crate) const NONE: u32 = 4_294_967_295;
 
 /// The most bytes of a read or a write.
 const MOST: usize = 1_000_000;
@@ -50,7 +51,7 @@ impl Table {
         Some(Table { handles, bytes })
     }
 
-    /// The handle of an id; the number that stands for no object if the id has none.
+    /// The handle of an id; `NONE` if the id has no object.
     pub(crate) fn handle(&self, id: u32) -> Handle {
         match self.handles.get(id as usize) {
             Some(number) => Handle(*number),

@@ -1,7 +1,7 @@
 //! Makes the calls of a script on the sliced heap.
 ghost use Rattle.std.specs.Prelude.{IsTrue};
 
-use crate::script::{LINE, Line, Table};
+use crate::script::{LINE, Line, NONE, Table};
 use cf_base::{Handle, Settings};
 use rand_core::{Rng, SeedableRng};
 use rand_xoshiro::SplitMix64;
@@ -9,10 +9,8 @@ use sliced_heap::SlicedHeap;
 use std::alloc::Global;
 use step_ledger::Meter;
 
-/// The number of ids that drawn calls use, and the number that stands for no object.
+/// The number of ids that drawn calls use.
 const ENTRIES: u32 = 256;
-
-const NONE: u32 = 4_294_967_295;
 
 /// The length in bytes of a drawn malloc: half are below 256, some take a large part of a page.
 fn length_of(word: u64) -> u32 {

@@ -9,7 +9,7 @@ use Rattle.cf_session.specs.declared.outcome.Outcome.{Outcome}
 use Rattle.cf_session.specs.declared.outcome.Outcome.TheVariants.{Good, Refused, Other}
 use Rattle.generator.specs.Generated.{generated}
 use Rattle.run_model.proofs.CallerLemmas.{one_run, run_joined}
-use Rattle.run_model.specs.Runs.{BeginsOne, Run, Turn}
+use Rattle.run_model.specs.Runs.{BeginsOne, Run, IsCommandStep}
 use Rattle.run_model.specs.Sessions.{RunState}
 use Rattle.script_reader.specs.Items.{Item, asks}
 use Rattle.script_reader.specs.declared.command.Command.{Command}
@@ -37,11 +37,11 @@ one_at_most Refused = omega arith
 one_at_most Other = omega arith
 
 module _ (old mid new : RunState) (done : List Command) (command : Command) (reply : Reply) (outcome : Outcome) (ok refused ok2 refused2 : ℕ)
-    (a : IsAppliedTo old done mid ok refused) (turn : Turn mid command reply new) (shown : outcome ≡ outcome_of reply)
+    (a : IsAppliedTo old done mid ok refused) (turn : IsCommandStep mid command reply new) (shown : outcome ≡ outcome_of reply)
     (ok_more : ok2 ≡ ok + cond (is_good outcome) 1 0) (refused_more : refused2 ≡ refused + cond (is_refusal outcome) 1 0) where
   joined : Run old.heap.kind (Some old) (map (λ c. asks c) done ++ asks command ∷ []) (a.replies ++ reply ∷ []) (Some new)
-  joined = run_joined (BeginsOne old.heap.kind) Turn (Some old) (map (λ c. asks c) done) (asks command ∷ []) a.replies (reply ∷ []) (Some mid) (Some new) a.run
-      (one_run (BeginsOne old.heap.kind) Turn (Some mid) (Some new) (asks command) reply (new, turn, refl))
+  joined = run_joined (BeginsOne old.heap.kind) IsCommandStep (Some old) (map (λ c. asks c) done) (asks command ∷ []) a.replies (reply ∷ []) (Some mid) (Some new) a.run
+      (one_run (BeginsOne old.heap.kind) IsCommandStep (Some mid) (Some new) (asks command) reply (new, turn, refl))
 
   -- one more command was applied
   pub applied_more : IsAppliedTo old (done ++ command ∷ []) new ok2 refused2

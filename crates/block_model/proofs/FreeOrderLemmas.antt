@@ -10,7 +10,7 @@ use Rattle.cf_lemmas.proofs.Members.{contains_cases, contains_head, contains_nil
 use Rattle.cf_lemmas.proofs.Tests.{eq_yes, eq_no, le_yes, le_no}
 use Rattle.block_model.specs.Buckets.{FreeLists, AreLawful}
 use Rattle.block_model.specs.Tiling.{Block, Demand, Fill, IsTiling, Carves, Serves, block_at, one_free_block, size_at, size_of, carved, carved_at}
-use Rattle.block_model.specs.FreeOrder.{AreListsOf, CarvesNext, IsFreeOf, Listed, first_listed, first_lists, list_in, lists_carved, lists_led_by, lists_without, next_block}
+use Rattle.block_model.specs.FreeOrder.{AreListsOf, CarvesNext, IsFreeOf, BlocksWithLists, first_listed, first_lists, list_in, lists_carved, lists_led_by, lists_without, next_block}
 use Rattle.block_model.proofs.Others.{lies, skip, take_first}
 use Rattle.block_model.proofs.Rewriting.{apart}
 
@@ -293,7 +293,7 @@ module _ (d : Demand) (place : ℕ) where
 
 -- ---- a carve
 
-module _ (rule : FreeLists) (count : ℕ) (s : Listed) (of : AreListsOf rule count s) where
+module _ (rule : FreeLists) (count : ℕ) (s : BlocksWithLists) (of : AreListsOf rule count s) where
   -- the next block is free, of a bucket that is searched, and no lesser one has a block
   pub record IsNext (need a : ℕ) : Type 0 where
     pub block : Block
@@ -329,12 +329,12 @@ module _ (rule : FreeLists) (count : ℕ) (s : Listed) (of : AreListsOf rule cou
       by_cases None is = absurd (among x b there serves.free (first_none s.lists (rule.search need) (rule.bucket b.size) is serves.reached))
 
   pub carve_follows : (d : Demand) (x : ℕ) (b : Block) → block_at s.blocks x ≡ Some b → Serves rule d.need b
-      → (place : ℕ) × (new : Listed) × CarvesNext rule s d place new
+      → (place : ℕ) × (new : BlocksWithLists) × CarvesNext rule s d place new
   carve_follows d x b there serves =
       let n = next_there d.need x b there serves in
       (n.0, record { blocks = carved_at s.blocks n.0 d; lists = lists_carved rule s d.need n.0 }, record { next = n.1; blocks = refl; lists = refl })
 
-  module _ (d : Demand) (place : ℕ) (new : Listed) (c : CarvesNext rule s d place new) where
+  module _ (d : Demand) (place : ℕ) (new : BlocksWithLists) (c : CarvesNext rule s d place new) where
     next : IsNext d.need place
     next = next_is d.need place c.next
 
@@ -342,7 +342,7 @@ module _ (rule : FreeLists) (count : ℕ) (s : Listed) (of : AreListsOf rule cou
     pub carve_is_malloc : Carves rule s.blocks d place new.blocks
     carve_is_malloc = record { found = next.block; there = next.there; serves = next.serves; least = next.least; carved = c.blocks }
 
-pub one_carve : (rule : FreeLists) (s : Listed) (d : Demand) (a b : ℕ) (one two : Listed) → CarvesNext rule s d a one → CarvesNext rule s d b two
+pub one_carve : (rule : FreeLists) (s : BlocksWithLists) (d : Demand) (a b : ℕ) (one two : BlocksWithLists) → CarvesNext rule s d a one → CarvesNext rule s d b two
     → (a ≡ b) × (one ≡ two)
 one_carve rule s d a b one two c e =
     let same : a ≡ b = same_place a b (sym c.next ∙ e.next) in
@@ -351,7 +351,7 @@ one_carve rule s d a b one two c e =
     (same, λ i. record { blocks = blocks i; lists = lists i })
 
 -- the lists after a carve of a free block
-module _ (rule : FreeLists) (count words : ℕ) (lawful : AreLawful rule count) (few : words ≤ 2 ^ 23) (s : Listed) (t : IsTiling words s.blocks)
+module _ (rule : FreeLists) (count words : ℕ) (lawful : AreLawful rule count) (few : words ≤ 2 ^ 23) (s : BlocksWithLists) (t : IsTiling words s.blocks)
     (of : AreListsOf rule count s) (d : Demand) (some : 2 ≤ d.need) (place : ℕ) (found : Block) (there : block_at s.blocks place ≡ Some found)
     (free : found.owner ≡ None) where
   size_is : size_at s.blocks place ≡ found.size
@@ -421,7 +421,7 @@ module _ (rule : FreeLists) (count words : ℕ) (lawful : AreLawful rule count) 
         (lawful.below (found.size - d.need) (omega arith) (omega arith)))))
   ]
 
-pub carve_keeps_lists : (rule : FreeLists) (count words : ℕ) (old new : Listed) (d : Demand) (place : ℕ) → AreLawful rule count → words ≤ 2 ^ 23 → 2 ≤ d.need
+pub carve_keeps_lists : (rule : FreeLists) (count words : ℕ) (old new : BlocksWithLists) (d : Demand) (place : ℕ) → AreLawful rule count → words ≤ 2 ^ 23 → 2 ≤ d.need
     → IsTiling words old.blocks → AreListsOf rule count old → CarvesNext rule old d place new → AreListsOf rule count new
 carve_keeps_lists rule count words old new d place lawful few some t of c =
     let n = next_is rule count old of d.need place c.next in

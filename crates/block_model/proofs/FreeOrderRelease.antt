@@ -6,7 +6,7 @@ use Rattle.std.proofs.lemmas.Option.{same_Some as same_block}
 use Rattle.cf_lemmas.proofs.Tests.{eq_yes, eq_no}
 use Rattle.block_model.specs.Buckets.{FreeLists, AreLawful}
 use Rattle.block_model.specs.Tiling.{Block, Fill, AreMerged, IsTiling, is_free, starts_free, block_at, size_at, size_of, freed_at, joined, merged, released}
-use Rattle.block_model.specs.FreeOrder.{AreListsOf, Listed, free_from, free_size, free_up_to, lists_released, lists_without, merged_size, merged_start}
+use Rattle.block_model.specs.FreeOrder.{AreListsOf, BlocksWithLists, free_from, free_size, free_up_to, lists_released, lists_without, merged_size, merged_start}
 use Rattle.block_model.specs.Worked.{free}
 use Rattle.block_model.proofs.FreeOrderLemmas.{GainsFree, LosesFree, gained, lost}
 use Rattle.block_model.proofs.Others.{lies, skip, take_first, used_is_not_free}
@@ -299,7 +299,7 @@ gone_loses bs a = record {
   is = λ y b ne at by. gone_other bs a y ne ∙ at;
 }
 
-pub release_keeps_lists : (rule : FreeLists) (count words : ℕ) (s : Listed) (a : ℕ) (u : Block) (h : ℕ) → AreLawful rule count → words ≤ 2 ^ 23
+pub release_keeps_lists : (rule : FreeLists) (count words : ℕ) (s : BlocksWithLists) (a : ℕ) (u : Block) (h : ℕ) → AreLawful rule count → words ≤ 2 ^ 23
     → IsTiling words s.blocks → AreListsOf rule count s → block_at s.blocks a ≡ Some u → u.owner ≡ Some h
     → AreListsOf rule count (record { blocks = released s.blocks a; lists = lists_released rule s a })
 release_keeps_lists rule count words s a u h lawful few t of there used =

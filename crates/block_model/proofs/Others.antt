@@ -14,13 +14,13 @@ fill_le [] from to f = omega arith
 fill_le (b ∷ bs) from to f = (let r = fill_le bs (from + b.size) to f.2 in omega arith)
 
 -- a block at an address is between the ends of its list
-pub record Lies (b : Block) (a from to : ℕ) : Type 0 where
+pub record IsBlockWithin (b : Block) (a from to : ℕ) : Type 0 where
   pub address : b.address ≡ a
   pub size : 2 ≤ b.size
   pub low : from ≤ a
   pub high : a + b.size ≤ to
 
-pub lies : (bs : List Block) (from to a : ℕ) (b : Block) → Fill bs from to → block_at bs a ≡ Some b → Lies b a from to
+pub lies : (bs : List Block) (from to a : ℕ) (b : Block) → Fill bs from to → block_at bs a ≡ Some b → IsBlockWithin b a from to
 lies [] from to a b f there = cc
 lies (x ∷ xs) from to a b f there = elim (cases_eq x.address a) [
   | inl is ↦ (
@@ -28,7 +28,7 @@ lies (x ∷ xs) from to a b f there = elim (cases_eq x.address a) [
       let same : x ≡ b = cc in
       let e = f.0 in let size = f.1 in
       let r = fill_le xs (from + x.size) to f.2 in
-      subst (λ y. Lies y a from to) same (record { address = is; size = size; low = omega arith; high = omega arith }))
+      subst (λ y. IsBlockWithin y a from to) same (record { address = is; size = size; low = omega arith; high = omega arith }))
   | inr other ↦ (
       let there' : block_at xs a ≡ Some b = rw (eq_no x.address a other) at there in
       let r = lies xs (from + x.size) to a b f.2 there' in

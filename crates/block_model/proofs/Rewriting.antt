@@ -8,7 +8,7 @@ use Rattle.std.proofs.lemmas.List.FromFn.{length-map-range_with_len, get_or-map-
 use Rattle.std.proofs.lemmas.List.{get_or_past}
 use Rattle.block_model.specs.Tiling.{Block, Fill, IsTiling, block_at}
 use Rattle.block_model.specs.Words.{AreTilingWords, HaveHeaders}
-use Rattle.block_model.proofs.Others.{Lies, lies}
+use Rattle.block_model.proofs.Others.{IsBlockWithin, lies}
 use Rattle.cf_lemmas.proofs.Tests.{eq_yes, eq_no, le_yes, le_no, lt_yes, lt_no}
 
 -- the block at an address stays that block in a longer list
@@ -90,7 +90,7 @@ module _ (content now : ℕ → ℕ → ℕ) (count : ℕ) (bs : List Block) (wo
   abbrev pub refilled : List ℕ
   refilled = replaced (now h) (place + 1) (b.size - 1) words
 
-  mine : Lies b place 0 count
+  mine : IsBlockWithin b place 0 count
   mine = lies bs 0 count place b t.fill there
 
   -- the words of another block stay

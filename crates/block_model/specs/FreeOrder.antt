@@ -7,7 +7,7 @@ use Rattle.block_model.specs.Buckets.{FreeLists}
 use Rattle.block_model.specs.Tiling.{Block, Demand, is_free, block_at, size_at, carved_at}
 
 -- the blocks of a region, and for each bucket its free list: the addresses of its free blocks, the next one to be used first
-pub record Listed : Type 0 where
+pub record BlocksWithLists : Type 0 where
   pub blocks : List Block
   pub lists : List (List ℕ)
 
@@ -23,7 +23,7 @@ pub record IsFreeOf (rule : FreeLists) (blocks : List Block) (k a : ℕ) : Type 
   pub bucket : rule.bucket block.size ≡ k
 
 -- the lists of s are those of its blocks: there are `count` lists, and each contains exactly the free blocks of its bucket, each once
-pub record AreListsOf (rule : FreeLists) (count : ℕ) (s : Listed) : Type 0 where
+pub record AreListsOf (rule : FreeLists) (count : ℕ) (s : BlocksWithLists) : Type 0 where
   pub as_many : length s.lists ≡ count
   pub members : (k a : ℕ) → Contains (list_in s.lists k) a ↔ IsFreeOf rule s.blocks k a
   pub once : (k : ℕ) → IsDistinct nat_eq (list_in s.lists k)
@@ -52,14 +52,14 @@ first_lists rule count words = lists_led_by rule (replicate count []) 0 words
 
 -- the lists of s after its block at `place` is carved for a need: it leaves its list, and the rest of it, if two words or more are left, becomes the first
 -- block of its list
-abbrev pub lists_carved : FreeLists → Listed → ℕ → ℕ → List (List ℕ)
+abbrev pub lists_carved : FreeLists → BlocksWithLists → ℕ → ℕ → List (List ℕ)
 lists_carved rule s need place =
     if nat_le (need + 2) (size_at s.blocks place)
     then lists_led_by rule (lists_without s.lists place) (place + need) (size_at s.blocks place - need)
     else lists_without s.lists place
 
 -- a malloc that follows the lists turns `old` into `new`: it carves the next block for the need of d, at `place`
-pub record CarvesNext (rule : FreeLists) (old : Listed) (d : Demand) (place : ℕ) (new : Listed) : Type 0 where
+pub record CarvesNext (rule : FreeLists) (old : BlocksWithLists) (d : Demand) (place : ℕ) (new : BlocksWithLists) : Type 0 where
   pub next : next_block rule old.lists d.need ≡ Some place
   pub blocks : new.blocks ≡ carved_at old.blocks place d
   pub lists : new.lists ≡ lists_carved rule old d.need place
@@ -88,7 +88,7 @@ merged_size blocks a = free_up_to blocks a + (size_at blocks a + free_from block
 
 -- the lists of s after a release of its block at `a`: its free neighbours leave their lists, and the merged block becomes the first of its list; a used
 -- neighbour is in no list, so removing it changes nothing
-abbrev pub lists_released : FreeLists → Listed → ℕ → List (List ℕ)
+abbrev pub lists_released : FreeLists → BlocksWithLists → ℕ → List (List ℕ)
 lists_released rule s a =
     lists_led_by rule (lists_without (lists_without s.lists (a + size_at s.blocks a)) (merged_start s.blocks a)) (merged_start s.blocks a) (merged_size s.blocks a)
 

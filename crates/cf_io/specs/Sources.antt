@@ -68,8 +68,8 @@ abbrev pub mem_buffer : MemSource → List ℕ → List ℕ
 mem_buffer s buf = if is_due s.schedule then buf else filled (mem_count s (length buf)) s.left buf
 
 -- the buffer `buf` holds the pattern over and over, beginning with the pattern's byte `at`
-abbrev pub Loops : List ℕ → ℕ → List ℕ → Type 0
-Loops pattern at buf = EachIndex buf (λ k. slice_index buf k ≡ slice_index pattern ((at + k) % length pattern))
+abbrev pub RepeatsPattern : List ℕ → ℕ → List ℕ → Type 0
+RepeatsPattern pattern at buf = EachIndex buf (λ k. slice_index buf k ≡ slice_index pattern ((at + k) % length pattern))
 
 -- the source s after a call that returned n bytes
 abbrev pub loop_after : LoopSource → ℕ → LoopSource

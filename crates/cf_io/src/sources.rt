@@ -2,7 +2,7 @@
 //! ends.
 ghost use Rattle.std.specs.Prelude.{◌≡◌, ◌<◌, ◌≤◌, ◌+◌, ◌%◌, ◌++◌, false, Some, None, length, take, drop, IfOk};
 ghost use Rattle.std.specs.Result.{result_ok};
-ghost use Rattle.cf_io.specs.Sources.{Loops, filled, loop_after, loop_source};
+ghost use Rattle.cf_io.specs.Sources.{RepeatsPattern, filled, loop_after, loop_source};
 ghost use Rattle.cf_io.specs.Sources.{mem_after, mem_answer, mem_buffer, mem_source};
 ghost use Rattle.cf_io.specs.Sources.{sure_after, sure_count, sure_source};
 
@@ -199,7 +199,7 @@ impl Source for LoopSource {
         ensures full { result ≡ Ok (length buf.old) }
         ensures source { self.new ≡ loop_after self.old (length buf.old) }
         ensures within { IfOk result (λ n. n ≤ length buf.new) }
-        ensures buffer { Loops self.old.pattern self.old.at buf.new }
+        ensures buffer { RepeatsPattern self.old.pattern self.old.at buf.new }
     {
         self.at = fill_over(&self.pattern, self.at, buf);
         self.given = self.given.saturating_add(buf.len() as u64);
@@ -222,7 +222,7 @@ fn hand(bytes: &[u8], n: usize, buf: &mut [u8])
 fn fill_over(pattern: &[u8], at: usize, buf: &mut [u8]) -> usize
     requires { at < length pattern.now }
     ensures next { result ≡ (at + length buf.old) % length pattern.now }
-    ensures buffer { Loops pattern.now at buf.new }
+    ensures buffer { RepeatsPattern pattern.now at buf.new }
 {
     let mut next = at;
     let mut full = 0;

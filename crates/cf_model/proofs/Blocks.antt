@@ -11,11 +11,11 @@ use Rattle.page_model.specs.Paging.{IsPaging, paging_of}
 use Rattle.page_model.specs.Arrangement.{IsSound}
 use Rattle.page_model.specs.Frames.{AreBlocks, IsPhysical, block_of, frames_after}
 use Rattle.page_model.specs.Image.{IsSlotImage, object_word, slot_for}
-use Rattle.page_model.specs.Steps.{Request, Leaves, Moves, RemovesObject as IsFreedBy}
+use Rattle.page_model.specs.Steps.{Request, CallResult, Moves, RemovesObject as IsFreedBy}
 use Rattle.page_model.proofs.CallerLemmas.{bytes_held, free_blocks, resize_blocks, physical_word, in_blocks}
 use Rattle.cf_model.specs.State.{HeapState, paging_in, layout_of}
 use Rattle.cf_model.specs.Rules.{KeepsRules, KeepsRulesOf}
-use Rattle.cf_model.specs.Steps.{FreesObject, ResizesObject, BlocksStay, MovesIn, frames_left, leaves_of, number_of}
+use Rattle.cf_model.specs.Steps.{FreesObject, ResizesObject, BlocksStay, MovesIn, frames_left, call_result, number_of}
 
 -- the rules of the non-moving manager that this file uses
 record Framed (s : HeapState) : Type 0 where
@@ -64,7 +64,7 @@ blocks_after_free old h freed new is before after f =
     let o = framed old is before in
     let n = framed new (f.rest.kind ∙ is) after in
     let same : paging_in new ≡ paging_in old = λ i. paging_of (f.rest.profile i) (layout_of (f.rest.kind i)) (f.rest.bounds i) in
-    let out : Leaves = leaves_of old h f.object moved in
+    let out : CallResult = call_result old h f.object moved in
     let moves : Moves (paging_in old) old.held f.object moved = subst (λ k. MovesIn k old f.object moved) is f.moves in
     let step : IsFreedBy (paging_in old) old.held h out = record { freed = f.object; found = f.found; moves = moves; left = refl } in
     let frames : new.frames ≡ frames_after (paging_in old) old.held out old.frames = f.frames ∙ ap (λ k. frames_left k old out) is in
@@ -87,7 +87,7 @@ blocks_after_resize old asked done new is before after f =
     let o = framed old is before in
     let n = framed new (ap (λ (s : HeapState). s.kind) f.whole ∙ is) after in
     let same : paging_in new ≡ paging_in old = ap paging_in f.whole in
-    let out : Leaves = record { held = new.held; moved = number_of done.moved } in
+    let out : CallResult = record { held = new.held; moved = number_of done.moved } in
     let frames : new.frames ≡ frames_after (paging_in old) old.held out old.frames = ap (λ (s : HeapState). s.frames) f.whole
     ∙ ap (λ k. frames_left k old out) is in
     let stay : (q : ℕ) (x y : Placed) → q ≢ asked.number → get old.held q ≡ Some x → get new.held q ≡ Some y → (i : ℕ)

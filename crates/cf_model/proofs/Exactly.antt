@@ -18,7 +18,7 @@ use Rattle.block_model.specs.Tiling.{Carves, LacksBlock, block_need}
 use Rattle.cf_model.specs.Families.{Family, paged, tiled, family_of, free_lists_of}
 use Rattle.cf_model.specs.State.{HeapState, paging_in}
 use Rattle.cf_model.specs.Rules.{IsPaged, IsTiled}
-use Rattle.cf_model.specs.Steps.{GivesObject, IsPlacedBy, IsRefusedBy, LacksRoomIn, Part, IsFault, ResizesObject, IsResizeFault}
+use Rattle.cf_model.specs.Steps.{AddsObject, IsPlacedBy, IsRefusedBy, LacksRoomIn, Position, IsFault, ResizesObject, IsResizeFault}
 
 placed_is_room : (k : Kind) (old new : HeapState) (asked : Request) (place : ℕ) → IsPlacedBy k old asked place new → LacksRoomIn k old asked.length → ⊥
 placed_is_room k old new asked place placed lacking = by_family (family_of k) refl
@@ -32,7 +32,7 @@ placed_is_room k old new asked place placed lacking = by_family (family_of k) re
         none place carves.found carves.there carves.serves
 
 -- a malloc that succeeds has no cause for a refusal
-pub given_is_not_refused : (old new : HeapState) (asked : Request) → GivesObject old asked new → (e : Refusal) → IsRefusedBy old asked.length e → ⊥
+pub given_is_not_refused : (old new : HeapState) (asked : Request) → AddsObject old asked new → (e : Refusal) → IsRefusedBy old asked.length e → ⊥
 given_is_not_refused old new asked given refusal.Size cause = (let fits = given.fits in omega arith)
 given_is_not_refused old new asked given refusal.Proxy cause = (let few = given.few in let all = cause.all in omega arith)
 given_is_not_refused old new asked given refusal.Space cause = placed_is_room old.kind old new asked given.place given.placed cause.lacking
@@ -53,12 +53,12 @@ pub not_none_found : (m : Held) (h : ℕ) (x : Placed) → get m h ≡ Some x �
 not_none_found m h x e f = (let g : Some x ≡ None = sym e ∙ f in cc)
 
 -- a read or write within the object has no cause for a refusal
-pub part_is_not_refused : (s : HeapState) (part : Part) (count : ℕ) (x : Placed) → get s.held part.number ≡ Some x → part.from + count ≤ length x.bytes
-    → (e : AccessFault) → IsFault s part count e → ⊥
-part_is_not_refused s part count x found within access.Unknown cause = not_none_found s.held part.number x found cause
-part_is_not_refused s part count x found within access.Range cause =
-    let same = found_once s.held part.number cause.object x cause.found found in
-    let past : length x.bytes < part.from + count = subst (λ (z : Placed). length z.bytes < part.from + count) same cause.past in
+pub part_is_not_refused : (s : HeapState) (position : Position) (count : ℕ) (x : Placed) → get s.held position.number ≡ Some x → position.from + count ≤ length x.bytes
+    → (e : AccessFault) → IsFault s position count e → ⊥
+part_is_not_refused s position count x found within access.Unknown cause = not_none_found s.held position.number x found cause
+part_is_not_refused s position count x found within access.Range cause =
+    let same = found_once s.held position.number cause.object x cause.found found in
+    let past : length x.bytes < position.from + count = subst (λ (z : Placed). length z.bytes < position.from + count) same cause.past in
     omega arith
 
 -- no kind has both pages and blocks

@@ -20,10 +20,10 @@ use Rattle.page_model.specs.Held.{Held, Placed}
 use Rattle.page_model.specs.Image.{IsImage, IsOutside, slot_for}
 use Rattle.page_model.specs.Order.{Order, FreeFollows, MallocFollows, ResizeFollows}
 use Rattle.page_model.specs.Paging.{Paging}
-use Rattle.page_model.specs.Steps.{Leaves, Request, without, zeros_at}
+use Rattle.page_model.specs.Steps.{CallResult, Request, without, zeros_at}
 use Rattle.page_model.proofs.CallerLemmas.{free_once, image_unique, malloc_once, resize_once}
 use Rattle.block_model.specs.Costs.{carve_steps}
-use Rattle.block_model.specs.FreeOrder.{CarvesNext, Listed, list_in, lists_released, no_block}
+use Rattle.block_model.specs.FreeOrder.{CarvesNext, BlocksWithLists, list_in, lists_released, no_block}
 use Rattle.block_model.specs.Tiling.{Block, block_at, block_need, size_at, size_of}
 use Rattle.block_model.specs.Words.{AreTilingWords}
 use Rattle.block_model.proofs.CallerLemmas.{one_carve}
@@ -35,8 +35,8 @@ use Rattle.cf_model.specs.Ordered.{BlockFreeInOrder, BlockMallocInOrder, CarvesI
 use Rattle.cf_model.specs.Ordered.{MallocByOrder, MallocInOrder, ResizeByOrder, ResizeInOrder}
 use Rattle.cf_model.specs.Rules.{IsBlockOrder, IsPaged, IsTiled, KeepsPages, KeepsRules, KeepsRulesOf, KeepsTable, KeepsTiling, content_word, listed_by}
 use Rattle.cf_model.specs.State.{HeapState, paging_in, region_words}
-use Rattle.cf_model.specs.Steps.{ChangesCost, FreesObject, GivesObject, IsFault, IsFreeStep, IsMallocStep, IsResizeFault, IsResizeStep, IsUnmoved, IsWriteStep, MovesIn, Part}
-use Rattle.cf_model.specs.Steps.{ResizesObject, StaysOutside, WritesBytes, frames_left, leaves_of, number_of, slot_in, tiling_left}
+use Rattle.cf_model.specs.Steps.{ChangesCost, FreesObject, AddsObject, IsFault, IsFreeStep, IsMallocStep, IsResizeFault, IsResizeStep, IsLeftByRefusal, IsWriteStep, MovesIn, Position}
+use Rattle.cf_model.specs.Steps.{ResizesObject, StaysOutside, WritesBytes, frames_left, call_result, number_of, slot_in, tiling_left}
 use Rattle.cf_model.proofs.BlockWords.{link_outside, links_agree, some_order, words_once}
 use Rattle.cf_model.proofs.Exactly.{both_kinds, given_is_not_refused, not_none_found, one_cause, part_is_not_refused, resized_is_not_refused}
 use Rattle.cf_model.proofs.PageSteps.{free_removes}
@@ -159,11 +159,11 @@ one_fault s asked resize.Space resize.Size x y = (let large = y.large in let fit
 one_fault s asked resize.Space resize.Space x y = refl
 
 -- a write has at most one cause for a refusal
-one_access_fault : (s : HeapState) (part : Part) (n : ℕ) (e f : AccessFault) → IsFault s part n e → IsFault s part n f → e ≡ f
-one_access_fault s part n access.Unknown access.Unknown x y = refl
-one_access_fault s part n access.Unknown access.Range x y = absurd (not_none_found s.held part.number y.object y.found x)
-one_access_fault s part n access.Range access.Unknown x y = absurd (not_none_found s.held part.number x.object x.found y)
-one_access_fault s part n access.Range access.Range x y = refl
+one_access_fault : (s : HeapState) (position : Position) (n : ℕ) (e f : AccessFault) → IsFault s position n e → IsFault s position n f → e ≡ f
+one_access_fault s position n access.Unknown access.Unknown x y = refl
+one_access_fault s position n access.Unknown access.Range x y = absurd (not_none_found s.held position.number y.object y.found x)
+one_access_fault s position n access.Range access.Unknown x y = absurd (not_none_found s.held position.number x.object x.found y)
+one_access_fault s position n access.Range access.Range x y = refl
 
 -- ---- malloc
 
@@ -182,7 +182,7 @@ module _ (old new next : HeapState) (some : IsSome old.order) (before : KeepsRul
   some_after after is = ap is_some is
 
   -- the address of the object that a malloc added
-  given_there : (h : Handle) (n : ℕ) (s : HeapState) (g : GivesObject old (record { number = h.0; length = n }) s) → place_of s h.0 ≡ Some g.place
+  given_there : (h : Handle) (n : ℕ) (s : HeapState) (g : AddsObject old (record { number = h.0; length = n }) s) → place_of s h.0 ≡ Some g.place
   given_there h n s g = ap (λ (x : HeapState). place_of x h.0) g.whole
       ∙ ap (option_map (λ (x : Placed). x.place)) (get_inserted old.held h.0 (zeros_at g.place n))
 
@@ -195,8 +195,8 @@ module _ (old new next : HeapState) (some : IsSome old.order) (before : KeepsRul
     order : next.order ≡ new.order
     cost : next.cost ≡ new.cost
 
-  module _ (bytes : ℕ) (h q : Handle) (g : GivesObject old (record { number = h.0; length = bytes }) new) (first_is : IsOrderedMalloc old bytes (Ok h) new)
-      (f : GivesObject old (record { number = q.0; length = bytes }) next) (second_is : IsOrderedMalloc old bytes (Ok q) next) where
+  module _ (bytes : ℕ) (h q : Handle) (g : AddsObject old (record { number = h.0; length = bytes }) new) (first_is : IsOrderedMalloc old bytes (Ok h) new)
+      (f : AddsObject old (record { number = q.0; length = bytes }) next) (second_is : IsOrderedMalloc old bytes (Ok q) next) where
     abbrev mine : Request
     mine = record { number = h.0; length = bytes }
 
@@ -254,8 +254,8 @@ module _ (old new next : HeapState) (some : IsSome old.order) (before : KeepsRul
         (sym number) again.carves in
         let (place, left) = one_carve (free_lists_of old.kind) (listed_by old s.before) (record { need = block_need bytes; owner = h.0 }) g.place f.place
         (listed_by new s.after) (listed_by next t.after) chosen.carves carves in
-        let tiling : next.tiling ≡ new.tiling = sym (ap (λ (l : Listed). l.blocks) left) in
-        let lists : s.after.not_full ≡ t.after.not_full = ap (λ (l : Listed). l.lists) left in
+        let tiling : next.tiling ≡ new.tiling = sym (ap (λ (l : BlocksWithLists). l.blocks) left) in
+        let lists : s.after.not_full ≡ t.after.not_full = ap (λ (l : BlocksWithLists). l.lists) left in
         let order : s.after ≡ t.after = chosen.left ∙ (λ i. record s.before { not_full = lists i; spare = rest i }) ∙ sym again.left in
         let there : place_of next q.0 ≡ place_of new h.0 = given_there q bytes next f ∙ ap Some (sym place) ∙ sym (given_there h bytes new g) in
         let steps : Option ℕ → List Block → ℕ = λ o bs.
@@ -354,7 +354,7 @@ module _ (old new next : HeapState) (some : IsSome old.order) (before : KeepsRul
         (record { held = next.held; moved = number_of other.moved }) s.before s.after t.after (pages_kept old.kind old is before.of_kind).sound
         (free_removes old new h freed is g) u.choice (free_removes old next h other is f) again in
         record {
-          number = ap (λ (l : Leaves). l.moved) left;
+          number = ap (λ (l : CallResult). l.moved) left;
           some_new = some_after s.after s.is;
           order = t.is ∙ ap Some (sym order) ∙ sym s.is;
           cost = λ answer tiling. v.cost ∙ ap (λ o. free_cost old o h (Ok other)) (sym one_free_order) ∙ ap (λ a. free_cost old s.before h (Ok a)) (sym answer)
@@ -400,8 +400,8 @@ module _ (old new next : HeapState) (some : IsSome old.order) (before : KeepsRul
         ∙ ap (λ m. without old.held h g.object.place m) (sym a.number) ∙ sym g.held in
         let slot : freed.slot_words ≡ other.slot_words = g.slot ∙ ap (slot_in old.kind old) object ∙ sym f.slot in
         let answer : freed ≡ other = λ i. record { slot_words = slot i; moved = moved i } in
-        let frames : next.frames ≡ new.frames = f.frames ∙ ap (λ x. frames_left old.kind old (leaves_of old h x (number_of other.moved))) (sym object)
-        ∙ ap (λ m. frames_left old.kind old (leaves_of old h g.object m)) (sym a.number) ∙ sym g.frames in
+        let frames : next.frames ≡ new.frames = f.frames ∙ ap (λ x. frames_left old.kind old (call_result old h x (number_of other.moved))) (sym object)
+        ∙ ap (λ m. frames_left old.kind old (call_result old h g.object m)) (sym a.number) ∙ sym g.frames in
         let tiling : next.tiling ≡ new.tiling = f.tiling ∙ ap (λ (x : Placed). tiling_left old.kind old x.place) (sym object) ∙ sym g.tiling in (
           answer,
           same_state new next a.some_new first second (f.rest.kind ∙ sym g.rest.kind) (f.rest.opened ∙ sym g.rest.opened)
@@ -445,12 +445,12 @@ module _ (old new next : HeapState) (some : IsSome old.order) (before : KeepsRul
       let v : ResizeInOrder old asked (Ok other) next t.before t.after = rw (g.pages, ResizeByOrder) at t.steps in
       let pages = pages_kept old.kind old g.pages before.of_kind in
       let one : s.before ≡ t.before = one_order s.before t.before s.was t.was in
-      let after : Leaves = record { held = new.held; moved = number_of done.moved } in
-      let other_after : Leaves = record { held = next.held; moved = number_of other.moved } in
+      let after : CallResult = record { held = new.held; moved = number_of done.moved } in
+      let other_after : CallResult = record { held = next.held; moved = number_of other.moved } in
       let again : ResizeFollows p old.held asked other_after s.before t.after = subst (λ o. ResizeFollows p old.held asked other_after o t.after) (sym one) v.choice in
       let (left, order) = resize_once p old.held asked after other_after s.before s.after t.after pages.paging pages.sound g.step u.choice f.step again in
-      let held : next.held ≡ new.held = sym (ap (λ (l : Leaves). l.held) left) in
-      let moved = same_moved done.moved other.moved (ap (λ (l : Leaves). l.moved) left) in
+      let held : next.held ≡ new.held = sym (ap (λ (l : CallResult). l.held) left) in
+      let moved = same_moved done.moved other.moved (ap (λ (l : CallResult). l.moved) left) in
       let object : g.object ≡ f.object = found_once old.held asked.number g.object f.object g.found f.found in
       let was : done.old_slot_words ≡ other.old_slot_words = g.old_slot ∙ ap (λ (x : Placed). slot_for p (length x.bytes)) object ∙ sym f.old_slot in
       let now : done.slot_words ≡ other.slot_words = g.slot ∙ sym f.slot in
@@ -470,8 +470,8 @@ module _ (old new next : HeapState) (some : IsSome old.order) (before : KeepsRul
             (t.is ∙ ap Some (sym order) ∙ sym s.is) costs,
       )
 
-  refused_resize : (asked : Request) (e d : ResizeFault) → e ≡ d → IsUnmoved old.kind old new → IsOrderedResize old asked (Err e) new
-      → IsUnmoved old.kind old next → IsOrderedResize old asked (Err d) next → next ≡ new
+  refused_resize : (asked : Request) (e d : ResizeFault) → e ≡ d → IsLeftByRefusal old.kind old new → IsOrderedResize old asked (Err e) new
+      → IsLeftByRefusal old.kind old next → IsOrderedResize old asked (Err d) next → next ≡ new
   refused_resize asked e d fault same first_is again second_is = by_family (family_of old.kind) refl
     where
       by_family : (k : Family) → family_of old.kind ≡ k → next ≡ new
@@ -483,12 +483,12 @@ module _ (old new next : HeapState) (some : IsSome old.order) (before : KeepsRul
           let one : s.before ≡ t.before = one_order s.before t.before s.was t.was in
           let costs : next.cost ≡ new.cost = v.cost ∙ ap (λ o. resize_cost old o asked (Err d)) (sym one)
           ∙ ap (λ g. resize_cost old s.before asked (Err g)) (sym fault) ∙ sym u.cost in
-          let a : ChangesCost old new = rw (is, IsUnmoved) at same in
-          let b : ChangesCost old next = rw (is, IsUnmoved) at again in
+          let a : ChangesCost old new = rw (is, IsLeftByRefusal) at same in
+          let b : ChangesCost old next = rw (is, IsLeftByRefusal) at again in
           both_changed a b costs
       by_family family.tiled is =
-          let a : new ≡ old = rw (is, IsUnmoved) at same in
-          let b : next ≡ old = rw (is, IsUnmoved) at again in
+          let a : new ≡ old = rw (is, IsLeftByRefusal) at same in
+          let b : next ≡ old = rw (is, IsLeftByRefusal) at again in
           b ∙ sym a
 
   pub one_resize : (asked : Request) (r s : Result Resized ResizeFault) → IsResizeStep old asked r new → IsOrderedResize old asked r new
@@ -505,22 +505,22 @@ module _ (old new next : HeapState) (some : IsSome old.order) (before : KeepsRul
 -- a write has one outcome without an order too: it changes no word of a free block
 module _ (old new next : HeapState) (first : KeepsRules new) (second : KeepsRules next) where
   -- with blocks, a write keeps word 1 of each free block
-  link_kept : (s : HeapState) (part : Part) (bytes : List ℕ) (g : WritesBytes old part bytes s) → IsTiled old.kind → KeepsTiling s
+  link_kept : (s : HeapState) (position : Position) (bytes : List ℕ) (g : WritesBytes old position bytes s) → IsTiled old.kind → KeepsTiling s
       → (p : ℕ) (c : Block) → block_at s.tiling p ≡ Some c → c.owner ≡ None → slice_index s.words (p + 1) ≡ slice_index old.words (p + 1)
-  link_kept s part bytes g is ts p c at free =
-      let x : Placed = record g.object { bytes = written g.object.bytes part.from bytes } in
-      let found : get s.held part.number ≡ Some x = ap (λ (y : HeapState). get y.held part.number) g.whole ∙ get_inserted old.held part.number x in
-      let own = ts.owned.placed part.number x found in
+  link_kept s position bytes g is ts p c at free =
+      let x : Placed = record g.object { bytes = written g.object.bytes position.from bytes } in
+      let found : get s.held position.number ≡ Some x = ap (λ (y : HeapState). get y.held position.number) g.whole ∙ get_inserted old.held position.number x in
+      let own = ts.owned.placed position.number x found in
       let size : size_at old.tiling g.object.place ≡ own.0.size =
       ap (λ (bs : List Block). size_at bs g.object.place) (sym (ap (λ (y : HeapState). y.tiling) g.whole)) ∙ ap size_of own.1 in
       let stays : (w : ℕ) → IsOutside g.object.place (size_at old.tiling g.object.place) w → slice_index s.words w ≡ slice_index old.words w =
       rw (is, StaysOutside) at g.outside in
       stays (p + 1) (subst (λ n. IsOutside g.object.place n (p + 1)) (sym size)
-      (link_outside (region_words s.profile) s.tiling ts.tiling g.object.place p own.0 c part.number own.1 own.2.owner at free))
+      (link_outside (region_words s.profile) s.tiling ts.tiling g.object.place p own.0 c position.number own.1 own.2.owner at free))
 
-  words_written : (part : Part) (bytes : List ℕ) → WritesBytes old part bytes new → WritesBytes old part bytes next → next.held ≡ new.held
+  words_written : (position : Position) (bytes : List ℕ) → WritesBytes old position bytes new → WritesBytes old position bytes next → next.held ≡ new.held
       → next.words ≡ new.words
-  words_written part bytes g f held = by_family (family_of old.kind) refl
+  words_written position bytes g f held = by_family (family_of old.kind) refl
     where
       kind : new.kind ≡ old.kind
       kind = ap (λ (x : HeapState). x.kind) g.whole
@@ -542,21 +542,21 @@ module _ (old new next : HeapState) (first : KeepsRules new) (second : KeepsRule
           let ta = tiling_kept new.kind new (ap family_of kind ∙ is) first.of_kind in
           let tb = tiling_kept next.kind next (ap family_of kind' ∙ is) second.of_kind in
           tiled_words new next first second ta tb profile held tiling
-          (λ p c at free. link_kept next part bytes f is tb p c (ap (λ bs. block_at bs p) tiling ∙ at) free ∙ sym (link_kept new part bytes g is ta p c at free))
+          (λ p c at free. link_kept next position bytes f is tb p c (ap (λ bs. block_at bs p) tiling ∙ at) free ∙ sym (link_kept new position bytes g is ta p c at free))
 
-  write_same : (part : Part) (bytes : List ℕ) → WritesBytes old part bytes new → WritesBytes old part bytes next → next ≡ new
-  write_same part bytes g f =
-      let object : f.object ≡ g.object = found_once old.held part.number f.object g.object f.found g.found in
-      let put : Placed → Held = λ (x : Placed). insert old.held part.number (record x { bytes = written x.bytes part.from bytes }) in
+  write_same : (position : Position) (bytes : List ℕ) → WritesBytes old position bytes new → WritesBytes old position bytes next → next ≡ new
+  write_same position bytes g f =
+      let object : f.object ≡ g.object = found_once old.held position.number f.object g.object f.found g.found in
+      let put : Placed → Held = λ (x : Placed). insert old.held position.number (record x { bytes = written x.bytes position.from bytes }) in
       let held : next.held ≡ new.held = ap (λ (x : HeapState). x.held) f.whole ∙ ap put object ∙ sym (ap (λ (x : HeapState). x.held) g.whole) in
-      let words = words_written part bytes g f held in
+      let words = words_written position bytes g f held in
       f.whole ∙ (λ i. record old { held = put (object i); words = words i }) ∙ sym g.whole
 
-  pub one_write : (part : Part) (bytes : List ℕ) (r s : Result Unit AccessFault) → IsWriteStep old part bytes r new → IsWriteStep old part bytes s next
+  pub one_write : (position : Position) (bytes : List ℕ) (r s : Result Unit AccessFault) → IsWriteStep old position bytes r new → IsWriteStep old position bytes s next
       → (r ≡ s) × (next ≡ new)
-  one_write part bytes (Ok u) (Ok v) g f = (refl, write_same part bytes g f)
-  one_write part bytes (Ok u) (Err e) g (cause, same) =
-      absurd (part_is_not_refused old part (length bytes) g.object g.found g.within e cause)
-  one_write part bytes (Err e) (Ok v) (cause, same) f =
-      absurd (part_is_not_refused old part (length bytes) f.object f.found f.within e cause)
-  one_write part bytes (Err e) (Err d) (cause, same) (other, again) = (ap Err (one_access_fault old part (length bytes) e d cause other), again ∙ sym same)
+  one_write position bytes (Ok u) (Ok v) g f = (refl, write_same position bytes g f)
+  one_write position bytes (Ok u) (Err e) g (cause, same) =
+      absurd (part_is_not_refused old position (length bytes) g.object g.found g.within e cause)
+  one_write position bytes (Err e) (Ok v) (cause, same) f =
+      absurd (part_is_not_refused old position (length bytes) f.object f.found f.within e cause)
+  one_write position bytes (Err e) (Err d) (cause, same) (other, again) = (ap Err (one_access_fault old position (length bytes) e d cause other), again ∙ sym same)

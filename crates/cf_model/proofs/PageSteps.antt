@@ -4,9 +4,9 @@ use Rattle.cf_base.specs.declared.answers.Freed.{Freed}
 use Rattle.page_model.specs.Steps.{PlacesObject, RemovesObject, Request}
 use Rattle.cf_model.specs.Rules.{IsPaged}
 use Rattle.cf_model.specs.State.{HeapState, paging_in}
-use Rattle.cf_model.specs.Steps.{FreesObject, GivesObject, IsPlacedBy, MovesIn, number_of}
+use Rattle.cf_model.specs.Steps.{FreesObject, AddsObject, IsPlacedBy, MovesIn, number_of}
 
-pub malloc_places : (old new : HeapState) (asked : Request) → IsPaged old.kind → GivesObject old asked new
+pub malloc_places : (old new : HeapState) (asked : Request) → IsPaged old.kind → AddsObject old asked new
     → PlacesObject (paging_in old) old.held asked new.held
 malloc_places old new asked is given = record {
   place = given.place;

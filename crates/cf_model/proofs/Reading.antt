@@ -11,7 +11,7 @@ use Rattle.cf_base.specs.declared.answers.Freed.{Freed}
 use Rattle.page_model.specs.Held.{Placed, objects}
 use Rattle.page_model.specs.Bytes.{written}
 use Rattle.cf_model.specs.State.{HeapState}
-use Rattle.cf_model.specs.Steps.{Part, WritesBytes, ReadsBytes, FreesObject}
+use Rattle.cf_model.specs.Steps.{Position, WritesBytes, ReadsBytes, FreesObject}
 
 none_mapped : (o : Option Placed) → option_map (λ (z : Placed). z.bytes) o ≡ None → o ≡ None
 none_mapped None e = refl
@@ -31,18 +31,18 @@ part_written v at bytes within =
     length_front v n le = grind (arith, common_steps)
 
 -- a read after a write returns the written bytes
-pub read_back : (old : HeapState) (part : Part) (bytes out : List ℕ) (new : HeapState) → WritesBytes old part bytes new → ReadsBytes new part (length bytes) out
+pub read_back : (old : HeapState) (position : Position) (bytes out : List ℕ) (new : HeapState) → WritesBytes old position bytes new → ReadsBytes new position (length bytes) out
     → out ≡ bytes
-read_back old part bytes out new w r =
-    let there : get new.held part.number ≡ Some (record w.object { bytes = written w.object.bytes part.from bytes }) =
-    ap (λ (s : HeapState). get s.held part.number) w.whole ∙ get_inserted old.held part.number _ in
-    let same = placed_equal r.object (record w.object { bytes = written w.object.bytes part.from bytes }) (sym r.found ∙ there) in
-    r.value ∙ ap (λ (z : Placed). take (length bytes) (drop part.from z.bytes)) same ∙ part_written w.object.bytes part.from bytes w.within
+read_back old position bytes out new w r =
+    let there : get new.held position.number ≡ Some (record w.object { bytes = written w.object.bytes position.from bytes }) =
+    ap (λ (s : HeapState). get s.held position.number) w.whole ∙ get_inserted old.held position.number _ in
+    let same = placed_equal r.object (record w.object { bytes = written w.object.bytes position.from bytes }) (sym r.found ∙ there) in
+    r.value ∙ ap (λ (z : Placed). take (length bytes) (drop position.from z.bytes)) same ∙ part_written w.object.bytes position.from bytes w.within
 
 -- a write changes no other object
-pub others_kept : (old : HeapState) (part : Part) (bytes : List ℕ) (new : HeapState) → WritesBytes old part bytes new → (q : ℕ) → q ≢ part.number
+pub others_kept : (old : HeapState) (position : Position) (bytes : List ℕ) (new : HeapState) → WritesBytes old position bytes new → (q : ℕ) → q ≢ position.number
     → get new.held q ≡ get old.held q
-others_kept old part bytes new w q ne = ap (λ (s : HeapState). get s.held q) w.whole ∙ get_insert_other old.held part.number _ q ne
+others_kept old position bytes new w q ne = ap (λ (s : HeapState). get s.held q) w.whole ∙ get_insert_other old.held position.number _ q ne
 
 -- a freed object isn't live
 pub freed_is_gone : (old : HeapState) (h : ℕ) (freed : Freed) (new : HeapState) → FreesObject old h freed new → get new.held h ≡ None

@@ -70,6 +70,6 @@ abbrev pub class_with : Kind → HeapState → ℕ → Option ℕ
 class_with kind s words = elim (family_of kind) [ paged ↦ position (λ w. nat_eq w words) (paging_in s).sizes | tiled ↦ None ]
 
 -- the state s after the class gets the bound k; unchanged if there is no class
-abbrev pub bound_put : HeapState → Option ℕ → ℕ → HeapState
-bound_put s None k = s
-bound_put s (Some c) k = record s { bounds = slice_set s.bounds c k }
+abbrev pub with_bound : HeapState → Option ℕ → ℕ → HeapState
+with_bound s None k = s
+with_bound s (Some c) k = record s { bounds = slice_set s.bounds c k }

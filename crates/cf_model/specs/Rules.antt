@@ -13,7 +13,7 @@ use Rattle.page_model.specs.Arrangement.{IsSound}
 use Rattle.page_model.specs.Bytes.{AreBytes}
 use Rattle.page_model.specs.Image.{IsImage, IsSlotImage, object_word}
 use Rattle.page_model.specs.Frames.{IsPermuted}
-use Rattle.block_model.specs.FreeOrder.{AreListsOf, HaveLinks, Listed}
+use Rattle.block_model.specs.FreeOrder.{AreListsOf, HaveLinks, BlocksWithLists}
 use Rattle.block_model.specs.Tiling.{Block, IsTiling, block_at, block_need}
 use Rattle.block_model.specs.Words.{AreTilingWords}
 use Rattle.cf_model.specs.Families.{paged, tiled, family_of, free_lists_of, list_count_of}
@@ -82,7 +82,7 @@ content_word m h i = content (get m h) h i
     content (Some x) h i = object_word h x.bytes i
 
 -- the blocks of the state s, with the free lists of the order o
-abbrev pub listed_by : HeapState → Order → Listed
+abbrev pub listed_by : HeapState → Order → BlocksWithLists
 listed_by s o = record { blocks = s.tiling; lists = o.not_full }
 
 -- With blocks, o is an order of the state s: its lists are the free lists of the kind, which word 1 of each free block links, and its spare numbers are those

@@ -26,7 +26,7 @@ use Rattle.page_model.specs.Bytes.{written}
 use Rattle.page_model.specs.Frames.{first_frames, frames_after, block_of, IsPhysical}
 use Rattle.page_model.specs.Image.{IsOutside, slot_for}
 use Rattle.page_model.specs.Order.{Order, first_order}
-use Rattle.page_model.specs.Steps.{Request, Leaves, IsFreePlace, zeros_at, Moves, without, resized, RefitsObject as IsResizedBy}
+use Rattle.page_model.specs.Steps.{Request, CallResult, IsFreePlace, zeros_at, Moves, without, resized, RefitsObject as IsResizedBy}
 use Rattle.block_model.specs.FreeOrder.{first_lists}
 use Rattle.block_model.specs.Tiling.{Block, LacksBlock, Carves, released, one_free_block, block_need, size_at}
 use Rattle.cf_model.specs.Families.{paged, tiled, family_of, free_lists_of, list_count_of}
@@ -125,8 +125,8 @@ LacksRoomIn kind s bytes = elim (family_of kind) [
 ]
 
 -- the heap s, of whatever kind, has no space for an object of `bytes` bytes
-abbrev pub lacks_room : HeapState → ℕ → Type 0
-lacks_room s bytes = LacksRoomIn s.kind s bytes
+abbrev pub LacksSpaceNow : HeapState → ℕ → Type 0
+LacksSpaceNow s bytes = LacksRoomIn s.kind s bytes
 
 -- The object `asked` may be placed at the address `place`: with pages, a slot that its class may use is free there; with blocks, a free block there is carved
 -- for it, which leaves the blocks of `new`.
@@ -138,7 +138,7 @@ IsPlacedBy kind old asked place new = elim (family_of kind) [
 
 -- A malloc succeeds: the object `asked`, of zeros alone, is added at the address `place`, under a number that wasn't live. It fits a page, and a proxy was
 -- free. Besides the objects only words, blocks, order and cost may change.
-pub record GivesObject (old : HeapState) (asked : Request) (new : HeapState) : Type 0 where
+pub record AddsObject (old : HeapState) (asked : Request) (new : HeapState) : Type 0 where
   pub fits : need asked.length ≤ old.profile.page_words
   pub few : len old.held < old.profile.proxies
   pub in_range : asked.number < old.profile.proxies
@@ -154,25 +154,25 @@ pub record GivesObject (old : HeapState) (asked : Request) (new : HeapState) : T
   }
 
 -- an object of `bytes` bytes would fit a page, but all proxies are in use
-pub record WantsProxy (s : HeapState) (bytes : ℕ) : Type 0 where
+pub record LacksProxy (s : HeapState) (bytes : ℕ) : Type 0 where
   pub fits : need bytes ≤ s.profile.page_words
   pub all : len s.held ≡ s.profile.proxies
 
 -- an object of `bytes` bytes would fit a page, and a proxy is free, but there is no space
-pub record WantsSpace (s : HeapState) (bytes : ℕ) : Type 0 where
+pub record LacksSpace (s : HeapState) (bytes : ℕ) : Type 0 where
   pub fits : need bytes ≤ s.profile.page_words
   pub few : len s.held < s.profile.proxies
-  pub lacking : lacks_room s bytes
+  pub lacking : LacksSpaceNow s bytes
 
 -- the cause of each refusal of a malloc of `bytes` bytes in the state s
 abbrev pub IsRefusedBy : HeapState → ℕ → Refusal → Type 0
 IsRefusedBy s bytes refusal.Size = s.profile.page_words < need bytes
-IsRefusedBy s bytes refusal.Proxy = WantsProxy s bytes
-IsRefusedBy s bytes refusal.Space = WantsSpace s bytes
+IsRefusedBy s bytes refusal.Proxy = LacksProxy s bytes
+IsRefusedBy s bytes refusal.Space = LacksSpace s bytes
 
 -- a malloc of `bytes` bytes: with `Ok` it adds an object under this handle; with `Err` it is refused for this cause, and changes only the cost
 abbrev pub IsMallocStep : HeapState → ℕ → Result Handle Refusal → HeapState → Type 0
-IsMallocStep old bytes (Ok h) new = GivesObject old (record { number = h.0; length = bytes }) new
+IsMallocStep old bytes (Ok h) new = AddsObject old (record { number = h.0; length = bytes }) new
 IsMallocStep old bytes (Err e) new = IsRefusedBy old bytes e × ChangesCost old new
 
 -- the number of words of the slot or block of the object x
@@ -185,7 +185,7 @@ MovesIn kind s x moved = elim (family_of kind) [ paged ↦ Moves (paging_in s) s
 
 -- the block table after a free or a resize that left these objects and moved this one (`after`); only that of the non-moving kind changes, and only if an
 -- object moved
-abbrev pub frames_left : Kind → HeapState → Leaves → List ℕ
+abbrev pub frames_left : Kind → HeapState → CallResult → List ℕ
 frames_left Moving s after = s.frames
 frames_left NonMoving s after = frames_after (paging_in s) s.held after s.frames
 frames_left Tlsf s after = s.frames
@@ -200,8 +200,8 @@ abbrev pub number_of : Option Handle → Option ℕ
 number_of moved = option_map (λ (h : Handle). h.0) moved
 
 -- the objects after a free of object h, which is x, with the number of the object that moved to its address, if one did
-abbrev pub leaves_of : HeapState → ℕ → Placed → Option ℕ → Leaves
-leaves_of old h x moved = record { held = without old.held h x.place moved; moved = moved }
+abbrev pub call_result : HeapState → ℕ → Placed → Option ℕ → CallResult
+call_result old h x moved = record { held = without old.held h x.place moved; moved = moved }
 
 -- A free of object h succeeds with the result `freed`: the object is removed, and the object that moved, if one did, gets the address of the removed one. All
 -- objects but h keep their bytes, and all that did not move their address. The words, the order and the cost may change too.
@@ -212,7 +212,7 @@ pub record FreesObject (old : HeapState) (h : ℕ) (freed : Freed) (new : HeapSt
   pub moves : MovesIn old.kind old object (number_of freed.moved)
   pub held : new.held ≡ without old.held h object.place (number_of freed.moved)
   pub left : objects new.held ≡ remove (objects old.held) h
-  pub frames : new.frames ≡ frames_left old.kind old (leaves_of old h object (number_of freed.moved))
+  pub frames : new.frames ≡ frames_left old.kind old (call_result old h object (number_of freed.moved))
   pub tiling : new.tiling ≡ tiling_left old.kind old object.place
   pub rest : KeepsSettings old new
 
@@ -222,20 +222,20 @@ IsFreeStep old h (Ok freed) new = FreesObject old h freed new
 IsFreeStep old h (Err e) new = (get old.held h ≡ None) × ChangesCost old new
 
 -- a part of an object to read or write: the object's number, and the part's first byte, counted from 0
-pub record Part : Type 0 where
+pub record Position : Type 0 where
   pub number : ℕ
   pub from : ℕ
 
 -- the object of the part is live, but the part, of `count` bytes, goes beyond its end
-pub record PassesEnd (s : HeapState) (part : Part) (count : ℕ) : Type 0 where
+pub record PassesEnd (s : HeapState) (position : Position) (count : ℕ) : Type 0 where
   pub object : Placed
-  pub found : get s.held part.number ≡ Some object
-  pub past : length object.bytes < part.from + count
+  pub found : get s.held position.number ≡ Some object
+  pub past : length object.bytes < position.from + count
 
 -- the cause of each refusal of a read or a write of `count` bytes in the state s
-abbrev pub IsFault : HeapState → Part → ℕ → AccessFault → Type 0
-IsFault s part count access.Unknown = get s.held part.number ≡ None
-IsFault s part count access.Range = PassesEnd s part count
+abbrev pub IsFault : HeapState → Position → ℕ → AccessFault → Type 0
+IsFault s position count access.Unknown = get s.held position.number ≡ None
+IsFault s position count access.Range = PassesEnd s position count
 
 -- with blocks, a write to the object x changes no word outside its block; with pages nothing is claimed here
 abbrev pub StaysOutside : Kind → HeapState → Placed → HeapState → Type 0
@@ -244,31 +244,31 @@ StaysOutside kind old x new = elim (family_of kind) [
   | tiled ↦ (w : ℕ) → IsOutside x.place (size_at old.tiling x.place) w → slice_index new.words w ≡ slice_index old.words w
 ]
 
--- A write succeeds: the object of the part gets these bytes from byte `part.from` on. Besides this object only words may change.
-pub record WritesBytes (old : HeapState) (part : Part) (bytes : List ℕ) (new : HeapState) : Type 0 where
+-- A write succeeds: the object of the part gets these bytes from byte `position.from` on. Besides this object only words may change.
+pub record WritesBytes (old : HeapState) (position : Position) (bytes : List ℕ) (new : HeapState) : Type 0 where
   pub object : Placed
-  pub found : get old.held part.number ≡ Some object
-  pub within : part.from + length bytes ≤ length object.bytes
+  pub found : get old.held position.number ≡ Some object
+  pub within : position.from + length bytes ≤ length object.bytes
   pub outside : StaysOutside old.kind old object new
-  pub whole : new ≡ record old { held = insert old.held part.number (record object { bytes = written object.bytes part.from bytes }); words = new.words }
+  pub whole : new ≡ record old { held = insert old.held position.number (record object { bytes = written object.bytes position.from bytes }); words = new.words }
 
 -- a write of `bytes` to the part: with `Ok` it replaces bytes of the object; with `Err` it is refused for this cause, and changes nothing
-abbrev pub IsWriteStep : HeapState → Part → List ℕ → Result Unit AccessFault → HeapState → Type 0
-IsWriteStep old part bytes (Ok u) new = WritesBytes old part bytes new
-IsWriteStep old part bytes (Err e) new = IsFault old part (length bytes) e × (new ≡ old)
+abbrev pub IsWriteStep : HeapState → Position → List ℕ → Result Unit AccessFault → HeapState → Type 0
+IsWriteStep old position bytes (Ok u) new = WritesBytes old position bytes new
+IsWriteStep old position bytes (Err e) new = IsFault old position (length bytes) e × (new ≡ old)
 
--- a read succeeds: the object of the part is live, and `bytes` are its `count` bytes from byte `part.from` on
-pub record ReadsBytes (s : HeapState) (part : Part) (count : ℕ) (bytes : List ℕ) : Type 0 where
+-- a read succeeds: the object of the part is live, and `bytes` are its `count` bytes from byte `position.from` on
+pub record ReadsBytes (s : HeapState) (position : Position) (count : ℕ) (bytes : List ℕ) : Type 0 where
   pub object : Placed
-  pub found : get s.held part.number ≡ Some object
-  pub within : part.from + count ≤ length object.bytes
-  pub value : bytes ≡ take count (drop part.from object.bytes)
+  pub found : get s.held position.number ≡ Some object
+  pub within : position.from + count ≤ length object.bytes
+  pub value : bytes ≡ take count (drop position.from object.bytes)
 
 -- a read into a buffer that holds `room` before and `out` after it: with `Ok` it fills the buffer with the part's bytes; with `Err` it is refused for this
 -- cause, and leaves the buffer unchanged
-abbrev pub IsReadAnswer : HeapState → Part → List ℕ → Result Unit AccessFault → List ℕ → Type 0
-IsReadAnswer s part room (Ok u) out = ReadsBytes s part (length room) out
-IsReadAnswer s part room (Err e) out = IsFault s part (length room) e × (out ≡ room)
+abbrev pub IsReadAnswer : HeapState → Position → List ℕ → Result Unit AccessFault → List ℕ → Type 0
+IsReadAnswer s position room (Ok u) out = ReadsBytes s position (length room) out
+IsReadAnswer s position room (Err e) out = IsFault s position (length room) e × (out ≡ room)
 
 -- A resize succeeds with the result `done`: the object gets the length that is asked for. Its first bytes stay, and added bytes are zeros. If its class
 -- changes, it gets a new address as by a malloc, and its old slot is freed as by a free.
@@ -304,7 +304,7 @@ pub record PassesPage (s : HeapState) (asked : Request) : Type 0 where
   pub large : s.profile.page_words < need asked.length
 
 -- the object is live, and the length that is asked for has another class, which has no slot left
-pub record WantsSlot (s : HeapState) (asked : Request) : Type 0 where
+pub record LacksSlot (s : HeapState) (asked : Request) : Type 0 where
   pub object : Placed
   pub found : get s.held asked.number ≡ Some object
   pub pages : IsPaged s.kind
@@ -317,16 +317,16 @@ abbrev pub IsResizeFault : HeapState → Request → ResizeFault → Type 0
 IsResizeFault s asked resize.Unknown = get s.held asked.number ≡ None
 IsResizeFault s asked resize.Kind = HasNoResize s asked.number
 IsResizeFault s asked resize.Size = PassesPage s asked
-IsResizeFault s asked resize.Space = WantsSlot s asked
+IsResizeFault s asked resize.Space = LacksSlot s asked
 
 -- a refused resize leads from the state `old` to `new`: with pages only the cost changes, with blocks nothing
-abbrev pub IsUnmoved : Kind → HeapState → HeapState → Type 0
-IsUnmoved kind old new = elim (family_of kind) [ paged ↦ ChangesCost old new | tiled ↦ new ≡ old ]
+abbrev pub IsLeftByRefusal : Kind → HeapState → HeapState → Type 0
+IsLeftByRefusal kind old new = elim (family_of kind) [ paged ↦ ChangesCost old new | tiled ↦ new ≡ old ]
 
 -- a resize: with `Ok` it changes the object's length; with `Err` it is refused for this cause, and changes only the cost, with blocks nothing
 abbrev pub IsResizeStep : HeapState → Request → Result Resized ResizeFault → HeapState → Type 0
 IsResizeStep old asked (Ok done) new = ResizesObject old asked done new
-IsResizeStep old asked (Err e) new = IsResizeFault old asked e × IsUnmoved old.kind old new
+IsResizeStep old asked (Err e) new = IsResizeFault old asked e × IsLeftByRefusal old.kind old new
 
 -- In the non-moving manager, each object but h that is live before and after a call keeps the physical blocks of its slot, and their words stay. `before` and
 -- `after` are the physical words of the region before and after the call.

@@ -25,7 +25,7 @@ ghost use Rattle.cf_model.specs.Ordered.{IsOrderedFree, IsOrderedMalloc, IsOrder
 ghost use Rattle.cf_model.specs.ReadObjects.{read_objects};
 ghost use Rattle.cf_model.specs.Rules.{AreInRange, AreObjects, AreOwned, IsPaged, IsTiled, KeepsRules, KeepsTiling, content_word};
 ghost use Rattle.cf_model.specs.State.{HeapState, closed_state, paging_in, region_words};
-ghost use Rattle.cf_model.specs.Steps.{BlocksStay, ChangesCost, FreesObject, GivesObject, IsEmptyHeap, IsFault, IsOpeningOrder, IsOpeningWords, IsRefusedBy, IsResizeFault, Part};
+ghost use Rattle.cf_model.specs.Steps.{BlocksStay, ChangesCost, FreesObject, AddsObject, IsEmptyHeap, IsFault, IsOpeningOrder, IsOpeningWords, IsRefusedBy, IsResizeFault, Position};
 ghost use Rattle.cf_model.specs.Steps.{IsFreeStep, IsMallocStep, IsResizeStep, IsWriteStep};
 ghost use Rattle.cf_model.specs.Steps.{ReadsBytes, ResizesObject, WritesBytes, empty_heap, number_of, opening_order, ordered_heap};
 
@@ -65,11 +65,11 @@ pub fn a_promise_is_an_opening_order()
 
 /// A read of the bytes that were just written returns them, and a write changes no other object.
 pub fn what_is_written_is_read()
-    ensures same { (old new : HeapState) (part : Part) (bytes out : List ℕ)
-        → WritesBytes old part bytes new → ReadsBytes new part (length bytes) out → out ≡ bytes }
-    ensures others { (old new : HeapState) (part : Part) (bytes : List ℕ)
-        → WritesBytes old part bytes new
-        → (q : ℕ) → q ≢ part.number → get new.held q ≡ get old.held q }
+    ensures same { (old new : HeapState) (position : Position) (bytes out : List ℕ)
+        → WritesBytes old position bytes new → ReadsBytes new position (length bytes) out → out ≡ bytes }
+    ensures others { (old new : HeapState) (position : Position) (bytes : List ℕ)
+        → WritesBytes old position bytes new
+        → (q : ℕ) → q ≢ position.number → get new.held q ≡ get old.held q }
 {}
 
 /// After a free that succeeds, the freed handle isn't live.
@@ -93,15 +93,15 @@ pub fn blocks_of_others_stay()
 /// cause holds. A malloc has at most one cause.
 pub fn refusals_come_exactly_by_their_causes()
     ensures malloc { (old new : HeapState) (asked : Request) (e : Refusal)
-        → GivesObject old asked new → ¬ IsRefusedBy old asked.length e }
+        → AddsObject old asked new → ¬ IsRefusedBy old asked.length e }
     ensures one_cause { (s : HeapState) (bytes : ℕ) (e f : Refusal)
         → IsRefusedBy s bytes e → IsRefusedBy s bytes f → e ≡ f }
     ensures free { (old new : HeapState) (h : ℕ) (freed : Freed)
         → FreesObject old h freed new → ¬ (get old.held h ≡ None) }
-    ensures write { (old new : HeapState) (part : Part) (bytes : List ℕ) (e : AccessFault)
-        → WritesBytes old part bytes new → ¬ IsFault old part (length bytes) e }
-    ensures read { (s : HeapState) (part : Part) (count : ℕ) (out : List ℕ) (e : AccessFault)
-        → ReadsBytes s part count out → ¬ IsFault s part count e }
+    ensures write { (old new : HeapState) (position : Position) (bytes : List ℕ) (e : AccessFault)
+        → WritesBytes old position bytes new → ¬ IsFault old position (length bytes) e }
+    ensures read { (s : HeapState) (position : Position) (count : ℕ) (out : List ℕ) (e : AccessFault)
+        → ReadsBytes s position count out → ¬ IsFault s position count e }
     ensures resize { (old new : HeapState) (asked : Request) (done : Resized) (e : ResizeFault)
         → ResizesObject old asked done new → ¬ IsResizeFault old asked e }
 {}
@@ -152,7 +152,7 @@ pub fn a_carve_keeps_the_words()
 /// With pages, a malloc, a free and a resize of a manager that succeed are steps of the model of
 /// objects on pages: `PlacesObject`, `RemovesObject` and `RefitsObject`.
 pub fn calls_are_the_steps_of_pages()
-    ensures malloc { (old new : HeapState) (asked : Request) → IsPaged old.kind → GivesObject old asked new
+    ensures malloc { (old new : HeapState) (asked : Request) → IsPaged old.kind → AddsObject old asked new
         → PlacesObject (paging_in old) old.held asked new.held }
     ensures free { (old new : HeapState) (h : ℕ) (freed : Freed) → IsPaged old.kind → FreesObject old h freed new
         → RemovesObject (paging_in old) old.held h (record { held = new.held; moved = number_of freed.moved }) }
@@ -180,8 +180,8 @@ pub fn an_order_leaves_one_outcome()
         → IsResizeStep old asked r new → IsOrderedResize old asked r new
         → IsResizeStep old asked s next → IsOrderedResize old asked s next
         → (r ≡ s) × (next ≡ new) }
-    ensures write { (old new next : HeapState) (part : Part) (bytes : List ℕ) (r s : Result Unit AccessFault)
+    ensures write { (old new next : HeapState) (position : Position) (bytes : List ℕ) (r s : Result Unit AccessFault)
         → KeepsRules new → KeepsRules next
-        → IsWriteStep old part bytes r new → IsWriteStep old part bytes s next
+        → IsWriteStep old position bytes r new → IsWriteStep old position bytes s next
         → (r ≡ s) × (next ≡ new) }
 {}

@@ -2,7 +2,7 @@
 ghost use Rattle.std.specs.Prelude.{◌≡◌, ◌+◌, ◌^◌, ◌≤◌, IsTrue, OnOk, OnErr, is_some, length, slice_get};
 ghost use Rattle.std.specs.FinMap as map;
 ghost use Rattle.step_ledger.specs.Counting.{RoseAtMost};
-ghost use Rattle.cf_model.specs.Answers.{place_of, block_in, classes_in, figures_in, totals_in, usage_in, class_with, bound_put};
+ghost use Rattle.cf_model.specs.Answers.{place_of, block_in, classes_in, figures_in, totals_in, usage_in, class_with, with_bound};
 ghost use Rattle.cf_model.specs.Costs.{TakesAtMost, access_bound, block_free_bound, free_bound, resize_bound, RoseByCost};
 ghost use Rattle.cf_model.specs.Ordered.{IsOrderedFree, IsOrderedMalloc, IsOrderedResize, KeepsPromise};
 ghost use Rattle.cf_model.specs.Rules.{KeepsRules};
@@ -143,7 +143,7 @@ pub trait Manager: Drop {
         requires least { 1 ≤ k }
         requires most { k ≤ 64 }
         ensures value { result ≡ is_some (class_with (state self.old).kind (state self.old) slot_words) }
-        ensures bound { state self.new ≡ bound_put (state self.old) (class_with (state self.old).kind (state self.old) slot_words) k }
+        ensures bound { state self.new ≡ with_bound (state self.old) (class_with (state self.old).kind (state self.old) slot_words) k }
         ensures rules { KeepsRules (state self.new) };
 
     /// The address of the object: the index in the region of the first word of its slot or block,

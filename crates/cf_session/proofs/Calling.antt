@@ -9,7 +9,7 @@ use Rattle.cf_base.specs.declared.kind.Kind.TheVariants.{Moving, NonMoving}
 use Rattle.cf_lemmas.proofs.Maps.{equal_maps}
 use Rattle.page_model.specs.Held.{Held, Placed}
 use Rattle.cf_lemmas.proofs.Tests.{eq_no}
-use Rattle.cf_model.specs.Answers.{bound_put, class_with}
+use Rattle.cf_model.specs.Answers.{with_bound, class_with}
 use Rattle.cf_model.specs.Rules.{KeepsRules}
 use Rattle.cf_model.specs.State.{HeapState}
 use Rattle.script_reader.specs.declared.command.Command.TheVariants.{Bound}
@@ -56,14 +56,14 @@ bound_none (Some c) is = absurd (let e : true ≡ false = is in cc)
 -- `Step` of command `k` if no object is live
 module _ (session : SessionState) (old : HeapState) where
   pub bound_step : (slot_words k : ℕ) (text : List ℕ) (new : HeapState) → old.held ≡ empty
-      → new ≡ bound_put old (class_with old.kind old slot_words) k → KeepsRules new → text ≡ bound_text (class_with old.kind old slot_words)
+      → new ≡ with_bound old (class_with old.kind old slot_words) k → KeepsRules new → text ≡ bound_text (class_with old.kind old slot_words)
       → Step (run_at session old) (Bound slot_words k) (said text) (run_at session new)
   bound_step slot_words k text new none is rules shown =
       let n : len old.held ≡ 0 = ap (λ (m : Held). len m) none ∙ len-empty nat_cmp Placed in
       let here : class_to_bound old slot_words ≡ class_with old.kind old slot_words =
       ap (λ i. if nat_eq i 0 then class_with old.kind old slot_words else None) n in
       record {
-        heap = is ∙ ap (λ (o : Option ℕ). bound_put old o k) (sym here);
+        heap = is ∙ ap (λ (o : Option ℕ). with_bound old o k) (sym here);
         rules = rules;
         session = refl;
         reply_is = ap said (shown ∙ ap bound_text (sym here));
@@ -76,7 +76,7 @@ bound_refused session heap slot_words k going some =
     let none : nat_eq (len heap.held) 0 ≡ false = eq_no (len heap.held) 0 (λ e. some (none_named session heap going.tied (empty_of_len heap.held e))) in
     let here : class_to_bound heap slot_words ≡ None = ap (λ (b : Bool). if b then class_with heap.kind heap slot_words else None) none in
     record {
-      heap = ap (λ (o : Option ℕ). bound_put heap o k) (sym here);
+      heap = ap (λ (o : Option ℕ). with_bound heap o k) (sym here);
       rules = going.rules;
       session = refl;
       reply_is = ap (λ (o : Option ℕ). said (bound_text o)) (sym here);

@@ -15,7 +15,7 @@ use Rattle.cf_base.specs.declared.kind.Kind.TheVariants.{Moving, NonMoving, Tlsf
 use Rattle.cf_io.specs.Lines.{word_text}
 use Rattle.cf_model.specs.State.{HeapState}
 use Rattle.cf_lemmas.proofs.Tests.{le_no}
-use Rattle.cf_model.specs.Steps.{IsFault, Part, ReadsBytes}
+use Rattle.cf_model.specs.Steps.{IsFault, Position, ReadsBytes}
 use Rattle.page_model.specs.Held.{Placed}
 use Rattle.run_model.specs.Replies.{place_text, read_text, steps_text, write_text}
 use Rattle.run_model.specs.Sessions.{SessionState}
@@ -40,15 +40,15 @@ pub read_past : (x : Placed) (from count : ℕ) → length x.bytes < from + coun
 read_past x from count lt = rw (le_no _ _ lt) refl
 
 -- the reply to a read that is done
-pub read_said : (s : HeapState) (part : Part) (count : ℕ) (bytes : List ℕ) → ReadsBytes s part count bytes
-    → read_text (get s.held part.number) part.from count ≡ codes "=" ++ encode_lower bytes
-read_said s part count bytes r = rw r.found (read_within r.object part.from count r.within ∙ ap (λ (b : List ℕ). codes "=" ++ encode_lower b) (sym r.value))
+pub read_said : (s : HeapState) (position : Position) (count : ℕ) (bytes : List ℕ) → ReadsBytes s position count bytes
+    → read_text (get s.held position.number) position.from count ≡ codes "=" ++ encode_lower bytes
+read_said s position count bytes r = rw r.found (read_within r.object position.from count r.within ∙ ap (λ (b : List ℕ). codes "=" ++ encode_lower b) (sym r.value))
 
 -- the reply to a refused read
-pub fault_said : (s : HeapState) (part : Part) (count : ℕ) (fault : AccessFault) → IsFault s part count fault
-    → write_text (Err fault) ≡ read_text (get s.held part.number) part.from count
-fault_said s part count access.Unknown none = rw none refl
-fault_said s part count access.Range past = rw past.found (sym (read_past past.object part.from count past.past))
+pub fault_said : (s : HeapState) (position : Position) (count : ℕ) (fault : AccessFault) → IsFault s position count fault
+    → write_text (Err fault) ≡ read_text (get s.held position.number) position.from count
+fault_said s position count access.Unknown none = rw none refl
+fault_said s position count access.Range past = rw past.found (sym (read_past past.object position.from count past.past))
 
 pub place_said : (o : Option Placed) (word : ℕ) → Some word ≡ option_map (λ (x : Placed). x.place) o → with_number (codes "at ") word ≡ place_text o
 place_said None word is = absurd cc

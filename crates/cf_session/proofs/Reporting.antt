@@ -1,4 +1,4 @@
--- For `answer` and `apply_ref`: from the step of a command, and from what was written of its reply, to `Applies`; and a command keeps a run in progress.
+-- For `answer` and `apply_ref`: from the step of a command, and from what was written of its reply, to `AppliesOneManager`; and a command keeps a run in progress.
 use Rattle.std.proofs.Common.{◌≡◌, ◌∙◌, ℕ, ◌++◌, List, [], ◌∷◌, Option, Some, None, Result, Ok, Err, length, map, refl, ap}
 use Rattle.std.proofs.Common.{ap₂, sym, subst, append_assoc}
 use Rattle.std.specs.Prelude.{IsTrue, codes}
@@ -15,7 +15,7 @@ use Rattle.cf_io.specs.Feeds.{appended, Puts}
 use Rattle.cf_model.specs.Rules.{KeepsRules}
 use Rattle.cf_model.specs.State.{HeapState, paging_in}
 use Rattle.cf_model.specs.Answers.{totals_in}
-use Rattle.cf_model.specs.Steps.{IsFault, Part, ReadsBytes}
+use Rattle.cf_model.specs.Steps.{IsFault, Position, ReadsBytes}
 use Rattle.page_model.specs.Figures.{figures_of}
 use Rattle.cf_io.proofs.CallerLemmas.{puts_line}
 use Rattle.script_reader.specs.declared.command.Command.{Command}
@@ -23,13 +23,13 @@ use Rattle.script_reader.specs.declared.command.Command.TheVariants.{Walk, Frag}
 use Rattle.run_model.specs.Answering.{Moment}
 use Rattle.run_model.specs.Replies.{object_of, read_text, shown, write_text}
 use Rattle.run_model.specs.Reports.{class_line, total_line, frag_of, walk_of, live_classes}
-use Rattle.run_model.specs.Runs.{Turn}
+use Rattle.run_model.specs.Runs.{IsCommandStep}
 use Rattle.run_model.specs.Sessions.{AreTied, IsGoing, RunState, SessionState}
 use Rattle.run_model.specs.Steps.{Step}
 use Rattle.run_model.specs.Texts.{Reply, led, said}
 use Rattle.run_model.proofs.CallerLemmas.{step_meets_bounds, step_going}
 use Rattle.cf_session.proofs.LookReplies.{fault_said, read_said}
-use Rattle.cf_session.specs.Apply.{Applies, outcome_in, outcome_of, run_at}
+use Rattle.cf_session.specs.Apply.{AppliesOneManager, outcome_in, outcome_of, run_at}
 use Rattle.cf_session.specs.Apply.{IsEnded}
 use Rattle.cf_session.specs.OneLine.{HasRoom, IsPut, SaidOn, lines_at}
 use Rattle.cf_session.specs.Short.{short_text}
@@ -40,7 +40,7 @@ use Rattle.cf_session.specs.declared.outcome.Outcome.TheVariants.{Good, Other}
 use Rattle.cf_session.specs.declared.short.Short.{Short}
 
 -- a step of a run in progress is a turn
-turn : (old new : RunState) (c : Command) (reply : Reply) → IsGoing old → Step old c reply new → Turn old c reply new
+turn : (old new : RunState) (c : Command) (reply : Reply) → IsGoing old → Step old c reply new → IsCommandStep old c reply new
 turn old new c reply going step = record { step = step; bounds = step_meets_bounds old new c reply going step }
 
 abbrev Bytes : Type 0
@@ -52,11 +52,11 @@ at run written = record { run = run; written = written }
 -- the reply of a step was put, with its outcome
 module _ (old new : RunState) (c : Command) (lead : List ℕ) (reply : Reply) (w y : Bytes) (going : IsGoing old) (step : Step old c reply new) where
   pub applied : (outcome : Outcome) → outcome ≡ outcome_of reply → y ≡ appended w (led lead reply)
-      → Applies (at old w) (record { command = c; lead = lead }) (Ok outcome) (at new y)
+      → AppliesOneManager (at old w) (record { command = c; lead = lead }) (Ok outcome) (at new y)
   applied outcome is put = (record { reply = reply; turn = turn old new c reply going step; written = put }, is)
 
   pub applied_cut : (e : Failed) → Puts {T = Unit {0}} w (led lead reply) (Err e) y
-      → Applies (at old w) (record { command = c; lead = lead }) (Err e) (at new y)
+      → AppliesOneManager (at old w) (record { command = c; lead = lead }) (Err e) (at new y)
   applied_cut e (front, lost, parts, put) =
       record { reply = reply; front = front; lost = lost; turn = turn old new c reply going step; cut = parts; written = put }
 
@@ -76,36 +76,36 @@ frag_other s = refl
 
 pub reported : (old new : RunState) (c : Command) (lead : List ℕ) (reply : Reply) (w y : Bytes) (r : Result Unit Failed) (outcome : Outcome)
     (answer : Result Outcome Failed) → IsGoing old → Step old c reply new → outcome ≡ outcome_of reply
-    → Puts w (led lead reply) r y → IsEnded r outcome answer → Applies (at old w) (record { command = c; lead = lead }) answer (at new y)
+    → Puts w (led lead reply) r y → IsEnded r outcome answer → AppliesOneManager (at old w) (record { command = c; lead = lead }) answer (at new y)
 reported old new c lead reply w y (Ok u) outcome answer going step shown put is =
-    let P : Result Outcome Failed → Type 0 = λ a. Applies (at old w) (record { command = c; lead = lead }) a (at new y) in
+    let P : Result Outcome Failed → Type 0 = λ a. AppliesOneManager (at old w) (record { command = c; lead = lead }) a (at new y) in
     subst P (sym is) (applied old new c lead reply w y going step outcome shown put)
 reported old new c lead reply w y (Err e) outcome answer going step shown put is =
-    let P : Result Outcome Failed → Type 0 = λ a. Applies (at old w) (record { command = c; lead = lead }) a (at new y) in
+    let P : Result Outcome Failed → Type 0 = λ a. AppliesOneManager (at old w) (record { command = c; lead = lead }) a (at new y) in
     subst P (sym is) (applied_cut old new c lead reply w y going step e put)
 
 pub reported_walk : (old : RunState) (lead : List ℕ) (w y : Bytes) (c : Command) (r : Result Unit Failed) (answer : Result Outcome Failed) → c ≡ Walk
     → IsGoing old
     → Puts w (led lead (walk_of old.heap.kind old.heap)) r y → IsEnded r Other answer
-    → Applies (at old w) (record { command = c; lead = lead }) answer (at old y)
+    → AppliesOneManager (at old w) (record { command = c; lead = lead }) answer (at old y)
 reported_walk old lead w y c r answer is going put shown =
-    let P : Command → Type 0 = λ k. Applies (at old w) (record { command = k; lead = lead }) answer (at old y) in
+    let P : Command → Type 0 = λ k. AppliesOneManager (at old w) (record { command = k; lead = lead }) answer (at old y) in
     let other = walk_other old.heap.kind old.heap in
     subst P (sym is) (reported old old Walk lead (walk_of old.heap.kind old.heap) w y r Other answer going (refl, refl) other put shown)
 
 pub reported_frag : (old : RunState) (lead : List ℕ) (w y : Bytes) (c : Command) (r : Result Unit Failed) (answer : Result Outcome Failed) → c ≡ Frag
     → IsGoing old
     → Puts w (led lead (frag_of old.heap)) r y → IsEnded r Other answer
-    → Applies (at old w) (record { command = c; lead = lead }) answer (at old y)
+    → AppliesOneManager (at old w) (record { command = c; lead = lead }) answer (at old y)
 reported_frag old lead w y c r answer is going put shown =
-    let P : Command → Type 0 = λ k. Applies (at old w) (record { command = k; lead = lead }) answer (at old y) in
+    let P : Command → Type 0 = λ k. AppliesOneManager (at old w) (record { command = k; lead = lead }) answer (at old y) in
     subst P (sym is) (reported old old Frag lead (frag_of old.heap) w y r Other answer going (refl, refl) (frag_other old.heap) put shown)
 
 -- a text that was put after a step
 pub shown_step : (old new : RunState) (asked c : Command) (lead text : List ℕ) (w y : Bytes) (answer : Result Outcome Failed) → asked ≡ c → IsGoing old
-    → Step old c (said text) new → IsPut text lead w answer y → Applies (at old w) (record { command = asked; lead = lead }) answer (at new y)
+    → Step old c (said text) new → IsPut text lead w answer y → AppliesOneManager (at old w) (record { command = asked; lead = lead }) answer (at new y)
 shown_step old new asked c lead text w y answer is going step shown =
-    subst (λ (k : Command). Applies (at old w) (record { command = k; lead = lead }) answer (at new y)) (sym is)
+    subst (λ (k : Command). AppliesOneManager (at old w) (record { command = k; lead = lead }) answer (at new y)) (sym is)
     (reported old new c lead (said text) w y shown.written (outcome_in text) answer going step refl shown.puts shown.ended)
 
 -- a reply on the line has room for the line feed
@@ -133,11 +133,11 @@ shown_written lead line text w y o outcome r answer is on put shown =
     }
 
 -- the bytes that were read, spelled and put
-pub shown_bytes : (s : HeapState) (part : Part) (count : ℕ) (bytes lead seen : List ℕ) (w y : Bytes) (r : Result Unit Failed) (answer : Result Outcome Failed)
-    → ReadsBytes s part count bytes → seen ≡ led lead (said (codes "=" ++ encode_lower bytes)) → Puts w seen r y → IsEnded r Good answer
-    → IsPut (read_text (get s.held part.number) part.from count) lead w answer y
-shown_bytes s part count bytes lead seen w y r answer reads spelled put shown =
-    subst (λ (t : List ℕ). IsPut t lead w answer y) (sym (read_said s part count bytes reads))
+pub shown_bytes : (s : HeapState) (position : Position) (count : ℕ) (bytes lead seen : List ℕ) (w y : Bytes) (r : Result Unit Failed) (answer : Result Outcome Failed)
+    → ReadsBytes s position count bytes → seen ≡ led lead (said (codes "=" ++ encode_lower bytes)) → Puts w seen r y → IsEnded r Good answer
+    → IsPut (read_text (get s.held position.number) position.from count) lead w answer y
+shown_bytes s position count bytes lead seen w y r answer reads spelled put shown =
+    subst (λ (t : List ℕ). IsPut t lead w answer y) (sym (read_said s position count bytes reads))
     (record { written = r; puts = subst (λ (l : List ℕ). Puts w l r y) spelled put; ended = shown })
 
 -- a reply for an object is one for its id
@@ -150,11 +150,11 @@ shown_named session heap id h from count len lead w y answer named put same =
     subst (λ (o : Option ℕ). IsPut (read_text (elim o [ None ↦ None | Some q ↦ get heap.held q ]) from len) lead w answer y) named there
 
 -- a refused read, by its cause
-pub shown_fault : (s : HeapState) (part : Part) (count : ℕ) (fault : AccessFault) (short : Short) (lead : List ℕ) (w y : Bytes)
-    (answer : Result Outcome Failed) → IsFault s part count fault → short_text short ≡ write_text (Err fault) → IsPut (short_text short) lead w answer y
-    → IsPut (read_text (get s.held part.number) part.from count) lead w answer y
-shown_fault s part count fault short lead w y answer cause is shown =
-    subst (λ (t : List ℕ). IsPut t lead w answer y) (is ∙ fault_said s part count fault cause) shown
+pub shown_fault : (s : HeapState) (position : Position) (count : ℕ) (fault : AccessFault) (short : Short) (lead : List ℕ) (w y : Bytes)
+    (answer : Result Outcome Failed) → IsFault s position count fault → short_text short ≡ write_text (Err fault) → IsPut (short_text short) lead w answer y
+    → IsPut (read_text (get s.held position.number) position.from count) lead w answer y
+shown_fault s position count fault short lead w y answer cause is shown =
+    subst (λ (t : List ℕ). IsPut t lead w answer y) (is ∙ fault_said s position count fault cause) shown
 
 -- the line of a short reply without a lead
 pub put_bare : (w y : Bytes) (lead text seen : List ℕ) (r : Result Unit Failed) → length lead ≡ 0 → seen ≡ text ++ 10 ∷ [] → Puts w seen r y
@@ -172,7 +172,7 @@ put_after w y lead text seen before line r begun pushed is put =
 
 -- a run in progress is in progress after a command was answered, whole or in part
 pub applied_going : (old new : RunState) (c : Command) (lead : List ℕ) (w y : Bytes) (answer : Result Outcome Failed) → IsGoing old
-    → Applies (at old w) (record { command = c; lead = lead }) answer (at new y) → IsGoing new
+    → AppliesOneManager (at old w) (record { command = c; lead = lead }) answer (at new y) → IsGoing new
 applied_going old new c lead w y (Ok outcome) going a = step_going old new c a.0.reply going a.0.turn.step
 applied_going old new c lead w y (Err e) going a = step_going old new c a.reply going a.turn.step
 

@@ -30,9 +30,9 @@ outcome_of (text ∷ rest) = outcome_in text
 
 -- Between the moments `old` and `new` the command took effect. If the result is `Ok`, its whole reply was written, and the result is the outcome of that reply;
 -- if it is `Err`, a prefix was written.
-abbrev pub Applies : Moment → Asked → Result Outcome Failed → Moment → Type 0
-Applies old asked (Ok outcome) new = (a : IsAnswered old asked new) × (outcome ≡ outcome_of a.reply)
-Applies old asked (Err failed) new = IsCutShort old asked new
+abbrev pub AppliesOneManager : Moment → Asked → Result Outcome Failed → Moment → Type 0
+AppliesOneManager old asked (Ok outcome) new = (a : IsAnswered old asked new) × (outcome ≡ outcome_of a.reply)
+AppliesOneManager old asked (Err failed) new = IsCutShort old asked new
 
 -- from the result of writing a reply and from its outcome, the result of the command: the outcome, or `Failed` if the sink failed
 abbrev pub IsEnded : {T : Type 0} → Result T Failed → Outcome → Result Outcome Failed → Type 0

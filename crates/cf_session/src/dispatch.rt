@@ -1,7 +1,7 @@
 //! `answer`, the one match over all commands: does a command on the heap and writes its reply.
 ghost use Rattle.std.specs.Prelude.{◌≡◌, ◌^◌, ◌≤◌, OnErr, length, OnOk};
 ghost use Rattle.cf_io.specs.Feeds.{FailsLast};
-ghost use Rattle.cf_session.specs.Apply.{Applies, moment_at};
+ghost use Rattle.cf_session.specs.Apply.{AppliesOneManager, moment_at};
 ghost use Rattle.cf_session.specs.Records.{run_with, session_of};
 ghost use Rattle.script_reader.specs.Commands.{IsWellFormed};
 ghost use Rattle.script_reader.specs.Owned.{owned_command};
@@ -42,7 +42,7 @@ pub(crate) fn answer<H: Manager, K: Sink>(
     requires buffer { length buffer.old ≡ 4096 }
     requires text { length text.old ≡ 8202 }
     requires room { steps.old ≤ 2 ^ 63 }
-    ensures step { Applies (moment_at (session_of records.old) (H.state heap.old) (K.written out.old))
+    ensures step { AppliesOneManager (moment_at (session_of records.old) (H.state heap.old) (K.written out.old))
         (record { command = owned_command c.entry; lead = lead.now })
         result (moment_at (session_of records.new) (H.state heap.new) (K.written out.new)) }
     ensures grows { K.faults out.old ≤ K.faults out.new }

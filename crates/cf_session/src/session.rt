@@ -4,7 +4,7 @@ ghost use Rattle.std.specs.FinMap as map;
 ghost use Rattle.cf_io.specs.Feeds.{FailsLast};
 ghost use Rattle.cf_model.specs.Rules.{KeepsRules};
 ghost use Rattle.cf_model.specs.Steps.{number_of};
-ghost use Rattle.cf_session.specs.Apply.{Applies, moment_at};
+ghost use Rattle.cf_session.specs.Apply.{AppliesOneManager, moment_at};
 ghost use Rattle.id_table.specs.Ids.{AreWithin};
 ghost use Rattle.script_reader.specs.Commands.{IsWellFormed};
 ghost use Rattle.script_reader.specs.Owned.{owned_command};
@@ -79,7 +79,7 @@ impl Session {
         requires tied { AreTied self.old (H.state heap.old) }
         requires formed { IsWellFormed c.now }
         requires lead { length lead.now ≤ 8 }
-        ensures step { Applies (moment_at self.old (H.state heap.old) (K.written out.old))
+        ensures step { AppliesOneManager (moment_at self.old (H.state heap.old) (K.written out.old))
             (record { command = c.now; lead = lead.now })
             result (moment_at self.new (H.state heap.new) (K.written out.new)) }
         ensures tied { AreTied self.new (H.state heap.new) }
@@ -104,7 +104,7 @@ impl Session {
         requires tied { AreTied self.old (H.state heap.old) }
         requires formed { IsWellFormed (owned_command c) }
         requires lead { length lead.now ≤ 8 }
-        ensures step { Applies (moment_at self.old (H.state heap.old) (K.written out.old))
+        ensures step { AppliesOneManager (moment_at self.old (H.state heap.old) (K.written out.old))
             (record { command = owned_command c.entry; lead = lead.now })
             result (moment_at self.new (H.state heap.new) (K.written out.new)) }
         ensures tied { AreTied self.new (H.state heap.new) }

@@ -1,4 +1,4 @@
--- For `u64_in`, `quantum_in` and `read_words`: the values and the errors that `clap` returns are those of the definitions.
+-- For `u64_in`, `quantum_in` and `read_arguments`: the values and the errors that `clap` returns are those of the definitions.
 use Rattle.std.proofs.Common.{◌≡◌, ◌≤◌, ◌<◌, ◌^◌, ℕ, Bool, true, false, List, refl, arith, Option, Some, None, ◌≢◌, [], ◌∷◌, inl, inr}
 use Rattle.std.specs.Prelude.{Result, Ok, Err, unwrap_or}
 use Rattle.std.specs.Str.Parse.{ParsesUnsigned, digits_value, without_leading_plus}

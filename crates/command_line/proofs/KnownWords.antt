@@ -62,9 +62,9 @@ pub help_asked : (name : Text) (rest : List Text) → AreRefused (name ∷ codes
 unfolding clap_on_literals
 help_asked name rest = record { app = app_at_zero; is_app = is_app_at_zero; refused = λ e. let bad : kind.DisplayHelp ∷ [] ≡ [] = e in cc }
 
-pub count_too_far : (name : Text) → AreRefused (name ∷ codes "--count=1000001" ∷ [])
+pub count_too_large : (name : Text) → AreRefused (name ∷ codes "--count=1000001" ∷ [])
 unfolding clap_on_literals
-count_too_far name = record { app = app_at_zero; is_app = is_app_at_zero; refused = λ e. let bad : kind.ValueValidation ∷ [] ≡ [] = e in cc }
+count_too_large name = record { app = app_at_zero; is_app = is_app_at_zero; refused = λ e. let bad : kind.ValueValidation ∷ [] ≡ [] = e in cc }
 
 pub no_quantum : (name : Text) → AreRefused (name ∷ codes "--quantum=0" ∷ [])
 unfolding clap_on_literals

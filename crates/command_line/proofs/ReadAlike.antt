@@ -10,8 +10,8 @@ use Rattle.command_line.proofs.WalkAddresses.{rows-rebased}
 use Rattle.command_line.specs.Choices.{AreAccepted, AreRefused, Chooses, ReadsAs, choice_of}
 use Rattle.command_line.specs.Command.{IsCfApp, NameList, cf_app, manager_names, mode_names, texts_of}
 use Rattle.command_line.specs.declared.choice.Choice.{Choice}
-use Rattle.command_line.specs.declared.choice.WordsFault.{WordsFault}
-use Rattle.command_line.specs.declared.choice.WordsFault.TheVariants.{OutOfMemory, Refused}
+use Rattle.command_line.specs.declared.choice.ArgumentsFault.{ArgumentsFault}
+use Rattle.command_line.specs.declared.choice.ArgumentsFault.TheVariants.{OutOfMemory, Refused}
 
 abbrev names_at_zero : List Text → NameList
 names_at_zero texts = record { ref_ptr = (0, 0); now = map at_zero texts }
@@ -54,13 +54,13 @@ chosen_are_accepted words choice chosen = record { app = chosen.app; is_app = ch
 pub one_choice : (words : List Text) (one other : Choice) → Chooses words one → Chooses words other → other ≡ one
 one_choice words one other a b = b.chosen ∙ ap choice_of (same_matches a.app b.app words a.is_app b.is_app) ∙ sym a.chosen
 
-pub read_as_chosen : (words : List Text) (choice : Choice) (result : Result Choice WordsFault) → Chooses words choice → ReadsAs words result
+pub read_as_chosen : (words : List Text) (choice : Choice) (result : Result Choice ArgumentsFault) → Chooses words choice → ReadsAs words result
     → (result ≡ Ok choice) ⊎ (result ≡ Err OutOfMemory)
 read_as_chosen words choice (Ok other) chosen read = inl (ap Ok (one_choice words choice other chosen read))
 read_as_chosen words choice (Err Refused) chosen read = absurd (not_accepted words read (chosen_are_accepted words choice chosen))
 read_as_chosen words choice (Err OutOfMemory) chosen read = inr refl
 
-pub read_as_refused : (words : List Text) (result : Result Choice WordsFault) → AreRefused words → ReadsAs words result
+pub read_as_refused : (words : List Text) (result : Result Choice ArgumentsFault) → AreRefused words → ReadsAs words result
     → (result ≡ Err Refused) ⊎ (result ≡ Err OutOfMemory)
 read_as_refused words (Ok choice) refused read = absurd (not_accepted words refused (chosen_are_accepted words choice read))
 read_as_refused words (Err Refused) refused read = inl refl

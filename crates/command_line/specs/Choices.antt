@@ -12,8 +12,8 @@ use Rattle.command_line.specs.Command.{IsCfApp, any_u64, mode_name, quantum_pars
 use Rattle.command_line.specs.declared.choice.Choice.{Choice}
 use Rattle.command_line.specs.declared.choice.Mode.{Mode}
 use Rattle.command_line.specs.declared.choice.Mode.TheVariants.{Run, Compare, Bench, Large, Save, Load, Slice, Quota}
-use Rattle.command_line.specs.declared.choice.WordsFault.{WordsFault}
-use Rattle.command_line.specs.declared.choice.WordsFault.TheVariants.{Refused, OutOfMemory}
+use Rattle.command_line.specs.declared.choice.ArgumentsFault.{ArgumentsFault}
+use Rattle.command_line.specs.declared.choice.ArgumentsFault.TheVariants.{Refused, OutOfMemory}
 
 -- the mode with this name; `Run` for any other name or none, which the command never lets through
 abbrev pub mode_named : Option Text → Mode
@@ -71,8 +71,8 @@ pub record AreRefused (words : List Text) : Type 0 where
   pub is_app : IsCfApp app
   pub refused : fault_of app words ≢ []
 
--- what `read_words` may return for these arguments: the choice that they make; `Refused` if they are refused; or, for any arguments, `OutOfMemory`
-abbrev pub ReadsAs : List Text → Result Choice WordsFault → Type 0
+-- what `read_arguments` may return for these arguments: the choice that they make; `Refused` if they are refused; or, for any arguments, `OutOfMemory`
+abbrev pub ReadsAs : List Text → Result Choice ArgumentsFault → Type 0
 ReadsAs words (Ok choice) = Chooses words choice
 ReadsAs words (Err Refused) = AreRefused words
 ReadsAs words (Err OutOfMemory) = ⊤

@@ -40,7 +40,7 @@ pub struct Choice {
 
 /// Why the arguments make no choice.
 #[derive(Clone, Copy, Debug, PartialEq, Eq)]
-pub enum WordsFault {
+pub enum ArgumentsFault {
     /// `clap` finds a fault in the arguments, or they are a request for help.
     Refused,
     /// Out of memory.

@@ -10,8 +10,8 @@ ghost use Rattle.command_line.specs.Command.{IsCfApp, mode_name};
 ghost use Rattle.command_line.specs.declared.choice.Choice.{Choice};
 ghost use Rattle.command_line.specs.declared.choice.Mode.{Mode};
 ghost use Rattle.command_line.specs.declared.choice.Mode.TheVariants.{Run};
-ghost use Rattle.command_line.specs.declared.choice.WordsFault.{WordsFault};
-ghost use Rattle.command_line.specs.declared.choice.WordsFault.TheVariants.{OutOfMemory, Refused};
+ghost use Rattle.command_line.specs.declared.choice.ArgumentsFault.{ArgumentsFault};
+ghost use Rattle.command_line.specs.declared.choice.ArgumentsFault.TheVariants.{OutOfMemory, Refused};
 
 /// The command of `clap` keeps references to the names of modes and kinds. At whatever addresses these names
 /// are, it finds the same faults in the arguments `words`, and the same values (`matches_of`).
@@ -31,15 +31,15 @@ pub fn arguments_choose_once()
     ensures { (words : List Text) (one other : Choice) → Chooses words one → Chooses words other → other ≡ one }
 {}
 
-/// Any result that `read_words` may have for arguments that make a choice is this choice or `OutOfMemory`.
-pub fn known_words_are_read()
-    ensures { (words : List Text) (choice : Choice) (result : Result Choice WordsFault) → Chooses words choice
+/// Any result that `read_arguments` may have for arguments that make a choice is this choice or `OutOfMemory`.
+pub fn known_arguments_are_read()
+    ensures { (words : List Text) (choice : Choice) (result : Result Choice ArgumentsFault) → Chooses words choice
         → ReadsAs words result → (result ≡ Ok choice) ⊎ (result ≡ Err OutOfMemory) }
 {}
 
-/// Any result that `read_words` may have for arguments that are refused is `Refused` or `OutOfMemory`.
-pub fn known_words_are_refused()
-    ensures { (words : List Text) (result : Result Choice WordsFault) → AreRefused words
+/// Any result that `read_arguments` may have for arguments that are refused is `Refused` or `OutOfMemory`.
+pub fn known_arguments_are_refused()
+    ensures { (words : List Text) (result : Result Choice ArgumentsFault) → AreRefused words
         → ReadsAs words result → (result ≡ Err Refused) ⊎ (result ≡ Err OutOfMemory) }
 {}
 
@@ -51,7 +51,7 @@ pub fn no_arguments_are_taken()
 
 /// For each mode and kind: the mode's name and then `--manager`, the kind's name, `--seed 5`, `--count=7` and
 /// `--quantum=8` make the choice of these values.
-pub fn words_choose_what_they_say()
+pub fn arguments_choose_what_they_say()
     ensures { (name : Text) (mode : Mode) (kind : Kind) → Chooses
         (name ∷ mode_name mode ∷ codes "--manager" ∷ kind_name kind ∷ codes "--seed" ∷ codes "5" ∷ codes "--count=7" ∷ codes "--quantum=8" ∷ [])
         (chosen mode kind 5 7 8) }

@@ -1,10 +1,10 @@
-//! `read_words`: reads the arguments of the command line, and returns the choice that they make.
+//! `read_arguments`: reads the arguments of the command line, and returns the choice that they make.
 ghost use Rattle.std.specs.Prelude.{◌≡◌, ◌≤◌, IfOk, map, option_map, string_bytes};
 ghost use Rattle.clap.specs.Words.{found_of, one_text};
 ghost use Rattle.command_line.specs.Choices.{ReadsAs, kind_named as kind_by, mode_named as mode_by};
 ghost use Rattle.command_line.specs.Choices.{quantum_in as quantum_by, u64_in as number_by};
 
-use crate::choice::{Choice, Mode, WordsFault};
+use crate::choice::{Choice, Mode, ArgumentsFault};
 use crate::command::cf_command;
 use cf_base::Kind;
 use clap::ArgMatches;
@@ -70,13 +70,13 @@ fn quantum_in(matches: &ArgMatches<'_>, id: &str) -> u32
 // Without this, a goal that no proof covers would start a search over the whole command, which
 // takes long.
 #[tactic(none)]
-pub fn read_words(alloc: Global, words: &[String]) -> Result<Choice, WordsFault>
+pub fn read_arguments(alloc: Global, words: &[String]) -> Result<Choice, ArgumentsFault>
     ensures reads { ReadsAs (map (λ word. string_bytes word) words.now) result }
     ensures least { IfOk result (λ choice. 1 ≤ choice.quantum) }
     ensures most { IfOk result (λ choice. choice.quantum ≤ 16384) }
 {
     let Ok(command) = cf_command(alloc) else {
-        return Err(WordsFault::OutOfMemory);
+        return Err(ArgumentsFault::OutOfMemory);
     };
     match command.try_get_matches_from(words) {
         Ok(matches) => Ok(Choice {
@@ -87,8 +87,8 @@ pub fn read_words(alloc: Global, words: &[String]) -> Result<Choice, WordsFault>
             quantum: quantum_in(&matches, "quantum"),
         }),
         Err(error) => match error.kind() {
-            ErrorKind::OutOfMemory => Err(WordsFault::OutOfMemory),
-            _ => Err(WordsFault::Refused),
+            ErrorKind::OutOfMemory => Err(ArgumentsFault::OutOfMemory),
+            _ => Err(ArgumentsFault::Refused),
         },
     }
 }

@@ -15,7 +15,7 @@ use Rattle.page_model.specs.Held.{Objects, Placed, objects}
 use Rattle.page_model.specs.Paging.{IsPaging}
 use Rattle.page_model.specs.Steps.{resized, resized_at, without}
 use Rattle.page_model.proofs.CallerLemmas.{free_objects, len-objects, malloc_objects}
-use Rattle.cf_model.specs.Answers.{bound_put, class_with}
+use Rattle.cf_model.specs.Answers.{with_bound, class_with}
 use Rattle.cf_model.specs.Families.{Family, paged, tiled, family_of}
 use Rattle.cf_model.specs.Rules.{IsPaged}
 use Rattle.cf_model.specs.State.{paging_in}
@@ -154,7 +154,7 @@ module _ (t new : ShownHeap) where
   pub class_is : (words : ℕ) → class_to_bound t.heap words ≡ class_shown (view t) words
   class_is words = class_in (family_of t.heap.kind) refl words
 
-  put_view : (c : Option ℕ) (k : ℕ) (reply : Reply) → new ≡ record t { heap = bound_put t.heap c k } → view new ≡ record (view t) { bounds = bounds_with t.heap.bounds c k }
+  put_view : (c : Option ℕ) (k : ℕ) (reply : Reply) → new ≡ record t { heap = with_bound t.heap c k } → view new ≡ record (view t) { bounds = bounds_with t.heap.bounds c k }
   put_view None k reply e = ap view e
   put_view (Some c) k reply e = ap view e
 

@@ -5,7 +5,7 @@ use Rattle.std.specs.List.{range_with_len}
 use Rattle.std.specs.FinMap.{get, len}
 use Rattle.cf_lemmas.proofs.Ranges.{one}
 use Rattle.cf_lemmas.proofs.Renaming.{CountAlike}
-use Rattle.page_model.specs.Arrangement.{IsSound, LacksRoom, class_at, home_pages, is_on, live, not_full_pages, objects_on, count_on, used_pages}
+use Rattle.page_model.specs.Arrangement.{IsSound, LacksRoom, class_at, pages_of_class, is_on, live, not_full_pages, objects_on, count_on, used_pages}
 use Rattle.page_model.specs.Figures.{asked_bytes, figures_of, taken_bytes, totals_of}
 use Rattle.page_model.specs.Held.{Held, Placed, objects}
 use Rattle.page_model.specs.Paging.{Paging, bound_of, class_for, classes, page_of, slot_words, slots_of}
@@ -24,13 +24,13 @@ module _ (p : Paging) (m n : Held) (a : CountAlike m n) where
   not_full_alike : (c : ℕ) → not_full_pages p n c ≡ not_full_pages p m c
   not_full_alike c = not_full-same p m n c (on_alike c)
 
-  home_alike : (c : ℕ) → home_pages p n c ≡ home_pages p m c
-  unfolding home_pages
+  home_alike : (c : ℕ) → pages_of_class p n c ≡ pages_of_class p m c
+  unfolding pages_of_class
   home_alike c = λ i. count_by (λ page. nat_lt 0 (on_alike c page i)) (range_with_len 0 p.pages)
 
   used_alike : used_pages p n ≡ used_pages p m
   unfolding used_pages
-  used_alike = sum_same (home_pages p n) (home_pages p m) (range_with_len 0 (classes p)) home_alike
+  used_alike = sum_same (pages_of_class p n) (pages_of_class p m) (range_with_len 0 (classes p)) home_alike
 
   pub live_alike : (c : ℕ) → live p (objects n) c ≡ live p (objects m) c
   live_alike c = live_is p c n ∙ a.sums (λ (x : Placed). one (nat_eq (class_at p x) c)) ∙ sym (live_is p c m)

@@ -20,8 +20,8 @@ use Rattle.page_model.specs.Arrangement.{IsSound, LacksRoom, class_at, live, pag
 use Rattle.page_model.specs.Figures.{figures_of, totals_of}
 use Rattle.page_model.specs.Bytes.{written}
 use Rattle.page_model.specs.Held.{Objects, Placed}
-use Rattle.page_model.specs.Paging.{AreOne, IsPaging, Paging, class_for, classes}
-use Rattle.page_model.specs.Steps.{IsFreePlace, Leaves, resized, zeros_at}
+use Rattle.page_model.specs.Paging.{EveryBoundIsOne, IsPaging, Paging, class_for, classes}
+use Rattle.page_model.specs.Steps.{IsFreePlace, CallResult, resized, zeros_at}
 use Rattle.page_model.proofs.CallerLemmas.{class_fits, lacks_room_at_one, len-objects}
 use Rattle.cf_model.specs.Answers.{classes_in, totals_in}
 use Rattle.cf_model.specs.Families.{IsPaged}
@@ -134,7 +134,7 @@ has_room h is n place fits free lacks =
       whole = refl;
     }) refusal.Space (record { fits = fits; few = omega arith; lacking = rw (is, LacksRoomIn) lacks })
 
-module _ (t : ShownHeap) (is : IsPaged t.heap.kind) (arranged : IsArranged t.heap) (ones : AreOne (paging_in t.heap)) where
+module _ (t : ShownHeap) (is : IsPaged t.heap.kind) (arranged : IsArranged t.heap) (ones : EveryBoundIsOne (paging_in t.heap)) where
   abbrev p : Paging
   p = paging_in t.heap
 
@@ -208,7 +208,7 @@ module _ (t : ShownHeap) (is : IsPaged t.heap.kind) (arranged : IsArranged t.hea
       let g = passes n cause.fits cause.lacking in
       rw (e, f, g)
 
-  no_fault : (id n : ℕ) (x : Placed) (after : Leaves) → need n ≤ t.heap.profile.page_words → RefitsInPlace t id x n after ⊎ RefitsElsewhere t id x n after
+  no_fault : (id n : ℕ) (x : Placed) (after : CallResult) → need n ≤ t.heap.profile.page_words → RefitsInPlace t id x n after ⊎ RefitsElsewhere t id x n after
       → resize_fault h x.bytes n ≡ None
   no_fault id n x after fits (inl r) =
       let e = lt_no t.heap.profile.page_words (need n) fits in

@@ -9,26 +9,26 @@ use Rattle.cf_base.specs.declared.kind.Kind.{Kind}
 use Rattle.page_model.specs.Order.{Order}
 use Rattle.page_model.specs.Steps.{Request}
 use Rattle.block_model.proofs.CallerLemmas.{opening_lists}
-use Rattle.cf_model.specs.Answers.{bound_put}
+use Rattle.cf_model.specs.Answers.{with_bound}
 use Rattle.cf_model.specs.Costs.{resize_bound}
 use Rattle.cf_model.specs.Ordered.{FreeByOrder, MallocByOrder, ResizeByOrder}
 use Rattle.cf_model.specs.Rules.{AreInRange, KeepsRules}
 use Rattle.cf_model.specs.State.{HeapState}
-use Rattle.cf_model.specs.Steps.{IsOpeningOrder, IsWriteStep, Part, opening_order, ordered_heap}
+use Rattle.cf_model.specs.Steps.{IsOpeningOrder, IsWriteStep, Position, opening_order, ordered_heap}
 use Rattle.cf_model.proofs.CallerLemmas.{free_same, one_malloc, one_resize, one_write, order_stays, ordered_there, same_words}
-use Rattle.script_reader.specs.Items.{Item, Saying, asks, bad, gives_or_breaks, is_bound, item, items, items_at, items_by, line_says, nothing, stage_after_command, starts, verdict, wrong}
+use Rattle.script_reader.specs.Items.{Item, LineMeaning, asks, bad, gives_or_breaks, is_bound, item, items, items_at, items_by, line_says, nothing, stage_after_command, starts, verdict, wrong}
 use Rattle.script_reader.specs.Lines.{lines}
 use Rattle.script_reader.specs.declared.command.Command.{Command}
 use Rattle.script_reader.specs.declared.command.Command.TheVariants.{Malloc, Free, Write, Bound, Resize}
 use Rattle.script_reader.specs.declared.stage.Stage.{Stage}
 use Rattle.script_reader.specs.declared.stage.Stage.TheVariants.{Opening, Bounding, Running}
 use Rattle.run_model.specs.Replies.{malloc_text, resize_text, write_text}
-use Rattle.run_model.specs.Runs.{Begins, BeginsOne, ItemStep, Run, Turn}
+use Rattle.run_model.specs.Runs.{Begins, BeginsOne, ItemStep, Run, IsCommandStep}
 use Rattle.run_model.specs.Sessions.{IsGoing, RunState, SessionState, counted, fresh_session}
 use Rattle.run_model.specs.Steps.{Step, class_to_bound, ids_given, session_resized}
 use Rattle.run_model.specs.Texts.{Reply, said}
 use Rattle.run_model.proofs.CallerLemmas.{FreesAt, MallocsAt, ResizesAt, WritesAt, begins_going, step_going}
-use Rattle.run_laws.specs.Sayable.{AreSayable}
+use Rattle.run_laws.specs.ValidItems.{AreValidItems}
 use Rattle.run_laws.proofs.CallerLemmas.{IsOn, items_sayable, kind_goes_on, run_there, step_on}
 use Rattle.headline_laws.specs.OneOutput.{BeginNone, BeginOnce, IsOrdered}
 
@@ -98,9 +98,9 @@ module _ (old new : RunState) where
   free_keeps None id reply g = still g.1
   free_keeps (Some h) id reply g = order_stays (FreeByOrder old.heap h (Ok g.freed) new.heap) old.heap.order new.heap.order g.ordered
 
-  written_keeps : (part : Part) (bytes : List ℕ) (answer : Result Unit AccessFault) → IsWriteStep old.heap part bytes answer new.heap → Stays
-  written_keeps part bytes (Ok u) step = ap (λ (h : HeapState). is_some h.order) step.whole
-  written_keeps part bytes (Err e) step = ap (λ (h : HeapState). is_some h.order) step.1
+  written_keeps : (position : Position) (bytes : List ℕ) (answer : Result Unit AccessFault) → IsWriteStep old.heap position bytes answer new.heap → Stays
+  written_keeps position bytes (Ok u) step = ap (λ (h : HeapState). is_some h.order) step.whole
+  written_keeps position bytes (Err e) step = ap (λ (h : HeapState). is_some h.order) step.1
 
   write_keeps : (o : Option ℕ) (at : ℕ) (bytes : List ℕ) (reply : Reply) → WritesAt o old at bytes reply new → Stays
   write_keeps None at bytes reply g = still g.1
@@ -111,7 +111,7 @@ module _ (old new : RunState) where
   resize_keeps (Some h) bytes reply g = order_stays (ResizeByOrder old.heap (record { number = h; length = bytes }) g.answer new.heap) old.heap.order
       new.heap.order g.ordered
 
-  put_keeps : (c : Option ℕ) (k : ℕ) → new.heap ≡ bound_put old.heap c k → Stays
+  put_keeps : (c : Option ℕ) (k : ℕ) → new.heap ≡ with_bound old.heap c k → Stays
   put_keeps None k is = ap (λ (h : HeapState). is_some h.order) is
   put_keeps (Some c) k is = ap (λ (h : HeapState). is_some h.order) is
 
@@ -245,18 +245,18 @@ module _ (kind : Kind) where
   abbrev HasRun : Option RunState → List Item → Type 0
   HasRun old items = (replies : List Reply) × (end : Option RunState) × Run kind old items replies end × IsOrdered end
 
-  run_from : (old : Option RunState) (items : List Item) → IsOn (BeginsOne kind) Turn (kind_goes_on kind) old → IsOrdered old → BeginNone items → AreSayable items
+  run_from : (old : Option RunState) (items : List Item) → IsOn (BeginsOne kind) IsCommandStep (kind_goes_on kind) old → IsOrdered old → BeginNone items → AreValidItems items
       → HasRun old items
   run_from old items on here may can =
-      let (replies, end, run) = run_there (BeginsOne kind) Turn (kind_goes_on kind) old items on can in
+      let (replies, end, run) = run_there (BeginsOne kind) IsCommandStep (kind_goes_on kind) old items on can in
       (replies, end, run, ordered_after old items replies end may run here)
 
-  ordered_run : (items : List Item) → BeginOnce items → AreSayable items → HasRun None items
+  ordered_run : (items : List Item) → BeginOnce items → AreValidItems items → HasRun None items
   ordered_run [] once can = ([], None, (refl, refl), tt)
   ordered_run (starts p ∷ rest) once can =
       let (s, begun, some) = begun_ordered p can.0 in
       let step : ItemStep kind None (starts p) (said (codes "ok")) (Some s) = (s, (begun, refl), refl) in
-      let on = step_on (BeginsOne kind) Turn (kind_goes_on kind) None (starts p) (said (codes "ok")) (Some s) tt can.0 step in
+      let on = step_on (BeginsOne kind) IsCommandStep (kind_goes_on kind) None (starts p) (said (codes "ok")) (Some s) tt can.0 step in
       let (replies, end, run, ordered) = run_from (Some s) rest on some once can.1 in
       (said (codes "ok") ∷ replies, end, (Some s, said (codes "ok"), replies, step, refl, run), ordered)
   ordered_run (asks c ∷ rest) once can = run_from None (asks c ∷ rest) tt tt (tt, once) can
@@ -304,7 +304,7 @@ module _ (n : ℕ) (after : Stage → List Item) (on : (stage : Stage) → IsBeh
   started_behind Bounding p behind = (tt, tt)
   started_behind Running p behind = (tt, tt)
 
-  line_behind : (stage : Stage) (says : Saying) → IsBehind stage → BeginNone (items_by (verdict stage says) n stage after)
+  line_behind : (stage : Stage) (says : LineMeaning) → IsBehind stage → BeginNone (items_by (verdict stage says) n stage after)
   line_behind stage nothing behind = on stage behind
   line_behind stage wrong behind = (tt, tt)
   line_behind stage (item (starts p)) behind = started_behind stage p behind
@@ -316,7 +316,7 @@ none_behind [] n stage behind = tt
 none_behind (line ∷ rest) n stage behind = line_behind n (items_at rest (n + 1)) (none_behind rest (n + 1)) stage (line_says line) behind
 
 module _ (n : ℕ) (after : Stage → List Item) (on : (stage : Stage) → IsBehind stage → BeginNone (after stage)) (once : BeginOnce (after Opening)) where
-  line_first : (says : Saying) → BeginOnce (items_by (verdict Opening says) n Opening after)
+  line_first : (says : LineMeaning) → BeginOnce (items_by (verdict Opening says) n Opening after)
   line_first nothing = once
   line_first wrong = tt
   line_first (item (starts p)) = on Bounding tt

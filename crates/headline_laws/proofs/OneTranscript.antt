@@ -8,7 +8,7 @@ use Rattle.cf_base.specs.declared.kind.Kind.{Kind}
 use Rattle.cf_lemmas.proofs.Maps.{equal_maps}
 use Rattle.cf_lemmas.proofs.MapValues.{get-map_values}
 use Rattle.page_model.specs.Held.{Placed}
-use Rattle.page_model.specs.Paging.{AreOne}
+use Rattle.page_model.specs.Paging.{EveryBoundIsOne}
 use Rattle.cf_model.specs.Rules.{IsPaged}
 use Rattle.cf_model.specs.State.{layout_of, paging_in}
 use Rattle.cf_model.proofs.CallerLemmas.{pages_kept}
@@ -60,7 +60,7 @@ bytes_are s going id = ap (option_map (λ (x : Placed). x.bytes)) (object_is s g
     ∙ sym (get-map_values (λ (x : Placed). x.bytes) (shown s).heap.held id)
 
 module _ (one other : RunState) (going : IsGoing one) (going' : IsGoing other) (paged : IsPaged one.heap.kind) (alike : AreAlike one other)
-    (ones : AreOne (paging_in one.heap)) (ones' : AreOne (paging_in other.heap)) where
+    (ones : EveryBoundIsOne (paging_in one.heap)) (ones' : EveryBoundIsOne (paging_in other.heap)) where
   paged' : IsPaged other.heap.kind
   paged' = subst IsPaged (sym alike.kind) paged
 

@@ -22,14 +22,14 @@ use Rattle.page_model.specs.Held.{Held, Placed}
 use Rattle.page_model.specs.Image.{slot_for}
 use Rattle.page_model.specs.Paging.{Paging, class_for}
 use Rattle.page_model.specs.Arrangement.{class_at}
-use Rattle.page_model.specs.Steps.{Leaves, Moves, RefitsObject, Request, resized_at, without, zeros_at}
+use Rattle.page_model.specs.Steps.{CallResult, Moves, RefitsObject, Request, resized_at, without, zeros_at}
 use Rattle.page_model.proofs.CallerLemmas.{change_is}
-use Rattle.cf_model.specs.Answers.{block_totals, bound_put, class_with, classes_in, totals_in}
+use Rattle.cf_model.specs.Answers.{block_totals, with_bound, class_with, classes_in, totals_in}
 use Rattle.cf_model.specs.Costs.{resize_bound}
 use Rattle.cf_model.specs.Families.{Family, paged, tiled, family_of}
 use Rattle.cf_model.specs.Rules.{IsPaged, IsTiled, KeepsPages, KeepsRulesOf, KeepsTiling}
 use Rattle.cf_model.specs.State.{HeapState, paging_in, region_words}
-use Rattle.cf_model.specs.Steps.{IsMallocStep, IsPlacedBy, IsRefusedBy, IsResizeFault, IsResizeStep, IsUnmoved, IsWriteStep, LacksRoomIn, MovesIn, frames_left, number_of, slot_in}
+use Rattle.cf_model.specs.Steps.{IsMallocStep, IsPlacedBy, IsRefusedBy, IsResizeFault, IsResizeStep, IsLeftByRefusal, IsWriteStep, LacksRoomIn, MovesIn, frames_left, number_of, slot_in}
 use Rattle.cf_model.specs.Steps.{tiling_left}
 use Rattle.cf_model.proofs.CallerLemmas.{not_none_found, pages_kept}
 use Rattle.run_model.specs.Replies.{block_text, block_text_at, malloc_text, peek_text, resize_text, write_text}
@@ -358,12 +358,12 @@ module _ (s : RunState) (going : IsGoing s) where
     write_shown (Some h) id at bytes reply named step = write_answer id h at bytes reply step.answer named step.session step.step step.reply_is
 
     -- z
-    still_in : (k : Kind) (f : Family) → family_of k ≡ f → new.session.ids ≡ ids → IsUnmoved k s.heap new.heap → IsUnmoved k (heap_of s) (heap_of new)
-    still_in k paged is e unmoved = rw (is, IsUnmoved) (
-        let u : new.heap ≡ record s.heap { cost = new.heap.cost } = rw (is, IsUnmoved) at unmoved in
+    still_in : (k : Kind) (f : Family) → family_of k ≡ f → new.session.ids ≡ ids → IsLeftByRefusal k s.heap new.heap → IsLeftByRefusal k (heap_of s) (heap_of new)
+    still_in k paged is e unmoved = rw (is, IsLeftByRefusal) (
+        let u : new.heap ≡ record s.heap { cost = new.heap.cost } = rw (is, IsLeftByRefusal) at unmoved in
         λ i. record (u i) { held = held_by_id (e i) (u i).held; words = []; order = None })
-    still_in k tiled is e unmoved = rw (is, IsUnmoved) (
-        let u : new.heap ≡ s.heap = rw (is, IsUnmoved) at unmoved in
+    still_in k tiled is e unmoved = rw (is, IsLeftByRefusal) (
+        let u : new.heap ≡ s.heap = rw (is, IsLeftByRefusal) at unmoved in
         λ i. record (u i) { held = held_by_id (e i) (u i).held; words = []; order = None })
 
     -- the object stays or moves, and another one moves or not
@@ -419,7 +419,7 @@ module _ (s : RunState) (going : IsGoing s) where
         let x = step.object in
         let names : new.session.ids ≡ ids = ap (λ (z : SessionState). z.ids) e ∙ resized_ids (record s.session { bound = resize_bound (Ok done) }) (Ok done) in
         let f = refitted id h n x step.pages named step.found done.moved names step.step in
-        let after : Leaves = record { held = (heap_of new).held; moved = f.0 } in
+        let after : CallResult = record { held = (heap_of new).held; moved = f.0 } in
         let slot : done.old_slot_words ≡ slot_for p (length x.bytes) = step.old_slot in
         let bound : resize_bound (Ok done) ≡ resize_bound_for t x n = λ i. 160 + 3 * max (step.old_slot i) (step.slot i) in
         let frames : new.heap.frames ≡ frames_left s.heap.kind (heap_of s) after = ap (λ (z : HeapState). z.frames) step.whole
@@ -463,7 +463,7 @@ module _ (s : RunState) (going : IsGoing s) where
     resize_shown (Some h) id n reply named step = resize_answer id h n reply step.answer named step.step step.cost step.session step.reply_is
 
     -- k
-    put_shown : (c : Option ℕ) (k : ℕ) → new.session.ids ≡ ids → new.heap ≡ bound_put s.heap c k → heap_of new ≡ bound_put (heap_of s) c k
+    put_shown : (c : Option ℕ) (k : ℕ) → new.session.ids ≡ ids → new.heap ≡ with_bound s.heap c k → heap_of new ≡ with_bound (heap_of s) c k
     put_shown None k e is = λ i. record (is i) { held = held_by_id (e i) (is i).held; words = []; order = None }
     put_shown (Some c) k e is = λ i. record (is i) { held = held_by_id (e i) (is i).held; words = []; order = None }
 
@@ -474,7 +474,7 @@ module _ (s : RunState) (going : IsGoing s) where
     bound_shown words k reply step =
         let e = step.session in
         let heap = put_shown (class_to_bound s.heap words) k (ap (λ (z : SessionState). z.ids) e) step.heap
-        ∙ ap (λ c. bound_put (heap_of s) c k) (class_here words) in (
+        ∙ ap (λ c. with_bound (heap_of s) c k) (class_here words) in (
           step.reply_is ∙ ap (λ c. said (bound_text c)) (class_here words),
           (λ i. record { heap = heap i; numbers = (e i).ids; step_bound = (e i).bound; moves = (e i).moves; moved_words = (e i).words }),
         )

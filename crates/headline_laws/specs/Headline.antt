@@ -16,11 +16,11 @@ use Rattle.page_model.specs.Bytes.{written}
 use Rattle.page_model.specs.Held.{Placed}
 use Rattle.page_model.specs.Image.{slot_for}
 use Rattle.page_model.specs.Paging.{class_for}
-use Rattle.page_model.specs.Steps.{IsFreePlace, Leaves, Moves, resized_at, without, zeros_at}
+use Rattle.page_model.specs.Steps.{IsFreePlace, CallResult, Moves, resized_at, without, zeros_at}
 use Rattle.cf_model.specs.Families.{IsPaged, paged, tiled, family_of}
-use Rattle.cf_model.specs.Answers.{bound_put}
+use Rattle.cf_model.specs.Answers.{with_bound}
 use Rattle.cf_model.specs.State.{paging_in, region_words}
-use Rattle.cf_model.specs.Steps.{IsPlacedBy, IsRefusedBy, IsResizeFault, IsUnmoved, MovesIn, frames_left, slot_in, tiling_left}
+use Rattle.cf_model.specs.Steps.{IsPlacedBy, IsRefusedBy, IsResizeFault, IsLeftByRefusal, MovesIn, frames_left, slot_in, tiling_left}
 use Rattle.script_reader.specs.Items.{Item}
 use Rattle.script_reader.specs.declared.command.Command.{Command}
 use Rattle.script_reader.specs.declared.command.Command.TheVariants.{Malloc, Free, Write, Read, Place, Block, Peek, Walk, Frag, Steps, Bound, Resize}
@@ -107,14 +107,14 @@ Writes (Some x) old id at bytes reply new =
     × (new ≡ if nat_le (at + length bytes) (length x.bytes) then with_object old id (record x { bytes = written x.bytes at bytes }) else old)
 
 -- Command `z` within the class: `after` is the objects afterwards, in which the id has `n` bytes at the same address; no other object moves.
-pub record RefitsInPlace (old : ShownHeap) (id : ℕ) (x : Placed) (n : ℕ) (after : Leaves) : Type 0 where
+pub record RefitsInPlace (old : ShownHeap) (id : ℕ) (x : Placed) (n : ℕ) (after : CallResult) : Type 0 where
   pub same : class_for (paging_in old.heap) n ≡ class_at (paging_in old.heap) x
   pub still : after.moved ≡ None
   pub placed : after.held ≡ insert old.heap.held id (resized_at x.place x n)
 
 -- Command `z` to another class: the object takes the free slot at `place` as a malloc does, and leaves its old one as a free does: `after.moved` is the id
 -- whose object moved there, if one did.
-pub record RefitsElsewhere (old : ShownHeap) (id : ℕ) (x : Placed) (n : ℕ) (after : Leaves) : Type 0 where
+pub record RefitsElsewhere (old : ShownHeap) (id : ℕ) (x : Placed) (n : ℕ) (after : CallResult) : Type 0 where
   pub other : class_for (paging_in old.heap) n ≢ class_at (paging_in old.heap) x
   pub place : ℕ
   pub free : IsFreePlace (paging_in old.heap) old.heap.held n place
@@ -129,7 +129,7 @@ resize_bound_for old x n = 160 + 3 * max (slot_for (paging_in old.heap) (length 
 pub record IsResize (old : ShownHeap) (id : ℕ) (x : Placed) (n : ℕ) (reply : Reply) (new : ShownHeap) : Type 0 where
   pub pages : IsPaged old.heap.kind
   pub fits : need n ≤ old.heap.profile.page_words
-  pub after : Leaves
+  pub after : CallResult
   pub refits : RefitsInPlace old id x n after ⊎ RefitsElsewhere old id x n after
   pub steps : CostsAtMost old.heap.kind new.heap.cost (resize_bound_for old x n)
   pub reply_is : reply ≡ said (codes "ok")
@@ -145,7 +145,7 @@ pub record IsRefusedResize (old : ShownHeap) (id n : ℕ) (reply : Reply) (new :
   pub cause : IsResizeFault old.heap (record { number = id; length = n }) fault
   pub steps : CostsAtMost old.heap.kind new.heap.cost 160
   pub reply_is : reply ≡ said (resize_text (Err fault))
-  pub still : IsUnmoved old.heap.kind old.heap new.heap
+  pub still : IsLeftByRefusal old.heap.kind old.heap new.heap
   pub heap_is : new ≡ record old { heap = new.heap; step_bound = 160 }
 
 -- command `z` for the id, by the object that the id names: if there is none, the reply is `unknown`, and nothing changes
@@ -157,7 +157,7 @@ Resizes (Some x) old id n reply new = IsResize old id x n reply new ⊎ IsRefuse
 -- `none`
 abbrev pub Bounds : ShownHeap → ℕ → ℕ → Reply → ShownHeap → Type 0
 Bounds old slot_words k reply new = (reply ≡ said (bound_text (class_to_bound old.heap slot_words)))
-    × (new ≡ record old { heap = bound_put old.heap (class_to_bound old.heap slot_words) k })
+    × (new ≡ record old { heap = with_bound old.heap (class_to_bound old.heap slot_words) k })
 
 -- command `p`: word `word` of the region in 16 hexadecimal digits, with the value that objects and blocks require (`ShowsWord`); `range` past the region
 abbrev pub Peeks : ShownHeap → ℕ → Reply → ShownHeap → Type 0

@@ -8,7 +8,7 @@ ghost use Rattle.cf_base.specs.declared.kind.Kind.{Kind};
 ghost use Rattle.cf_base.specs.declared.kind.Kind.TheVariants.{Moving, Tlsf};
 ghost use Rattle.cf_model.specs.Rules.{IsPaged};
 ghost use Rattle.cf_model.specs.State.{paging_in};
-ghost use Rattle.page_model.specs.Paging.{AreOne};
+ghost use Rattle.page_model.specs.Paging.{EveryBoundIsOne};
 ghost use Rattle.script_reader.specs.Items.{Item, items};
 ghost use Rattle.run_model.specs.Runs.{Run};
 ghost use Rattle.run_model.specs.Sessions.{IsGoing, RunState};
@@ -98,7 +98,7 @@ pub fn equal_objects_get_equal_replies()
     ensures { (one other : RunState) (items : List Item) (replies shown : List Reply)
         (last end : Option RunState)
         → IsGoing one → IsGoing other → IsPaged one.heap.kind → AreAlike one other
-        → AreOne (paging_in one.heap) → AreOne (paging_in other.heap) → AreFurther items
+        → EveryBoundIsOne (paging_in one.heap) → EveryBoundIsOne (paging_in other.heap) → AreFurther items
         → Run one.heap.kind (Some one) items replies last
         → Run one.heap.kind (Some other) items shown end
         → shown ≡ replies }

@@ -6,7 +6,7 @@ use Rattle.cf_base.specs.declared.kind.Kind.{Kind}
 use Rattle.cf_model.specs.State.{HeapState, paging_in}
 use Rattle.page_model.specs.Held.{Placed}
 use Rattle.page_model.specs.Paging.{classes, class_for}
-use Rattle.page_reference.specs.Amounts.{MovesOne}
+use Rattle.page_reference.specs.Amounts.{MustMoveAnother}
 use Rattle.page_reference.specs.Arranged.{Arranged}
 
 -- a heap in state s is of kind k, and has the pages and objects of the reference implementation's arrangement a
@@ -26,4 +26,4 @@ pub record IsObject (a : Arranged) (w n : ℕ) (x : Placed) : Type 0 where
 pub record IsFreed (a : Arranged) (h : ℕ) (x : Placed) (other : Option Handle) : Type 0 where
   pub found : get a.held h ≡ Some x
   pub class : class_for a.paging (length x.bytes) < classes a.paging
-  pub moves : IsTrue (is_some other) ↔ MovesOne a.paging a.held (get a.held h)
+  pub moves : IsTrue (is_some other) ↔ MustMoveAnother a.paging a.held (get a.held h)

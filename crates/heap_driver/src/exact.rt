@@ -16,8 +16,8 @@ ghost use Rattle.page_model.specs.Paging.{class_for, classes};
 ghost use Rattle.page_reference.specs.Next.{order_of};
 
 use cf_base::{Kind, ResizeFault};
-use page_reference::Plain;
-use page_reference::order::PlainOrder;
+use page_reference::ReferencePages;
+use page_reference::order::ReferenceOrder;
 use page_reference::steps::{copy_steps, run_steps, slot_steps, wipe_steps, word_steps};
 
 /// What the steps of a call depend on, as it is before the call. `kind` is moving or non-moving: a non-moving
@@ -26,8 +26,8 @@ use page_reference::steps::{copy_steps, run_steps, slot_steps, wipe_steps, word_
 #[derive(Clone, Copy)]
 pub(crate) struct Exact<'a> {
     pub(crate) kind: Kind,
-    pub(crate) plain: &'a Plain,
-    pub(crate) order: &'a PlainOrder,
+    pub(crate) plain: &'a ReferencePages,
+    pub(crate) order: &'a ReferenceOrder,
 }
 
 impl<'a> Exact<'a> {

@@ -8,12 +8,12 @@ use crate::exact::Exact;
 use crate::failures::RunFailure;
 use cf_base::{Freed, Handle, Kind, Layout, Refusal, ResizeFault, Resized, Settings};
 use cf_model::Manager;
-use page_reference::Plain;
+use page_reference::ReferencePages;
 use page_reference::frames::{exchange, new_frames};
-use page_reference::order::PlainOrder;
+use page_reference::order::ReferenceOrder;
 use std::alloc::Global;
 use step_ledger::Meter;
-use test_support::{Calls, Draw, Objects, Wrong, hold};
+use test_support::{ManagerUnderTest, Draw, Objects, Wrong, hold};
 
 /// The pages of the heap.
 const PAGES: u32 = 16;
@@ -46,11 +46,11 @@ pub enum Bounds {
 #[derive(Drop)]
 pub struct RandomRun<H: Manager> {
     /// The heap, with the ledger of its calls.
-    pub calls: Calls<H>,
+    pub calls: ManagerUnderTest<H>,
     /// The reference implementation: the objects with their addresses, and the bounds of the classes.
-    pub(crate) reference: Plain,
+    pub(crate) reference: ReferencePages,
     /// The pages, slots and numbers that the reference expects the heap to use next.
-    order: PlainOrder,
+    order: ReferenceOrder,
     /// The slot sizes: in words for the moving manager, in blocks for the non-moving one.
     layout: Layout,
     /// Each live object by number, with the address and the bytes that it must have.
@@ -74,10 +74,10 @@ impl<H: Manager> RandomRun<H> {
         ensures kept { IfOk result (λ run. run.calls.heap ≡ heap) }
     {
         let settings = Settings::check(PAGES, PAGE_BYTES, 1, PROXIES)?;
-        let reference = Plain::new(alloc, &settings, layout)?;
-        let order = PlainOrder::first(alloc, &reference, PROXIES)?;
+        let reference = ReferencePages::new(alloc, &settings, layout)?;
+        let order = ReferenceOrder::first(alloc, &reference, PROXIES)?;
         Ok(RandomRun {
-            calls: Calls { heap, meter },
+            calls: ManagerUnderTest { heap, meter },
             reference,
             order,
             layout,
@@ -137,7 +137,7 @@ impl<H: Manager> RandomRun<H> {
             Bounds::OfClasses => 1,
         };
         let settings = Settings::check(PAGES, PAGE_BYTES, k, PROXIES)?;
-        self.reference = Plain::new(alloc, &settings, self.layout)?;
+        self.reference = ReferencePages::new(alloc, &settings, self.layout)?;
         self.bounds = Vec::new(alloc);
         let mut own = Vec::new(alloc);
         for c in 0..self.reference.classes() {
@@ -150,7 +150,7 @@ impl<H: Manager> RandomRun<H> {
             }
         }
         open_bounded(&mut self.calls.heap, &settings, &own)?;
-        self.order = PlainOrder::first(alloc, &self.reference, PROXIES)?;
+        self.order = ReferenceOrder::first(alloc, &self.reference, PROXIES)?;
         self.objects = Objects::none(alloc, PROXIES)?;
         let blocks = match self.layout {
             Layout::Words => 0,
@@ -273,14 +273,14 @@ impl<H: Manager> RandomRun<H> {
         };
         hold(freed == Ok(want), Wrong::Free(freed))?;
         self.reference.remove(number);
-        self.fill_hole(alloc, moved, object.place, want.slot_words)?;
+        self.record_move(alloc, moved, object.place, want.slot_words)?;
         self.compare_figures(class)
     }
 
     /// Records a move that the heap has made: the object with the number `moved`, if there is one, is at the
     /// address `to` from now on. With a block table, its old slot and the new one exchange their blocks; both
     /// have `slot_words` words. Fails unless the heap shows the object at `to`.
-    fn fill_hole(
+    fn record_move(
         &mut self,
         alloc: Global,
         moved: Option<u32>,
@@ -328,7 +328,7 @@ impl<H: Manager> RandomRun<H> {
         };
         hold(done == Ok(want), Wrong::Resize(done))?;
         self.reference.remove(number);
-        self.fill_hole(alloc, refit.moved, object.place, want.old_slot_words)?;
+        self.record_move(alloc, refit.moved, object.place, want.old_slot_words)?;
         self.objects.put(u32::from(number), object)?;
         self.objects.move_to(u32::from(number), refit.place);
         self.objects.resize(u32::from(number), length)?;

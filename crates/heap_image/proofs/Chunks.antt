@@ -8,7 +8,7 @@ use Rattle.cf_base.specs.declared.answers.Failed.{Failed}
 use Rattle.cf_io.specs.Feeds.{appended, Puts}
 use Rattle.cf_io.proofs.CallerLemmas.{appended_then, puts_cut, puts_then}
 use Rattle.cf_model.specs.State.{HeapState}
-use Rattle.cf_model.specs.Steps.{Part, ReadsBytes}
+use Rattle.cf_model.specs.Steps.{Position, ReadsBytes}
 use Rattle.page_model.specs.Held.{Held, Placed}
 
 abbrev Written : Type 0
@@ -29,9 +29,9 @@ module _ (w x y : Written) (bytes chunk : List ℕ) (i n : ℕ) (first : x ≡ a
   -- if a chunk is cut, a prefix of all bytes is written
   pub chunk_cut : (e : Failed) → Puts {T = Unit {0}} x chunk (Err e) y → Puts {T = Unit {0}} w bytes (Err e) y
   chunk_cut e put =
-      let part = subst (λ (b : List ℕ). Puts {T = Unit {0}} x b (Err e) y) is put in
+      let position = subst (λ (b : List ℕ). Puts {T = Unit {0}} x b (Err e) y) is put in
       let rest = subst (λ (b : List ℕ). Puts {T = Unit {0}} x b (Err e) y) (split n (drop i bytes))
-      (puts_cut x y (take n (drop i bytes)) (drop n (drop i bytes)) e part) in
+      (puts_cut x y (take n (drop i bytes)) (drop n (drop i bytes)) e position) in
       subst (λ (b : List ℕ). Puts {T = Unit {0}} w b (Err e) y) (split i bytes) (puts_then {T = Unit {0}} w x y (take i bytes) (drop i bytes) (Err e) first
       rest)
 
@@ -47,9 +47,9 @@ object_length m h n x live some =
     sym (live.2 ∙ ap (λ (y : Placed). length y.bytes) same)
 
 -- the bytes that a read of `count` bytes returns are those of the object
-pub chunk_is : (s : HeapState) (part : Part) (count : ℕ) (out : List ℕ) (x : Placed) → get s.held part.number ≡ Some x → ReadsBytes s part count out
-    → out ≡ take count (drop part.from x.bytes)
-chunk_is s part count out x some reads =
+pub chunk_is : (s : HeapState) (position : Position) (count : ℕ) (out : List ℕ) (x : Placed) → get s.held position.number ≡ Some x → ReadsBytes s position count out
+    → out ≡ take count (drop position.from x.bytes)
+chunk_is s position count out x some reads =
     let e : Some reads.object ≡ Some x = sym reads.found ∙ some in
     let same : reads.object ≡ x = cc in
-    reads.value ∙ ap (λ (y : Placed). take count (drop part.from y.bytes)) same
+    reads.value ∙ ap (λ (y : Placed). take count (drop position.from y.bytes)) same

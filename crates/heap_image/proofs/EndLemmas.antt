@@ -8,12 +8,12 @@ use Rattle.cf_lemmas.proofs.Maps.{get_insert_other, len_fresh}
 use Rattle.page_model.specs.Held.{Objects}
 use Rattle.run_model.specs.Sessions.{RunState}
 use Rattle.heap_image.specs.Decoded.{BreaksNoRule, Decoded, Reached, at_first, breaks_in, end_decoded, entries_decoded, entry_decoded, passed, whole}
-use Rattle.heap_image.specs.Ends.{EndRead, EndsBy}
-use Rattle.heap_image.specs.Entries.{EntryBy, reached_in}
-use Rattle.heap_image.specs.Feed.{Feed, Takes}
+use Rattle.heap_image.specs.Ends.{EndRead, EndsReading}
+use Rattle.heap_image.specs.Entries.{ReadsEntry, reached_in}
+use Rattle.heap_image.specs.Feed.{Feed, TakesBytes}
 use Rattle.heap_image.specs.Heaps.{objects_of}
 use Rattle.heap_image.specs.Load.{HoldsObjects, IsLoading}
-use Rattle.heap_image.specs.Stages.{LeadsTo, Passes, StopsBy}
+use Rattle.heap_image.specs.Stages.{LeadsTo, WholeFields, StopsReading}
 use Rattle.heap_image.specs.declared.fault.LoadFault.{LoadFault}
 use Rattle.heap_image.specs.declared.fault.LoadFault.TheVariants as fault
 use Rattle.heap_image.specs.declared.objects_in.Entry.{Entry}
@@ -24,7 +24,7 @@ abbrev Reading : Type 0
 Reading = List ℕ → Decoded
 
 -- two readings that decode all bytes alike: the second decodes what is left of the first
-pub passes_same : (T U : Reading) (had : Feed) → ((bytes : List ℕ) → T bytes ≡ U bytes) → Passes T had had U
+pub passes_same : (T U : Reading) (had : Feed) → ((bytes : List ℕ) → T bytes ≡ U bytes) → WholeFields T had had U
 passes_same T U had same = record { taken = []; took = takes_nothing had; shows = same }
 
 reached_is : (next next2 at at2 : ℕ) (o o2 : Objects) → next ≡ next2 → o ≡ o2 → at ≡ at2
@@ -33,7 +33,7 @@ reached_is next next2 at at2 o o2 a b c = λ i. record { next = a i; objects = b
 
 -- before the first entry all `count` entries are still to be decoded, from byte 20 on
 pub entries_begin : (p : Profile) (count : ℕ) (s : RunState) (had : Feed) → objects_of s ≡ empty
-    → Passes (entries_decoded p count at_first) had had (entries_decoded p (count - 0) (reached_in s 0 20))
+    → WholeFields (entries_decoded p count at_first) had had (entries_decoded p (count - 0) (reached_in s 0 20))
 entries_begin p count s had none = passes_same _ _ had (λ bytes.
     let same : count ≡ count - 0 = omega arith in
     let r : at_first ≡ reached_in s 0 20 = reached_is 0 0 20 20 empty (objects_of s) refl (sym none) refl in
@@ -47,8 +47,8 @@ nothing_counts s none = ap len none ∙ len-empty nat_cmp (List ℕ)
 
 -- after one more entry, one entry fewer is to be decoded
 module _ (p q : Profile) (count i next at : ℕ) (had mid left : Feed) (old new : RunState) (e : Entry) (lt : i < count) (same : q ≡ p)
-    (before : Passes (entries_decoded p count at_first) had mid (entries_decoded p (count - i) (reached_in old next at)))
-    (entry : (go : Reached → List ℕ → Decoded) → EntryBy (λ bytes. entry_decoded q (reached_in old next at) bytes go) go old (reached_in old next at) mid
+    (before : WholeFields (entries_decoded p count at_first) had mid (entries_decoded p (count - i) (reached_in old next at)))
+    (entry : (go : Reached → List ℕ → Decoded) → ReadsEntry (λ bytes. entry_decoded q (reached_in old next at) bytes go) go old (reached_in old next at) mid
     (Ok e) left new)
     (fresh : (id : ℕ) → next ≤ id → get (objects_of old) id ≡ None) where
   abbrev go : Reached → List ℕ → Decoded
@@ -66,7 +66,7 @@ module _ (p q : Profile) (count i next at : ℕ) (had mid left : Feed) (old new 
   reached : passed (reached_in old next at) e.id (entry go).0 ≡ reached_in new (e.id + 1) (at + (6 + e.length))
   reached = reached_is _ _ _ _ _ _ refl (sym entry_leads.objects) (ap (λ n. at + (6 + n)) (entry go).1)
 
-  pub entry_passes : Passes (entries_decoded p count at_first) had left (entries_decoded p (count - (i + 1)) (reached_in new (e.id + 1) (at + (6 + e.length))))
+  pub entry_passes : WholeFields (entries_decoded p count at_first) had left (entries_decoded p (count - (i + 1)) (reached_in new (e.id + 1) (at + (6 + e.length))))
   entry_passes =
       let here = passes_then _ _ mid mid left (passes_same (entries_decoded p (count - i) (reached_in old next at))
       (λ bytes. entry_decoded q (reached_in old next at) bytes go) mid step) (go (passed (reached_in old next at) e.id (entry go).0)) (entry go).3 in
@@ -86,16 +86,16 @@ module _ (p q : Profile) (count i next at : ℕ) (had mid left : Feed) (old new 
 
 -- an entry wasn't read: the load ends there
 pub entry_ends : (p q : Profile) (count i next at : ℕ) (had mid left : Feed) (old new : RunState) (f : LoadFault) → i < count → q ≡ p → old.heap.profile ≡ p
-    → Passes (entries_decoded p count at_first) had mid (entries_decoded p (count - i) (reached_in old next at))
-    → ((go : Reached → List ℕ → Decoded) → EntryBy (λ bytes. entry_decoded q (reached_in old next at) bytes go) go old (reached_in old next at) mid (Err f)
+    → WholeFields (entries_decoded p count at_first) had mid (entries_decoded p (count - i) (reached_in old next at))
+    → ((go : Reached → List ℕ → Decoded) → ReadsEntry (λ bytes. entry_decoded q (reached_in old next at) bytes go) go old (reached_in old next at) mid (Err f)
     left new)
-    → EndsBy (entries_decoded p count at_first) p had (Err f) left new
+    → EndsReading (entries_decoded p count at_first) p had (Err f) left new
 entry_ends p q count i next at had mid left old new f lt same profile before entry = by f (entry go).0 (entry go).1
   where
     go : Reached → List ℕ → Decoded
     go r rest = entries_decoded p (count - (i + 1)) r rest
 
-    all : Passes (entries_decoded p count at_first) had mid (λ bytes. entry_decoded q (reached_in old next at) bytes go)
+    all : WholeFields (entries_decoded p count at_first) had mid (λ bytes. entry_decoded q (reached_in old next at) bytes go)
     all = passes_then _ _ had mid mid before _ (passes_same _ _ mid (λ bytes.
         let more : count - i ≡ suc (count - (i + 1)) = omega (arith, lt) in
         ap (λ n. entries_decoded p n (reached_in old next at) bytes) more ∙ entries_next p (count - (i + 1)) (reached_in old next at) bytes
@@ -104,8 +104,8 @@ entry_ends p q count i next at had mid left old new f lt same profile before ent
     holds : (t : Decoded) → t.objects ≡ objects_of old → LeadsTo old new (objects_of old) → HoldsObjects p t.objects new
     holds t is w = record { loading = w.loading; profile = w.profile ∙ profile; objects = w.objects ∙ sym is }
 
-    by : (f : LoadFault) → StopsBy (Some old.heap.profile) (objects_of old) (λ bytes. entry_decoded q (reached_in old next at) bytes go) mid f left
-        → LeadsTo old new (objects_of old) → EndsBy (entries_decoded p count at_first) p had (Err f) left new
+    by : (f : LoadFault) → StopsReading (Some old.heap.profile) (objects_of old) (λ bytes. entry_decoded q (reached_in old next at) bytes go) mid f left
+        → LeadsTo old new (objects_of old) → EndsReading (entries_decoded p count at_first) p had (Err f) left new
     by (fault.Bad b) s w = (s.0, s.1, s.2 ∙ ap (λ p. Some p) profile, broken_then _ _ had mid left all s.0 s.4, holds s.0 s.3 w)
     by fault.Read s w = (s.0, s.1 ∙ ap (λ p. Some p) profile, shows_then _ _ had mid left all s.0 s.3, s.4, holds s.0 s.2 w)
     by fault.OutOfMemory s w = absurd s
@@ -130,27 +130,27 @@ end_sound p r (x ∷ rest) short = absurd (omega arith)
 
 pub all_end : (p : Profile) (count i next at : ℕ) (had mid left : Feed) (s : RunState) (answer : Result Unit LoadFault) → count ≤ i → IsLoading s
     → s.heap.profile ≡ p
-    → Passes (entries_decoded p count at_first) had mid (entries_decoded p (count - i) (reached_in s next at)) → EndRead at mid answer left
-    → EndsBy (entries_decoded p count at_first) p had answer left s
+    → WholeFields (entries_decoded p count at_first) had mid (entries_decoded p (count - i) (reached_in s next at)) → EndRead at mid answer left
+    → EndsReading (entries_decoded p count at_first) p had answer left s
 all_end p count i next at had mid left s answer past loading profile before end = by answer end
   where
     r : Reached
     r = reached_in s next at
 
-    all : Passes (entries_decoded p count at_first) had mid (end_decoded p r)
+    all : WholeFields (entries_decoded p count at_first) had mid (end_decoded p r)
     all = record {
       taken = before.taken;
       took = before.took;
       shows = λ more. before.shows more ∙ (let none : count - i ≡ 0 = omega arith in ap (λ n. entries_decoded p n r more) none) ∙ end_is p r more;
     }
 
-    here : Takes [] mid left → Passes (entries_decoded p count at_first) had left (end_decoded p r)
+    here : TakesBytes [] mid left → WholeFields (entries_decoded p count at_first) had left (end_decoded p r)
     here none = passes_then _ _ had mid left all (end_decoded p r) (record { taken = []; took = none; shows = λ more. refl })
 
     holds : HoldsObjects p (objects_of s) s
     holds = record { loading = loading; profile = profile; objects = refl }
 
-    by : (answer : Result Unit LoadFault) → EndRead at mid answer left → EndsBy (entries_decoded p count at_first) p had answer left s
+    by : (answer : Result Unit LoadFault) → EndRead at mid answer left → EndsReading (entries_decoded p count at_first) p had answer left s
     by (Ok u) end = (objects_of s, passes_part _ _ had left (whole p (objects_of s)) (here end.0) (end_whole p r), end.1, holds)
     by (Err (fault.Bad b)) end = (
       breaks_in p r 0,

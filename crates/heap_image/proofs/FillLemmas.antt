@@ -7,7 +7,7 @@ use borrow.Rule.Slice.PartMut.{put_mid, post_of}
 use Rattle.std.specs.Prelude.{min}
 use Rattle.cf_io.specs.Feeds.{HasGiven, last_count, preceded}
 use Rattle.script_loop.proofs.CallerLemmas.{given_min}
-use Rattle.heap_image.specs.Feed.{Feed, Takes}
+use Rattle.heap_image.specs.Feed.{Feed, TakesBytes}
 use Rattle.heap_image.proofs.StageLemmas.{takes_then}
 
 -- the list a and the first n elements of b after it
@@ -27,16 +27,16 @@ module _ (at n k : ℕ) (buffer chunk : List ℕ) (within : at ≤ length buffer
       let c = front in
       omega arith
 
-  pub filled_more : (had mid left : Feed) → Takes (take at buffer) had mid → Takes (take n chunk) mid left
-      → Takes (take (at + n) (put_mid at k buffer chunk)) had left
-  filled_more had mid left before more = subst (λ (b : List ℕ). Takes b had left)
+  pub filled_more : (had mid left : Feed) → TakesBytes (take at buffer) had mid → TakesBytes (take n chunk) mid left
+      → TakesBytes (take (at + n) (put_mid at k buffer chunk)) had left
+  filled_more had mid left before more = subst (λ (b : List ℕ). TakesBytes b had left)
       (sym (front_and (take at buffer) (chunk ++ post_of at k buffer) n at front
       ∙ ap (λ (b : List ℕ). take at buffer ++ b) (take-append-le n chunk (post_of at k buffer) few)))
       (takes_then (take at buffer) (take n chunk) had mid left before more)
 
 -- a call of a source that returned n bytes took the first n bytes of the chunk
 pub chunk_taken : (n : ℕ) (chunk : List ℕ) (had left : Feed) → n ≤ length chunk → had.rest ≡ preceded (take n chunk) left.rest
-    → left.given ≡ min (had.given + n) last_count → Takes (take n chunk) had left
+    → left.given ≡ min (had.given + n) last_count → TakesBytes (take n chunk) had left
 chunk_taken n chunk had left few first counted = record {
   first = first;
   counted = subst (λ k. HasGiven had.given k left.given) (sym (length-take-le n chunk few)) (given_min had.given left.given n counted);

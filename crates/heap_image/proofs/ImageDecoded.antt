@@ -17,7 +17,7 @@ use Rattle.cf_lemmas.proofs.Tests.{le_yes, lt_no}
 use Rattle.cf_model.specs.Rules.{AreInRange}
 use Rattle.page_model.specs.Arrangement.{pages_needed}
 use Rattle.page_model.specs.Held.{Objects}
-use Rattle.heap_image.specs.Decoded.{Decoded, Reached, at_first, bytes_decoded, breaks_behind, breaks_in, count_decoded, decoded, end_decoded, entries_decoded}
+use Rattle.heap_image.specs.Decoded.{Decoded, Reached, at_first, bytes_decoded, breaks_after, breaks_in, count_decoded, decoded, end_decoded, entries_decoded}
 use Rattle.heap_image.specs.Decoded.{entry_decoded, has_room, image_paging, is_page_of, length_decoded, page_bytes_decoded, pages_decoded, passed}
 use Rattle.heap_image.specs.Decoded.{proxies_decoded, unopened, whole}
 use Rattle.heap_image.specs.Heaps.{HaveImage, image_under}
@@ -134,7 +134,7 @@ module _ (p : Profile) (o : Objects) (h : HaveImage p o) where
   unfolding count_decoded
   count_read =
       let few = h.few in let most = h.settings.few_proxies in
-      field_read_4 (len o) (entries_of (entries o)) (breaks_behind p empty 16) (λ n. nat_le n p.proxies) (λ n rest. entries_decoded p n at_first rest)
+      field_read_4 (len o) (entries_of (entries o)) (breaks_after p empty 16) (λ n. nat_le n p.proxies) (λ n rest. entries_decoded p n at_first rest)
       (le_yes (len o) p.proxies few) (omega arith) ∙ all_read
 
   pub profile_is : profile_from p.pages (8 * p.page_words) 1 p.proxies ≡ p

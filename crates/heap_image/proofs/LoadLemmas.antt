@@ -15,18 +15,18 @@ use Rattle.cf_model.specs.Steps.{IsClosed, IsEmptyHeap, opening_bounds}
 use Rattle.cf_session.specs.Apply.{run_at}
 use Rattle.id_table.proofs.CallerLemmas.{none_tied}
 use Rattle.page_model.specs.Held.{objects}
-use Rattle.page_model.specs.Paging.{AreOne, first_bounds, paging_of}
+use Rattle.page_model.specs.Paging.{EveryBoundIsOne, first_bounds, paging_of}
 use Rattle.page_model.proofs.CallerLemmas.{first_ones}
 use Rattle.run_model.specs.Sessions.{RunState, SessionState}
 use Rattle.run_model.proofs.CallerLemmas.{costs_nothing}
 use Rattle.script_loop.specs.ScriptOutcome.{MayFollow}
 use Rattle.script_loop.proofs.CallerLemmas.{nothing_follows}
-use Rattle.heap_image.specs.Decoded.{BreaksNoRule, Decoded, breaks_behind, count_decoded, cut, decoded, whole}
-use Rattle.heap_image.specs.Ends.{EndsBy}
+use Rattle.heap_image.specs.Decoded.{BreaksNoRule, Decoded, breaks_after, count_decoded, cut, decoded, whole}
+use Rattle.heap_image.specs.Ends.{EndsReading}
 use Rattle.heap_image.specs.Feed.{Feed}
 use Rattle.heap_image.specs.Heaps.{objects_of}
 use Rattle.heap_image.specs.Load.{HoldsObjects, HoldsRead, IsLoading, LoadsBy, TakesNoMore}
-use Rattle.heap_image.specs.Stages.{Passes, ReadsSettings, StopsAt, StopsBy, ReadsAs, ReadsBroken}
+use Rattle.heap_image.specs.Stages.{WholeFields, ReadsSettings, StopsAt, StopsReading, ReadsAs, ReadsBroken}
 use Rattle.heap_image.specs.declared.fault.LoadFault.{LoadFault}
 use Rattle.heap_image.specs.declared.fault.LoadFault.TheVariants as fault
 use Rattle.transcript_laws.proofs.CallerLemmas.{gone_by_id}
@@ -70,14 +70,14 @@ part_row from to had left t sound holds q = record {
 }
 
 -- the load stopped before it had the settings
-pub settings_stop : (from : RunState) (had left : Feed) (f : LoadFault) → StopsBy None empty decoded had f left → LoadsBy from had (Err f) left from
+pub settings_stop : (from : RunState) (had left : Feed) (f : LoadFault) → StopsReading None empty decoded had f left → LoadsBy from had (Err f) left from
 settings_stop from had left (fault.Bad at) s = broken_row from from had left at s.0 s.1
     (subst (λ (p : Option Profile). HoldsRead from p s.0.objects from) (sym s.2) refl) s.4
 settings_stop from had left fault.Read s = part_row from from had left s.0 s.4
     (subst (λ (p : Option Profile). HoldsRead from p s.0.objects from) (sym s.1) refl) s.3
 settings_stop from had left fault.OutOfMemory s = absurd s
 
-nothing_counted : (p : Profile) → count_decoded p [] ≡ cut (breaks_behind p empty 16)
+nothing_counted : (p : Profile) → count_decoded p [] ≡ cut (breaks_after p empty 16)
 unfolding count_decoded
 nothing_counted p = refl
 
@@ -90,7 +90,7 @@ settings_lack from to had left s q closed session = record {
   took = q.took;
   row = λ more follows. record {
     profile = profile_of s;
-    shown = cut (breaks_behind (profile_of s) empty 16);
+    shown = cut (breaks_after (profile_of s) empty 16);
     reads = ap decoded (sym (append-nil q.taken)) ∙ q.shows [] ∙ nothing_counted (profile_of s);
     settings = refl;
     few = q.few;
@@ -100,10 +100,10 @@ settings_lack from to had left s q closed session = record {
 
 -- once the settings are read, the load ends as the reading of the objects does
 module _ (from to : RunState) (settings : Settings) (q : Profile) (had mid left : Feed) where
-  pub loads_whole : q ≡ profile_of settings → Passes decoded had mid (count_decoded (profile_of settings)) → EndsBy (count_decoded q) q mid (Ok tt) left to
+  pub loads_whole : q ≡ profile_of settings → WholeFields decoded had mid (count_decoded (profile_of settings)) → EndsReading (count_decoded q) q mid (Ok tt) left to
       → LoadsBy from had (Ok settings) left to
   loads_whole same passes shown =
-      let ends = subst (λ (p : Profile). EndsBy (count_decoded p) p mid (Ok tt) left to) same shown in
+      let ends = subst (λ (p : Profile). EndsReading (count_decoded p) p mid (Ok tt) left to) same shown in
       let shows = shows_then _ _ had mid left passes (whole (profile_of settings) ends.0) ends.1 in
       record {
         taken = shows.taken;
@@ -117,12 +117,12 @@ module _ (from to : RunState) (settings : Settings) (q : Profile) (had mid left 
         };
       }
 
-  pub loads_bad : (f : LoadFault) → q ≡ profile_of settings → Passes decoded had mid (count_decoded (profile_of settings))
-      → EndsBy (count_decoded q) q mid (Err f) left to
+  pub loads_bad : (f : LoadFault) → q ≡ profile_of settings → WholeFields decoded had mid (count_decoded (profile_of settings))
+      → EndsReading (count_decoded q) q mid (Err f) left to
       → LoadsBy from had (Err f) left to
-  loads_bad f same passes shown = by f (subst (λ (p : Profile). EndsBy (count_decoded p) p mid (Err f) left to) same shown)
+  loads_bad f same passes shown = by f (subst (λ (p : Profile). EndsReading (count_decoded p) p mid (Err f) left to) same shown)
     where
-      by : (f : LoadFault) → EndsBy (count_decoded (profile_of settings)) (profile_of settings) mid (Err f) left to → LoadsBy from had (Err f) left to
+      by : (f : LoadFault) → EndsReading (count_decoded (profile_of settings)) (profile_of settings) mid (Err f) left to → LoadsBy from had (Err f) left to
       by (fault.Bad at) ends = broken_row from to had left at ends.0 ends.1
           (subst (λ (p : Option Profile). HoldsRead from p ends.0.objects to) (sym ends.2) ends.4) (broken_then _ _ had mid left passes ends.0 ends.3)
       by fault.Read ends = part_row from to had left ends.0 ends.3
@@ -130,8 +130,8 @@ module _ (from to : RunState) (settings : Settings) (q : Profile) (had mid left 
       by fault.OutOfMemory ends = absurd ends
 
 -- a first part was read, and a further reading ended the load: so the whole reading ended it
-pub ends_then : (T U : Reading) (p : Profile) (had mid left : Feed) (r : Result Unit LoadFault) (to : RunState) → Passes T had mid U
-    → EndsBy U p mid r left to → EndsBy T p had r left to
+pub ends_then : (T U : Reading) (p : Profile) (had mid left : Feed) (r : Result Unit LoadFault) (to : RunState) → WholeFields T had mid U
+    → EndsReading U p mid r left to → EndsReading T p had r left to
 ends_then T U p had mid left (Ok u) to passes ends = (ends.0, shows_then T U had mid left passes _ ends.1, ends.2, ends.3)
 ends_then T U p had mid left (Err (fault.Bad at)) to passes ends = (ends.0, ends.1, ends.2, broken_then T U had mid left passes ends.0 ends.3, ends.4)
 ends_then T U p had mid left (Err fault.Read) to passes ends = (ends.0, ends.1, shows_then T U had mid left passes ends.0 ends.2, ends.3, ends.4)
@@ -142,13 +142,13 @@ module _ (T : Reading) (p : Profile) (had left : Feed) (s : RunState) (loading :
   holds : (t : Decoded) → t.objects ≡ empty → HoldsObjects p t.objects s
   holds t is = record { loading = loading; profile = profile; objects = none ∙ sym is }
 
-  pub stops_end : (f : LoadFault) → StopsBy (Some p) empty T had f left → EndsBy T p had (Err f) left s
+  pub stops_end : (f : LoadFault) → StopsReading (Some p) empty T had f left → EndsReading T p had (Err f) left s
   stops_end (fault.Bad at) q = (q.0, q.1, q.2, q.4, holds q.0 q.3)
   stops_end fault.Read q = (q.0, q.1, q.3, q.4, holds q.0 q.2)
   stops_end fault.OutOfMemory q = absurd q
 
-  pub bad_end : (at : ℕ) → ReadsBroken T had left (breaks_behind p empty at) → EndsBy T p had (Err (fault.Bad at)) left s
-  bad_end at shows = (breaks_behind p empty at, refl, refl, shows, holds (breaks_behind p empty at) refl)
+  pub bad_end : (at : ℕ) → ReadsBroken T had left (breaks_after p empty at) → EndsReading T p had (Err (fault.Bad at)) left s
+  bad_end at shows = (breaks_after p empty at, refl, refl, shows, holds (breaks_after p empty at) refl)
 
 -- a manager that was just opened, and a session without ids
 module _ (kind : Kind) (moving : kind ≡ Moving) (session : SessionState) (heap : HeapState) (settings : Settings) (one : settings.k ≡ 1)
@@ -174,7 +174,7 @@ module _ (kind : Kind) (moving : kind ≡ Moving) (session : SessionState) (heap
       };
     };
     kind = moves;
-    ones = subst AreOne (sym (λ i. paging_of (opened_profile i) (layout_of (moves i)) (bounds i))) (first_ones (profile_of settings) Words one);
+    ones = subst EveryBoundIsOne (sym (λ i. paging_of (opened_profile i) (layout_of (moves i)) (bounds i))) (first_ones (profile_of settings) Words one);
   }
 
   pub opened_none : objects_of (run_at session heap) ≡ empty

@@ -14,11 +14,11 @@ use Rattle.page_model.specs.Bytes.{written}
 use Rattle.page_model.specs.Held.{Objects}
 use Rattle.run_model.specs.Sessions.{RunState}
 use Rattle.heap_image.specs.Decoded.{Decoded, Reached, breaks_in, bytes_decoded, cut, has_room, length_decoded, passed}
-use Rattle.heap_image.specs.Entries.{EntryBy, FillsObject}
-use Rattle.heap_image.specs.Feed.{Feed, Takes}
+use Rattle.heap_image.specs.Entries.{ReadsEntry, FillsObject}
+use Rattle.heap_image.specs.Feed.{Feed, TakesBytes}
 use Rattle.heap_image.specs.Heaps.{objects_of}
 use Rattle.heap_image.specs.Load.{IsLoading}
-use Rattle.heap_image.specs.Stages.{Falls, LeadsTo, Passes, ReadsNumber, StopsBy, StopsShort}
+use Rattle.heap_image.specs.Stages.{TakesFewer, LeadsTo, WholeFields, ReadsNumber, StopsReading, StopsInField}
 use Rattle.heap_image.specs.declared.fault.LoadFault.{LoadFault}
 use Rattle.heap_image.specs.declared.objects_in.Entry.{Entry}
 use Rattle.heap_image.proofs.ImageDecoded.{bytes_read}
@@ -91,8 +91,8 @@ part_fits bytes n done count is fits =
     let a = length-append bytes (replicate {A = ℕ} (n - done) 0) in let b = length-replicate {A = ℕ} (n - done) 0 in omega arith
 
 -- one more part was taken, and then fewer than n bytes in all
-pub falls_more : (a : List ℕ) (n done count : ℕ) (had mid left : Feed) → length a ≡ done → done + count ≤ n → Takes a had mid → Falls count mid left
-    → Falls n had left
+pub falls_more : (a : List ℕ) (n done count : ℕ) (had mid left : Feed) → length a ≡ done → done + count ≤ n → TakesBytes a had mid → TakesFewer count mid left
+    → TakesFewer n had left
 falls_more a n done count had mid left is fits took f = record {
   taken = a ++ f.taken;
   short = (let x = length-append a f.taken in let y = f.short in omega arith);
@@ -101,7 +101,7 @@ falls_more a n done count had mid left is fits took f = record {
 
 -- if a part of an entry was taken, and then the rest was read, the entry was read
 pub entry_then : (T U : List ℕ → Decoded) (go : Reached → List ℕ → Decoded) (old : RunState) (r : Reached) (had mid left : Feed) (e : Result Entry LoadFault)
-    (new : RunState) → Passes T had mid U → EntryBy U go old r mid e left new → EntryBy T go old r had e left new
+    (new : RunState) → WholeFields T had mid U → ReadsEntry U go old r mid e left new → ReadsEntry T go old r had e left new
 entry_then T U go old r had mid left (Ok e) new p q = (q.0, q.1, q.2, passes_then T U had mid left p (go (passed r e.id q.0)) q.3, q.4)
 entry_then T U go old r had mid left (Err f) new p q = (stops_then T U had mid left p (Some old.heap.profile) r.objects f q.0, q.1)
 
@@ -110,7 +110,7 @@ module _ (p : Profile) (r : Reached) (id n : ℕ) (go : Reached → List ℕ →
   abbrev bytes_reading : List ℕ → Decoded
   bytes_reading bytes = bytes_decoded p r id n bytes go
 
-  pub bytes_pass : (v : List ℕ) → length v ≡ n → Takes v had left → Passes bytes_reading had left (go (passed r id v))
+  pub bytes_pass : (v : List ℕ) → length v ≡ n → TakesBytes v had left → WholeFields bytes_reading had left (go (passed r id v))
   bytes_pass v is took = record {
     taken = v;
     took = took;
@@ -121,27 +121,27 @@ module _ (p : Profile) (r : Reached) (id n : ℕ) (go : Reached → List ℕ →
   unfolding bytes_decoded
   bytes_short bytes short = cond-true _ _ _ (lt_yes (length bytes) n short)
 
-  pub bytes_stop : (f : LoadFault) → StopsShort n (r.at + 6) had f left → StopsBy (Some p) r.objects bytes_reading had f left
+  pub bytes_stop : (f : LoadFault) → StopsInField n (r.at + 6) had f left → StopsReading (Some p) r.objects bytes_reading had f left
   bytes_stop f q = falls_stops bytes_reading n (breaks_in p r 6) bytes_short had left (r.at + 6) f (Some p) r.objects refl refl refl q
 
 -- an entry after its id: the length was read and the object made, and then it was filled or freed
 module _ (old mid new : RunState) (r : Reached) (id n : ℕ) (had rest left : Feed) (mine : r.objects ≡ objects_of old) (rises : r.next ≤ id)
     (good : has_room old.heap.profile r.objects n ≡ true) (reads : ReadsNumber w32 (r.at + 2) had (Ok n) rest)
     (made : LeadsTo old mid (insert (objects_of old) id (replicate n 0))) (go : Reached → List ℕ → Decoded) where
-  length_passes : Passes (λ bytes. length_decoded old.heap.profile r id bytes go) had rest (λ bytes. bytes_decoded old.heap.profile r id n bytes go)
+  length_passes : WholeFields (λ bytes. length_decoded old.heap.profile r id bytes go) had rest (λ bytes. bytes_decoded old.heap.profile r id n bytes go)
   unfolding length_decoded
   length_passes = field_good w32 (breaks_in old.heap.profile r 2) (λ n. has_room old.heap.profile r.objects n)
       (λ n rest. bytes_decoded old.heap.profile r id n rest go) had rest (r.at + 2) n reads good
 
   pub object_read : (e : Entry) → e.id ≡ id → e.length ≡ n → FillsObject n (r.at + 6) mid id rest (Ok tt) left new
-      → EntryBy (λ bytes. length_decoded old.heap.profile r id bytes go) go old r had (Ok e) left new
+      → ReadsEntry (λ bytes. length_decoded old.heap.profile r id bytes go) go old r had (Ok e) left new
   object_read e same size f =
       let leads = leads_written old mid new id (replicate n 0) f.0 f.0 made f.3 refl in
       let passes = passes_then _ _ had rest left length_passes (go (passed r id f.0)) (bytes_pass old.heap.profile r id n go rest left f.0 f.1 f.2) in (
         f.0,
         f.1 ∙ sym size,
         subst (λ k. r.next ≤ k) (sym same) rises,
-        subst (λ k. Passes (λ bytes. length_decoded old.heap.profile r id bytes go) had left (go (passed r k f.0))) (sym same) passes,
+        subst (λ k. WholeFields (λ bytes. length_decoded old.heap.profile r id bytes go) had left (go (passed r k f.0))) (sym same) passes,
         record {
           loading = leads.loading;
           profile = leads.profile;
@@ -150,7 +150,7 @@ module _ (old mid new : RunState) (r : Reached) (id n : ℕ) (had rest left : Fe
       )
 
   pub object_stops : (f : LoadFault) → get (objects_of old) id ≡ None → FillsObject n (r.at + 6) mid id rest (Err f) left new
-      → EntryBy (λ bytes. length_decoded old.heap.profile r id bytes go) go old r had (Err f) left new
+      → ReadsEntry (λ bytes. length_decoded old.heap.profile r id bytes go) go old r had (Err f) left new
   object_stops f none q =
       let back = leads_back old mid new id (replicate n 0) none made q.1 in (
         stops_then _ _ had rest left length_passes (Some old.heap.profile) r.objects f (bytes_stop old.heap.profile r id n go rest left f q.0),

@@ -9,9 +9,9 @@ use Rattle.cf_io.specs.Feeds.{HasGiven}
 use Rattle.page_model.specs.Held.{Objects}
 use Rattle.script_loop.proofs.CallerLemmas.{preceded_after, preceded_none}
 use Rattle.heap_image.specs.Decoded.{BreaksNoRule, Decoded, cut, number}
-use Rattle.heap_image.specs.Feed.{Feed, Takes}
+use Rattle.heap_image.specs.Feed.{Feed, TakesBytes}
 use Rattle.heap_image.specs.Load.{LastBreaks}
-use Rattle.heap_image.specs.Stages.{Passes, ReadsNumber, StopsAt, StopsBy, StopsShort, ReadsAs, ReadsBroken}
+use Rattle.heap_image.specs.Stages.{WholeFields, ReadsNumber, StopsAt, StopsReading, StopsInField, ReadsAs, ReadsBroken}
 use Rattle.heap_image.specs.declared.fault.LoadFault.{LoadFault}
 use Rattle.heap_image.specs.declared.fault.LoadFault.TheVariants as fault
 use Rattle.heap_image.proofs.Numbers.{number_cut, number_whole}
@@ -27,17 +27,17 @@ given_then n k a b c (inr x) (inl y) = inr (omega (arith, x, y))
 given_then n k a b c (inr x) (inr y) = inr y
 
 -- one part after another
-pub takes_then : (a b : List ℕ) (had mid left : Feed) → Takes a had mid → Takes b mid left → Takes (a ++ b) had left
+pub takes_then : (a b : List ℕ) (had mid left : Feed) → TakesBytes a had mid → TakesBytes b mid left → TakesBytes (a ++ b) had left
 takes_then a b had mid left one next = record {
   first = preceded_after had.rest mid.rest left.rest a b one.first next.first;
   counted = subst (λ n. HasGiven had.given n left.given) (sym (length-append a b)) (given_then _ _ _ _ _ one.counted next.counted);
 }
 
-pub takes_nothing : (o : Feed) → Takes [] o o
+pub takes_nothing : (o : Feed) → TakesBytes [] o o
 takes_nothing o = record { first = preceded_none o.rest; counted = inl (omega arith) }
 
-module _ (T U : Reading) (had mid left : Feed) (p : Passes T had mid U) where
-  pub passes_then : (V : Reading) → Passes U mid left V → Passes T had left V
+module _ (T U : Reading) (had mid left : Feed) (p : WholeFields T had mid U) where
+  pub passes_then : (V : Reading) → WholeFields U mid left V → WholeFields T had left V
   passes_then V q = record {
     taken = p.taken ++ q.taken;
     took = takes_then p.taken q.taken had mid left p.took q.took;
@@ -67,7 +67,7 @@ module _ (T U : Reading) (had mid left : Feed) (p : Passes T had mid U) where
   unfolding shows_then
   broken_then t q = record { shows = shows_then t q.shows; stops = stops_on t t.is_cut q.shows.taken q.stops }
 
-  pub stops_then : (s : Option Profile) (o : Objects) (f : LoadFault) → StopsBy s o U mid f left → StopsBy s o T had f left
+  pub stops_then : (s : Option Profile) (o : Objects) (f : LoadFault) → StopsReading s o U mid f left → StopsReading s o T had f left
   stops_then s o (fault.Bad at) q = (q.0, q.1, q.2, q.3, broken_then q.0 q.4)
   stops_then s o fault.Read q = (q.0, q.1, q.2, shows_then q.0 q.3, q.4)
   stops_then s o fault.OutOfMemory q = absurd q
@@ -80,7 +80,7 @@ last_of (x ∷ y ∷ rest) some = (let l = last_of (y ∷ rest) (omega arith) in
     (x ∷ l.0, l.1, ap (λ (bytes : List ℕ). x ∷ bytes) l.2, omega arith))
 
 -- a field breaks a rule, whatever follows it, and fewer of its bytes break none
-pub field_breaks : (T : Reading) (field : List ℕ) (had left : Feed) (bad : Decoded) → bad.is_cut ≡ false → 0 < length field → Takes field had left
+pub field_breaks : (T : Reading) (field : List ℕ) (had left : Feed) (bad : Decoded) → bad.is_cut ≡ false → 0 < length field → TakesBytes field had left
     → ((more : List ℕ) → T (field ++ more) ≡ bad) → ((few : List ℕ) → length few < length field → BreaksNoRule (T few)) → ReadsBroken T had left bad
 field_breaks T field had left bad rule some took shows sound = record {
   shows = record { taken = field; took = took; reads = ap T (sym (append-nil field)) ∙ shows [] };
@@ -91,13 +91,13 @@ field_breaks T field had left bad rule some took shows sound = record {
     last_breaks = (let l = last_of field some in record { before = l.0; last = l.1; are = l.2; sound = sound l.0 l.3 })
 
 -- a part was taken, and nothing more
-pub passes_part : (T U : Reading) (had left : Feed) (t : Decoded) → Passes T had left U → U [] ≡ t → ReadsAs T had left t
+pub passes_part : (T U : Reading) (had left : Feed) (t : Decoded) → WholeFields T had left U → U [] ≡ t → ReadsAs T had left t
 passes_part T U had left t p e = record { taken = p.taken; took = p.took; reads = ap T (sym (append-nil p.taken)) ∙ p.shows [] ∙ e }
 
 -- a reading of fewer than `room` bytes finds them cut
 module _ (T : Reading) (room : ℕ) (bad : Decoded) (short : (bytes : List ℕ) → length bytes < room → T bytes ≡ cut bad) (had left : Feed) where
   pub falls_stops : (at : ℕ) (f : LoadFault) (s : Option Profile) (o : Objects) → bad.broken ≡ Some at → bad.settings ≡ s → bad.objects ≡ o
-      → StopsShort room at had f left → StopsBy s o T had f left
+      → StopsInField room at had f left → StopsReading s o T had f left
   falls_stops at (fault.Bad b) s o broken settings objects q = (
     cut bad,
     broken ∙ ap (λ k. Some k) (sym q.0),
@@ -136,7 +136,7 @@ module _ (w : Width) (bad : Decoded) (test : ℕ → Bool) (yes : ℕ → List �
   pub field_shows : (n : ℕ) (r : ReadsNumber w at had (Ok n) left) → test n ≡ true → (more : List ℕ) → field (r.0 ++ more) ≡ yes n more
   field_shows n r e more = tested n r more ∙ cond-true _ _ _ e
 
-  pub field_good : (n : ℕ) → ReadsNumber w at had (Ok n) left → test n ≡ true → Passes field had left (yes n)
+  pub field_good : (n : ℕ) → ReadsNumber w at had (Ok n) left → test n ≡ true → WholeFields field had left (yes n)
   field_good n r e = record { taken = r.0; took = r.3; shows = field_shows n r e }
 
   -- it breaks a rule
@@ -148,5 +148,5 @@ module _ (w : Width) (bad : Decoded) (test : ℕ → Bool) (yes : ℕ → List �
 
   -- it is cut, or can't be read
   pub field_stops : (f : LoadFault) (s : Option Profile) (o : Objects) → bad.broken ≡ Some at → bad.settings ≡ s → bad.objects ≡ o
-      → StopsShort (byte_len w) at had f left → StopsBy s o field had f left
+      → StopsInField (byte_len w) at had f left → StopsReading s o field had f left
   field_stops f s o broken settings objects q = falls_stops field (byte_len w) bad field_cut had left at f s o broken settings objects q

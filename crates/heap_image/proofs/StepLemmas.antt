@@ -26,11 +26,11 @@ use Rattle.page_model.specs.Arrangement.{live, pages_needed_with}
 use Rattle.page_model.specs.Bytes.{written}
 use Rattle.page_model.specs.Counts.{ceil_div}
 use Rattle.page_model.specs.Held.{Objects, Placed, objects}
-use Rattle.page_model.specs.Paging.{AreOne, Paging, class_for, classes, paging_of, slots_of}
+use Rattle.page_model.specs.Paging.{EveryBoundIsOne, Paging, class_for, classes, paging_of, slots_of}
 use Rattle.page_model.proofs.CallerLemmas.{malloc_objects, sum_same}
-use Rattle.run_model.specs.Bounds.{IsWanting, MeetsBounds, RefusesByNeed, RefusesForWant}
+use Rattle.run_model.specs.Bounds.{LacksProxyOrPages, MeetsBounds, RefusesByNeed, RefusesForProxyOrSpace}
 use Rattle.run_model.specs.Replies.{malloc_text}
-use Rattle.run_model.specs.Runs.{Turn}
+use Rattle.run_model.specs.Runs.{IsCommandStep}
 use Rattle.run_model.specs.Sessions.{Ids, IsGoing, RunState, SessionState, counted}
 use Rattle.run_model.specs.Steps.{Frees, Mallocs, Writes, ids_given}
 use Rattle.run_model.specs.Texts.{Reply, said}
@@ -87,21 +87,21 @@ module _ (old new : RunState) (loading : IsLoading old) (going : IsGoing new) wh
     loading = record {
       going = going;
       kind = k ∙ loading.kind;
-      ones = subst AreOne (sym (λ i. paging_of (p i) (layout_of (k i)) (b i))) loading.ones;
+      ones = subst EveryBoundIsOne (sym (λ i. paging_of (p i) (layout_of (k i)) (b i))) loading.ones;
     };
     profile = p;
     objects = is;
   }
 
   -- `m` of n bytes, for an id that isn't live
-  module _ (id n : ℕ) (none : get o id ≡ None) (few : len o < old.heap.profile.proxies) (reply : Reply) (turn : Turn old (Malloc id n) reply new) where
+  module _ (id n : ℕ) (none : get o id ≡ None) (few : len o < old.heap.profile.proxies) (reply : Reply) (turn : IsCommandStep old (Malloc id n) reply new) where
     unnamed : get ids id ≡ None
     unnamed = unnumbered_by_id ids m id none
 
     mallocs : Mallocs old (record { number = id; length = n }) reply new
     mallocs = subst (λ (k : Option ℕ). MallocsAt k old (record { number = id; length = n }) reply new) unnamed turn.step
 
-    wants : need n ≤ old.heap.profile.page_words → RefusesForWant reply ↔ IsWanting old.heap n
+    wants : need n ≤ old.heap.profile.page_words → RefusesForProxyOrSpace reply ↔ LacksProxyOrPages old.heap n
     wants fits =
         let both : MeetsBounds Moving old (Malloc id n) reply new = subst (λ (k : Kind). MeetsBounds k old (Malloc id n) reply new) loading.kind turn.bounds in
         let refuses : RefusesByNeed None old.heap n reply = subst (λ (k : Option ℕ). RefusesByNeed k old.heap n reply) unnamed both.1 in
@@ -130,7 +130,7 @@ module _ (old new : RunState) (loading : IsLoading old) (going : IsGoing new) wh
         ∙ malloc_objects old.heap.held h.0 step.place n in
         let good : outcome ≡ Good = shown ∙ ap outcome_of is in
         let room = (λ (lacks : old.heap.profile.pages < pages_needed_with (image_paging old.heap.profile) o n). (
-        let want : RefusesForWant reply = (wants step.fits).1 (inr (omega (arith, needed))) in
+        let want : RefusesForProxyOrSpace reply = (wants step.fits).1 (inr (omega (arith, needed))) in
         let bad : outcome ≡ Refused = elim want [ inl w ↦ shown ∙ ap outcome_of w | inr w ↦ shown ∙ ap outcome_of w ] in
         let z : Good ≡ Refused = sym good ∙ bad in absurd (let y = z in cc))) in
         inl (
@@ -177,7 +177,7 @@ module _ (old new : RunState) (loading : IsLoading old) (going : IsGoing new) wh
 
   -- `w` of bytes that are within a live object
   module _ (id at : ℕ) (bytes v : List ℕ) (some : get o id ≡ Some v) (within : at + length bytes ≤ length v) (reply : Reply)
-      (turn : Turn old (Write id at bytes) reply new) where
+      (turn : IsCommandStep old (Write id at bytes) reply new) where
     handle : (h : ℕ) × (get ids id ≡ Some h) × (get m h ≡ Some v)
     handle = found_by_id ids m names id v some
 
@@ -213,7 +213,7 @@ module _ (old new : RunState) (loading : IsLoading old) (going : IsGoing new) wh
     wrote_counts = writes.session
 
   -- `f` of a live object
-  module _ (id : ℕ) (v : List ℕ) (some : get o id ≡ Some v) (reply : Reply) (turn : Turn old (Free id) reply new) where
+  module _ (id : ℕ) (v : List ℕ) (some : get o id ≡ Some v) (reply : Reply) (turn : IsCommandStep old (Free id) reply new) where
     freed_handle : (h : ℕ) × (get ids id ≡ Some h) × (get m h ≡ Some v)
     freed_handle = found_by_id ids m names id v some
 

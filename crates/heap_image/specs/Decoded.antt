@@ -29,8 +29,8 @@ abbrev pub unopened : ℕ → Decoded
 unopened at = record { settings = None; objects = empty; broken = Some at; is_cut = false }
 
 -- the bytes break a rule at this offset, after the settings p and the entries of these objects
-abbrev pub breaks_behind : Profile → Objects → ℕ → Decoded
-breaks_behind p objects at = record { settings = Some p; objects = objects; broken = Some at; is_cut = false }
+abbrev pub breaks_after : Profile → Objects → ℕ → Decoded
+breaks_after p objects at = record { settings = Some p; objects = objects; broken = Some at; is_cut = false }
 
 -- the bytes are an image with the settings p and these objects by id
 abbrev pub whole : Profile → Objects → Decoded
@@ -70,7 +70,7 @@ passed r id v = record { next = id + 1; objects = insert r.objects id v; at = r.
 
 -- the bytes break a rule n bytes after the start of the entry that is next in r
 abbrev pub breaks_in : Profile → Reached → ℕ → Decoded
-breaks_in p r n = breaks_behind p r.objects (r.at + n)
+breaks_in p r n = breaks_after p r.objects (r.at + n)
 
 -- Decodes the n bytes of an entry's object, after its id and its length. In this and the next two definitions r is how far the entries before
 -- were decoded, `bytes` are those still to be decoded, and `go` decodes what follows the entry.
@@ -103,8 +103,8 @@ at_first = record { next = 0; objects = empty; at = 20 }
 
 -- Decodes the number of objects at byte 16, which must be at most the proxies, then the entries.
 unfoldable pub count_decoded : Profile → List ℕ → Decoded
-count_decoded p bytes = number w32 bytes (breaks_behind p empty 16)
-    (λ count rest. if nat_le count p.proxies then entries_decoded p count at_first rest else breaks_behind p empty 16)
+count_decoded p bytes = number w32 bytes (breaks_after p empty 16)
+    (λ count rest. if nat_le count p.proxies then entries_decoded p count at_first rest else breaks_after p empty 16)
 
 -- Decodes the proxies at byte 12, which must be 1 to 65,536, then what follows them.
 unfoldable pub proxies_decoded : ℕ → ℕ → List ℕ → Decoded

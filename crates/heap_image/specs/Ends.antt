@@ -5,7 +5,7 @@ use Rattle.cf_io.specs.Feeds.{IsSpent}
 use Rattle.page_model.specs.Held.{Objects}
 use Rattle.run_model.specs.Sessions.{RunState}
 use Rattle.heap_image.specs.Decoded.{BreaksNoRule, Decoded, whole}
-use Rattle.heap_image.specs.Feed.{Feed, Takes}
+use Rattle.heap_image.specs.Feed.{Feed, TakesBytes}
 use Rattle.heap_image.specs.Load.{HoldsObjects}
 use Rattle.heap_image.specs.Stages.{ReadsAs, ReadsBroken}
 use Rattle.heap_image.specs.declared.fault.LoadFault.{LoadFault}
@@ -14,18 +14,18 @@ use Rattle.heap_image.specs.declared.fault.LoadFault.TheVariants as fault
 -- How reading the objects ended, by the result. `reading` decodes what was still to be read under the settings p; `had` and `left` are the source
 -- before and after, `to` is the run after. `Ok`: all was read, and the heap holds the objects o. `Bad`: it holds those before the field that
 -- breaks a rule. `Read`: it holds those of the whole entries that were read before the source failed.
-abbrev pub EndsBy : (List ℕ → Decoded) → Profile → Feed → Result Unit LoadFault → Feed → RunState → Type 0
-EndsBy reading p had (Ok u) left to = (o : Objects) × ReadsAs reading had left (whole p o) × IsSpent left.rest × HoldsObjects p o to
-EndsBy reading p had (Err (fault.Bad at)) left to =
+abbrev pub EndsReading : (List ℕ → Decoded) → Profile → Feed → Result Unit LoadFault → Feed → RunState → Type 0
+EndsReading reading p had (Ok u) left to = (o : Objects) × ReadsAs reading had left (whole p o) × IsSpent left.rest × HoldsObjects p o to
+EndsReading reading p had (Err (fault.Bad at)) left to =
     (t : Decoded) × (t.broken ≡ Some at) × (t.settings ≡ Some p) × ReadsBroken reading had left t × HoldsObjects p t.objects to
-EndsBy reading p had (Err fault.Read) left to =
+EndsReading reading p had (Err fault.Read) left to =
     (t : Decoded) × (t.settings ≡ Some p) × ReadsAs reading had left t × BreaksNoRule t × HoldsObjects p t.objects to
-EndsBy reading p had (Err fault.OutOfMemory) left to = ⊥
+EndsReading reading p had (Err fault.OutOfMemory) left to = ⊥
 
 -- What `read_end` found at the offset `at`, by its result: the source had ended; or it returned one byte more; or it failed.
 -- `had` and `left` are the source before and after.
 abbrev pub EndRead : ℕ → Feed → Result Unit LoadFault → Feed → Type 0
-EndRead at had (Ok u) left = Takes [] had left × IsSpent left.rest
-EndRead at had (Err (fault.Bad b)) left = (b ≡ at) × ((byte : ℕ) × Takes (byte ∷ []) had left)
-EndRead at had (Err fault.Read) left = Takes [] had left
+EndRead at had (Ok u) left = TakesBytes [] had left × IsSpent left.rest
+EndRead at had (Err (fault.Bad b)) left = (b ≡ at) × ((byte : ℕ) × TakesBytes (byte ∷ []) had left)
+EndRead at had (Err fault.Read) left = TakesBytes [] had left
 EndRead at had (Err fault.OutOfMemory) left = ⊥

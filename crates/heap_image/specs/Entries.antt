@@ -3,9 +3,9 @@ use Rattle.std.specs.Prelude.{◌≡◌, ◌≤◌, ℕ, List, length, Some, Res
 use Rattle.std.specs.FinMap.{insert, remove}
 use Rattle.run_model.specs.Sessions.{RunState}
 use Rattle.heap_image.specs.Decoded.{Decoded, Reached, passed}
-use Rattle.heap_image.specs.Feed.{Feed, Takes}
+use Rattle.heap_image.specs.Feed.{Feed, TakesBytes}
 use Rattle.heap_image.specs.Heaps.{objects_of}
-use Rattle.heap_image.specs.Stages.{LeadsTo, Passes, StopsBy, StopsShort}
+use Rattle.heap_image.specs.Stages.{LeadsTo, WholeFields, StopsReading, StopsInField}
 use Rattle.heap_image.specs.declared.fault.LoadFault.{LoadFault}
 use Rattle.heap_image.specs.declared.objects_in.Entry.{Entry}
 
@@ -16,13 +16,13 @@ reached_in s next at = record { next = next; objects = objects_of s; at = at }
 -- What reading one entry did, by the result. `reading` decodes the bytes from there on, and `go` those after the entry; r is how far the load had
 -- come; `had` and `left` are the source before and after, `old` and `new` the run. `Ok e`: an entry with the id and the length of e was read, and
 -- the heap holds its object, the bytes v, besides those of r. `Err f`: the reading stopped with the fault f, and the heap holds the objects of r.
-abbrev pub EntryBy : (List ℕ → Decoded) → (Reached → List ℕ → Decoded) → RunState → Reached → Feed → Result Entry LoadFault → Feed → RunState → Type 0
-EntryBy reading go old r had (Ok e) left new = (v : List ℕ) × (length v ≡ e.length) × (r.next ≤ e.id) × Passes reading had left (go (passed r e.id v))
+abbrev pub ReadsEntry : (List ℕ → Decoded) → (Reached → List ℕ → Decoded) → RunState → Reached → Feed → Result Entry LoadFault → Feed → RunState → Type 0
+ReadsEntry reading go old r had (Ok e) left new = (v : List ℕ) × (length v ≡ e.length) × (r.next ≤ e.id) × WholeFields reading had left (go (passed r e.id v))
     × LeadsTo old new (insert r.objects e.id v)
-EntryBy reading go old r had (Err f) left new = StopsBy (Some old.heap.profile) r.objects reading had f left × LeadsTo old new r.objects
+ReadsEntry reading go old r had (Err f) left new = StopsReading (Some old.heap.profile) r.objects reading had f left × LeadsTo old new r.objects
 
 -- What filling the object of an id did, by the result: the object got the next n bytes of the source, v; or these, which begin at the offset `at`,
 -- were cut or couldn't be read, and the object was freed. `had` and `left` are the source before and after, `old` and `new` the run.
 abbrev pub FillsObject : ℕ → ℕ → RunState → ℕ → Feed → Result Unit LoadFault → Feed → RunState → Type 0
-FillsObject n at old id had (Ok u) left new = (v : List ℕ) × (length v ≡ n) × Takes v had left × LeadsTo old new (insert (objects_of old) id v)
-FillsObject n at old id had (Err f) left new = StopsShort n at had f left × LeadsTo old new (remove (objects_of old) id)
+FillsObject n at old id had (Ok u) left new = (v : List ℕ) × (length v ≡ n) × TakesBytes v had left × LeadsTo old new (insert (objects_of old) id v)
+FillsObject n at old id had (Err f) left new = StopsInField n at had f left × LeadsTo old new (remove (objects_of old) id)

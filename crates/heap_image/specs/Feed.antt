@@ -12,6 +12,6 @@ abbrev pub feed_at : Option (List ℕ) → ℕ → Feed
 feed_at rest given = record { rest = rest; given = given }
 
 -- The bytes `taken` were read from a source: an observable source had them first, before those that are left; every source counts them as returned.
-pub record Takes (taken : List ℕ) (had left : Feed) : Type 0 where
+pub record TakesBytes (taken : List ℕ) (had left : Feed) : Type 0 where
   pub first : had.rest ≡ preceded taken left.rest
   pub counted : HasGiven had.given (length taken) left.given

@@ -5,12 +5,12 @@ use Rattle.cf_base.specs.declared.kind.Kind.TheVariants.{Moving}
 use Rattle.cf_base.specs.declared.settings.Settings.{Settings}
 use Rattle.cf_model.specs.State.{paging_in}
 use Rattle.page_model.specs.Held.{Objects}
-use Rattle.page_model.specs.Paging.{AreOne}
+use Rattle.page_model.specs.Paging.{EveryBoundIsOne}
 use Rattle.run_model.specs.Sessions.{IsGoing, RunState}
 use Rattle.script_loop.specs.OneManager.{LacksOne}
 use Rattle.script_loop.specs.ScriptOutcome.{MayFollow}
 use Rattle.heap_image.specs.Decoded.{BreaksNoRule, Decoded, decoded, whole}
-use Rattle.heap_image.specs.Feed.{Feed, Takes}
+use Rattle.heap_image.specs.Feed.{Feed, TakesBytes}
 use Rattle.heap_image.specs.Heaps.{objects_of}
 use Rattle.heap_image.specs.declared.fault.LoadFault.{LoadFault}
 use Rattle.heap_image.specs.declared.fault.LoadFault.TheVariants as fault
@@ -33,7 +33,7 @@ TakesNoMore taken more false = LastBreaks decoded taken
 pub record IsLoading (s : RunState) : Type 0 where
   pub going : IsGoing s
   pub kind : s.heap.kind ≡ Moving
-  pub ones : AreOne (paging_in s.heap)
+  pub ones : EveryBoundIsOne (paging_in s.heap)
 
 -- the run s is as `IsLoading` says, its heap has the settings p, and its live objects by id are exactly o
 pub record HoldsObjects (p : Profile) (o : Objects) (s : RunState) : Type 0 where
@@ -93,5 +93,5 @@ IsLoaded from taken more (Err fault.OutOfMemory) to = LoadsNothing from taken to
 pub record LoadsBy (from : RunState) (had : Feed) (result : Result Settings LoadFault) (left : Feed) (to : RunState) : Type 0 where
   pub taken : List ℕ
   pub ended : Bool
-  pub took : Takes taken had left
+  pub took : TakesBytes taken had left
   pub row : (more : List ℕ) → MayFollow left.rest ended more → IsLoaded from taken more result to

@@ -9,7 +9,7 @@ use Rattle.cf_io.specs.Feeds.{IsSpent}
 use Rattle.page_model.specs.Held.{Objects}
 use Rattle.run_model.specs.Sessions.{RunState}
 use Rattle.heap_image.specs.Decoded.{BreaksNoRule, Decoded, count_decoded}
-use Rattle.heap_image.specs.Feed.{Feed, Takes}
+use Rattle.heap_image.specs.Feed.{Feed, TakesBytes}
 use Rattle.heap_image.specs.Heaps.{objects_of}
 use Rattle.heap_image.specs.Image.{number_of_bytes}
 use Rattle.heap_image.specs.Load.{IsLoading, LastBreaks}
@@ -21,7 +21,7 @@ use Rattle.heap_image.specs.declared.fields_in.Filled.TheVariants as filled
 -- `reading` decodes the bytes taken to t.
 pub record ReadsAs (reading : List ℕ → Decoded) (had left : Feed) (t : Decoded) : Type 0 where
   pub taken : List ℕ
-  pub took : Takes taken had left
+  pub took : TakesBytes taken had left
   pub reads : reading taken ≡ t
 
 -- the last byte of `taken` breaks a rule: the bytes before it break none, and whatever follows it, `taken` and `more` decode to t
@@ -40,56 +40,56 @@ pub record ReadsBroken (reading : List ℕ → Decoded) (had left : Feed) (t : D
   pub stops : StopsAt reading shows.taken t left t.is_cut
 
 -- the bytes taken are whole fields: `go` decodes what follows them as `reading` decodes all
-pub record Passes (reading : List ℕ → Decoded) (had left : Feed) (go : List ℕ → Decoded) : Type 0 where
+pub record WholeFields (reading : List ℕ → Decoded) (had left : Feed) (go : List ℕ → Decoded) : Type 0 where
   pub taken : List ℕ
-  pub took : Takes taken had left
+  pub took : TakesBytes taken had left
   pub shows : (more : List ℕ) → reading (taken ++ more) ≡ go more
 
 -- fewer than `room` bytes were taken, where `room` is the length of a field or of a buffer
-pub record Falls (room : ℕ) (had left : Feed) : Type 0 where
+pub record TakesFewer (room : ℕ) (had left : Feed) : Type 0 where
   pub taken : List ℕ
   pub short : length taken < room
-  pub took : Takes taken had left
+  pub took : TakesBytes taken had left
 
 -- what `fill` did, by its result: the buffer holds the bytes taken; or the source ended before it was full; or it failed before
-abbrev pub Fills : Feed → List ℕ → Filled → Feed → Type 0
-Fills had buffer filled.Whole left = Takes buffer had left
-Fills had buffer filled.Cut left = Falls (length buffer) had left × IsSpent left.rest
-Fills had buffer filled.Failed left = Falls (length buffer) had left
+abbrev pub FillsBuffer : Feed → List ℕ → Filled → Feed → Type 0
+FillsBuffer had buffer filled.Whole left = TakesBytes buffer had left
+FillsBuffer had buffer filled.Cut left = TakesFewer (length buffer) had left × IsSpent left.rest
+FillsBuffer had buffer filled.Failed left = TakesFewer (length buffer) had left
 
 -- A field of `room` bytes at the offset `at` wasn't read, by the fault: the end of the source cuts it, or the source failed.
-abbrev pub StopsShort : ℕ → ℕ → Feed → LoadFault → Feed → Type 0
-StopsShort room at had (fault.Bad b) left = (b ≡ at) × Falls room had left × IsSpent left.rest
-StopsShort room at had fault.Read left = Falls room had left
-StopsShort room at had fault.OutOfMemory left = ⊥
+abbrev pub StopsInField : ℕ → ℕ → Feed → LoadFault → Feed → Type 0
+StopsInField room at had (fault.Bad b) left = (b ≡ at) × TakesFewer room had left × IsSpent left.rest
+StopsInField room at had fault.Read left = TakesFewer room had left
+StopsInField room at had fault.OutOfMemory left = ⊥
 
 -- a number of width w at the offset `at` was read, and is n; or it was cut or couldn't be read
 abbrev pub ReadsNumber : Width → ℕ → Feed → Result ℕ LoadFault → Feed → Type 0
 ReadsNumber w at had (Ok n) left =
-    (bytes : List ℕ) × (length bytes ≡ byte_len w) × (number_of_bytes w bytes ≡ n) × Takes bytes had left
-ReadsNumber w at had (Err e) left = StopsShort (byte_len w) at had e left
+    (bytes : List ℕ) × (length bytes ≡ byte_len w) × (number_of_bytes w bytes ≡ n) × TakesBytes bytes had left
+ReadsNumber w at had (Err e) left = StopsInField (byte_len w) at had e left
 
 -- A reading stopped with a fault, after these settings and the objects o. `Bad`: the bytes break a rule at the offset `at`, as t shows.
 -- `Read`: the source failed; the bytes taken break no rule.
-abbrev pub StopsBy : Option Profile → Objects → (List ℕ → Decoded) → Feed → LoadFault → Feed → Type 0
-StopsBy settings o reading had (fault.Bad at) left =
+abbrev pub StopsReading : Option Profile → Objects → (List ℕ → Decoded) → Feed → LoadFault → Feed → Type 0
+StopsReading settings o reading had (fault.Bad at) left =
     (t : Decoded) × (t.broken ≡ Some at) × (t.settings ≡ settings) × (t.objects ≡ o) × ReadsBroken reading had left t
-StopsBy settings o reading had fault.Read left =
+StopsReading settings o reading had fault.Read left =
     (t : Decoded) × (t.settings ≡ settings) × (t.objects ≡ o) × ReadsAs reading had left t × BreaksNoRule t
-StopsBy settings o reading had fault.OutOfMemory left = ⊥
+StopsReading settings o reading had fault.OutOfMemory left = ⊥
 
 -- the settings s were read, in n bytes and with bound 1, and `count_decoded` decodes what follows them
 pub record ReadsSettings (n : ℕ) (reading : List ℕ → Decoded) (had left : Feed) (s : Settings) : Type 0 where
   pub taken : List ℕ
   pub few : length taken ≡ n
-  pub took : Takes taken had left
+  pub took : TakesBytes taken had left
   pub shows : (more : List ℕ) → reading (taken ++ more) ≡ count_decoded (profile_of s) more
   pub one : s.k ≡ 1
 
 -- the settings s were read in n bytes; or the reading stopped with the fault e before it had them
-abbrev pub SettingsBy : ℕ → (List ℕ → Decoded) → Feed → Result Settings LoadFault → Feed → Type 0
-SettingsBy n reading had (Ok s) left = ReadsSettings n reading had left s
-SettingsBy n reading had (Err e) left = StopsBy None empty reading had e left
+abbrev pub ReadsSettingsOrStops : ℕ → (List ℕ → Decoded) → Feed → Result Settings LoadFault → Feed → Type 0
+ReadsSettingsOrStops n reading had (Ok s) left = ReadsSettings n reading had left s
+ReadsSettingsOrStops n reading had (Err e) left = StopsReading None empty reading had e left
 
 -- the run `new` is in progress as `IsLoading` says, with the settings of the run `old`, and its live objects by id are o
 pub record LeadsTo (old new : RunState) (o : Objects) : Type 0 where

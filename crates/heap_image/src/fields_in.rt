@@ -4,7 +4,7 @@ ghost use Rattle.std.specs.Prelude.{◌≡◌, ◌≤◌, Err, ◌≢◌};
 ghost use Rattle.std.specs.Int.{w16, w32};
 ghost use Rattle.cf_io.specs.Feeds.{FailsLast};
 ghost use Rattle.heap_image.specs.Feed.{feed_at};
-ghost use Rattle.heap_image.specs.Stages.{Fills, ReadsNumber};
+ghost use Rattle.heap_image.specs.Stages.{FillsBuffer, ReadsNumber};
 
 use crate::fault::LoadFault;
 use cf_io::Source;
@@ -23,7 +23,7 @@ pub(crate) enum Filled {
 /// Takes bytes from the source into the buffer, chunk by chunk, until the buffer is full, the input ends or
 /// the source fails. Returns which of the three ended it.
 pub(crate) fn fill<S: Source>(source: &mut S, buffer: &mut [u8]) -> Filled
-    ensures fills { Fills (feed_at (S.rest source.old) (S.given source.old)) buffer.new result (feed_at (S.rest source.new) (S.given source.new)) }
+    ensures fills { FillsBuffer (feed_at (S.rest source.old) (S.given source.old)) buffer.new result (feed_at (S.rest source.new) (S.given source.new)) }
     ensures grows { S.faults source.old ≤ S.faults source.new }
     ensures same { result ≢ Filled.Failed → S.faults source.new ≡ S.faults source.old }
     ensures failed { result ≡ Filled.Failed → FailsLast (S.faults source.old) (S.faults source.new) (S.last_failed source.new) }

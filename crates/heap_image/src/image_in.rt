@@ -5,7 +5,7 @@ ghost use Rattle.cf_base.specs.declared.kind.Kind.TheVariants.{Moving};
 ghost use Rattle.cf_io.specs.Feeds.{FailsLast};
 ghost use Rattle.cf_session.specs.Apply.{run_at};
 ghost use Rattle.heap_image.specs.Decoded.{at_first, count_decoded, end_decoded, entries_decoded};
-ghost use Rattle.heap_image.specs.Ends.{EndsBy, EndRead};
+ghost use Rattle.heap_image.specs.Ends.{EndsReading, EndRead};
 ghost use Rattle.heap_image.specs.Counts.{CountsLoad};
 ghost use Rattle.heap_image.specs.Feed.{feed_at};
 ghost use Rattle.heap_image.specs.Heaps.{objects_of};
@@ -71,7 +71,7 @@ fn load_objects<S: Source, H: Manager>(
     requires none { objects_of (run_at session.old (H.state heap.old)) ≡ map.empty }
     requires proxies { (H.state heap.old).profile.proxies ≡ proxies }
     requires few { proxies ≤ 65536 }
-    ensures ends { EndsBy (count_decoded (H.state heap.old).profile) (H.state heap.old).profile
+    ensures ends { EndsReading (count_decoded (H.state heap.old).profile) (H.state heap.old).profile
         (feed_at (S.rest source.old) (S.given source.old)) result (feed_at (S.rest source.new) (S.given source.new)) (run_at session.new (H.state heap.new)) }
     ensures counts { CountsLoad session.old result (run_at session.new (H.state heap.new)) }
     ensures grows { S.faults source.old ≤ S.faults source.new }
@@ -100,7 +100,7 @@ fn load_entries<S: Source, H: Manager>(
     requires none { objects_of (run_at session.old (H.state heap.old)) ≡ map.empty }
     requires few { count ≤ (H.state heap.old).profile.proxies }
     requires proxies { (H.state heap.old).profile.proxies ≤ 65536 }
-    ensures ends { EndsBy (entries_decoded (H.state heap.old).profile count at_first) (H.state heap.old).profile
+    ensures ends { EndsReading (entries_decoded (H.state heap.old).profile count at_first) (H.state heap.old).profile
         (feed_at (S.rest source.old) (S.given source.old)) result (feed_at (S.rest source.new) (S.given source.new)) (run_at session.new (H.state heap.new)) }
     ensures counts { CountsLoad session.old result (run_at session.new (H.state heap.new)) }
     ensures grows { S.faults source.old ≤ S.faults source.new }

@@ -11,7 +11,7 @@ ghost use Rattle.heap_image.specs.Counts.{CountsFree, CountsStop, after_mallocs}
 ghost use Rattle.heap_image.specs.Feed.{feed_at};
 ghost use Rattle.heap_image.specs.Heaps.{objects_of};
 ghost use Rattle.heap_image.specs.Load.{IsLoading};
-ghost use Rattle.heap_image.specs.Entries.{EntryBy, FillsObject, reached_in};
+ghost use Rattle.heap_image.specs.Entries.{ReadsEntry, FillsObject, reached_in};
 ghost use Rattle.heap_image.specs.Stages.{LeadsTo};
 
 use crate::fault::LoadFault;
@@ -49,7 +49,7 @@ pub(crate) fn read_entry<S: Source, H: Manager>(
     requires few { map.len (objects_of (run_at session.old (H.state heap.old))) < (H.state heap.old).profile.proxies }
     requires buffer { length buffer.old ≡ 4096 }
     requires offset { at < 2 ^ 60 }
-    ensures entry { (go : Reached → List ℕ → Decoded) → EntryBy (λ bytes. entry_decoded (H.state heap.old).profile
+    ensures entry { (go : Reached → List ℕ → Decoded) → ReadsEntry (λ bytes. entry_decoded (H.state heap.old).profile
         (reached_in (run_at session.old (H.state heap.old)) next at) bytes go) go
         (run_at session.old (H.state heap.old)) (reached_in (run_at session.old (H.state heap.old)) next at)
         (feed_at (S.rest source.old) (S.given source.old)) result (feed_at (S.rest source.new) (S.given source.new)) (run_at session.new (H.state heap.new)) }
@@ -86,7 +86,7 @@ fn read_object<S: Source, H: Manager>(
     requires few { map.len (objects_of (run_at session.old (H.state heap.old))) < (H.state heap.old).profile.proxies }
     requires buffer { length buffer.old ≡ 4096 }
     requires offset { at < 2 ^ 60 }
-    ensures entry { (go : Reached → List ℕ → Decoded) → EntryBy (λ bytes. length_decoded (H.state heap.old).profile
+    ensures entry { (go : Reached → List ℕ → Decoded) → ReadsEntry (λ bytes. length_decoded (H.state heap.old).profile
         (reached_in (run_at session.old (H.state heap.old)) next at) id bytes go) go
         (run_at session.old (H.state heap.old)) (reached_in (run_at session.old (H.state heap.old)) next at)
         (feed_at (S.rest source.old) (S.given source.old)) result (feed_at (S.rest source.new) (S.given source.new)) (run_at session.new (H.state heap.new)) }

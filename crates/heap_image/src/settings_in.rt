@@ -7,7 +7,7 @@ ghost use Rattle.cf_io.specs.Feeds.{FailsLast};
 ghost use Rattle.heap_image.specs.Decoded.{decoded, is_page_of, page_bytes_decoded, pages_decoded, proxies_decoded};
 ghost use Rattle.heap_image.specs.Feed.{feed_at};
 ghost use Rattle.heap_image.specs.Image.{mark};
-ghost use Rattle.heap_image.specs.Stages.{SettingsBy};
+ghost use Rattle.heap_image.specs.Stages.{ReadsSettingsOrStops};
 
 use crate::fault::LoadFault;
 use crate::fields_in::{Filled, fill, read_u32};
@@ -18,7 +18,7 @@ use cf_io::Source;
 /// settings with these numbers and the bound 1. Fails with `Bad` if a field breaks a rule or is cut by the end
 /// of the input, and with `Read` if the source failed.
 pub(crate) fn read_settings<S: Source>(source: &mut S) -> Result<Settings, LoadFault>
-    ensures settings { SettingsBy 16 decoded (feed_at (S.rest source.old) (S.given source.old)) result (feed_at (S.rest source.new) (S.given source.new)) }
+    ensures settings { ReadsSettingsOrStops 16 decoded (feed_at (S.rest source.old) (S.given source.old)) result (feed_at (S.rest source.new) (S.given source.new)) }
     ensures grows { S.faults source.old ≤ S.faults source.new }
     ensures same { result ≢ Err LoadFault.Read → S.faults source.new ≡ S.faults source.old }
     ensures failed { result ≡ Err LoadFault.Read → FailsLast (S.faults source.old) (S.faults source.new) (S.last_failed source.new) }
@@ -52,7 +52,7 @@ fn are_pages(pages: u32) -> bool
 /// Reads the number of pages at byte 4 of the image, then the bytes of a page and the proxies, and returns the
 /// settings. Fails as `read_settings` does.
 fn read_pages<S: Source>(source: &mut S) -> Result<Settings, LoadFault>
-    ensures settings { SettingsBy 12 pages_decoded (feed_at (S.rest source.old) (S.given source.old)) result (feed_at (S.rest source.new) (S.given source.new)) }
+    ensures settings { ReadsSettingsOrStops 12 pages_decoded (feed_at (S.rest source.old) (S.given source.old)) result (feed_at (S.rest source.new) (S.given source.new)) }
     ensures grows { S.faults source.old ≤ S.faults source.new }
     ensures same { result ≢ Err LoadFault.Read → S.faults source.new ≡ S.faults source.old }
     ensures failed { result ≡ Err LoadFault.Read → FailsLast (S.faults source.old) (S.faults source.new) (S.last_failed source.new) }
@@ -71,7 +71,7 @@ fn read_pages<S: Source>(source: &mut S) -> Result<Settings, LoadFault>
 /// read before them. Fails as `read_settings` does.
 fn read_page_bytes<S: Source>(source: &mut S, pages: u32) -> Result<Settings, LoadFault>
     requires pages { IsTrue (is_within 1 4096 pages) }
-    ensures settings { SettingsBy 8 (page_bytes_decoded pages) (feed_at (S.rest source.old) (S.given source.old)) result (feed_at (S.rest source.new) (S.given source.new)) }
+    ensures settings { ReadsSettingsOrStops 8 (page_bytes_decoded pages) (feed_at (S.rest source.old) (S.given source.old)) result (feed_at (S.rest source.new) (S.given source.new)) }
     ensures grows { S.faults source.old ≤ S.faults source.new }
     ensures same { result ≢ Err LoadFault.Read → S.faults source.new ≡ S.faults source.old }
     ensures failed { result ≡ Err LoadFault.Read → FailsLast (S.faults source.old) (S.faults source.new) (S.last_failed source.new) }
@@ -95,7 +95,7 @@ fn read_proxies<S: Source>(
 ) -> Result<Settings, LoadFault>
     requires pages { IsTrue (is_within 1 4096 pages) }
     requires page { IsTrue (is_page_of pages page_bytes) }
-    ensures settings { SettingsBy 4 (proxies_decoded pages page_bytes) (feed_at (S.rest source.old) (S.given source.old)) result (feed_at (S.rest source.new) (S.given source.new)) }
+    ensures settings { ReadsSettingsOrStops 4 (proxies_decoded pages page_bytes) (feed_at (S.rest source.old) (S.given source.old)) result (feed_at (S.rest source.new) (S.given source.new)) }
     ensures grows { S.faults source.old ≤ S.faults source.new }
     ensures same { result ≢ Err LoadFault.Read → S.faults source.new ≡ S.faults source.old }
     ensures failed { result ≡ Err LoadFault.Read → FailsLast (S.faults source.old) (S.faults source.new) (S.last_failed source.new) }

@@ -1,4 +1,4 @@
--- Lemmas for `open` and `give` in `src/tests/images.rt`: a run is ready for `save` (`IsReady`) once its heap is opened, and after each command.
+-- Lemmas for `open` and `do_command` in `src/tests/images.rt`: a run is ready for `save` (`IsReady`) once its heap is opened, and after each command.
 use Rattle.std.proofs.Common.{◌≡◌, ◌∙◌, ap}
 use Rattle.cf_base.specs.Settings.{Profile, profile_of}
 use Rattle.cf_base.specs.declared.kind.Kind.TheVariants.{Moving}

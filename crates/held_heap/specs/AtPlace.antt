@@ -14,9 +14,9 @@ IsOpenWith (Some h) holds = holds h
 
 -- A call that returns `code` on a heap, and leaves `new`. On an open heap it does `step`, a relation of the states before and after it. On a closed one it
 -- returns 7 (`CLOSED`), the heap stays closed, and `kept` holds: that the caller's values are unchanged.
-abbrev pub OnOpen : Option HeldState → ℤ → Option HeldState → Type 0 → (HeldState → HeldState → Type 0) → Type 0
-OnOpen None code new kept step = (code ≡ pos 7) × (new ≡ None) × kept
-OnOpen (Some h) code new kept step = IsOpenWith new (step h)
+abbrev pub IsCallOnOpen : Option HeldState → ℤ → Option HeldState → Type 0 → (HeldState → HeldState → Type 0) → Type 0
+IsCallOnOpen None code new kept step = (code ≡ pos 7) × (new ≡ None) × kept
+IsCallOnOpen (Some h) code new kept step = IsOpenWith new (step h)
 
 -- an open of a closed heap with the valid settings p: code 0 and a fresh heap, or code 10 (`MEMORY`) and a heap that is still closed
 abbrev pub IsOpened : Kind → Profile → ℤ → Option HeldState → Type 0

@@ -1,4 +1,4 @@
--- For the trait `Offered`: what each call of a manager does, with how many steps it takes: at most a bound, for a read and a write exactly a number.
+-- For the trait `ExportedManager`: what each call of a manager does, with how many steps it takes: at most a bound, for a read and a write exactly a number.
 -- Below, `old` and `new` are the heap before and after a call, `answer` is its result, and `from` and `to` are the ledger's steps before and after it.
 use Rattle.std.specs.Prelude.{◌≡◌, ℕ, ◌+◌, IsTrue, List, Option, Result, length}
 use Rattle.step_ledger.specs.Counting.{RoseAtMost, RoseBy}
@@ -14,7 +14,7 @@ use Rattle.cf_base.specs.declared.kind.Kind.{Kind}
 use Rattle.cf_model.specs.Ordered.{IsOrderedFree, IsOrderedMalloc, IsOrderedResize}
 use Rattle.cf_model.specs.Rules.{KeepsRules}
 use Rattle.cf_model.specs.State.{HeapState}
-use Rattle.cf_model.specs.Steps.{IsFreeStep, IsMallocStep, IsReadAnswer, IsResizeStep, IsWriteStep, Part, StaysOpen}
+use Rattle.cf_model.specs.Steps.{IsFreeStep, IsMallocStep, IsReadAnswer, IsResizeStep, IsWriteStep, Position, StaysOpen}
 use Rattle.page_model.specs.Steps.{Request}
 
 -- For each call its most steps, as a function of its result; `access` is a read or a write, `room` is `has_room`. A resize has its new length in bytes as
@@ -29,7 +29,7 @@ pub record Bounds : Type 0 where
   pub totals : Totals → ℕ
 
 -- the heap s is open, and of the kind `of_kind`
-pub record IsOpenOf (of_kind : Kind) (s : HeapState) : Type 0 where
+pub record IsOpenOfKind (of_kind : Kind) (s : HeapState) : Type 0 where
   pub open_now : IsTrue s.is_open
   pub kind : s.kind ≡ of_kind
 
@@ -59,15 +59,15 @@ pub record IsResize (most : Bounds) (old : HeapState) (asked : Request) (answer 
   pub same : StaysOpen old new
   pub bound : RoseAtMost from to (most.resize asked.length answer)
 
--- a write of `bytes` into object `part.number`, from byte `part.from` on
-pub record IsWrite (most : Bounds) (old : HeapState) (part : Part) (bytes : List ℕ) (answer : Result (Unit {0}) AccessFault) (new : HeapState) (from to : ℕ) : Type 0 where
-  pub step : IsWriteStep old part bytes answer new
+-- a write of `bytes` into object `position.number`, from byte `position.from` on
+pub record IsWrite (most : Bounds) (old : HeapState) (position : Position) (bytes : List ℕ) (answer : Result (Unit {0}) AccessFault) (new : HeapState) (from to : ℕ) : Type 0 where
+  pub step : IsWriteStep old position bytes answer new
   pub rules : KeepsRules new
   pub same : StaysOpen old new
-  pub exact : RoseBy from to (most.access part.from (length bytes) answer)
+  pub exact : RoseBy from to (most.access position.from (length bytes) answer)
 
--- a read of object `part.number` from byte `part.from` on, in the heap s; `before` and `after` are the bytes of the caller's buffer
-pub record IsRead (most : Bounds) (s : HeapState) (part : Part) (before : List ℕ) (answer : Result (Unit {0}) AccessFault) (after : List ℕ) (from to : ℕ) : Type 0 where
-  pub read : IsReadAnswer s part before answer after
+-- a read of object `position.number` from byte `position.from` on, in the heap s; `before` and `after` are the bytes of the caller's buffer
+pub record IsRead (most : Bounds) (s : HeapState) (position : Position) (before : List ℕ) (answer : Result (Unit {0}) AccessFault) (after : List ℕ) (from to : ℕ) : Type 0 where
+  pub read : IsReadAnswer s position before answer after
   pub rules : KeepsRules s
-  pub exact : RoseBy from to (most.access part.from (length before) answer)
+  pub exact : RoseBy from to (most.access position.from (length before) answer)

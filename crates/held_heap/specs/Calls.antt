@@ -18,7 +18,7 @@ use Rattle.cf_model.specs.Rules.{KeepsRules}
 use Rattle.cf_model.specs.State.{HeapState}
 use Rattle.cf_model.specs.Steps.{IsOpeningWords, opening_order, ordered_heap}
 use Rattle.step_ledger.specs.Counting.{RoseAtMost, RoseBy}
-use Rattle.tag_heap.specs.Room.{IsRoomAnswer, length_of}
+use Rattle.tag_heap.specs.Room.{IsHasRoomAnswer, length_of}
 use Rattle.held_heap.specs.Bounds.{Bounds, IsFree, IsMalloc, IsRead, IsResize, IsWrite}
 use Rattle.held_heap.specs.Codes.{access_code, free_code, malloc_code, moved_number, resize_code}
 use Rattle.held_heap.specs.HeldState.{HeldState}
@@ -109,7 +109,7 @@ room_code (Err e) = malloc_code (Err e)
 pub record IsRoomCall (most : Bounds) (old : HeldState) (bytes : ℕ) (code : ℤ) (new : HeldState) : Type 0 where
   pub answer : Result (Unit {0}) Refusal
   pub by_code : code ≡ room_code answer
-  pub room : IsRoomAnswer old.heap bytes answer
+  pub room : IsHasRoomAnswer old.heap bytes answer
   pub kept : new.heap ≡ old.heap
   pub bound : RoseAtMost 0 new.steps (most.room answer)
 

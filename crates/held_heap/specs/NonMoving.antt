@@ -3,8 +3,8 @@ use denote.RattleType.{RattleType}
 use Rattle.nonmoving_heap.specs.contracts.manager.NonMovingHeap.{the_row}
 use Rattle.nonmoving_heap.specs.contracts.manager.NonMovingHeapManager.TheImpl.{ghosts}
 use Rattle.held_heap.specs.contracts.held.Held as held
-use Rattle.held_heap.specs.contracts.offered.NonMovingHeapOffered.TheImpl as offered
+use Rattle.held_heap.specs.contracts.exported_manager.NonMovingHeapExportedManager.TheImpl as exported_manager
 
 -- an open heap of the non-moving manager, `Held`
 abbrev pub open_heap : RattleType
-open_heap = held.the_row the_row offered.ghosts ghosts
+open_heap = held.the_row the_row exported_manager.ghosts ghosts

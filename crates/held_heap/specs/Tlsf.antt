@@ -6,11 +6,11 @@ use Rattle.tlsf_heap.specs.contracts.buckets.TlsfBuckets.{the_row}
 use Rattle.tlsf_heap.specs.contracts.buckets.TlsfBucketsBuckets.TheImpl as buckets
 use Rattle.tlsf_heap.specs.contracts.heap.TlsfBucketsFitPolicy.TheImpl as policy
 use Rattle.held_heap.specs.contracts.held.Held as held
-use Rattle.held_heap.specs.contracts.offered.TagHeapOffered.TheImpl as offered
+use Rattle.held_heap.specs.contracts.exported_manager.TagHeapExportedManager.TheImpl as exported_manager
 
 -- an open heap of the TLSF manager, `Held`
 abbrev pub open_heap : RattleType
 open_heap = held.the_row
     (heap.the_row the_row policy.ghosts buckets.ghosts)
-    (offered.ghosts the_row policy.ghosts offered.no_dict buckets.ghosts offered.no_dict offered.no_dict)
+    (exported_manager.ghosts the_row policy.ghosts exported_manager.no_dict buckets.ghosts exported_manager.no_dict exported_manager.no_dict)
     (manager.ghosts the_row policy.ghosts manager.no_dict buckets.ghosts manager.no_dict manager.no_dict)

@@ -4,7 +4,7 @@ ghost use Rattle.cf_base.specs.Settings.{profile_of};
 
 use crate::answers::{NphClass, NphFreed, NphHeapTotals, NphResized};
 use crate::codes::{DONE, UNKNOWN, number_of, of_access, of_refusal, of_resize};
-use crate::offered::Offered;
+use crate::exported_manager::ExportedManager;
 use cf_base::{Handle, Settings};
 use std::alloc::Global;
 use std::marker::Model;
@@ -14,14 +14,14 @@ use step_ledger::Meter;
 /// An open heap, and the steps of the last call that counts steps. Each such call makes a ledger of its
 /// own from `memory`, so that the compiler keeps the count in a register.
 #[derive(Drop)]
-pub struct Held<H: Offered> {
+pub struct Held<H: ExportedManager> {
     heap: H,
     steps: u64,
     memory: Memory,
 }
 
-impl<H: Offered> Model for Held<H> {
-    ghost use Rattle.held_heap.specs.Bounds.{IsOpenOf};
+impl<H: ExportedManager> Model for Held<H> {
+    ghost use Rattle.held_heap.specs.Bounds.{IsOpenOfKind};
     ghost use Rattle.held_heap.specs.HeldState.{HeldState, held_code};
 
     ghost Value = { HeldState };
@@ -30,10 +30,10 @@ impl<H: Offered> Model for Held<H> {
 
     ghost view = { λ h. record { heap = H.state h.heap; steps = h.steps } };
 
-    ghost invariant = { λ h. IsOpenOf H.of_kind (H.state h.heap) };
+    ghost invariant = { λ h. IsOpenOfKind H.of_kind (H.state h.heap) };
 }
 
-impl<H: Offered> Held<H> {
+impl<H: ExportedManager> Held<H> {
     ghost use Rattle.held_heap.specs.Calls.{IsFiguresCall, IsFreeCall, IsFreshHeap, IsLengthCall, IsMallocCall, IsReadCall, IsResizeCall, IsRoomCall, IsStepsCall, IsTotalsCall, IsWriteCall};
 
     /// Opens a heap without objects, in a block of its own. Returns `None` if out of memory.

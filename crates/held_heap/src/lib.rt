@@ -8,7 +8,7 @@ mod codes;
 mod held;
 pub mod moving;
 pub mod nonmoving;
-mod offered;
+mod exported_manager;
 mod place;
 pub mod tlsf;
 mod unboxed;

@@ -11,7 +11,7 @@ use Rattle.std.proofs.lemmas.List.{drop-append-le, length-take, take-append-le}
 use Rattle.std.proofs.lemmas.Slice.Eq.{bytes_eq-Decides}
 use Rattle.cf_base.specs.Limits.{is_within}
 use Rattle.cf_base.specs.Settings.{Profile, profile_from}
-use Rattle.heap_image.specs.Decoded.{Decoded, Reached, at_first, breaks_behind, breaks_in, bytes_decoded, count_decoded, cut, decoded, end_decoded}
+use Rattle.heap_image.specs.Decoded.{Decoded, Reached, at_first, breaks_after, breaks_in, bytes_decoded, count_decoded, cut, decoded, end_decoded}
 use Rattle.heap_image.specs.Decoded.{entries_decoded, entry_decoded, has_room, is_page_of, length_decoded, number, page_bytes_decoded, pages_decoded, passed}
 use Rattle.heap_image.specs.Decoded.{proxies_decoded, unopened}
 use Rattle.heap_image.specs.Image.{mark, number_of_bytes}
@@ -89,7 +89,7 @@ entries_stay (suc n) p r = entry_stays p r (λ r rest. entries_decoded p n r res
 -- `Stays` of the number of objects and of the settings
 count_stays : (p : Profile) → Stays (count_decoded p)
 unfolding count_decoded
-count_stays p = number_stays w32 (breaks_behind p empty 16) (λ n. nat_le n p.proxies) (λ n rest. entries_decoded p n at_first rest)
+count_stays p = number_stays w32 (breaks_after p empty 16) (λ n. nat_le n p.proxies) (λ n rest. entries_decoded p n at_first rest)
     (λ n. entries_stay n p at_first)
 
 proxies_stay : (pages page_bytes : ℕ) → Stays (proxies_decoded pages page_bytes)

@@ -17,7 +17,7 @@ use Rattle.image_run.specs.Loads.{EndsLoad, EndsLoadBy, bad_image}
 use Rattle.image_run.specs.Saves.{EndsSave, WritesAtEnd, saved, unseen}
 use Rattle.image_run.specs.Script.{heap_script, script_under}
 use Rattle.run_laws.proofs.CallerLemmas.{run_keeps}
-use Rattle.run_laws.specs.Sayable.{IsUnderWay}
+use Rattle.run_laws.specs.ValidItems.{IsUnderWay}
 use Rattle.run_model.specs.Runs.{Run}
 use Rattle.run_model.specs.Sessions.{RunState}
 use Rattle.script_loop.proofs.CallerLemmas.{appended_none, wrote_all}

@@ -18,7 +18,7 @@ use Rattle.image_run.specs.Saves.{EndsSave, WritesAtEnd, saved, unseen}
 use Rattle.image_run.specs.Script.{commands_of, object_commands, script_under, writes_from}
 use Rattle.headline_laws.proofs.CallerLemmas.{one_shown, run_met, shown, shown_at, view}
 use Rattle.run_laws.proofs.CallerLemmas.{run_keeps}
-use Rattle.run_laws.specs.Sayable.{IsUnderWay}
+use Rattle.run_laws.specs.ValidItems.{IsUnderWay}
 use Rattle.run_model.specs.Runs.{Run}
 use Rattle.run_model.specs.Sessions.{IsGoing, RunState}
 use Rattle.run_model.specs.Texts.{Reply, said}

@@ -16,7 +16,7 @@ use Rattle.page_model.specs.Bytes.{AreBytes}
 use Rattle.page_model.specs.Held.{Objects}
 use Rattle.run_laws.proofs.CallerLemmas.{within_range}
 use Rattle.transcript_laws.proofs.CallerLemmas.{listed_none}
-use Rattle.heap_image.specs.Decoded.{Decoded, IsImage, at_first, breaks_behind, count_decoded, decoded, entries_decoded, is_page_of, page_bytes_decoded}
+use Rattle.heap_image.specs.Decoded.{Decoded, IsImage, at_first, breaks_after, count_decoded, decoded, entries_decoded, is_page_of, page_bytes_decoded}
 use Rattle.heap_image.specs.Decoded.{pages_decoded, proxies_decoded, unopened, whole}
 use Rattle.heap_image.specs.Heaps.{HaveImage, image_under}
 use Rattle.heap_image.specs.Image.{entries_of, mark, number_bytes}
@@ -34,7 +34,7 @@ record AcceptedObjects (p : Profile) (bytes : List ℕ) : Type 0 where
 count_accepted : (p : Profile) (bytes : List ℕ) → AreBytes bytes → (count_decoded p bytes).broken ≡ None
     → AcceptedNumber w32 bytes (λ n. nat_le n p.proxies) (λ n rest. entries_decoded p n at_first rest)
 unfolding count_decoded
-count_accepted p bytes b is = number_accepted w32 bytes b (breaks_behind p empty 16) 16 refl (λ n. nat_le n p.proxies) (λ n rest. entries_decoded p n at_first rest) is
+count_accepted p bytes b is = number_accepted w32 bytes b (breaks_after p empty 16) 16 refl (λ n. nat_le n p.proxies) (λ n rest. entries_decoded p n at_first rest) is
 
 objects_accepted : (p : Profile) (bytes : List ℕ) → AreBytes bytes → (count_decoded p bytes).broken ≡ None → AcceptedObjects p bytes
 objects_accepted p bytes b is =

@@ -14,7 +14,7 @@ use Rattle.image_run.specs.Saves.{EndsSave, WritesAtEnd, saved}
 use Rattle.page_model.specs.Held.{Objects}
 use Rattle.cf_model.specs.Families.{IsPaged}
 use Rattle.cf_model.specs.State.{paging_in}
-use Rattle.page_model.specs.Paging.{AreOne}
+use Rattle.page_model.specs.Paging.{EveryBoundIsOne}
 use Rattle.run_model.specs.Runs.{Run}
 use Rattle.run_model.specs.Sessions.{IsGoing, RunState}
 use Rattle.run_model.specs.Texts.{Reply}
@@ -61,9 +61,9 @@ module _ (read_back : (p : Profile) (o : Objects) → HaveImage p o → decoded 
     -- both heaps give the same further items the same replies
     module _ (there from2 : RunState) (two : Effects) (had2 : two.had ≡ Some image) (done2 : two.status ≡ Done) (ends2 : EndsLoad from2 two there)
         (equally : (one other : RunState) (items : List Item) (replies stated : List Reply) (last end : Option RunState)
-        → IsGoing one → IsGoing other → IsPaged one.heap.kind → AreAlike one other → AreOne (paging_in one.heap) → AreOne (paging_in other.heap)
+        → IsGoing one → IsGoing other → IsPaged one.heap.kind → AreAlike one other → EveryBoundIsOne (paging_in one.heap) → EveryBoundIsOne (paging_in other.heap)
         → AreFurther items → Run one.heap.kind (Some one) items replies last → Run one.heap.kind (Some other) items stated end → stated ≡ replies)
-        (k : to.heap.profile.k ≡ 1) (ones : AreOne (paging_in to.heap)) where
+        (k : to.heap.profile.k ≡ 1) (ones : EveryBoundIsOne (paging_in to.heap)) where
       pub further_replies : (items : List Item) (replies stated : List Reply) (last end : Option RunState) → AreFurther items
           → Run Moving (Some to) items replies last → Run Moving (Some there) items stated end → stated ≡ replies
       further_replies items replies stated last end further run run2 =

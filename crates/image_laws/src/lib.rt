@@ -22,7 +22,7 @@ ghost use Rattle.image_run.specs.Script.{script_under};
 ghost use Rattle.page_model.specs.Bytes.{AreBytes};
 ghost use Rattle.page_model.specs.Figures.{asked_bytes};
 ghost use Rattle.page_model.specs.Held.{Objects};
-ghost use Rattle.page_model.specs.Paging.{AreOne};
+ghost use Rattle.page_model.specs.Paging.{EveryBoundIsOne};
 ghost use Rattle.run_model.specs.Runs.{Run};
 ghost use Rattle.run_model.specs.Sessions.{IsGoing, RunState};
 ghost use Rattle.run_model.specs.Texts.{Reply, said};
@@ -101,7 +101,7 @@ pub fn what_was_saved_is_loaded_again()
     ensures further { (from to : RunState) (one : Effects) → one.status ≡ Done → EndsSave from one to → IsTrue to.heap.is_open
         → (image : List ℕ) → one.before ≡ Some [] → one.after ≡ Some image
         → (there begin : RunState) (two : Effects) → two.had ≡ Some image → two.status ≡ Done → EndsLoad begin two there
-        → to.heap.profile.k ≡ 1 → AreOne (paging_in to.heap)
+        → to.heap.profile.k ≡ 1 → EveryBoundIsOne (paging_in to.heap)
         → (items : List Item) (replies stated : List Reply) (last end : Option RunState) → AreFurther items
         → Run Moving (Some to) items replies last → Run Moving (Some there) items stated end → stated ≡ replies }
 {

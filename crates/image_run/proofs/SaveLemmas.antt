@@ -12,7 +12,7 @@ use Rattle.image_run.specs.Saves.{CanBeSaved, EndsSave, saved}
 use Rattle.run_model.specs.Sessions.{IsGoing, RunState}
 use Rattle.script_loop.proofs.CallerLemmas.{appended_none, whole_run, wrote_settled}
 use Rattle.script_loop.specs.OneManager.{one_manager}
-use Rattle.script_loop.specs.ScriptOutcome.{Effects, HasCauses, IsRow, MeetsOutcome, SinkState, SourceState, EndsAt}
+use Rattle.script_loop.specs.ScriptOutcome.{Effects, HasCauses, IsStatusRow, MeetsOutcome, SinkState, SourceState, EndsAt}
 use Rattle.script_loop.specs.WithSettings.{GoesWith, Settled, with_settings}
 
 -- a sink that nobody sees never fails
@@ -47,8 +47,8 @@ cut_causes s k s' k' source sink = record {
 }
 
 module _ (from to : Settled RunState) (call : Effects) where
-  row_settled : (st : Status) (all left : List ℕ) → (st ≡ WriteFault → ⊥) → IsRow (with_settings one_manager) st from all left call to
-      → IsRow one_manager st from.state all left call to.state
+  row_settled : (st : Status) (all left : List ℕ) → (st ≡ WriteFault → ⊥) → IsStatusRow (with_settings one_manager) st from all left call to
+      → IsStatusRow one_manager st from.state all left call to.state
   row_settled Done all left whole (few, none, good, w) = (few, none, good, (wrote_settled from to _ call w).0)
   row_settled BadScript all left whole (bad, w) = (bad, (wrote_settled from to _ call w).0)
   row_settled TooLong all left whole (long, good, w) = (long, good, (wrote_settled from to _ call w).0)

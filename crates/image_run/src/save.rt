@@ -20,21 +20,21 @@ use step_ledger::Meter;
 /// `WriteFault` after a prefix of the image. With another status than these two and `Done` nothing is written.
 pub fn save_script<H: Manager, S: Source, K: Sink>(
     rt: &HostRuntime,
-    player: &mut WithSettings<Session>,
+    mode_handler: &mut WithSettings<Session>,
     heap: &mut H,
     source: &mut S,
     sink: &mut K,
 ) -> Status
-    requires fresh { player.old.player ≡ fresh_session }
-    requires unset { player.old.settings ≡ None }
+    requires fresh { mode_handler.old.mode_handler ≡ fresh_session }
+    requires unset { mode_handler.old.settings ≡ None }
     requires moving { (H.state heap.old).kind ≡ Moving }
     requires closed { (H.state heap.old).is_open ≡ false }
-    ensures ends { EndsSave (run_at player.old.player (H.state heap.old)) (effects
+    ensures ends { EndsSave (run_at mode_handler.old.mode_handler (H.state heap.old)) (effects
         (source_at (S.rest source.old) (S.given source.old) (S.faults source.old) (S.last_failed source.old))
         (sink_at (K.written sink.old) (K.faults sink.old) (K.last_failed sink.old))
         result
         (source_at (S.rest source.new) (S.given source.new) (S.faults source.new) (S.last_failed source.new))
-        (sink_at (K.written sink.new) (K.faults sink.new) (K.last_failed sink.new))) (run_at player.new.player (H.state heap.new)) }
+        (sink_at (K.written sink.new) (K.faults sink.new) (K.last_failed sink.new))) (run_at mode_handler.new.mode_handler (H.state heap.new)) }
     ensures promise { KeepsPromise (H.state heap.old) (H.state heap.new) }
     // The causes, also if the source isn't observable.
     ensures causes { HasCauses
@@ -44,18 +44,18 @@ pub fn save_script<H: Manager, S: Source, K: Sink>(
         (source_at (S.rest source.new) (S.given source.new) (S.faults source.new) (S.last_failed source.new))
         (sink_at (K.written sink.new) (K.faults sink.new) (K.last_failed sink.new)) }
 {
-    match play_script(player, heap, source, &mut NullSink) {
+    match play_script(mode_handler, heap, source, &mut NullSink) {
         Status::Done => {}
         status => return status,
     }
-    let Some(settings) = player.settings else {
+    let Some(settings) = mode_handler.settings else {
         return Status::Done;
     };
     // For its contract: each live id has 16 bits. So the objects have an image.
-    let _handle = player.player.handle(0);
+    let _handle = mode_handler.mode_handler.handle(0);
     live_objects_have_an_image();
     let mut meter = Meter::new(rt);
-    match save(&settings, heap, &player.player, sink, &mut meter) {
+    match save(&settings, heap, &mode_handler.mode_handler, sink, &mut meter) {
         Ok(()) => Status::Done,
         Err(_) => Status::WriteFault,
     }

@@ -17,7 +17,7 @@ use Rattle.page_model.specs.Held.{Objects, objects}
 use Rattle.page_model.specs.Paging.{Paging, class_for}
 use Rattle.page_model.proofs.CallerLemmas.{length-written, live_added}
 use Rattle.cf_model.specs.State.{HeapState, paging_in}
-use Rattle.large_objects.specs.Growing.{Grows, HasObjectRoom, IsGrowing, NamesPart}
+use Rattle.large_objects.specs.Growing.{GrowsInner, HasObjectRoom, IsGrowing, NamesPart}
 use Rattle.large_objects.specs.InnerCalls.{GivesInner, HasInner, HasInnerRoom, WritesInner}
 use Rattle.large_objects.specs.Large.{bytes_in, handle_at, named}
 use Rattle.large_objects.specs.InnerObjects.{in_class, length_sum, inner_lengths, part_length, part_count, spine_bytes}
@@ -257,7 +257,7 @@ room_for_spine u n s some long room = record {
       room.pages (λ c. (let e = ap (in_class (paging_in s) c) (inner_lengths_long u n some long) ∙ in_class_cons (paging_in s) c (spine_bytes u n) _ in omega arith));
 }
 
-module _ (u n : ℕ) (old now : HeapState) (h i : ℕ) (some : 0 < u) (long : u < n) (room : HasObjectRoom u n old) (g : Grows u n old h i now)
+module _ (u n : ℕ) (old now : HeapState) (h i : ℕ) (some : 0 < u) (long : u < n) (room : HasObjectRoom u n old) (g : GrowsInner u n old h i now)
     (below : i < part_count u n) where
   -- there is room for each part in turn
   pub room_for_part : HasInnerRoom now (part_length u n i)
@@ -299,7 +299,7 @@ module _ (u n : ℕ) (old now : HeapState) (h i : ℕ) (some : 0 < u) (long : u 
   pub place_is_small : u < 2 ^ 32 → 4 * i < 2 ^ 32
   place_is_small small = (let within : spine_bytes u n ≤ u = elim room.fits [ inl short ↦ absurd (omega arith) | inr fits ↦ fits ] in omega arith)
 
-  pub grows_more : (next : HeapState) → NamesPart now h i (part_length u n i) next → Grows u n old h (i + 1) next
+  pub grows_more : (next : HeapState) → NamesPart now h i (part_length u n i) next → GrowsInner u n old h (i + 1) next
   grows_more next names = record {
     stays = then_ready old now next g.stays names.stays;
     growing = subst (λ (o : Objects). IsGrowing (paging_in old) u n (objects old.held) h (i + 1) o) (sym names.left)
@@ -308,7 +308,7 @@ module _ (u n : ℕ) (old now : HeapState) (h i : ℕ) (some : 0 < u) (long : u 
   }
 
 -- a spine is made
-pub grows_first : (u n : ℕ) (old new : HeapState) (h : ℕ) → 0 < u → u < n → GivesInner old h (spine_bytes u n) new → Grows u n old h 0 new
+pub grows_first : (u n : ℕ) (old new : HeapState) (h : ℕ) → 0 < u → u < n → GivesInner old h (spine_bytes u n) new → GrowsInner u n old h 0 new
 grows_first u n old new h some long given = record {
   stays = given.stays;
   growing = subst (λ (o : Objects). IsGrowing (paging_in old) u n (objects old.held) h 0 o) (sym given.left)

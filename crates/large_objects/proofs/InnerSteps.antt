@@ -13,13 +13,13 @@ use Rattle.cf_base.specs.declared.answers.Refusal.TheVariants as refusal
 use Rattle.cf_lemmas.proofs.MapValues.{map_values-insert}
 use Rattle.page_model.specs.Arrangement.{LacksRoom}
 use Rattle.page_model.specs.Held.{Objects, Placed, objects}
-use Rattle.page_model.specs.Paging.{AreOne, Paging, class_for, paging_of}
+use Rattle.page_model.specs.Paging.{EveryBoundIsOne, Paging, class_for, paging_of}
 use Rattle.page_model.specs.Steps.{Request}
 use Rattle.page_model.proofs.CallerLemmas.{class_fits, class_holds, lacks_room_at_one, len-objects, malloc_objects, slot_fits}
 use Rattle.cf_model.specs.Families.{family_of}
 use Rattle.cf_model.specs.Rules.{KeepsPages, KeepsRules}
 use Rattle.cf_model.specs.State.{HeapState, layout_of, paging_in}
-use Rattle.cf_model.specs.Steps.{GivesObject, IsFault, IsFreeStep, IsReadAnswer, IsRefusedBy, IsWriteStep, KeepsSettings, LacksRoomIn, Part}
+use Rattle.cf_model.specs.Steps.{AddsObject, IsFault, IsFreeStep, IsReadAnswer, IsRefusedBy, IsWriteStep, KeepsSettings, LacksRoomIn, Position}
 use Rattle.cf_model.proofs.CallerLemmas.{pages_kept}
 use Rattle.run_model.proofs.CallerLemmas.{bytes_held, bytes_missing, held_of_bytes}
 use Rattle.large_objects.specs.InnerCalls.{FreesInner, GivesInner, HasInner, HasInnerRoom, IsReady, StaysReady, WritesInner}
@@ -42,7 +42,7 @@ stays_ready old new r k rules = record {
     opened = (let e : new.is_open ≡ true = k.opened ∙ r.opened in e);
     rules = rules;
     pages = ap family_of k.kind ∙ r.pages;
-    ones = subst (λ (p : Paging). AreOne p) (sym (same_paging old new k)) r.ones;
+    ones = subst (λ (p : Paging). EveryBoundIsOne p) (sym (same_paging old new k)) r.ones;
   };
 }
 
@@ -74,7 +74,7 @@ inner_not_refused s n r room refusal.Space cause =
     let past = (lacks_room_at_one (paging_in s) kept.paging r.ones s.held kept.sound n (class_fits (paging_in s) kept.paging n room.fits)).0 lacking in
     let pages = room.pages in omega arith
 
-pub inner_given : (old new : HeapState) (asked : Request) → IsReady old → GivesObject old asked new → KeepsRules new
+pub inner_given : (old new : HeapState) (asked : Request) → IsReady old → AddsObject old asked new → KeepsRules new
     → GivesInner old asked.number asked.length new
 inner_given old new asked r given rules = record {
   stays = stays_ready old new r (record {
@@ -88,18 +88,18 @@ inner_given old new asked r given rules = record {
   left = ap (λ (s : HeapState). objects s.held) given.whole ∙ malloc_objects old.held asked.number given.place asked.length;
 }
 
-module _ (old : HeapState) (part : Part) (count : ℕ) (has : HasInner old part.number part.from count) where
+module _ (old : HeapState) (position : Position) (count : ℕ) (has : HasInner old position.number position.from count) where
   -- a read or write of bytes that the object has isn't refused
-  pub inner_no_fault : (e : AccessFault) → IsFault old part count e → ⊥
-  inner_no_fault access.Unknown none = not_both (objects old.held) part.number has.bytes has.found (bytes_missing old.held part.number none)
+  pub inner_no_fault : (e : AccessFault) → IsFault old position count e → ⊥
+  inner_no_fault access.Unknown none = not_both (objects old.held) position.number has.bytes has.found (bytes_missing old.held position.number none)
   inner_no_fault access.Range past =
-      let e = same_Some past.object.bytes has.bytes (sym (bytes_held old.held part.number past.object past.found) ∙ has.found) in
+      let e = same_Some past.object.bytes has.bytes (sym (bytes_held old.held position.number past.object past.found) ∙ has.found) in
       let l = ap length e in let more = past.past in let within = has.within in omega arith
 
-pub inner_written : (old new : HeapState) (part : Part) (bytes : List ℕ) (r : Result Unit AccessFault) → IsReady old
-    → HasInner old part.number part.from (length bytes)
-    → IsWriteStep old part bytes r new → KeepsRules new → WritesInner old part.number part.from bytes new
-inner_written old new part bytes (Ok u) ready has step rules = record {
+pub inner_written : (old new : HeapState) (position : Position) (bytes : List ℕ) (r : Result Unit AccessFault) → IsReady old
+    → HasInner old position.number position.from (length bytes)
+    → IsWriteStep old position bytes r new → KeepsRules new → WritesInner old position.number position.from bytes new
+inner_written old new position bytes (Ok u) ready has step rules = record {
   stays = stays_ready old new ready (record {
     kind = ap (λ (s : HeapState). s.kind) step.whole;
     opened = ap (λ (s : HeapState). s.is_open) step.whole;
@@ -107,18 +107,18 @@ inner_written old new part bytes (Ok u) ready has step rules = record {
     bounds = ap (λ (s : HeapState). s.bounds) step.whole;
   }) rules;
   object = step.object.bytes;
-  found = bytes_held old.held part.number step.object step.found;
-  left = ap (λ (s : HeapState). objects s.held) step.whole ∙ map_values-insert (λ (x : Placed). x.bytes) old.held part.number _;
+  found = bytes_held old.held position.number step.object step.found;
+  left = ap (λ (s : HeapState). objects s.held) step.whole ∙ map_values-insert (λ (x : Placed). x.bytes) old.held position.number _;
 }
-inner_written old new part bytes (Err e) ready has (fault, same) rules = absurd (inner_no_fault old part (length bytes) has e fault)
+inner_written old new position bytes (Err e) ready has (fault, same) rules = absurd (inner_no_fault old position (length bytes) has e fault)
 
-pub inner_read : (s : HeapState) (part : Part) (room out : List ℕ) (r : Result Unit AccessFault) (v : List ℕ) → get (objects s.held) part.number ≡ Some v
-    → part.from + length room ≤ length v → IsReadAnswer s part room r out → out ≡ take (length room) (drop part.from v)
-inner_read s part room out (Ok u) v found within answer =
-    let e = same_Some answer.object.bytes v (sym (bytes_held s.held part.number answer.object answer.found) ∙ found) in
-    answer.value ∙ ap (λ (b : List ℕ). take (length room) (drop part.from b)) e
-inner_read s part room out (Err e) v found within (fault, same) =
-    absurd (inner_no_fault s part (length room) (record { bytes = v; found = found; within = within }) e fault)
+pub inner_read : (s : HeapState) (position : Position) (room out : List ℕ) (r : Result Unit AccessFault) (v : List ℕ) → get (objects s.held) position.number ≡ Some v
+    → position.from + length room ≤ length v → IsReadAnswer s position room r out → out ≡ take (length room) (drop position.from v)
+inner_read s position room out (Ok u) v found within answer =
+    let e = same_Some answer.object.bytes v (sym (bytes_held s.held position.number answer.object answer.found) ∙ found) in
+    answer.value ∙ ap (λ (b : List ℕ). take (length room) (drop position.from b)) e
+inner_read s position room out (Err e) v found within (fault, same) =
+    absurd (inner_no_fault s position (length room) (record { bytes = v; found = found; within = within }) e fault)
 
 pub inner_freed : (old new : HeapState) (h : ℕ) (v : List ℕ) (r : Result Freed NotLive) → IsReady old → get (objects old.held) h ≡ Some v
     → IsFreeStep old h r new → KeepsRules new → FreesInner old h new

@@ -5,7 +5,7 @@ use Rattle.std.proofs.lemmas.Bool.{cases_lt}
 use Rattle.page_model.specs.Bytes.{AreBytes}
 use Rattle.page_model.specs.Held.{objects}
 use Rattle.cf_model.specs.State.{HeapState}
-use Rattle.large_objects.specs.Growing.{Grows, HasObjectRoom, Makes}
+use Rattle.large_objects.specs.Growing.{GrowsInner, HasObjectRoom, MakesInner}
 use Rattle.large_objects.specs.InnerCalls.{IsReady}
 use Rattle.large_objects.specs.Large.{named}
 use Rattle.large_objects.specs.InnerObjects.{part_length, part_count, spine_bytes}
@@ -25,7 +25,7 @@ handle_bytes q (suc (suc (suc (suc i)))) = omega arith
 module _ (u n : ℕ) (old : HeapState) (some : 0 < u) (room : HasObjectRoom u n old) where
   module _ (long : u < n) (h : ℕ) where
     -- one part more
-    grown_more : (i : ℕ) (now : HeapState) → Grows u n old h i now → i < part_count u n → (next : HeapState) × Grows u n old h (i + 1) next
+    grown_more : (i : ℕ) (now : HeapState) → GrowsInner u n old h i now → i < part_count u n → (next : HeapState) × GrowsInner u n old h (i + 1) next
     grown_more i now g below =
         let p = gives_there now g.stays.ready (part_length u n i) (room_for_part u n old now h i some long room g below) in
         let place = place_in_spine u n old now h i some long room g below in
@@ -33,14 +33,14 @@ module _ (u n : ℕ) (old : HeapState) (some : 0 < u) (room : HasObjectRoom u n 
         (handle_bytes p.0) (omega arith) (omega arith) in
         (w.0, grows_more u n old now h i some long room g below w.0 (part_named now p.1 w.0 h i (part_length u n i) p.0 p.2 place.bytes place.found w.1))
 
-    grown : (k : ℕ) (first : HeapState) → Grows u n old h 0 first → k ≤ part_count u n → (now : HeapState) × Grows u n old h k now
+    grown : (k : ℕ) (first : HeapState) → GrowsInner u n old h 0 first → k ≤ part_count u n → (now : HeapState) × GrowsInner u n old h k now
     grown zero first g few = (first, g)
     grown (suc k) first g few =
         let before = grown k first g (omega arith) in
         let next = grown_more k before.0 before.1 (omega arith) in
-        (next.0, subst (λ j. Grows u n old h j next.0) (let e : k + 1 ≡ suc k = omega arith in e) next.1)
+        (next.0, subst (λ j. GrowsInner u n old h j next.0) (let e : k + 1 ≡ suc k = omega arith in e) next.1)
 
-  pub makes_there : (h : ℕ) × (new : HeapState) × Makes u n old h new
+  pub makes_there : (h : ℕ) × (new : HeapState) × MakesInner u n old h new
   makes_there = elim (cases_lt u n) [
     | inl long ↦ (
         let g = gives_there old room.ready (spine_bytes u n) (room_for_spine u n old some long room) in

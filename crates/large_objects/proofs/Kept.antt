@@ -17,11 +17,11 @@ use Rattle.page_model.proofs.CallerLemmas.{len-objects, length-written}
 use Rattle.cf_model.specs.Answers.{totals_in}
 use Rattle.cf_model.specs.Families.{IsPaged}
 use Rattle.cf_model.specs.State.{HeapState, paging_in}
-use Rattle.large_objects.specs.Growing.{HasObjectRoom, Makes}
+use Rattle.large_objects.specs.Growing.{HasObjectRoom, MakesInner}
 use Rattle.large_objects.specs.InnerCalls.{HasInner, IsReady, StaysReady, WritesInner}
 use Rattle.large_objects.specs.Large.{AreCounted, AreLaidOut, KeepsParts, LargeState, named, part_bytes_at}
 use Rattle.large_objects.specs.LargeSteps.{FitsSpine, FreesLarge, GivesLarge, HasPartRange, HasRoom, HasShort}
-use Rattle.large_objects.specs.LargeSteps.{StaysKept, WantsLongerSpine, WantsPages, WantsProxies, WritesLarge, part_bytes_in}
+use Rattle.large_objects.specs.LargeSteps.{StaysKept, HasLongSpine, LacksPages, LacksProxies, WritesLarge, part_bytes_in}
 use Rattle.large_objects.specs.Layout.{AreKept, AreLengths, IsValid, gathered_objects, large_state}
 use Rattle.large_objects.specs.InnerObjects.{in_class, inner_count, inner_pages_with, inner_lengths, whole_part_bytes, part_count, spine_bytes}
 use Rattle.large_objects.specs.Shrinking.{HasInnerObjects, HasParts, IsShrinking, Releases}
@@ -318,29 +318,29 @@ module _ (b : Bool) (pages u : ℕ) (lengths : List (Option ℕ)) (s : HeapState
 
   -- an object is made
   module _ (n h : ℕ) (s' : HeapState) where
-    pub made_unused : Makes u n s h s' → get (objects s.held) h ≡ None
+    pub made_unused : MakesInner u n s h s' → get (objects s.held) h ≡ None
     made_unused (inl m) = m.unused
     made_unused (inr m) = m.grown.growing.unused
 
-    pub made_stays : Makes u n s h s' → StaysReady s s'
+    pub made_stays : MakesInner u n s h s' → StaysReady s s'
     made_stays (inl m) = m.stays
     made_stays (inr m) = m.grown.stays
 
-    pub made_laid : Makes u n s h s' → AreLaidOut u (insert old.objects h (replicate n 0)) (objects s'.held)
+    pub made_laid : MakesInner u n s h s' → AreLaidOut u (insert old.objects h (replicate n 0)) (objects s'.held)
     made_laid (inl m) = subst (λ (o : Objects). AreLaidOut u (insert old.objects h (replicate n 0)) o) (sym m.left)
         (laid_more u old.objects (objects s.held) laid h (replicate n 0) (insert (objects s.held) h (replicate n 0))
         (new_short (paging_in s) u kept.some old.objects (objects s.held) laid counted h n m.unused m.short))
     made_laid (inr m) = laid_more u old.objects (objects s.held) laid h (replicate n 0) (objects s'.held)
         (new_long (paging_in s) u kept.some old.objects (objects s.held) laid counted h n m.grown.growing.unused m.long (objects s'.held) m.grown.growing)
 
-    pub made_counted : Makes u n s h s' → AreCounted (paging_in s) u (insert old.objects h (replicate n 0)) (objects s'.held)
+    pub made_counted : MakesInner u n s h s' → AreCounted (paging_in s) u (insert old.objects h (replicate n 0)) (objects s'.held)
     made_counted (inl m) = subst (λ (o : Objects). AreCounted (paging_in s) u (insert old.objects h (replicate n 0)) o) (sym m.left)
         (counted_short (paging_in s) u kept.some old.objects (objects s.held) laid counted h n m.unused m.short)
     made_counted (inr m) =
         counted_long (paging_in s) u kept.some old.objects (objects s.held) laid counted h n m.grown.growing.unused m.long (objects s'.held) m.grown.growing
 
     -- the new handle is live, so it is below the number of proxies
-    pub made_below : Makes u n s h s' → h < length lengths
+    pub made_below : MakesInner u n s h s' → h < length lengths
     made_below (inl m) =
         let there : get (objects s'.held) h ≡ Some (replicate n 0) = ap (λ (o : Objects). get o h) m.left ∙ get_inserted (objects s.held) h (replicate n 0) in
         let lt = handle_below s' m.stays.ready h (replicate n 0) there in
@@ -351,7 +351,7 @@ module _ (b : Bool) (pages u : ℕ) (lengths : List (Option ℕ)) (s : HeapState
         let e = ap (λ (p : Profile). p.proxies) m.grown.stays.settings.profile in
         let l = kept.lengths_are.count in omega arith
 
-    pub made_lengths : Makes u n s h s' → AreLengths (set lengths h (Some n)) (insert old.objects h (replicate n 0)) s.profile.proxies
+    pub made_lengths : MakesInner u n s h s' → AreLengths (set lengths h (Some n)) (insert old.objects h (replicate n 0)) s.profile.proxies
     made_lengths m = subst (λ (k : ℕ). AreLengths (set lengths h (Some k)) (insert old.objects h (replicate n 0)) s.profile.proxies) (length-replicate {A = ℕ} n 0)
         (lengths_more lengths old.objects s.profile.proxies h kept.lengths_are (made_below m) (replicate n 0))
 
@@ -459,7 +459,7 @@ module _ (b : Bool) (pages u : ℕ) (lengths : List (Option ℕ)) (s : HeapState
           ∙ ap (λ (k : ℕ). insert old.objects h (written has.bytes k bytes)) (from_is h i at (length bytes) has);
     }
 
-  module _ (n h : ℕ) (s' : HeapState) (room : HasRoom old n) (m : Makes u n s h s') where
+  module _ (n h : ℕ) (s' : HeapState) (room : HasRoom old n) (m : MakesInner u n s h s') where
     pub made_valid : IsValid b pages u (set lengths h (Some n)) s'
     made_valid = valid_new s' (set lengths h (Some n)) _ (made_stays n h s' m) (made_laid n h s' m) (made_counted n h s' m) (made_lengths n h s' m)
 
@@ -521,7 +521,7 @@ module _ (b : Bool) (pages u : ℕ) (lengths : List (Option ℕ)) (s : HeapState
       let most = ready.rules.settings.few_proxies in
       let p = inner_lengths_few u n kept.some in omega arith)
 
-  pub refused_size : (n : ℕ) → (FitsSpine u n → ⊥) → WantsLongerSpine old n
+  pub refused_size : (n : ℕ) → (FitsSpine u n → ⊥) → HasLongSpine old n
   refused_size n never = record {
     long = (let e = part_is in elim (cases_lt u n) [ inl long ↦ (omega arith) | inr short ↦ absurd (never (inl short)) ]);
     past = elim (cases_lt u (spine_bytes u n)) [
@@ -531,7 +531,7 @@ module _ (b : Bool) (pages u : ℕ) (lengths : List (Option ℕ)) (s : HeapState
   }
 
   pub refused_proxies : (n count more : ℕ) → FitsSpine u n → count ≡ (totals_in s.kind s).live → more ≡ length (inner_lengths u n)
-      → length lengths < count + more → WantsProxies old n
+      → length lengths < count + more → LacksProxies old n
   refused_proxies n count more fits count_is more_is past = record {
     fits = fits_old n fits;
     past = (let a = count_old n in let b = proxies_old in let c = live_total in omega arith);
@@ -540,7 +540,7 @@ module _ (b : Bool) (pages u : ℕ) (lengths : List (Option ℕ)) (s : HeapState
   pub refused_pages : (n count more needed : ℕ) → FitsSpine u n → count ≡ (totals_in s.kind s).live → more ≡ length (inner_lengths u n)
       → count + more ≤ length lengths
       → needed ≡ pages_for (paging_in s) (λ c. live (paging_in s) (objects s.held) c + in_class (paging_in s) c (inner_lengths u n))
-      → pages < needed → WantsPages old n
+      → pages < needed → LacksPages old n
   refused_pages n count more needed fits count_is more_is few needed_is past = record {
     fits = fits_old n fits;
     proxies = (let a = count_old n in let b = proxies_old in let c = live_total in omega arith);

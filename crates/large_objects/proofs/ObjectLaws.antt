@@ -8,19 +8,19 @@ use Rattle.cf_base.specs.declared.answers.Refusal.{Refusal}
 use Rattle.cf_base.specs.declared.answers.Refusal.TheVariants as refusal
 use Rattle.cf_lemmas.proofs.Maps.{get_inserted, get_insert_other}
 use Rattle.cf_model.specs.State.{paging_in}
-use Rattle.cf_model.specs.Steps.{Part}
+use Rattle.cf_model.specs.Steps.{Position}
 use Rattle.page_model.specs.Arrangement.{live, pages_for, pages_needed, used_pages}
 use Rattle.page_model.specs.Bytes.{written}
 use Rattle.page_model.specs.Held.{Objects, objects}
 use Rattle.page_model.proofs.CallerLemmas.{used_at_one}
 use Rattle.large_objects.specs.Large.{KeepsParts, LargeState}
-use Rattle.large_objects.specs.LargeSteps.{FitsSpine, GivesLarge, IsLargeFault, IsRefusedLarge, ReadsLarge, WantsLongerSpine, WritesLarge, part_bytes_in}
+use Rattle.large_objects.specs.LargeSteps.{FitsSpine, GivesLarge, IsLargeFault, IsRefusedLarge, ReadsLarge, HasLongSpine, WritesLarge, part_bytes_in}
 use Rattle.large_objects.specs.InnerObjects.{inner_live}
 use Rattle.large_objects.proofs.Bytes.{range_same}
 use Rattle.large_objects.proofs.InnerSteps.{keeps_pages}
 use Rattle.page_model.proofs.CallerLemmas.{pages_same}
 
-no_spine : (s : LargeState) (n : ℕ) → FitsSpine (part_bytes_in s) n → WantsLongerSpine s n → ⊥
+no_spine : (s : LargeState) (n : ℕ) → FitsSpine (part_bytes_in s) n → HasLongSpine s n → ⊥
 no_spine s n (inl short) w = (let l = w.long in omega arith)
 no_spine s n (inr fits) w = (let p = w.past in omega arith)
 
@@ -40,10 +40,10 @@ one_cause s n refusal.Space refusal.Size x y = absurd (no_spine s n x.fits y)
 one_cause s n refusal.Space refusal.Proxy x y = (let few = x.proxies in let past = y.past in absurd (omega arith))
 one_cause s n refusal.Space refusal.Space x y = refl
 
-pub written_has_no_fault : (old new : LargeState) (part : Part) (bytes : List ℕ) (e : AccessFault) → WritesLarge old part bytes new
-    → IsLargeFault old part (length bytes) e → ⊥
-written_has_no_fault old new part bytes access.Unknown w none = (let z : Some w.object ≡ None = sym w.found ∙ none in absurd cc)
-written_has_no_fault old new part bytes access.Range w past =
+pub written_has_no_fault : (old new : LargeState) (position : Position) (bytes : List ℕ) (e : AccessFault) → WritesLarge old position bytes new
+    → IsLargeFault old position (length bytes) e → ⊥
+written_has_no_fault old new position bytes access.Unknown w none = (let z : Some w.object ≡ None = sym w.found ∙ none in absurd cc)
+written_has_no_fault old new position bytes access.Range w past =
     let l = ap length (same_Some past.bytes w.object (sym past.found ∙ w.found)) in
     let within = w.within in let over = past.past in omega arith
 
@@ -55,14 +55,14 @@ pages_used s k =
     used_at_one (paging_in s.inner) kept.paging k.ones s.inner.held kept.sound
     ∙ pages_same (paging_in s.inner) (live (paging_in s.inner) (objects s.inner.held)) (inner_live (paging_in s.inner) (part_bytes_in s) s.objects) k.counted.each
 
-pub read_back : (old new : LargeState) (part : Part) (bytes out : List ℕ) → WritesLarge old part bytes new → ReadsLarge new part (length bytes) out → out
+pub read_back : (old new : LargeState) (position : Position) (bytes out : List ℕ) → WritesLarge old position bytes new → ReadsLarge new position (length bytes) out → out
     ≡ bytes
-read_back old new part bytes out w r =
-    let there : get new.objects part.number ≡ Some (written w.object part.from bytes) = ap (λ (o : Objects). get o part.number) w.left
-    ∙ get_inserted old.objects part.number _ in
-    let same = same_Some r.object (written w.object part.from bytes) (sym r.found ∙ there) in
-    r.value ∙ ap (λ (b : List ℕ). take (length bytes) (drop part.from b)) same ∙ range_same w.object part.from bytes w.within
+read_back old new position bytes out w r =
+    let there : get new.objects position.number ≡ Some (written w.object position.from bytes) = ap (λ (o : Objects). get o position.number) w.left
+    ∙ get_inserted old.objects position.number _ in
+    let same = same_Some r.object (written w.object position.from bytes) (sym r.found ∙ there) in
+    r.value ∙ ap (λ (b : List ℕ). take (length bytes) (drop position.from b)) same ∙ range_same w.object position.from bytes w.within
 
-pub others_stay : (old new : LargeState) (part : Part) (bytes : List ℕ) → WritesLarge old part bytes new → (q : ℕ) → q ≢ part.number
+pub others_stay : (old new : LargeState) (position : Position) (bytes : List ℕ) → WritesLarge old position bytes new → (q : ℕ) → q ≢ position.number
     → get new.objects q ≡ get old.objects q
-others_stay old new part bytes w q ne = ap (λ (o : Objects). get o q) w.left ∙ get_insert_other old.objects part.number _ q ne
+others_stay old new position bytes w q ne = ap (λ (o : Objects). get o q) w.left ∙ get_insert_other old.objects position.number _ q ne

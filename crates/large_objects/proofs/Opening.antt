@@ -13,7 +13,7 @@ use Rattle.cf_lemmas.specs.Maps.{vacant}
 use Rattle.cf_lemmas.proofs.Values.{map_values-empty, no_values}
 use Rattle.page_model.specs.Arrangement.{live}
 use Rattle.page_model.specs.Held.{Objects, Placed, objects}
-use Rattle.page_model.specs.Paging.{AreOne, Paging, first_bounds, paging_of}
+use Rattle.page_model.specs.Paging.{EveryBoundIsOne, Paging, first_bounds, paging_of}
 use Rattle.page_model.proofs.CallerLemmas.{first_ones}
 use Rattle.cf_model.specs.Families.{IsPaged}
 use Rattle.cf_model.specs.Rules.{KeepsRules}
@@ -109,7 +109,7 @@ module _ (settings : Settings) (kind : Kind) (s : HeapState) (lengths : List (Op
     opened = ap (λ (s : HeapState). s.is_open) opened.whole;
     rules = rules;
     pages = subst (λ (k : Kind). IsPaged k) (sym kind_is) paged;
-    ones = subst (λ (p : Paging). AreOne p) (sym paging_is) (first_ones (profile_of settings) (layout_of kind) one);
+    ones = subst (λ (p : Paging). EveryBoundIsOne p) (sym paging_is) (first_ones (profile_of settings) (layout_of kind) one);
     laid = none_laid _ (objects s.held) none_held;
     counted = none_counted (paging_in s) _ (objects s.held) none_held;
   }

@@ -14,7 +14,7 @@ use Rattle.cf_model.specs.Rules.{AreInRange}
 use Rattle.cf_model.specs.Steps.{IsEmptyHeap}
 use Rattle.cf_lemmas.specs.Maps.{vacant}
 use Rattle.run_laws.proofs.CallerLemmas.{CanGoOn, begins_there}
-use Rattle.run_laws.specs.Sayable.{IsSayable}
+use Rattle.run_laws.specs.ValidItems.{IsValidCommand}
 use Rattle.run_model.specs.Replies.{malloc_text, write_text}
 use Rattle.run_model.specs.Steps.{ids_given}
 use Rattle.script_reader.specs.declared.command.Command.{Command}
@@ -64,7 +64,7 @@ module _ (old : LargeRun) (going : IsGoingLarge old) where
         done = record { step = f.1; kept = f.2; ids = refl; reply_is = refl };
       }
 
-  write_at : (o : Option ℕ) (id at : ℕ) (bytes : List ℕ) → IsSayable (Write id at bytes) → get old.ids id ≡ o
+  write_at : (o : Option ℕ) (id at : ℕ) (bytes : List ℕ) → IsValidCommand (Write id at bytes) → get old.ids id ≡ o
       → HasAnswer (λ reply new. MatchOption o (StaysLarge old (codes "unknown") reply new)
       (λ h. WritesIdLarge old (record { number = h; from = at }) bytes reply new))
   write_at None id at bytes can is = record { reply = said (codes "unknown"); new = old; done = (refl, refl) }
@@ -91,14 +91,14 @@ module _ (old : LargeRun) (going : IsGoingLarge old) where
             })
       ]
 
-  step_there : (c : Command) → IsSayable c → HasAnswer (LargeStep old c)
+  step_there : (c : Command) → IsValidCommand c → HasAnswer (LargeStep old c)
   step_there (Malloc id n) can = malloc_at (get old.ids id) id n
   step_there (Free id) can = free_at (get old.ids id) id refl
   step_there (Write id at bytes) can = write_at (get old.ids id) id at bytes can refl
   step_there c can = record { reply = large_shown old c; new = old; done = (refl, refl) }
 
 -- every command of the grammar has a reply
-pub turn_there : (old : LargeRun) (c : Command) → IsGoingLarge old → IsSayable c → (reply : Reply) × (new : LargeRun) × LargeStep old c reply new
+pub turn_there : (old : LargeRun) (c : Command) → IsGoingLarge old → IsValidCommand c → (reply : Reply) × (new : LargeRun) × LargeStep old c reply new
 turn_there old c going can = (let s = step_there old going c can in (s.reply, s.new, s.done))
 
 -- a run begins over any manager with pages, under any settings in their ranges

@@ -40,7 +40,7 @@ pub record IsGrowing (p : Paging) (u n : ℕ) (old : Objects) (h i : ℕ) (now :
   pub sums_now : (f : ℕ → ℕ) → length_sum f now ≡ length_sum f old + sum_by f (take (1 + i) (inner_lengths u n))
 
 -- `IsGrowing` of the objects of an inner manager before the malloc (`old`) and now; it keeps its settings and is ready now
-pub record Grows (u n : ℕ) (old : HeapState) (h i : ℕ) (now : HeapState) : Type 0 where
+pub record GrowsInner (u n : ℕ) (old : HeapState) (h i : ℕ) (now : HeapState) : Type 0 where
   pub stays : StaysReady old now
   pub growing : IsGrowing (paging_in old) u n (objects old.held) h i (objects now.held)
 
@@ -64,8 +64,8 @@ pub record MakesShort (u n : ℕ) (old : HeapState) (h : ℕ) (new : HeapState) 
 -- the spine h and all parts of an object of n zero bytes, which is longer than a page, were made
 pub record MakesLong (u n : ℕ) (old : HeapState) (h : ℕ) (new : HeapState) : Type 0 where
   pub long : u < n
-  pub grown : Grows u n old h (part_count u n) new
+  pub grown : GrowsInner u n old h (part_count u n) new
 
 -- all inner objects of an object of n zero bytes were made; h is its handle
-abbrev pub Makes : ℕ → ℕ → HeapState → ℕ → HeapState → Type 0
-Makes u n old h new = MakesShort u n old h new ⊎ MakesLong u n old h new
+abbrev pub MakesInner : ℕ → ℕ → HeapState → ℕ → HeapState → Type 0
+MakesInner u n old h new = MakesShort u n old h new ⊎ MakesLong u n old h new

@@ -6,7 +6,7 @@ use Rattle.cf_base.specs.Classes.{need}
 use Rattle.page_model.specs.Arrangement.{pages_needed_with}
 use Rattle.page_model.specs.Bytes.{written}
 use Rattle.page_model.specs.Held.{objects}
-use Rattle.page_model.specs.Paging.{AreOne}
+use Rattle.page_model.specs.Paging.{EveryBoundIsOne}
 use Rattle.cf_model.specs.Families.{IsPaged}
 use Rattle.cf_model.specs.Rules.{KeepsRules}
 use Rattle.cf_model.specs.State.{HeapState, paging_in}
@@ -17,7 +17,7 @@ pub record IsReady (s : HeapState) : Type 0 where
   pub opened : IsTrue s.is_open
   pub rules : KeepsRules s
   pub pages : IsPaged s.kind
-  pub ones : AreOne (paging_in s)
+  pub ones : EveryBoundIsOne (paging_in s)
 
 -- after a call the manager has the same settings and bounds, and is ready
 pub record StaysReady (old new : HeapState) : Type 0 where

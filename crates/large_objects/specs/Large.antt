@@ -6,7 +6,7 @@ use Rattle.std.specs.FinMap.{get, len}
 use Rattle.std.specs.Int.{from_le_bytes, w32}
 use Rattle.page_model.specs.Arrangement.{live}
 use Rattle.page_model.specs.Held.{Objects, objects}
-use Rattle.page_model.specs.Paging.{AreOne, Paging}
+use Rattle.page_model.specs.Paging.{EveryBoundIsOne, Paging}
 use Rattle.cf_model.specs.Families.{IsPaged}
 use Rattle.cf_model.specs.Rules.{KeepsRules}
 use Rattle.cf_model.specs.State.{HeapState, paging_in, state_code}
@@ -77,6 +77,6 @@ pub record KeepsParts (s : LargeState) : Type 0 where
   pub opened : IsTrue s.inner.is_open
   pub rules : KeepsRules s.inner
   pub pages : IsPaged s.inner.kind
-  pub ones : AreOne (paging_in s.inner)
+  pub ones : EveryBoundIsOne (paging_in s.inner)
   pub laid : AreLaidOut (whole_part_bytes s.inner.profile) s.objects (objects s.inner.held)
   pub counted : AreCounted (paging_in s.inner) (whole_part_bytes s.inner.profile) s.objects (objects s.inner.held)

@@ -7,7 +7,7 @@ use Rattle.cf_base.specs.declared.answers.AccessFault.{AccessFault}
 use Rattle.cf_base.specs.declared.answers.Handle.{Handle}
 use Rattle.cf_base.specs.declared.answers.Refusal.{Refusal}
 use Rattle.cf_io.specs.Texts.{Reply, said}
-use Rattle.cf_model.specs.Steps.{Part}
+use Rattle.cf_model.specs.Steps.{Position}
 use Rattle.id_table.specs.Ids.{Ids}
 use Rattle.run_model.specs.Replies.{malloc_text, write_text}
 use Rattle.run_model.specs.Reports.{frag_of, walk_of}
@@ -64,9 +64,9 @@ pub record FreesIdLarge (old : LargeRun) (id h : ℕ) (reply : Reply) (new : Lar
   pub reply_is : reply ≡ said (codes "ok")
 
 -- a write into a live object: the heap replaces the bytes, or refuses; the reply shows which
-pub record WritesIdLarge (old : LargeRun) (part : Part) (bytes : List ℕ) (reply : Reply) (new : LargeRun) : Type 0 where
+pub record WritesIdLarge (old : LargeRun) (position : Position) (bytes : List ℕ) (reply : Reply) (new : LargeRun) : Type 0 where
   pub answer : Result Unit AccessFault
-  pub step : IsLargeWrite old.heap part bytes answer new.heap
+  pub step : IsLargeWrite old.heap position bytes answer new.heap
   pub kept : StaysKept old.heap new.heap
   pub ids : new.ids ≡ old.ids
   pub reply_is : reply ≡ said (write_text answer)

@@ -1,4 +1,4 @@
--- What each call of a heap of large objects does: `old` is its state before the call, `new` after it. A `part` names an object by its handle (`number`)
+-- What each call of a heap of large objects does: `old` is its state before the call, `new` after it. A `position` names an object by its handle (`number`)
 -- and the byte from which the call reads or writes (`from`).
 use Rattle.std.specs.Prelude.{◌≡◌, ℕ, ◌+◌, ◌*◌, ◌≤◌, ◌<◌, ◌⊎◌, true, false, List, Some, None, Result, Ok, Err, length, take, drop, replicate}
 use Rattle.std.specs.FinMap.{get, insert, remove, empty}
@@ -11,7 +11,7 @@ use Rattle.cf_base.specs.declared.answers.Refusal.TheVariants as refusal
 use Rattle.cf_base.specs.declared.settings.Settings.{Settings}
 use Rattle.page_model.specs.Bytes.{written}
 use Rattle.cf_model.specs.State.{paging_in}
-use Rattle.cf_model.specs.Steps.{IsClosed, IsEmptyHeap, Part, StaysOpen}
+use Rattle.cf_model.specs.Steps.{IsClosed, IsEmptyHeap, Position, StaysOpen}
 use Rattle.large_objects.specs.Large.{KeepsParts, LargeState}
 use Rattle.large_objects.specs.InnerObjects.{inner_count, inner_pages_with, inner_lengths, whole_part_bytes, part_count, spine_bytes}
 
@@ -61,26 +61,26 @@ pub record GivesLarge (old : LargeState) (h n : ℕ) (new : LargeState) : Type 0
   pub given : new.objects ≡ insert old.objects h (replicate n 0)
 
 -- the cause of `Size`: the object is longer than a page, and so is its spine
-pub record WantsLongerSpine (s : LargeState) (n : ℕ) : Type 0 where
+pub record HasLongSpine (s : LargeState) (n : ℕ) : Type 0 where
   pub long : part_bytes_in s < n
   pub past : part_bytes_in s < spine_bytes (part_bytes_in s) n
 
 -- the cause of `Proxy`: the cause of `Size` doesn't hold, but there would be more inner objects than proxies
-pub record WantsProxies (s : LargeState) (n : ℕ) : Type 0 where
+pub record LacksProxies (s : LargeState) (n : ℕ) : Type 0 where
   pub fits : FitsSpine (part_bytes_in s) n
   pub past : s.inner.profile.proxies < inner_count (part_bytes_in s) s.objects + length (inner_lengths (part_bytes_in s) n)
 
 -- the cause of `Space`: no other cause holds, but the inner objects would need more pages than there are
-pub record WantsPages (s : LargeState) (n : ℕ) : Type 0 where
+pub record LacksPages (s : LargeState) (n : ℕ) : Type 0 where
   pub fits : FitsSpine (part_bytes_in s) n
   pub proxies : HasProxies s n
   pub past : s.inner.profile.pages < inner_pages_with (paging_in s.inner) (part_bytes_in s) s.objects n
 
 -- the cause of each refusal of a malloc of n bytes
 abbrev pub IsRefusedLarge : LargeState → ℕ → Refusal → Type 0
-IsRefusedLarge s n refusal.Size = WantsLongerSpine s n
-IsRefusedLarge s n refusal.Proxy = WantsProxies s n
-IsRefusedLarge s n refusal.Space = WantsPages s n
+IsRefusedLarge s n refusal.Size = HasLongSpine s n
+IsRefusedLarge s n refusal.Proxy = LacksProxies s n
+IsRefusedLarge s n refusal.Space = LacksPages s n
 
 -- a malloc of n bytes adds the object h, or is refused with the cause e and changes nothing
 abbrev pub IsLargeMalloc : LargeState → ℕ → Result Handle Refusal → LargeState → Type 0
@@ -98,40 +98,40 @@ abbrev pub IsLargeFree : LargeState → ℕ → Result Unit NotLive → LargeSta
 IsLargeFree old h (Ok u) new = FreesLarge old h new
 IsLargeFree old h (Err e) new = (get old.objects h ≡ None) × (new ≡ old)
 
--- the object is live, and `count` bytes from byte `part.from` on pass its end
-pub record PassesLarge (s : LargeState) (part : Part) (count : ℕ) : Type 0 where
+-- the object is live, and `count` bytes from byte `position.from` on pass its end
+pub record PassesLarge (s : LargeState) (position : Position) (count : ℕ) : Type 0 where
   pub bytes : List ℕ
-  pub found : get s.objects part.number ≡ Some bytes
-  pub past : length bytes < part.from + count
+  pub found : get s.objects position.number ≡ Some bytes
+  pub past : length bytes < position.from + count
 
 -- the cause of each fault of a read or a write of `count` bytes
-abbrev pub IsLargeFault : LargeState → Part → ℕ → AccessFault → Type 0
-IsLargeFault s part count access.Unknown = get s.objects part.number ≡ None
-IsLargeFault s part count access.Range = PassesLarge s part count
+abbrev pub IsLargeFault : LargeState → Position → ℕ → AccessFault → Type 0
+IsLargeFault s position count access.Unknown = get s.objects position.number ≡ None
+IsLargeFault s position count access.Range = PassesLarge s position count
 
--- a write put the bytes into the object, from byte `part.from` on, and no other object changed
-pub record WritesLarge (old : LargeState) (part : Part) (bytes : List ℕ) (new : LargeState) : Type 0 where
+-- a write put the bytes into the object, from byte `position.from` on, and no other object changed
+pub record WritesLarge (old : LargeState) (position : Position) (bytes : List ℕ) (new : LargeState) : Type 0 where
   pub object : List ℕ
-  pub found : get old.objects part.number ≡ Some object
-  pub within : part.from + length bytes ≤ length object
-  pub left : new.objects ≡ insert old.objects part.number (written object part.from bytes)
+  pub found : get old.objects position.number ≡ Some object
+  pub within : position.from + length bytes ≤ length object
+  pub left : new.objects ≡ insert old.objects position.number (written object position.from bytes)
 
 -- a write replaces bytes of an object, or is refused with the cause e and changes nothing
-abbrev pub IsLargeWrite : LargeState → Part → List ℕ → Result Unit AccessFault → LargeState → Type 0
-IsLargeWrite old part bytes (Ok u) new = WritesLarge old part bytes new
-IsLargeWrite old part bytes (Err e) new = IsLargeFault old part (length bytes) e × (new ≡ old)
+abbrev pub IsLargeWrite : LargeState → Position → List ℕ → Result Unit AccessFault → LargeState → Type 0
+IsLargeWrite old position bytes (Ok u) new = WritesLarge old position bytes new
+IsLargeWrite old position bytes (Err e) new = IsLargeFault old position (length bytes) e × (new ≡ old)
 
--- a read returned `count` bytes of the live object, from byte `part.from` on
-pub record ReadsLarge (s : LargeState) (part : Part) (count : ℕ) (bytes : List ℕ) : Type 0 where
+-- a read returned `count` bytes of the live object, from byte `position.from` on
+pub record ReadsLarge (s : LargeState) (position : Position) (count : ℕ) (bytes : List ℕ) : Type 0 where
   pub object : List ℕ
-  pub found : get s.objects part.number ≡ Some object
-  pub within : part.from + count ≤ length object
-  pub value : bytes ≡ take count (drop part.from object)
+  pub found : get s.objects position.number ≡ Some object
+  pub within : position.from + count ≤ length object
+  pub value : bytes ≡ take count (drop position.from object)
 
 -- a read into a buffer, `room` before and `out` after, fills it with bytes of an object, or is refused with the cause e and leaves it unchanged
-abbrev pub IsLargeRead : LargeState → Part → List ℕ → Result Unit AccessFault → List ℕ → Type 0
-IsLargeRead s part room (Ok u) out = ReadsLarge s part (length room) out
-IsLargeRead s part room (Err e) out = IsLargeFault s part (length room) e × (out ≡ room)
+abbrev pub IsLargeRead : LargeState → Position → List ℕ → Result Unit AccessFault → List ℕ → Type 0
+IsLargeRead s position room (Ok u) out = ReadsLarge s position (length room) out
+IsLargeRead s position room (Err e) out = IsLargeFault s position (length room) e × (out ≡ room)
 
 -- the object h is longer than a page, and its part i has `count` bytes from byte `at` of the part on
 pub record HasPartRange (s : LargeState) (h i at count : ℕ) : Type 0 where

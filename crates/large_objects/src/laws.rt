@@ -9,9 +9,9 @@ ghost use Rattle.cf_io.specs.Texts.{Reply, text_of};
 ghost use Rattle.cf_model.specs.Families.{IsPaged};
 ghost use Rattle.cf_model.specs.Rules.{AreInRange};
 ghost use Rattle.cf_model.specs.State.{paging_in};
-ghost use Rattle.cf_model.specs.Steps.{Part};
+ghost use Rattle.cf_model.specs.Steps.{Position};
 ghost use Rattle.page_model.specs.Arrangement.{pages_for, used_pages};
-ghost use Rattle.run_laws.specs.Sayable.{IsSayable};
+ghost use Rattle.run_laws.specs.ValidItems.{IsValidCommand};
 ghost use Rattle.run_laws.specs.IdBytes.{AreReadsOf};
 ghost use Rattle.script_loop.specs.Consequences.{IsPrefixBy};
 ghost use Rattle.script_loop.specs.ScriptOutcome.{Effects, WroteInPart, items_within};
@@ -31,8 +31,8 @@ pub fn refusals_come_exactly_by_their_causes()
         → GivesLarge old h n new → ¬ IsRefusedLarge old n e }
     ensures one_cause { (s : LargeState) (n : ℕ) (e f : Refusal)
         → IsRefusedLarge s n e → IsRefusedLarge s n f → e ≡ f }
-    ensures write { (old new : LargeState) (part : Part) (bytes : List ℕ) (e : AccessFault)
-        → WritesLarge old part bytes new → ¬ IsLargeFault old part (length bytes) e }
+    ensures write { (old new : LargeState) (position : Position) (bytes : List ℕ) (e : AccessFault)
+        → WritesLarge old position bytes new → ¬ IsLargeFault old position (length bytes) e }
 {}
 
 /// In an open heap of large objects, the inner manager uses exactly the pages that the inner objects of all
@@ -52,10 +52,10 @@ pub fn parts_are_as_many_as_needed()
 /// Clause `same`: after a write of bytes into an object, a read of equally many from the same place returns
 /// what was written. Clause `others`: the write has changed no other object.
 pub fn what_is_written_is_read()
-    ensures same { (old new : LargeState) (part : Part) (bytes out : List ℕ)
-        → WritesLarge old part bytes new → ReadsLarge new part (length bytes) out → out ≡ bytes }
-    ensures others { (old new : LargeState) (part : Part) (bytes : List ℕ) → WritesLarge old part bytes new
-        → (q : ℕ) → q ≢ part.number → get new.objects q ≡ get old.objects q }
+    ensures same { (old new : LargeState) (position : Position) (bytes out : List ℕ)
+        → WritesLarge old position bytes new → ReadsLarge new position (length bytes) out → out ≡ bytes }
+    ensures others { (old new : LargeState) (position : Position) (bytes : List ℕ) → WritesLarge old position bytes new
+        → (q : ℕ) → q ≢ position.number → get new.objects q ≡ get old.objects q }
 {}
 
 /// In every list of commands each read returns the bytes last written through its id, however its object
@@ -73,7 +73,7 @@ pub fn each_command_has_its_turn()
     ensures begins { (kind : Kind) (p : Profile) → IsPaged kind → AreInRange p
         → (new : LargeRun) × BeginsLarge kind p new }
     ensures begun { (kind : Kind) (p : Profile) (new : LargeRun) → BeginsLarge kind p new → IsGoingLarge new }
-    ensures answered { (old : LargeRun) (command : Command) → IsGoingLarge old → IsSayable command
+    ensures answered { (old : LargeRun) (command : Command) → IsGoingLarge old → IsValidCommand command
         → (reply : Reply) × (new : LargeRun) × LargeStep old command reply new }
     ensures going { (old new : LargeRun) (command : Command) (reply : Reply) → IsGoingLarge old
         → LargeStep old command reply new → IsGoingLarge new }

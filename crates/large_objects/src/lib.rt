@@ -11,7 +11,7 @@ mod heap;
 mod inner_calls;
 mod laws;
 mod malloc;
-mod player;
+mod mode_handler;
 mod refusal;
 mod session;
 mod spine;
@@ -23,5 +23,5 @@ pub use laws::{
     reads_give_what_was_written, refusals_come_exactly_by_their_causes, what_is_written_is_read,
     what_was_cut_is_a_prefix,
 };
-pub use player::{LargePlayer, run_large};
+pub use mode_handler::{LargeHandler, run_large};
 pub use session::LargeSession;

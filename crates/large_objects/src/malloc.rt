@@ -1,7 +1,7 @@
 //! Makes the inner objects of a new object: one if it fits a page, else a spine and its parts. In all
 //! functions `part_bytes` is the bytes of a whole part, the largest object that fits a page.
 ghost use Rattle.std.specs.Prelude.{◌≡◌, ◌*◌, ◌<◌, ◌^◌};
-ghost use Rattle.large_objects.specs.Growing.{Grows, HasObjectRoom, Makes, NamesPart};
+ghost use Rattle.large_objects.specs.Growing.{GrowsInner, HasObjectRoom, MakesInner, NamesPart};
 ghost use Rattle.large_objects.specs.InnerCalls.{HasInner, HasInnerRoom, IsReady};
 ghost use Rattle.large_objects.specs.InnerObjects.{part_count};
 
@@ -21,7 +21,7 @@ pub(crate) fn make<H: Manager>(
 ) -> Handle
     requires some { 0 < part_bytes }
     requires room { HasObjectRoom part_bytes bytes (H.state inner.old) }
-    ensures { Makes part_bytes bytes (H.state inner.old) result.0 (H.state inner.new) }
+    ensures { MakesInner part_bytes bytes (H.state inner.old) result.0 (H.state inner.new) }
 {
     if bytes <= part_bytes {
         return make_inner(inner, bytes, meter);
@@ -34,7 +34,7 @@ fn make_long<H: Manager>(inner: &mut H, bytes: u32, part_bytes: u32, meter: &mut
     requires some { 0 < part_bytes }
     requires long { part_bytes < bytes }
     requires room { HasObjectRoom part_bytes bytes (H.state inner.old) }
-    ensures { Grows part_bytes bytes (H.state inner.old) result.0 (part_count part_bytes bytes) (H.state inner.new) }
+    ensures { GrowsInner part_bytes bytes (H.state inner.old) result.0 (part_count part_bytes bytes) (H.state inner.new) }
 {
     let count = count_parts(bytes, part_bytes);
     let spine = make_inner(inner, 4 * count, meter);

@@ -6,7 +6,7 @@ ghost use Rattle.cf_io.specs.Feeds.{FailsLast};
 ghost use Rattle.cf_session.specs.Apply.{outcome_in};
 ghost use Rattle.script_reader.specs.Commands.{IsWellFormed};
 ghost use Rattle.script_reader.specs.Owned.{owned_command};
-ghost use Rattle.script_loop.specs.Applying.{Applies, Speaks};
+ghost use Rattle.script_loop.specs.Applying.{Applies, BuildsReply};
 ghost use Rattle.id_table.specs.Ties.{AreTiedTo};
 ghost use Rattle.large_objects.specs.LargeRun.{IsGoingLarge, LargeStep, large_moment, large_run};
 ghost use Rattle.large_objects.specs.Playing.{large_heap};
@@ -26,14 +26,14 @@ use std::marker::Model;
 use step_ledger::Meter;
 
 /// The most bytes that one `r` reads.
-const MOST: usize = 4_096;
+const MOST_READ: usize = 4_096;
 
 /// The ids of a script with the handles that they name in one heap of large objects, and a buffer.
 #[derive(Drop)]
 pub struct LargeSession {
     ids: IdTable,
     /// The buffer for the bytes of a read.
-    buffer: [u8; MOST],
+    buffer: [u8; MOST_READ],
 }
 
 impl Model for LargeSession {
@@ -54,7 +54,7 @@ impl LargeSession {
     {
         Ok(LargeSession {
             ids: IdTable::new(alloc)?,
-            buffer: [0; MOST],
+            buffer: [0; MOST_READ],
         })
     }
 
@@ -137,7 +137,7 @@ fn answer<H: Manager, K: Sink>(
             ended(written, Outcome::Other)
         }
         _ => {
-            let outcome = speak(ids, heap, c, buffer, line, meter);
+            let outcome = build_reply(ids, heap, c, buffer, line, meter);
             ended(put_line(line, out), outcome)
         }
     }
@@ -145,7 +145,7 @@ fn answer<H: Manager, K: Sink>(
 
 /// Does a command that is no report (`walk` or `frag`), and builds the text of its reply in `line`. The reply
 /// to a command of another mode is `none`.
-fn speak<H: Manager>(
+fn build_reply<H: Manager>(
     ids: &mut IdTable,
     heap: &mut LargeHeap<H>,
     c: CommandRef,
@@ -157,7 +157,7 @@ fn speak<H: Manager>(
     requires formed { IsWellFormed (owned_command c) }
     requires one { IsOneLine (owned_command c) }
     requires buffer { length buffer.old ≡ 4096 }
-    ensures speaks { Speaks LargeStep (large_run ids.old heap.old) (owned_command c.entry) (large_run ids.new heap.new) line.new }
+    ensures speaks { BuildsReply LargeStep (large_run ids.old heap.old) (owned_command c.entry) (large_run ids.new heap.new) line.new }
     ensures outcome { result ≡ outcome_in line.new }
 {
     line.clear();

@@ -10,9 +10,9 @@ use Rattle.page_model.proofs.CallerLemmas.{ceil_mono, slot_fits}
 use Rattle.slice_model.specs.declared.answers.SliceRefusal.{SliceRefusal}
 use Rattle.slice_model.specs.declared.answers.SliceRefusal.TheVariants.{Busy}
 use Rattle.slice_model.specs.declared.job_slot.JobSlot.{JobSlot}
-use Rattle.slice_model.specs.Runs.{Happens, Working, Free, Malloc}
+use Rattle.slice_model.specs.Runs.{Happens, HeapWithWords, Free, Malloc}
 use Rattle.slice_model.specs.State.{Plan, IsPlan, Job, Sliced, IsKept, job_slot, Idle, Clear, Move}
-use Rattle.slice_model.specs.Steps.{AreSlices, IsRefusedBy, IsSlice, WantsSlot}
+use Rattle.slice_model.specs.Steps.{AreSlices, IsRefusedBy, IsSlice, LacksSlot}
 use Rattle.slice_model.proofs.CallerLemmas.{call_on_map, job_class, objects_sliced, slices_idle, slices_split}
 use Rattle.sliced_heap.specs.Shown.{KeepsRules, SlicedState, StaysOpen, plan_in, working_in}
 use Rattle.sliced_heap.proofs.CallerLemmas.{plan_stays}
@@ -109,15 +109,15 @@ module _ (old freed ready : SlicedState) (last n : ℕ) (rules : KeepsRules old)
       → IsRefusedBy (plan_in ready) (working_in ready).state bytes cause → working_in new ≡ working_in ready
       → IsRefusedBy (plan_in new) (working_in new).state bytes cause × (objects new.held ≡ others old last)
   has_none new bytes cause stays is same =
-      let s : (working_in new).state ≡ (working_in ready).state = ap (λ (w : Working). w.state) same in (
+      let s : (working_in new).state ≡ (working_in ready).state = ap (λ (w : HeapWithWords). w.state) same in (
         subst (λ p. IsRefusedBy p (working_in new).state bytes cause) (sym (plan_stays ready new stays))
             (subst (λ t. IsRefusedBy (plan_in ready) t bytes cause) (sym s) is),
         ap (λ (t : Sliced). objects t.held) s ∙ left,
       )
 
--- from the law on refusals (`a_malloc_waits_for_a_job_alone`): without a pending job a malloc is not refused as `Busy`
+-- from the law on refusals (`a_malloc_is_busy_only_with_a_job`): without a pending job a malloc is not refused as `Busy`
 abbrev pub WaitsForJob : Type 0
-WaitsForJob = (plan : Plan) (s : Sliced) (bytes : ℕ) → IsPlan plan → IsKept plan s → WantsSlot plan s bytes → s.job ≢ Idle
+WaitsForJob = (plan : Plan) (s : Sliced) (bytes : ℕ) → IsPlan plan → IsKept plan s → LacksSlot plan s bytes → s.job ≢ Idle
 
 -- after a free and n slices, at least twice those of a page, a malloc is not refused as `Busy`
 pub not_busy : ((plan : Plan) → EndsBySlices plan) → WaitsForJob → (old freed ready : SlicedState) (n bytes : ℕ) (cause : SliceRefusal) → StaysOpen old freed

@@ -19,9 +19,9 @@ use Rattle.page_model.specs.Held.{Placed, objects}
 use Rattle.page_model.specs.Bytes.{written}
 use Rattle.page_model.specs.Steps.{Request, zeros_at}
 use Rattle.cf_model.specs.State.{HeapState}
-use Rattle.cf_model.specs.Steps.{GivesObject, IsEmptyHeap, IsWriteStep, StaysOpen, WritesBytes}
+use Rattle.cf_model.specs.Steps.{AddsObject, IsEmptyHeap, IsWriteStep, StaysOpen, WritesBytes}
 use Rattle.cf_model.proofs.CallerLemmas.{not_none_found}
-use Rattle.library_example.specs.Stored.{HoldsOne, begun, start_of}
+use Rattle.library_example.specs.Stored.{HoldsOne, padded_to_176, start_of}
 
 take_none : (v : List ℕ) → take 0 v ≡ []
 take_none [] = refl
@@ -34,7 +34,7 @@ over_zeros bytes n =
     ap (λ t. t ++ (bytes ++ drop (0 + length bytes) (replicate n 0))) (take_none (replicate n 0))
     ∙ ap (λ k. bytes ++ drop k (replicate n 0)) start ∙ ap (λ rest. bytes ++ rest) (drop-replicate (length bytes) n 0)
 
-module _ (old made after : HeapState) (asked : Request) (bytes : List ℕ) (given : GivesObject old asked made) (fits : length bytes ≤ asked.length) where
+module _ (old made after : HeapState) (asked : Request) (bytes : List ℕ) (given : AddsObject old asked made) (fits : length bytes ≤ asked.length) where
   abbrev object : Placed
   object = zeros_at given.place asked.length
 
@@ -61,22 +61,22 @@ module _ (old made after : HeapState) (asked : Request) (bytes : List ℕ) (give
       ∙ ap (λ (x : Placed). insert (objects old.held) asked.number (written x.bytes 0 bytes)) whole
       ∙ ap (insert (objects old.held) asked.number) (over_zeros bytes asked.length)
 
--- after a malloc of 176 bytes and a write of `bytes` from byte 0 on, the object h has `begun bytes`
+-- after a malloc of 176 bytes and a write of `bytes` from byte 0 on, the object h has `padded_to_176 bytes`
 pub is_stored : (old made after : HeapState) (h : ℕ) (bytes : List ℕ) (w : Result Unit AccessFault)
-    → GivesObject old (record { number = h; length = 176 }) made → length bytes ≤ 176
-    → IsWriteStep made (start_of h) bytes w after → objects after.held ≡ insert (objects old.held) h (begun bytes)
+    → AddsObject old (record { number = h; length = 176 }) made → length bytes ≤ 176
+    → IsWriteStep made (start_of h) bytes w after → objects after.held ≡ insert (objects old.held) h (padded_to_176 bytes)
 is_stored old made after h bytes w given fits step = has old made after (record { number = h; length = 176 }) bytes given fits w step
 
 -- a heap that was opened empty, and in which one object was stored, has this object alone
 pub one_is_there : (o : Result Unit OutOfMemory) (r : Result Handle Refusal) (u : Unit) (given : Handle) (kind : Kind) (s : Settings)
     (opened stored : HeapState) (bytes : List ℕ) → Some u ≡ result_ok o → Some given ≡ result_ok r → OnOk o (IsEmptyHeap kind s opened)
-    → StaysOpen opened stored → IfOk r (λ h. objects stored.held ≡ insert (objects opened.held) h.0 (begun bytes)) → HoldsOne stored given.0 bytes
+    → StaysOpen opened stored → IfOk r (λ h. objects stored.held ≡ insert (objects opened.held) h.0 (padded_to_176 bytes)) → HoldsOne stored given.0 bytes
 one_is_there (Ok v) (Ok h) u given kind s opened stored bytes opens gives first same made =
     let is : given ≡ h = same_Some given h gives in
     let none : objects opened.held ≡ empty = ap (λ (s : HeapState). objects s.held) first.whole ∙ map_values-empty _ in
     record {
       open_now = same.open_now;
-      one = made ∙ ap (λ m. insert m h.0 (begun bytes)) none ∙ ap (λ (q : Handle). insert empty q.0 (begun bytes)) (sym is);
+      one = made ∙ ap (λ m. insert m h.0 (padded_to_176 bytes)) none ∙ ap (λ (q : Handle). insert empty q.0 (padded_to_176 bytes)) (sym is);
     }
 one_is_there (Err e) r u given kind s opened stored bytes opens gives first same made = (let no : Some u ≡ None = opens in cc)
 one_is_there (Ok v) (Err e) u given kind s opened stored bytes opens gives first same made = (let no : Some given ≡ None = gives in cc)

@@ -10,7 +10,7 @@ ghost use Rattle.library_example.specs.declared.control_loop.Missed.TheVariants.
 
 use cf_base::Handle;
 use slice_model::{
-    SliceFault, SliceRefusal, a_malloc_waits_for_a_job_alone, slices_alone_end_every_job,
+    SliceFault, SliceRefusal, a_malloc_is_busy_only_with_a_job, slices_alone_end_every_job,
 };
 use sliced_heap::SlicedHeap;
 use step_ledger::Steps;
@@ -47,7 +47,7 @@ pub fn next_frame(
     // no malloc is refused as `Busy`.
     let _open = heap.is_open();
     slices_alone_end_every_job();
-    a_malloc_waits_for_a_job_alone();
+    a_malloc_is_busy_only_with_a_job();
     if let Err(cause) = heap.free(last, steps) {
         return Err(Missed::Free(cause));
     }

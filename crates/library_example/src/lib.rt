@@ -8,7 +8,7 @@ ghost use Rattle.std.specs.Prelude.{◌≡◌, [], ◌∷◌, IsTrue, IfErr, IfO
 ghost use Rattle.std.specs.FinMap as map;
 ghost use Rattle.page_model.specs.Held.{objects};
 ghost use Rattle.cf_model.specs.Steps.{IsRefusedBy, StaysOpen};
-ghost use Rattle.library_example.specs.Stored.{GivesStart, HoldsOne, begun};
+ghost use Rattle.library_example.specs.Stored.{ReadsStart, HoldsOne, padded_to_176};
 
 use cf_base::{AccessFault, Handle, Refusal, Settings};
 use cf_model::Manager;
@@ -38,7 +38,7 @@ pub fn store<M: Manager>(
     meter: &mut Meter,
 ) -> Result<Handle, Refusal>
     requires { IsTrue (M.state heap.old).is_open }
-    ensures made { IfOk result (λ h. objects (M.state heap.new).held ≡ map.insert (objects (M.state heap.old).held) h.0 (begun bytes.now)) }
+    ensures made { IfOk result (λ h. objects (M.state heap.new).held ≡ map.insert (objects (M.state heap.old).held) h.0 (padded_to_176 bytes.now)) }
     ensures refused { IfErr result (λ cause. IsRefusedBy (M.state heap.old) 176 cause) }
     ensures same { StaysOpen (M.state heap.old) (M.state heap.new) }
 {
@@ -51,13 +51,13 @@ pub fn store<M: Manager>(
 
 /// Reads the first two bytes of an object, frees it, and returns the bytes. Fails if the handle is not live
 /// or the object has fewer than two bytes; then it is not freed.
-pub fn take_out<M: Manager>(
+pub fn read_and_free<M: Manager>(
     heap: &mut M,
     object: Handle,
     meter: &mut Meter,
 ) -> Result<[u8; 2], AccessFault>
     requires { IsTrue (M.state heap.old).is_open }
-    ensures read { GivesStart (M.state heap.old) object.0 result }
+    ensures read { ReadsStart (M.state heap.old) object.0 result }
     ensures freed { OnOk result (objects (M.state heap.new).held ≡ map.remove (objects (M.state heap.old).held) object.0) }
     ensures same { StaysOpen (M.state heap.old) (M.state heap.new) }
 {

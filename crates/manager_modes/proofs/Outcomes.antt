@@ -1,4 +1,4 @@
--- From the contract of the function that a mode calls (`run_script`, `play_script`, `run_bench`, `save_script`, `load_script`) to `Ends` of that mode.
+-- From the contract of the function that a mode calls (`run_script`, `play_script`, `run_bench`, `save_script`, `load_script`) to `EndsWithCause` of that mode.
 use Rattle.std.proofs.Common.{◌≡◌, ◌≢◌, ◌<◌, ◌⊎◌, ◌∙◌, arith, ℕ, Bool, List, Option, Some, None, refl, ap, sym, subst, length, get_or, set, map, inl, inr}
 use Rattle.std.proofs.lemmas.List.{get_or-map, length-map, map-set}
 use Rattle.std.specs.Prelude.{is_some}
@@ -21,10 +21,10 @@ use Rattle.side_by_side.specs.FirstOfKind.{chosen_manager, first_of_kind, with_c
 use Rattle.side_by_side.specs.SideBySide.{AreFresh, SideBySide, side_by_side_at, many_managers}
 use Rattle.bench_run.specs.Bench.{EndsBench}
 use Rattle.command_line.specs.declared.choice.Choice.{Choice}
-use Rattle.manager_modes.specs.Outcomes.{Benches, Compares, Ends, Handed, Loads, OrLacks, PlaysOwn, Runs, Saves, effects_of, handed}
+use Rattle.manager_modes.specs.Outcomes.{Benches, Compares, EndsWithCause, CallState, Loads, OrLacks, PlaysOwn, Runs, Saves, effects_of, call_state}
 
 -- `OrLacks`, if `Does` holds and nothing was written if memory ran out
-or_lacks : (Does : Handed → Status → Handed → Type 0) (old : Handed) (st : Status) (new : Handed)
+or_lacks : (Does : CallState → Status → CallState → Type 0) (old : CallState) (st : Status) (new : CallState)
     → (st ≡ OutOfMemory → new.sink.written ≡ old.sink.written) → Does old st new → OrLacks Does old st new
 or_lacks Does old OutOfMemory new silent done = (silent refl, inr done)
 or_lacks Does old Words new silent done = done
@@ -35,14 +35,14 @@ or_lacks Does old WriteFault new silent done = done
 or_lacks Does old TooLong new silent done = done
 or_lacks Does old BadImage new silent done = done
 
--- `Ends`, if `Does` holds, the status has its causes, and kinds and promises are kept
-pub ends_of : (Does : Handed → Status → Handed → Type 0) (s : SourceState) (k : SinkState) (hs : List HeapState) (st : Status) (s' : SourceState)
+-- `EndsWithCause`, if `Does` holds, the status has its causes, and kinds and promises are kept
+pub ends_of : (Does : CallState → Status → CallState → Type 0) (s : SourceState) (k : SinkState) (hs : List HeapState) (st : Status) (s' : SourceState)
     (k' : SinkState) (hs' : List HeapState)
     → HasCauses s k st s' k' → map (λ (h : HeapState). h.kind) hs' ≡ map (λ h. h.kind) hs
-    → map (λ (h : HeapState). is_some h.order) hs' ≡ map (λ h. is_some h.order) hs → Does (handed s k hs) st (handed s' k' hs')
-    → Ends Does (handed s k hs) st (handed s' k' hs')
+    → map (λ (h : HeapState). is_some h.order) hs' ≡ map (λ h. is_some h.order) hs → Does (call_state s k hs) st (call_state s' k' hs')
+    → EndsWithCause Does (call_state s k hs) st (call_state s' k' hs')
 ends_of Does s k hs st s' k' hs' causes kinds orders done = record {
-  outcome = or_lacks Does (handed s k hs) st (handed s' k' hs') causes.silent done;
+  outcome = or_lacks Does (call_state s k hs) st (call_state s' k' hs') causes.silent done;
   kinds = kinds;
   orders = orders;
   source_same = causes.source_same;
@@ -57,11 +57,11 @@ module _ (kind : Kind) (s s' : SourceState) (k k' : SinkState) (st : Status) (ca
   -- mode `run` on a manager made for the script, since none of the given managers is of the kind
   pub own_ends : (old : HeapState) → old ≡ closed_state kind → (hs : List HeapState) → first_of_kind kind hs ≡ None
       → one_manager.plan end ≡ one_manager.plan (run_at session old)
-      → MeetsOutcome one_manager (run_at session old) (effects_of (handed s k hs) st (handed s' k' hs)) end
-      → Ends (Runs kind) (handed s k hs) st (handed s' k' hs)
+      → MeetsOutcome one_manager (run_at session old) (effects_of (call_state s k hs) st (call_state s' k' hs)) end
+      → EndsWithCause (Runs kind) (call_state s k hs) st (call_state s' k' hs)
   own_ends old closed hs none plan met = ends_of (Runs kind) s k hs st s' k' hs causes refl refl (record {
     end = end;
-    outcome = subst (λ (from : RunState). MeetsOutcome one_manager from (effects_of (handed s k hs) st (handed s' k' hs)) end)
+    outcome = subst (λ (from : RunState). MeetsOutcome one_manager from (effects_of (call_state s k hs) st (call_state s' k' hs)) end)
         (ap (λ t. run_at t old) fresh ∙ ap (λ h. run_at fresh_session h) (closed ∙ sym (chosen_none kind hs none))) met;
     stand = sym (with_none kind hs end.heap none);
     promise = ap (λ (p : Kind × Bool). p.1) plan ∙ ap (λ (h : HeapState). is_some h.order) (closed ∙ sym (chosen_none kind hs none));
@@ -80,8 +80,8 @@ module _ (kind : Kind) (s s' : SourceState) (k k' : SinkState) (st : Status) (ca
     stands = map-set f ms i n ∙ ap (λ h. set (map f ms) i h) (sym end_is) ∙ sym (with_first kind (map f ms) i end.heap first)
 
     pub first_ends : one_manager.plan end ≡ one_manager.plan (run_at session (f x))
-        → MeetsOutcome one_manager (run_at session (f x)) (effects_of (handed s k (map f ms)) st (handed s' k' (map f (set ms i n)))) end
-        → Ends (Runs kind) (handed s k (map f ms)) st (handed s' k' (map f (set ms i n)))
+        → MeetsOutcome one_manager (run_at session (f x)) (effects_of (call_state s k (map f ms)) st (call_state s' k' (map f (set ms i n)))) end
+        → EndsWithCause (Runs kind) (call_state s k (map f ms)) st (call_state s' k' (map f (set ms i n)))
     first_ends plan met =
         let promise : KeepsPromise (chosen_manager kind (map f ms)) end.heap =
         ap (λ (p : Kind × Bool). p.1) plan ∙ ap (λ (h : HeapState). is_some h.order) (sym seen) in
@@ -91,7 +91,7 @@ module _ (kind : Kind) (s s' : SourceState) (k k' : SinkState) (st : Status) (ca
         (ap (λ l. map (λ (h : HeapState). is_some h.order) l) stands ∙ chosen_orders kind (map f ms) end.heap promise)
         (record {
           end = end;
-          outcome = subst (λ (from : RunState). MeetsOutcome one_manager from (effects_of (handed s k (map f ms)) st (handed s' k' (map f (set ms i n)))) end)
+          outcome = subst (λ (from : RunState). MeetsOutcome one_manager from (effects_of (call_state s k (map f ms)) st (call_state s' k' (map f (set ms i n)))) end)
               (ap (λ t. run_at t (f x)) fresh ∙ ap (λ h. run_at fresh_session h) (sym seen)) met;
           stand = stands;
           promise = promise;
@@ -101,14 +101,14 @@ module _ (kind : Kind) (s s' : SourceState) (k k' : SinkState) (st : Status) (ca
 pub each_ends : (s s' : SourceState) (k k' : SinkState) (st : Status) (causes : HasCauses s k st s' k') → {X : Type 0} (f : X → HeapState)
     (ss : List SessionState) (ms : List X) → AreFresh (length ms) ss → (ss' : List SessionState) (ms' : List X)
     → many_managers.plan (side_by_side_at ss' (map f ms')) ≡ many_managers.plan (side_by_side_at ss (map f ms))
-    → MeetsOutcome many_managers (side_by_side_at ss (map f ms)) (effects_of (handed s k (map f ms)) st (handed s' k' (map f ms'))) (side_by_side_at ss' (map f ms'))
-    → Ends Compares (handed s k (map f ms)) st (handed s' k' (map f ms'))
+    → MeetsOutcome many_managers (side_by_side_at ss (map f ms)) (effects_of (call_state s k (map f ms)) st (call_state s' k' (map f ms'))) (side_by_side_at ss' (map f ms'))
+    → EndsWithCause Compares (call_state s k (map f ms)) st (call_state s' k' (map f ms'))
 each_ends s s' k k' st causes f ss ms started ss' ms' plan met =
     ends_of Compares s k (map f ms) st s' k' (map f ms') causes (ap (λ (p : List Kind × List Bool). p.0) plan)
     (ap (λ (p : List Kind × List Bool). p.1) plan) (record {
       end = side_by_side_at ss' (map f ms');
       outcome = subst
-          (λ (from : SideBySide). MeetsOutcome many_managers from (effects_of (handed s k (map f ms)) st (handed s' k' (map f ms'))) (side_by_side_at ss' (map f ms')))
+          (λ (from : SideBySide). MeetsOutcome many_managers from (effects_of (call_state s k (map f ms)) st (call_state s' k' (map f ms'))) (side_by_side_at ss' (map f ms')))
           (begun_side_by_side f ss ms started) met;
       stand = refl;
     })
@@ -147,7 +147,7 @@ module _ (choice : Choice) (k k' : SinkState) (st : Status) (session : SessionSt
   short (inr (inl w)) is = let e : WriteFault ≡ TooLong = sym w ∙ is in cc
   short (inr (inr o)) is = let e : OutOfMemory ≡ TooLong = sym o.0 ∙ is in cc
 
-  pub bench_done : (s : SourceState) (hs : List HeapState) → Ends (Benches choice) (handed s k hs) st (handed s k' hs)
+  pub bench_done : (s : SourceState) (hs : List HeapState) → EndsWithCause (Benches choice) (call_state s k hs) st (call_state s k' hs)
   bench_done s hs = ends_of (Benches choice) s k hs st s k' hs
       (record { silent = silent ended; source_same = λ other. refl; read_fault = λ is. absurd (unread ended is); sink_same = firm; write_fault = fault; too_long = λ is. absurd (short ended is) })
       refl refl
@@ -162,8 +162,8 @@ module _ (choice : Choice) (k k' : SinkState) (st : Status) (session : SessionSt
 
 -- a mode that runs a script on a heap of its own
 pub made_ends : {S P : Type 0} (m : Semantics S P) (IsMade : S → Type 0) (s s' : SourceState) (k k' : SinkState) (hs : List HeapState) (st : Status)
-    → HasCauses s k st s' k' → (begin end : S) → IsMade begin → MeetsOutcome m begin (effects_of (handed s k hs) st (handed s' k' hs)) end
-    → Ends (PlaysOwn m IsMade) (handed s k hs) st (handed s' k' hs)
+    → HasCauses s k st s' k' → (begin end : S) → IsMade begin → MeetsOutcome m begin (effects_of (call_state s k hs) st (call_state s' k' hs)) end
+    → EndsWithCause (PlaysOwn m IsMade) (call_state s k hs) st (call_state s' k' hs)
 made_ends m IsMade s s' k k' hs st causes begin end made met = ends_of (PlaysOwn m IsMade) s k hs st s' k' hs causes refl refl
     (record { begin = begin; made = made; end = end; outcome = met; untouched = refl })
 
@@ -174,10 +174,10 @@ module _ (s s' : SourceState) (k k' : SinkState) (hs : List HeapState) (st : Sta
   begun = ap (λ t. run_at t old) fresh ∙ ap (λ h. run_at fresh_session h) closed
 
   abbrev call : Effects
-  call = effects_of (handed s k hs) st (handed s' k' hs)
+  call = effects_of (call_state s k hs) st (call_state s' k' hs)
 
   -- mode `save`
-  pub saved_ends : HasCauses s k st s' k' → KeepsPromise old end.heap → EndsSave (run_at session old) call end → Ends Saves (handed s k hs) st (handed s' k' hs)
+  pub saved_ends : HasCauses s k st s' k' → KeepsPromise old end.heap → EndsSave (run_at session old) call end → EndsWithCause Saves (call_state s k hs) st (call_state s' k' hs)
   saved_ends causes promise ends = ends_of Saves s k hs st s' k' hs causes refl refl (record {
     end = end;
     outcome = subst (λ (from : RunState). EndsSave from call end) begun ends;
@@ -186,12 +186,12 @@ module _ (s s' : SourceState) (k k' : SinkState) (hs : List HeapState) (st : Sta
   })
 
   abbrev call_as : Status → Effects
-  call_as st = effects_of (handed s k hs) st (handed s' k' hs)
+  call_as st = effects_of (call_state s k hs) st (call_state s' k' hs)
 
   -- mode `load`
   pub loaded_ends : (st ≢ ReadFault → s'.faults ≡ s.faults) → (st ≡ ReadFault → FailsLast s.faults s'.faults s'.failed)
       → (st ≢ WriteFault → k'.faults ≡ k.faults) → (st ≡ WriteFault → FailsLast k.faults k'.faults k'.failed) → EndsLoad (run_at session old) call end
-      → Ends Loads (handed s k hs) st (handed s' k' hs)
+      → EndsWithCause Loads (call_state s k hs) st (call_state s' k' hs)
   loaded_ends source_same read_fault sink_same write_fault ends = ends_of Loads s k hs st s' k' hs
       (record {
         silent = λ is. (subst (λ (st : Status). EndsLoad (run_at session old) (call_as st) end) is ends).1;

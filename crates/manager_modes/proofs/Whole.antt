@@ -1,4 +1,4 @@
--- What follows from `Ends` of each mode: if the input is right and neither source nor sink failed, the status is `Done` or `OutOfMemory`; what was printed is
+-- What follows from `EndsWithCause` of each mode: if the input is right and neither source nor sink failed, the status is `Done` or `OutOfMemory`; what was printed is
 -- as the mode claims. `top_call` cites these lemmas.
 use Rattle.std.proofs.Common.{◌≡◌, ◌∙◌, ℕ, List, Option, Some, None, true, false, refl, ap, sym, subst, arith, inl, inr}
 use Rattle.std.specs.Prelude.{Err, ⊤}
@@ -18,7 +18,7 @@ use Rattle.headline_laws.specs.Headline.{MeetsHeadline}
 use Rattle.script_loop.proofs.CallerLemmas.{observed_row, some_row, wrote_by, within_all}
 use Rattle.script_loop.specs.Consequences.{AnswersAll}
 use Rattle.script_loop.specs.OneManager.{one_manager}
-use Rattle.script_loop.specs.ScriptOutcome.{Effects, IsClean, IsRow, MeetsOutcome, Wrote, has_bad, items_within}
+use Rattle.script_loop.specs.ScriptOutcome.{Effects, IsClean, IsStatusRow, MeetsOutcome, Wrote, has_bad, items_within}
 use Rattle.script_loop.specs.Semantics.{RunBy, Semantics}
 use Rattle.heap_image.proofs.CallerLemmas.{observed_load}
 use Rattle.heap_image.specs.Decoded.{Decoded, decoded}
@@ -31,16 +31,16 @@ use Rattle.side_by_side.specs.FirstOfKind.{chosen_manager}
 use Rattle.side_by_side.specs.SideBySide.{fresh_side_by_side, many_managers}
 use Rattle.side_by_side.specs.OwnRuns.{MeetHeadlines}
 use Rattle.manager_modes.specs.Claims.{HoldsImage, MeetsClaim}
-use Rattle.manager_modes.specs.Outcomes.{Benches, Compares, Ends, EndsWhole, Handed, Loads, OrLacks, PlaysOwn, Runs, Saves, effects_of, kinds_in}
+use Rattle.manager_modes.specs.Outcomes.{Benches, Compares, EndsWithCause, EndsWhole, CallState, Loads, OrLacks, PlaysOwn, Runs, Saves, effects_of, kinds_in}
 
 -- A mode is sound: no call ends by `Words`; a call whose input is right, and that met no fault of source or sink, ends by `Done` or `OutOfMemory`.
-pub record IsSound (Does : Handed → Status → Handed → Type 0) (IsRight : Option (List ℕ) → Type 0) : Type 0 where
-  pub never_words : (old new : Handed) → Does old Words new → ⊥
-  pub whole : (old : Handed) (st : Status) (new : Handed) → Ends Does old st new → IsRight old.source.rest
+pub record IsSound (Does : CallState → Status → CallState → Type 0) (IsRight : Option (List ℕ) → Type 0) : Type 0 where
+  pub never_words : (old new : CallState) → Does old Words new → ⊥
+  pub whole : (old : CallState) (st : Status) (new : CallState) → EndsWithCause Does old st new → IsRight old.source.rest
       → ¬ FailsLast old.source.faults new.source.faults new.source.failed → ¬ FailsLast old.sink.faults new.sink.faults new.sink.failed → EndsWhole st
 
 -- the mode's outcome, if it is not that memory ran out
-outcome_at : (Does : Handed → Status → Handed → Type 0) (old new : Handed) (P : Status → Type 0) → P OutOfMemory
+outcome_at : (Does : CallState → Status → CallState → Type 0) (old new : CallState) (P : Status → Type 0) → P OutOfMemory
     → ((st : Status) → Does old st new → P st) → (st : Status) → OrLacks Does old st new → P st
 outcome_at Does old new P lacks does OutOfMemory done = lacks
 outcome_at Does old new P lacks does Words done = does Words done
@@ -52,10 +52,10 @@ outcome_at Does old new P lacks does TooLong done = does TooLong done
 outcome_at Does old new P lacks does BadImage done = does BadImage done
 
 -- a call ends by `Done` or `OutOfMemory` if each outcome of its mode does, given the causes of its status
-whole_of : (Does : Handed → Status → Handed → Type 0) (old new : Handed)
+whole_of : (Does : CallState → Status → CallState → Type 0) (old new : CallState)
     → ((st : Status) → Does old st new → (st ≡ ReadFault → FailsLast old.source.faults new.source.faults new.source.failed)
     → (st ≡ WriteFault → FailsLast old.sink.faults new.sink.faults new.sink.failed) → EndsWhole st)
-    → (st : Status) → Ends Does old st new → EndsWhole st
+    → (st : Status) → EndsWithCause Does old st new → EndsWhole st
 whole_of Does old new does st ends =
     outcome_at Does old new (λ st. (st ≡ ReadFault → FailsLast old.source.faults new.source.faults new.source.failed)
     → (st ≡ WriteFault → FailsLast old.sink.faults new.sink.faults new.sink.failed) → EndsWhole st) (λ read wrote. inr refl) does st ends.outcome ends.read_fault ends.write_fault
@@ -64,17 +64,17 @@ whole_of Does old new does st ends =
 never_words : {S P : Type 0} (m : Semantics S P) (from to : S) (call : Effects) → call.status ≡ Words → MeetsOutcome m from call to → ⊥
 never_words m from to call is met =
     let row = some_row m from to call met in
-    subst (λ (st : Status). IsRow m st from row.0 row.1 call to) is row.2
+    subst (λ (st : Status). IsStatusRow m st from row.0 row.1 call to) is row.2
 
 -- no script ends by `BadImage`
 pub never_bad_image : {S P : Type 0} (m : Semantics S P) (from to : S) (call : Effects) → call.status ≡ BadImage → MeetsOutcome m from call to → ⊥
 never_bad_image m from to call is met =
     let row = some_row m from to call met in
-    subst (λ (st : Status). IsRow m st from row.0 row.1 call to) is row.2
+    subst (λ (st : Status). IsStatusRow m st from row.0 row.1 call to) is row.2
 
 -- without a fault, a script within the limit and with no bad line ends by `Done` or `OutOfMemory`
 row_whole : {S P : Type 0} (m : Semantics S P) (from to : S) (all left : List ℕ) (call : Effects) (st : Status) {Read Wrote : Type 0}
-    → IsRow m st from all left call to → (st ≡ ReadFault → Read) → (st ≡ WriteFault → Wrote)
+    → IsStatusRow m st from all left call to → (st ≡ ReadFault → Read) → (st ≡ WriteFault → Wrote)
     → IsClean (Some all) → ¬ Read → ¬ Wrote → EndsWhole st
 row_whole m from to all left call Words row read wrote clean sure firm = absurd row
 row_whole m from to all left call BadImage row read wrote clean sure firm = absurd row
@@ -98,8 +98,8 @@ met_whole m from to call met read wrote clean sure firm = go call.had refl clean
         row_whole m from to all row.0 call call.status row.1 read wrote clean sure firm
 
 -- A mode that runs a script.
-script_sound : {S P : Type 0} (m : Semantics S P) (Does : Handed → Status → Handed → Type 0)
-    → ((old : Handed) (st : Status) (new : Handed) → Does old st new → (ends : S × S) × MeetsOutcome m ends.0 (effects_of old st new) ends.1)
+script_sound : {S P : Type 0} (m : Semantics S P) (Does : CallState → Status → CallState → Type 0)
+    → ((old : CallState) (st : Status) (new : CallState) → Does old st new → (ends : S × S) × MeetsOutcome m ends.0 (effects_of old st new) ends.1)
     → IsSound Does IsClean
 script_sound m Does met = record {
   never_words = λ old new done.
@@ -121,7 +121,7 @@ claim_of m from to Claim claims call (Some all) shown met is =
     record { replies = w.replies; printed = w.written; claimed = claims all call w }
 
 -- what a call did that answered all items
-pub did_all : (Does : Handed → Status → Handed → Type 0) (old new : Handed) (st : Status) → OrLacks Does old st new → AnswersAll st → Does old st new
+pub did_all : (Does : CallState → Status → CallState → Type 0) (old new : CallState) (st : Status) → OrLacks Does old st new → AnswersAll st → Does old st new
 did_all Does old new = outcome_at Does old new (λ st. AnswersAll st → Does old st new) absurd (λ st done all. done)
 
 -- Mode `run`.
@@ -129,7 +129,7 @@ module _ (kind : Kind) where
   pub run_sound : IsSound (Runs kind) IsClean
   run_sound = script_sound one_manager (Runs kind) λ old st new done. ((run_at fresh_session (chosen_manager kind old.managers), done.end), done.outcome)
 
-  pub run_shown : (old : Handed) (st : Status) (new : Handed) → OrLacks (Runs kind) old st new → AnswersAll st
+  pub run_shown : (old : CallState) (st : Status) (new : CallState) → OrLacks (Runs kind) old st new → AnswersAll st
       → MeetsClaim (MeetsHeadline kind) old.source.rest (effects_of old st new)
   run_shown old st new done is =
       let did = did_all (Runs kind) old new st done is in
@@ -141,7 +141,7 @@ module _ (kind : Kind) where
 pub compare_sound : IsSound Compares IsClean
 compare_sound = script_sound many_managers Compares λ old st new done. ((fresh_side_by_side old.managers, done.end), done.outcome)
 
-pub compare_shown : (old : Handed) (st : Status) (new : Handed) → OrLacks Compares old st new → AnswersAll st
+pub compare_shown : (old : CallState) (st : Status) (new : CallState) → OrLacks Compares old st new → AnswersAll st
     → MeetsClaim (MeetHeadlines (kinds_in old)) old.source.rest (effects_of old st new)
 compare_shown old st new done is =
     let did = did_all Compares old new st done is in
@@ -151,7 +151,7 @@ compare_shown old st new done is =
 
 -- Mode `bench`.
 module _ (choice : Choice) where
-  bench_whole : (old : Handed) (st : Status) (new : Handed) → Ends (Benches choice) old st new → ¬ FailsLast old.sink.faults new.sink.faults new.sink.failed → EndsWhole st
+  bench_whole : (old : CallState) (st : Status) (new : CallState) → EndsWithCause (Benches choice) old st new → ¬ FailsLast old.sink.faults new.sink.faults new.sink.failed → EndsWhole st
   bench_whole old Done new ends firm = inl refl
   bench_whole old OutOfMemory new ends firm = inr refl
   bench_whole old WriteFault new ends firm = absurd (firm (ends.write_fault refl))
@@ -176,7 +176,7 @@ module _ {S P : Type 0} (m : Semantics S P) (IsMade : S → Type 0) where
   pub own_shown : (Claim : List Item → List Reply → Type 0)
       → ((begin : S) → IsMade begin → (all : List ℕ) (replies : List Reply) (end : Option S) → RunBy m begin None (items_within all) replies end
       → Claim (items_within all) replies)
-      → (old : Handed) (st : Status) (new : Handed) → OrLacks (PlaysOwn m IsMade) old st new → AnswersAll st
+      → (old : CallState) (st : Status) (new : CallState) → OrLacks (PlaysOwn m IsMade) old st new → AnswersAll st
       → MeetsClaim Claim old.source.rest (effects_of old st new)
   own_shown Claim claims old st new done is =
       let did = did_all (PlaysOwn m IsMade) old new st done is in
@@ -184,7 +184,7 @@ module _ {S P : Type 0} (m : Semantics S P) (IsMade : S → Type 0) where
       did.outcome is
 
 -- Mode `save`.
-save_whole : (old new : Handed) → IsClean old.source.rest → ¬ FailsLast old.source.faults new.source.faults new.source.failed → ¬ FailsLast old.sink.faults new.sink.faults new.sink.failed
+save_whole : (old new : CallState) → IsClean old.source.rest → ¬ FailsLast old.source.faults new.source.faults new.source.failed → ¬ FailsLast old.sink.faults new.sink.faults new.sink.failed
     → (st : Status) → Saves old st new → (st ≡ ReadFault → FailsLast old.source.faults new.source.faults new.source.failed)
     → (st ≡ WriteFault → FailsLast old.sink.faults new.sink.faults new.sink.failed) → EndsWhole st
 save_whole old new clean sure firm WriteFault done read wrote = absurd (firm (wrote refl))
@@ -210,7 +210,7 @@ not_broken from to at had left image q = go had.rest refl image
         let e : None ≡ Some at = sym image ∙ ap (λ (b : List ℕ). (decoded b).broken) row.1 ∙ ap (λ (t : Decoded). t.broken) row.2.reads_all ∙ row.2.broken in
         absurd cc
 
-load_whole : (old new : Handed) → HoldsImage old.source.rest → ¬ FailsLast old.source.faults new.source.faults new.source.failed → ¬ FailsLast old.sink.faults new.sink.faults new.sink.failed
+load_whole : (old new : CallState) → HoldsImage old.source.rest → ¬ FailsLast old.source.faults new.source.faults new.source.failed → ¬ FailsLast old.sink.faults new.sink.faults new.sink.failed
     → (st : Status) → Loads old st new → (st ≡ ReadFault → FailsLast old.source.faults new.source.faults new.source.failed)
     → (st ≡ WriteFault → FailsLast old.sink.faults new.sink.faults new.sink.failed) → EndsWhole st
 load_whole old new image sure firm Done done read wrote = inl refl

@@ -25,14 +25,14 @@ use Rattle.side_by_side.specs.FirstOfKind.{chosen_manager, first_of_kind, with_c
 use Rattle.side_by_side.specs.SideBySide.{SideBySide, fresh_side_by_side, many_managers}
 
 -- what a call works on: the state of its source, that of its sink, and those of the managers that it is given, in order
-pub record Handed : Type 0 where
+pub record CallState : Type 0 where
   pub source : SourceState
   pub sink : SinkState
   pub managers : List HeapState
 
--- the record `Handed` of a source, a sink and managers
-abbrev pub handed : SourceState → SinkState → List HeapState → Handed
-handed source sink managers = record { source = source; sink = sink; managers = managers }
+-- the record `CallState` of a source, a sink and managers
+abbrev pub call_state : SourceState → SinkState → List HeapState → CallState
+call_state source sink managers = record { source = source; sink = sink; managers = managers }
 
 -- what contracts see of a source `s`; the first argument has the functions that show it for the type of `s`
 abbrev pub source_seen : {S : Type 0} → source.Ghosts S → S → SourceState
@@ -43,16 +43,16 @@ abbrev pub sink_seen : {K : Type 0} → sink.Ghosts K → K → SinkState
 sink_seen K k = sink_at (K.written k) (K.faults k) (K.last_failed k)
 
 -- what contracts see of a source `s`, a sink `k` and managers `hs`; the first three arguments have the functions that show it for their types
-abbrev pub seen : {S K H : Type 0} → source.Ghosts S → sink.Ghosts K → manager.Ghosts H → S → K → List H → Handed
-seen S K H s k hs = handed (source_seen S s) (sink_seen K k) (map (λ h. H.state h) hs)
+abbrev pub seen : {S K H : Type 0} → source.Ghosts S → sink.Ghosts K → manager.Ghosts H → S → K → List H → CallState
+seen S K H s k hs = call_state (source_seen S s) (sink_seen K k) (map (λ h. H.state h) hs)
 
 -- the status of a call, and what it did to the bytes of its source and its sink
-abbrev pub effects_of : Handed → Status → Handed → Effects
+abbrev pub effects_of : CallState → Status → CallState → Effects
 effects_of old status new = effects old.source old.sink status new.source new.sink
 
 -- Mode `run`: the script ran on the first manager of the kind, which is now in the last state `end` of the run; no other manager changes. If none is of the
 -- kind, it ran on a manager made for it. `promise`: the manager has an order at the end if and only if it had one before; one made for the script has one.
-pub record Runs (kind : Kind) (old : Handed) (status : Status) (new : Handed) : Type 0 where
+pub record Runs (kind : Kind) (old : CallState) (status : Status) (new : CallState) : Type 0 where
   pub end : RunState
   pub outcome : MeetsOutcome one_manager (run_at fresh_session (chosen_manager kind old.managers)) (effects_of old status new) end
   pub stand : new.managers ≡ with_chosen_manager kind old.managers end.heap
@@ -60,14 +60,14 @@ pub record Runs (kind : Kind) (old : Handed) (status : Status) (new : Handed) : 
 
 -- Mode `compare`: the script ran on each manager, which is now in the last state of its own run (`end` holds all of them). Each command has the replies of all
 -- managers, in their order.
-pub record Compares (old : Handed) (status : Status) (new : Handed) : Type 0 where
+pub record Compares (old : CallState) (status : Status) (new : CallState) : Type 0 where
   pub end : SideBySide
   pub outcome : MeetsOutcome many_managers (fresh_side_by_side old.managers) (effects_of old status new) end
   pub stand : new.managers ≡ end.heaps
 
 -- Mode `bench`: the commands generated from the seed ran on a manager made for them, up to the state `end`, and the counts are printed. That manager promises
 -- an order. Nothing is read, and no given manager changes.
-pub record Benches (choice : Choice) (old : Handed) (status : Status) (new : Handed) : Type 0 where
+pub record Benches (choice : Choice) (old : CallState) (status : Status) (new : CallState) : Type 0 where
   pub end : RunState
   pub outcome : EndsBench status choice.seed choice.count (run_at fresh_session (closed_state choice.kind)) end old.sink.written new.sink.written
   pub ordered : IsSome end.heap.order
@@ -76,7 +76,7 @@ pub record Benches (choice : Choice) (old : Handed) (status : Status) (new : Han
 
 -- A mode that runs a script on a heap of its own. `S` is the type of the states of a run, and `m` says what each item does. The run begins in a state `begin`,
 -- of which `IsMade` holds, since the mode made its heap and session; it ends in `end`. No given manager changes.
-pub record PlaysOwn {S P : Type 0} (m : Semantics S P) (IsMade : S → Type 0) (old : Handed) (status : Status) (new : Handed) : Type 0 where
+pub record PlaysOwn {S P : Type 0} (m : Semantics S P) (IsMade : S → Type 0) (old : CallState) (status : Status) (new : CallState) : Type 0 where
   pub begin : S
   pub made : IsMade begin
   pub end : S
@@ -89,12 +89,12 @@ pub record IsMadeLarge (s : LargeRun) : Type 0 where
   pub inner : s.heap.inner ≡ closed_state Moving
 
 -- Mode `large`: a script whose objects may be larger than a page ran on a heap of long objects that was made for it.
-abbrev pub PlaysLarge : Handed → Status → Handed → Type 0
+abbrev pub PlaysLarge : CallState → Status → CallState → Type 0
 PlaysLarge = PlaysOwn large_heap IsMadeLarge
 
 -- Mode `save`: the script ran on a moving manager made for it, up to the state `end`, and its replies were not printed; the objects live at the end were
 -- written as an image. That manager promises an order. No given manager changes.
-pub record Saves (old : Handed) (status : Status) (new : Handed) : Type 0 where
+pub record Saves (old : CallState) (status : Status) (new : CallState) : Type 0 where
   pub end : RunState
   pub outcome : EndsSave (run_at fresh_session (closed_state Moving)) (effects_of old status new) end
   pub ordered : IsSome end.heap.order
@@ -102,28 +102,28 @@ pub record Saves (old : Handed) (status : Status) (new : Handed) : Type 0 where
 
 -- Mode `load`: an image was read into a moving manager made for it, up to the state `end`, and a script that makes its objects was printed. No given manager
 -- changes.
-pub record Loads (old : Handed) (status : Status) (new : Handed) : Type 0 where
+pub record Loads (old : CallState) (status : Status) (new : CallState) : Type 0 where
   pub end : RunState
   pub outcome : EndsLoad (run_at fresh_session (closed_state Moving)) (effects_of old status new) end
   pub untouched : new.managers ≡ old.managers
 
 -- `Does`, the record of the mode, holds. If the status is `OutOfMemory`, nothing was written, and either the call changed nothing at all or `Does` holds.
-abbrev pub OrLacks : (Handed → Status → Handed → Type 0) → Handed → Status → Handed → Type 0
+abbrev pub OrLacks : (CallState → Status → CallState → Type 0) → CallState → Status → CallState → Type 0
 OrLacks Does old OutOfMemory new = (new.sink.written ≡ old.sink.written) × ((new ≡ old) ⊎ Does old OutOfMemory new)
 OrLacks Does old status new = Does old status new
 
 -- the kind of each manager that a call works on
-abbrev pub kinds_in : Handed → List Kind
+abbrev pub kinds_in : CallState → List Kind
 kinds_in h = map (λ m. m.kind) h.managers
 
 -- for each manager that a call works on, whether it promises an order
-abbrev pub orders_in : Handed → List Bool
+abbrev pub orders_in : CallState → List Bool
 orders_in h = map (λ m. is_some m.order) h.managers
 
 -- A call did what its mode asks (`Does`), and kept the managers' kinds and promises of an order. The other fields are the causes of its status: `ReadFault`
 -- means that the last call of the source failed, `WriteFault` the same of the sink, and with any other status neither failed. `TooLong` means that the source
 -- returned more than the limit, or that its count of bytes saturated.
-pub record Ends (Does : Handed → Status → Handed → Type 0) (old : Handed) (status : Status) (new : Handed) : Type 0 where
+pub record EndsWithCause (Does : CallState → Status → CallState → Type 0) (old : CallState) (status : Status) (new : CallState) : Type 0 where
   pub outcome : OrLacks Does old status new
   pub kinds : kinds_in new ≡ kinds_in old
   pub orders : orders_in new ≡ orders_in old
@@ -133,14 +133,14 @@ pub record Ends (Does : Handed → Status → Handed → Type 0) (old : Handed) 
   pub write_fault : status ≡ WriteFault → FailsLast old.sink.faults new.sink.faults new.sink.failed
   pub too_long : status ≡ TooLong → (old.source.given + MOST_BYTES < new.source.given) ⊎ (new.source.given ≡ last_count)
 
--- `Ends` for a mode that is given no managers, with any list of managers that the call doesn't touch; `source'` and `sink'` are the states after the call
-abbrev pub EndsBeside : (Handed → Status → Handed → Type 0) → SourceState → SinkState → Status → SourceState → SinkState → Type 0
-EndsBeside Does source sink status source' sink' = (managers : List HeapState) → Ends Does (handed source sink managers) status (handed source' sink' managers)
+-- `EndsWithCause` for a mode that is given no managers, with any list of managers that the call doesn't touch; `source'` and `sink'` are the states after the call
+abbrev pub EndsBeside : (CallState → Status → CallState → Type 0) → SourceState → SinkState → Status → SourceState → SinkState → Type 0
+EndsBeside Does source sink status source' sink' = (managers : List HeapState) → EndsWithCause Does (call_state source sink managers) status (call_state source' sink' managers)
 
--- `Ends` for mode `run` on a manager made for the script, with any list of managers of which none is of the kind; the call doesn't touch them
+-- `EndsWithCause` for mode `run` on a manager made for the script, with any list of managers of which none is of the kind; the call doesn't touch them
 abbrev pub RunsOwn : Kind → SourceState → SinkState → Status → SourceState → SinkState → Type 0
 RunsOwn kind source sink status source' sink' = (managers : List HeapState) → first_of_kind kind managers ≡ None
-    → Ends (Runs kind) (handed source sink managers) status (handed source' sink' managers)
+    → EndsWithCause (Runs kind) (call_state source sink managers) status (call_state source' sink' managers)
 
 -- the status is `Done` (the call did all that the mode asks) or `OutOfMemory`
 abbrev pub EndsWhole : Status → Type 0

@@ -1,5 +1,5 @@
 //! Mode `compare`: runs one script on several managers and prints the replies of all.
-ghost use Rattle.manager_modes.specs.Outcomes.{Compares, Ends, seen};
+ghost use Rattle.manager_modes.specs.Outcomes.{Compares, EndsWithCause, seen};
 
 use cf_base::Status;
 use cf_io::{Sink, Source};
@@ -17,7 +17,7 @@ pub fn compare_all<H: Manager, S: Source, K: Sink>(
     source: &mut S,
     sink: &mut K,
 ) -> Status
-    ensures { Ends Compares
+    ensures { EndsWithCause Compares
         (seen S.Source K.Sink H.Manager source.old sink.old managers.old.items) result
         (seen S.Source K.Sink H.Manager source.new sink.new managers.new.items) }
 {

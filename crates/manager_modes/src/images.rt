@@ -49,11 +49,11 @@ fn save_on<H: Manager, S: Source, K: Sink>(
     let Ok(session) = Session::start(rt, alloc) else {
         return Status::OutOfMemory;
     };
-    let mut player = WithSettings {
-        player: session,
+    let mut mode_handler = WithSettings {
+        mode_handler: session,
         settings: None,
     };
-    save_script(rt, &mut player, heap, source, sink)
+    save_script(rt, &mut mode_handler, heap, source, sink)
 }
 
 /// Loads an image into a moving manager that is made for it, and writes the script that makes its

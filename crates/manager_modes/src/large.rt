@@ -3,7 +3,7 @@ ghost use Rattle.manager_modes.specs.Outcomes.{EndsBeside, PlaysLarge, sink_seen
 
 use cf_base::Status;
 use cf_io::{Sink, Source};
-use large_objects::{LargeHeap, LargePlayer, run_large};
+use large_objects::{LargeHeap, LargeHandler, run_large};
 use moving_heap::MovingHeap;
 use std::alloc::Global;
 
@@ -17,9 +17,9 @@ pub fn play_large<S: Source, K: Sink>(
     ensures { EndsBeside PlaysLarge (source_seen S.Source source.old) (sink_seen K.Sink sink.old) result
         (source_seen S.Source source.new) (sink_seen K.Sink sink.new) }
 {
-    let Ok(mut player) = LargePlayer::start(rt, alloc) else {
+    let Ok(mut mode_handler) = LargeHandler::start(rt, alloc) else {
         return Status::OutOfMemory;
     };
     let mut heap = LargeHeap::new(alloc, MovingHeap::closed(alloc));
-    run_large(&mut player, &mut heap, source, sink)
+    run_large(&mut mode_handler, &mut heap, source, sink)
 }

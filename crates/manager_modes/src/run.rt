@@ -2,7 +2,7 @@
 ghost use Rattle.std.specs.Prelude.{◌≡◌};
 ghost use Rattle.cf_model.specs.State.{closed_state};
 ghost use Rattle.run_model.specs.Sessions.{fresh_session};
-ghost use Rattle.manager_modes.specs.Outcomes.{Ends, Runs, RunsOwn, seen, sink_seen, source_seen};
+ghost use Rattle.manager_modes.specs.Outcomes.{EndsWithCause, Runs, RunsOwn, seen, sink_seen, source_seen};
 
 use boxed_managers::Boxed;
 use cf_base::{Kind, Status};
@@ -27,7 +27,7 @@ pub fn run_chosen<H: Manager, S: Source, K: Sink>(
     source: &mut S,
     sink: &mut K,
 ) -> Status
-    ensures { Ends (Runs kind)
+    ensures { EndsWithCause (Runs kind)
         (seen S.Source K.Sink H.Manager source.old sink.old managers.old.items) result
         (seen S.Source K.Sink H.Manager source.new sink.new managers.new.items) }
 {

@@ -18,7 +18,7 @@ use Rattle.cf_model.specs.State.{HeapState}
 use Rattle.cf_model.specs.Steps.{WritesBytes}
 use Rattle.paged_heap.specs.declared.open_heap.OpenHeap.{OpenHeap}
 use Rattle.cf_base.specs.declared.kind.Kind.TheVariants.{Moving}
-use Rattle.paged_heap.specs.Access.{Lies}
+use Rattle.paged_heap.specs.Access.{HoldsBytesAt}
 use Rattle.paged_heap.specs.Heap.{seen}
 use Rattle.paged_heap.specs.Layout.{Holds, IsValid, IsValidIn, held_in, state_at, state_in}
 use Rattle.moving_heap.specs.PayloadLoan.{words_found, with_payload_at, with_payload_in, with_payload_of, with_run}
@@ -86,7 +86,7 @@ module _ (h : OpenHeap) (k : IsValid (seen Moving h)) (q a : ℕ) (some : get h.
   pub left_is : (n : ℕ) → n ≡ many → with_run h (a + 1) n ws ≡ with_payload_at h a ws
   left_is n is = ap (λ n. with_run h (a + 1) n ws) (is ∙ sym (count_is h a (get_or h.region a 0 / 2 ^ 32) refl))
 
-  lies_there : Lies (seen Moving h) (record { number = q; from = 0 }) (length patch) a
+  lies_there : HoldsBytesAt (seen Moving h) (record { number = q; from = 0 }) (length patch) a
   lies_there = (let long = length-patch in lies (seen Moving h) k q a some 0 (length patch) (omega arith))
 
   overwrites : Overwrites h.region left.region (record { from = a + 1 + 0 / 8; count = (0 % 8 + length patch + 7) / 8 }) (0 % 8) patch

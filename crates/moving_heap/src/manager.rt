@@ -3,7 +3,7 @@
 ghost use Rattle.std.specs.Prelude.{◌≡◌, ◌+◌, ◌^◌, ◌≤◌, ℕ, ◌<◌, List, IfErr, IfOk, IsSome, IsTrue, OnErr, OnOk, Result, if◌then◌else◌, is_some, length, slice_get, option_copied, option_map};
 ghost use Rattle.std.specs.FinMap as map;
 ghost use Rattle.page_model.specs.Held.{Placed};
-ghost use Rattle.page_model.specs.Arrangement.{home_pages, not_full_pages, free_pages};
+ghost use Rattle.page_model.specs.Arrangement.{pages_of_class, not_full_pages, free_pages};
 ghost use Rattle.cf_base.specs.declared.answers.Handle.{Handle};
 ghost use Rattle.cf_base.specs.declared.answers.Refusal.{Refusal};
 ghost use Rattle.cf_base.specs.declared.kind.Kind.TheVariants.{Moving};
@@ -280,7 +280,7 @@ impl MovingHeap {
     pub fn pages_of(&self, c: u32) -> u32
         requires open { IsTrue self.now.is_open }
         requires class { c < classes_in self.now.kind self.now }
-        ensures { result ≡ home_pages (paging_in self.now) self.now.held c }
+        ensures { result ≡ pages_of_class (paging_in self.now) self.now.held c }
     {
         self.open().pages_of::<Direct>(c)
     }

@@ -3,7 +3,7 @@
 ghost use Rattle.std.specs.Prelude.{◌≡◌, ◌+◌, ◌^◌, ◌<◌, ◌≤◌, [], IfErr, IfOk, IsSome, IsTrue, OnErr, OnOk, Result, if◌then◌else◌, is_some, length, slice_get, option_map};
 ghost use Rattle.std.specs.FinMap as map;
 ghost use Rattle.page_model.specs.Held.{Placed};
-ghost use Rattle.page_model.specs.Arrangement.{home_pages, not_full_pages, free_pages};
+ghost use Rattle.page_model.specs.Arrangement.{pages_of_class, not_full_pages, free_pages};
 ghost use Rattle.cf_base.specs.declared.answers.Handle.{Handle};
 ghost use Rattle.cf_base.specs.declared.answers.Refusal.{Refusal};
 ghost use Rattle.cf_base.specs.declared.kind.Kind.TheVariants.{NonMoving};
@@ -285,7 +285,7 @@ impl NonMovingHeap {
     pub fn pages_of(&self, c: u32) -> u32
         requires open { IsTrue self.now.state.is_open }
         requires class { c < classes_in self.now.state.kind self.now.state }
-        ensures { result ≡ home_pages (paging_in self.now.state) self.now.state.held c }
+        ensures { result ≡ pages_of_class (paging_in self.now.state) self.now.state.held c }
     {
         self.open().pages_of::<Mapped>(c)
     }

@@ -1,13 +1,13 @@
 //! The TLSF manager as a library for C, to compare it with the other two. `include/norphuen.h` describes each
 //! export for C. An export calls the function of `held_heap` that its comment names, and its contract is that
 //! function's. While the heap is closed, each export but `nph_open` and `nph_close` returns `CLOSED` and changes
-//! nothing (`OnOpen`).
+//! nothing (`IsCallOnOpen`).
 #![tactic(auto)]
 
 ghost use Rattle.std.specs.Prelude.{◌≡◌, None};
 ghost use Rattle.cf_base.specs.declared.kind.Kind.TheVariants.{Tlsf};
 ghost use Rattle.held_heap.specs.Calls.{IsFiguresCall, IsFreeCall, IsLengthCall, IsMallocCall, IsReadCall, IsResizeCall, IsRoomCall, IsStepsCall, IsTotalsCall, IsWriteCall};
-ghost use Rattle.held_heap.specs.AtPlace.{IsOpenCall, OnOpen};
+ghost use Rattle.held_heap.specs.AtPlace.{IsOpenCall, IsCallOnOpen};
 ghost use Rattle.held_heap.specs.TlsfPlace.{held_in};
 ghost use Rattle.held_heap.specs.ManagerBounds.{block_bounds};
 
@@ -42,7 +42,7 @@ pub extern "C" fn nph_close(heap: &mut NphHeap, memory: Memory)
 /// Makes an object of `bytes` zeros and writes its handle into `handle` (`Held::malloc`).
 #[unsafe(no_mangle)]
 pub extern "C" fn nph_malloc(heap: &mut NphHeap, bytes: u32, handle: &mut u32) -> i32
-    ensures { OnOpen (held_in heap.old) result (held_in heap.new) (handle.new ≡ handle.old)
+    ensures { IsCallOnOpen (held_in heap.old) result (held_in heap.new) (handle.new ≡ handle.old)
         (λ h h2. IsMallocCall block_bounds h bytes handle.old result handle.new h2) }
 {
     if heap.is_open() {
@@ -55,7 +55,7 @@ pub extern "C" fn nph_malloc(heap: &mut NphHeap, bytes: u32, handle: &mut u32) -
 /// Frees an object. Writes into `freed` the words of its block; no object moves (`Held::free`).
 #[unsafe(no_mangle)]
 pub extern "C" fn nph_free(heap: &mut NphHeap, handle: u32, freed: &mut NphFreed) -> i32
-    ensures { OnOpen (held_in heap.old) result (held_in heap.new) (freed.new ≡ freed.old)
+    ensures { IsCallOnOpen (held_in heap.old) result (held_in heap.new) (freed.new ≡ freed.old)
         (λ h h2. IsFreeCall block_bounds h handle freed.old result freed.new h2) }
 {
     if heap.is_open() {
@@ -73,7 +73,7 @@ pub extern "C" fn nph_resize(
     bytes: u32,
     resized: &mut NphResized,
 ) -> i32
-    ensures { OnOpen (held_in heap.old) result (held_in heap.new) (resized.new ≡ resized.old)
+    ensures { IsCallOnOpen (held_in heap.old) result (held_in heap.new) (resized.new ≡ resized.old)
         (λ h h2. IsResizeCall block_bounds h handle bytes resized.old result resized.new h2) }
 {
     if heap.is_open() {
@@ -86,7 +86,7 @@ pub extern "C" fn nph_resize(
 /// Writes `bytes` into an object, from its byte `at` on (`Held::write`).
 #[unsafe(no_mangle)]
 pub extern "C" fn nph_write(heap: &mut NphHeap, handle: u32, at: u32, bytes: &[u8]) -> i32
-    ensures { OnOpen (held_in heap.old) result (held_in heap.new) (Unit {0})
+    ensures { IsCallOnOpen (held_in heap.old) result (held_in heap.new) (Unit {0})
         (λ h h2. IsWriteCall block_bounds h handle at bytes.now result h2) }
 {
     if heap.is_open() {
@@ -99,7 +99,7 @@ pub extern "C" fn nph_write(heap: &mut NphHeap, handle: u32, at: u32, bytes: &[u
 /// Fills `out` with bytes of an object, from its byte `at` on (`Held::read`).
 #[unsafe(no_mangle)]
 pub extern "C" fn nph_read(heap: &mut NphHeap, handle: u32, at: u32, out: &mut [u8]) -> i32
-    ensures { OnOpen (held_in heap.old) result (held_in heap.new) (out.new ≡ out.old)
+    ensures { IsCallOnOpen (held_in heap.old) result (held_in heap.new) (out.new ≡ out.old)
         (λ h h2. IsReadCall block_bounds h handle at out.old result out.new h2) }
 {
     if heap.is_open() {
@@ -112,7 +112,7 @@ pub extern "C" fn nph_read(heap: &mut NphHeap, handle: u32, at: u32, out: &mut [
 /// Writes the object's length in bytes into `bytes` (`Held::length`).
 #[unsafe(no_mangle)]
 pub extern "C" fn nph_length(heap: &mut NphHeap, handle: u32, bytes: &mut u32) -> i32
-    ensures { OnOpen (held_in heap.old) result (held_in heap.new) (bytes.new ≡ bytes.old)
+    ensures { IsCallOnOpen (held_in heap.old) result (held_in heap.new) (bytes.new ≡ bytes.old)
         (λ h h2. IsLengthCall block_bounds h handle bytes.old result bytes.new h2) }
 {
     if heap.is_open() {
@@ -125,7 +125,7 @@ pub extern "C" fn nph_length(heap: &mut NphHeap, handle: u32, bytes: &mut u32) -
 /// Returns the code that a malloc of `bytes` bytes would return now (`Held::has_room`).
 #[unsafe(no_mangle)]
 pub extern "C" fn nph_has_room(heap: &mut NphHeap, bytes: u32) -> i32
-    ensures { OnOpen (held_in heap.old) result (held_in heap.new) (Unit {0})
+    ensures { IsCallOnOpen (held_in heap.old) result (held_in heap.new) (Unit {0})
         (λ h h2. IsRoomCall block_bounds h bytes result h2) }
 {
     if heap.is_open() {
@@ -138,7 +138,7 @@ pub extern "C" fn nph_has_room(heap: &mut NphHeap, bytes: u32) -> i32
 /// Returns `UNKNOWN` on an open heap, since TLSF has no classes (`Held::figures`).
 #[unsafe(no_mangle)]
 pub extern "C" fn nph_figures(heap: &mut NphHeap, class: u32, figures: &mut NphClass) -> i32
-    ensures { OnOpen (held_in heap.old) result (held_in heap.new) (figures.new ≡ figures.old)
+    ensures { IsCallOnOpen (held_in heap.old) result (held_in heap.new) (figures.new ≡ figures.old)
         (λ h h2. IsFiguresCall h class figures.old result figures.new h2) }
 {
     if heap.is_open() {
@@ -151,7 +151,7 @@ pub extern "C" fn nph_figures(heap: &mut NphHeap, class: u32, figures: &mut NphC
 /// Writes the figures of the whole heap into `totals` (`Held::totals`).
 #[unsafe(no_mangle)]
 pub extern "C" fn nph_totals(heap: &mut NphHeap, totals: &mut NphHeapTotals) -> i32
-    ensures { OnOpen (held_in heap.old) result (held_in heap.new) (totals.new ≡ totals.old)
+    ensures { IsCallOnOpen (held_in heap.old) result (held_in heap.new) (totals.new ≡ totals.old)
         (λ h h2. IsTotalsCall block_bounds h result totals.new h2) }
 {
     if heap.is_open() {
@@ -164,7 +164,7 @@ pub extern "C" fn nph_totals(heap: &mut NphHeap, totals: &mut NphHeapTotals) -> 
 /// Writes the steps of the last call that counts steps into `steps` (`Held::last_steps`).
 #[unsafe(no_mangle)]
 pub extern "C" fn nph_last_steps(heap: &mut NphHeap, steps: &mut u64) -> i32
-    ensures { OnOpen (held_in heap.old) result (held_in heap.new) (steps.new ≡ steps.old)
+    ensures { IsCallOnOpen (held_in heap.old) result (held_in heap.new) (steps.new ≡ steps.old)
         (λ h h2. IsStepsCall h result steps.new h2) }
 {
     if heap.is_open() {

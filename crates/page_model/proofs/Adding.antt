@@ -8,7 +8,7 @@ use Rattle.cf_lemmas.proofs.Ranges.{count_at_most, one}
 use Rattle.cf_lemmas.proofs.Values.{len-map_values, sum_at_most}
 use Rattle.page_model.specs.Held.{Held, Objects, Placed, objects}
 use Rattle.page_model.specs.Paging.{Paging, slot_words, class_for}
-use Rattle.page_model.specs.Arrangement.{home_pages, live, used_pages, free_pages, IsSound}
+use Rattle.page_model.specs.Arrangement.{pages_of_class, live, used_pages, free_pages, IsSound}
 use Rattle.page_model.specs.Figures.{asked_bytes, taken_bytes}
 use Rattle.page_model.proofs.Counting.{one_le}
 use Rattle.page_model.proofs.Lacking.{used_le}
@@ -53,8 +53,8 @@ live_few p m c =
     omega arith
 
 -- and a class has at most all pages
-pub home_at_most : (p : Paging) (m : Held) (c : ℕ) → home_pages p m c ≤ p.pages
-unfolding home_pages
+pub home_at_most : (p : Paging) (m : Held) (c : ℕ) → pages_of_class p m c ≤ p.pages
+unfolding pages_of_class
 home_at_most p m c = count_at_most _ 0 p.pages
 
 module _ (o : Objects) (h : ℕ) (v : List ℕ) where

@@ -5,7 +5,7 @@ use Rattle.cf_lemmas.proofs.Maps.{get_inserted, get_insert_other}
 use Rattle.page_model.specs.Held.{Held, Placed}
 use Rattle.page_model.specs.Paging.{Paging, IsPaging}
 use Rattle.page_model.specs.Arrangement.{IsSound}
-use Rattle.page_model.specs.Steps.{Request, Leaves, without, RemovesObject, RefitsObject, ResizesInPlace, ChangesClass, resized_at}
+use Rattle.page_model.specs.Steps.{Request, CallResult, without, RemovesObject, RefitsObject, ResizesInPlace, ChangesClass, resized_at}
 use Rattle.page_model.specs.Image.{slot_for}
 use Rattle.page_model.specs.Frames.{IsPermuted, frames_after, block_of, AreBlocks, AreFramed}
 use Rattle.page_model.proofs.Frames.{blocks_kept, frames_permuted, frames_as_many}
@@ -13,7 +13,7 @@ use Rattle.page_model.proofs.Resizing.{change_is, sound_resize}
 use Rattle.page_model.proofs.FreeSteps.{sound_free}
 
 -- a resize within the class keeps the object's own blocks
-pub in_place_blocks : (p : Paging) (old : Held) (frames : List ℕ) (asked : Request) (after : Leaves) → ResizesInPlace p old asked after → (y z : Placed)
+pub in_place_blocks : (p : Paging) (old : Held) (frames : List ℕ) (asked : Request) (after : CallResult) → ResizesInPlace p old asked after → (y z : Placed)
     → get old asked.number ≡ Some y → get after.held asked.number ≡ Some z → (i : ℕ)
     → block_of (frames_after p old after frames) z.place i ≡ block_of frames y.place i
 in_place_blocks p old frames asked after r y z e f i =
@@ -27,7 +27,7 @@ in_place_blocks p old frames asked after r y z e f i =
 
 module _ (p : Paging) (old : Held) (frames : List ℕ) (ok : IsPaging p) (b : AreBlocks p) (s : IsSound p old)
     (len : length frames ≡ p.pages * p.page_words / 4) where
-  module _ (h : ℕ) (after : Leaves) (step : RemovesObject p old h after) where
+  module _ (h : ℕ) (after : CallResult) (step : RemovesObject p old h after) where
     left : (r : ℕ) → r ≢ h → get after.held r ≡ get (without old h step.freed.place after.moved) r
     left r ne = ap (λ m. get m r) step.left
 
@@ -41,7 +41,7 @@ module _ (p : Paging) (old : Held) (frames : List ℕ) (ok : IsPaging p) (b : Ar
       frames_as_many p ok b old s h step.freed step.found frames len after left after.moved refl step.moves,
     )
 
-  module _ (asked : Request) (after : Leaves) where
+  module _ (asked : Request) (after : CallResult) where
     changed_left : (r : ChangesClass p old asked after) → (q : ℕ) → q ≢ asked.number
         → get after.held q ≡ get (without old asked.number r.object.place after.moved) q
     changed_left r q ne = ap (λ m. get m q) (change_is p ok old s asked after r).1 ∙ get_insert_other _ asked.number _ q ne
@@ -66,14 +66,14 @@ module _ (p : Paging) (old : Held) (frames : List ℕ) (ok : IsPaging p) (b : Ar
     )
 
 -- a free keeps what `AreFramed` says of objects and frames
-pub framed_free : (p : Paging) (old : Held) (frames : List ℕ) (h : ℕ) (after : Leaves) → AreFramed p old frames → RemovesObject p old h after
+pub framed_free : (p : Paging) (old : Held) (frames : List ℕ) (h : ℕ) (after : CallResult) → AreFramed p old frames → RemovesObject p old h after
     → AreFramed p after.held (frames_after p old after frames)
 framed_free p old frames h after f step =
     let r = free_frames p old frames f.paged f.blocks f.sound f.count h after step f.permuted in
     record { paged = f.paged; blocks = f.blocks; sound = sound_free p old h after f.paged f.sound step; count = r.1 ∙ f.count; permuted = r.0 }
 
 -- so does a resize
-pub framed_resize : (p : Paging) (old : Held) (frames : List ℕ) (asked : Request) (after : Leaves) → AreFramed p old frames → RefitsObject p old asked after
+pub framed_resize : (p : Paging) (old : Held) (frames : List ℕ) (asked : Request) (after : CallResult) → AreFramed p old frames → RefitsObject p old asked after
     → AreFramed p after.held (frames_after p old after frames)
 framed_resize p old frames asked after f step =
     let r = resize_frames p old frames f.paged f.blocks f.sound f.count asked after step f.permuted in

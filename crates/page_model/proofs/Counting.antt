@@ -14,7 +14,7 @@ use Rattle.cf_lemmas.proofs.Values.{no_values, still}
 use Rattle.cf_lemmas.proofs.Ranges.{one, count_same, count_changed}
 use Rattle.page_model.specs.Held.{Held, Placed}
 use Rattle.page_model.specs.Paging.{Paging, slots_of, page_of}
-use Rattle.page_model.specs.Arrangement.{class_at, is_on, objects_on, count_on, not_full_pages, home_pages}
+use Rattle.page_model.specs.Arrangement.{class_at, is_on, objects_on, count_on, not_full_pages, pages_of_class}
 
 pub one_le : (b : Bool) → one b ≤ 1
 one_le true = omega arith
@@ -131,8 +131,8 @@ module _ (p : Paging) (m n : Held) (c page : ℕ) (others : (g : ℕ) → g ≢ 
       (λ g ne. ap (λ k. part_full k (slots_of p c)) (others g ne))
 
   -- the counts of pages with an object differ as that page does
-  pub home-changed : page < p.pages → home_pages p n c + one (nat_lt 0 (objects_on p m c page)) ≡ home_pages p m c + one (nat_lt 0 (objects_on p n c page))
-  unfolding home_pages
+  pub home-changed : page < p.pages → pages_of_class p n c + one (nat_lt 0 (objects_on p m c page)) ≡ pages_of_class p m c + one (nat_lt 0 (objects_on p n c page))
+  unfolding pages_of_class
   home-changed lt =
       count_changed (λ g. nat_lt 0 (objects_on p n c g)) (λ g. nat_lt 0 (objects_on p m c g)) 0 p.pages page (omega arith) (omega arith)
       (λ g ne. ap (nat_lt 0) (others g ne))
@@ -143,6 +143,6 @@ module _ (p : Paging) (m n : Held) (c : ℕ) (same : (g : ℕ) → objects_on p 
   unfolding not_full_pages
   not_full-same = count_same _ _ 0 p.pages (λ g _. ap (λ k. part_full k (slots_of p c)) (same g))
 
-  pub home-same : home_pages p n c ≡ home_pages p m c
-  unfolding home_pages
+  pub home-same : pages_of_class p n c ≡ pages_of_class p m c
+  unfolding pages_of_class
   home-same = count_same _ _ 0 p.pages (λ g _. ap (nat_lt 0) (same g))

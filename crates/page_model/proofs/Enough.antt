@@ -6,7 +6,7 @@ use Rattle.cf_lemmas.proofs.Ranges.{sum_grows, sum_le}
 use Rattle.page_model.specs.Held.{Held, objects}
 use Rattle.page_model.specs.Paging.{Paging, IsPaging, classes, slots_of}
 use Rattle.page_model.specs.Counts.{LieOn, ceil_div}
-use Rattle.page_model.specs.Arrangement.{live, home_pages, used_pages, pages_for, pages_needed, IsSound}
+use Rattle.page_model.specs.Arrangement.{live, pages_of_class, used_pages, pages_for, pages_needed, IsSound}
 use Rattle.std.specs.List.{range_with_len}
 use Rattle.page_model.proofs.Totals.{sum_same}
 use Rattle.page_model.proofs.PageCounts.{slots_some, sound_stand}
@@ -45,5 +45,5 @@ enough h n m k q pos s =
 
 pub needed_le_used : (p : Paging) (m : Held) → IsPaging p → IsSound p m → pages_needed p (objects m) ≤ used_pages p m
 unfolding used_pages pages_needed
-needed_le_used p m ok s = sum_le (λ c. ceil_div (live p (objects m) c) (slots_of p c)) (home_pages p m) 0 (classes p) (λ c l h.
-    enough (home_pages p m c) (live p (objects m) c) (slots_of p c) _ _ (slots_some p ok c (omega arith)) (sound_stand p ok c (omega arith) m s))
+needed_le_used p m ok s = sum_le (λ c. ceil_div (live p (objects m) c) (slots_of p c)) (pages_of_class p m) 0 (classes p) (λ c l h.
+    enough (pages_of_class p m c) (live p (objects m) c) (slots_of p c) _ _ (slots_some p ok c (omega arith)) (sound_stand p ok c (omega arith) m s))

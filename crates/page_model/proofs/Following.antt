@@ -8,7 +8,7 @@ use Rattle.page_model.specs.Paging.{Paging, class_for, page_of, address_of}
 use Rattle.page_model.specs.Arrangement.{IsSound, class_at}
 use Rattle.page_model.specs.Order.{Order, FreeFollows, IsLeastFree, IsLeastTaken, IsNextToMove, MallocFollows, SlotFollows, TakesNext}
 use Rattle.page_model.specs.Order.{not_full_in, slot_freed}
-use Rattle.page_model.specs.Steps.{Leaves, Moves, RemovesObject, Request, without}
+use Rattle.page_model.specs.Steps.{CallResult, Moves, RemovesObject, Request, without}
 
 same_front : (xs : List ℕ) (x y : ℕ) (rest more : List ℕ) → xs ≡ x ∷ rest → xs ≡ y ∷ more → (x ≡ y) × (rest ≡ more)
 same_front xs x y rest more a b = (let e : x ∷ rest ≡ y ∷ more = sym a ∙ b in (cc, cc))
@@ -87,7 +87,7 @@ module _ (p : Paging) (m : Held) (sound : IsSound p m) where
       let same : y ≡ z = found_once m r y z (ap (get m) (sym number) ∙ there) here in
       (ap Some number, s ∙ ap (λ (w : Placed). slot_freed p m old (class_at p x) (page_of p w.place)) same ∙ sym t)
 
-  free_again : (h : ℕ) (after other : Leaves) (old new next : Order) → RemovesObject p m h after → FreeFollows p m h after.moved old new
+  free_again : (h : ℕ) (after other : CallResult) (old new next : Order) → RemovesObject p m h after → FreeFollows p m h after.moved old new
       → RemovesObject p m h other → FreeFollows p m h other.moved old next → (after ≡ other) × (new ≡ next)
   free_again h after other old new next r s u t =
       let x = r.freed in
@@ -102,7 +102,7 @@ module _ (p : Paging) (m : Held) (sound : IsSound p m) where
       let whole : after ≡ other = λ i. record { held = held i; moved = moved i } in
       (whole, s.number ∙ ap (λ (o : Order). record o { spare = h ∷ o.spare }) between ∙ sym t.number)
 
-pub free_once : (p : Paging) (m : Held) (h : ℕ) (after other : Leaves) (old new next : Order) → IsSound p m
+pub free_once : (p : Paging) (m : Held) (h : ℕ) (after other : CallResult) (old new next : Order) → IsSound p m
     → RemovesObject p m h after → FreeFollows p m h after.moved old new
     → RemovesObject p m h other → FreeFollows p m h other.moved old next
     → (after ≡ other) × (new ≡ next)

@@ -12,7 +12,7 @@ use Rattle.cf_lemmas.proofs.Permutations.{entry_once, exchanged_permuted, range_
 use Rattle.page_model.specs.Held.{Held, Placed}
 use Rattle.page_model.specs.Paging.{Paging, IsPaging, slot_words, class_for}
 use Rattle.page_model.specs.Arrangement.{class_at, IsSound}
-use Rattle.page_model.specs.Steps.{Leaves, MustMove, MayFill, Moves, without}
+use Rattle.page_model.specs.Steps.{CallResult, MustMove, MayFill, Moves, without}
 use Rattle.page_model.specs.Image.{object_word, slot_for, IsDisjoint, IsSlotImage}
 use Rattle.page_model.specs.Frames.{first_frames, IsPermuted, frames_after, block_of, IsPhysical, AreBlocks}
 use Rattle.page_model.proofs.FreeSteps.{mover_is_other}
@@ -94,7 +94,7 @@ moved_kept frames a b n i apart lt inside =
 
 -- A free, or the part of a resize that frees object h. Apart from h, the objects afterwards are those that the free leaves.
 module _ (p : Paging) (ok : IsPaging p) (b : AreBlocks p) (m : Held) (s : IsSound p m) (h : ℕ) (x : Placed) (is-x : get m h ≡ Some x)
-    (frames : List ℕ) (len : length frames ≡ p.pages * p.page_words / 4) (after : Leaves)
+    (frames : List ℕ) (len : length frames ≡ p.pages * p.page_words / 4) (after : CallResult)
     (left : (r : ℕ) → r ≢ h → get after.held r ≡ get (without m h x.place after.moved) r) where
   module _ (q : ℕ) (y : Placed) (moved : after.moved ≡ Some q) (there : get m q ≡ Some y) (must : MustMove p m x) (may : MayFill p m x y) where
     other : q ≢ h

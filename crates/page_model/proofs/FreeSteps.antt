@@ -6,7 +6,7 @@ use Rattle.cf_lemmas.proofs.Maps.{equal_maps, get_inserted, get_insert_other, ge
 use Rattle.page_model.specs.Held.{Held, Placed}
 use Rattle.page_model.specs.Paging.{Paging, IsPaging, slots_of, bound_of, page_of}
 use Rattle.page_model.specs.Arrangement.{class_at, objects_on, not_full_pages, IsSound}
-use Rattle.page_model.specs.Steps.{Leaves, MustMove, MayFill, Moves, without, RemovesObject}
+use Rattle.page_model.specs.Steps.{CallResult, MustMove, MayFill, Moves, without, RemovesObject}
 use Rattle.page_model.proofs.Freeing.{MayLeave, sound_freed, sound_exchanged}
 use Rattle.page_model.proofs.PageCounts.{within}
 
@@ -65,5 +65,5 @@ module _ (p : Paging) (ok : IsPaging p) (m : Held) (s : IsSound p m) (h : ℕ) (
   sound_without (Some q) (must, (y, there, may)) = rw there (sound_moved q y there must may)
 
 -- a free (`RemovesObject`) keeps the arrangement sound
-pub sound_free : (p : Paging) (old : Held) (h : ℕ) (after : Leaves) → IsPaging p → IsSound p old → RemovesObject p old h after → IsSound p after.held
+pub sound_free : (p : Paging) (old : Held) (h : ℕ) (after : CallResult) → IsPaging p → IsSound p old → RemovesObject p old h after → IsSound p after.held
 sound_free p old h after ok s step = (let e = step.left in rw e (sound_without p ok old s h step.freed step.found after.moved step.moves))

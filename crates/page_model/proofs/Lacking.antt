@@ -11,7 +11,7 @@ use Rattle.cf_lemmas.proofs.Ranges.{one}
 use Rattle.page_model.specs.Held.{Held, Placed, objects}
 use Rattle.page_model.specs.Paging.{Paging, IsPaging, classes, slots_of, bound_of, page_of}
 use Rattle.page_model.specs.Counts.{LieOn, most_pages}
-use Rattle.page_model.specs.Arrangement.{class_at, live, objects_on, count_on, home_pages, not_full_pages, used_pages, free_pages, most_pages_besides}
+use Rattle.page_model.specs.Arrangement.{class_at, live, objects_on, count_on, pages_of_class, not_full_pages, used_pages, free_pages, most_pages_besides}
 use Rattle.page_model.specs.Arrangement.{IsSound, LacksRoom}
 use Rattle.cf_lemmas.proofs.Tests.{eq_yes, eq_no}
 use Rattle.page_model.proofs.Counting.{less_counts, not_less_counts_none, here, stands_here, on_page, standing}
@@ -150,7 +150,7 @@ module _ (p : Paging) (m : Held) (s : IsSound p m) where
 
   -- the pages in use are those that hold an object
   pub used_is : used_pages p m ≡ standing_pages
-  unfolding used_pages home_pages
+  unfolding used_pages pages_of_class
   used_is = sym (sum_same (λ g. one (nat_lt 0 (count_on p m g))) (λ g. sum_by (λ c. one (nat_lt 0 (objects_on p m c g))) (range_with_len 0 (classes p)))
       (range_with_len 0 p.pages) one_home
       ∙ swap_sums (λ g c. one (nat_lt 0 (objects_on p m c g))) (range_with_len 0 p.pages) (range_with_len 0 (classes p)))
@@ -183,15 +183,15 @@ module _ (p : Paging) (m : Held) (s : IsSound p m) where
     unfolding used_pages most_pages_besides
     lacking c lt l =
         let some = slots_some p ok c lt in
-        let filled : live p (objects m) c ≡ home_pages p m c * slots_of p c = from_stand _ _ _ _ _ (sound_stand p ok c lt m s) l.full in
-        let quotient : live p (objects m) c / slots_of p c ≡ home_pages p m c =
-        between_multiples (live p (objects m) c) (home_pages p m c) (slots_of p c) some (omega arith) (omega arith) in
+        let filled : live p (objects m) c ≡ pages_of_class p m c * slots_of p c = from_stand _ _ _ _ _ (sound_stand p ok c lt m s) l.full in
+        let quotient : live p (objects m) c / slots_of p c ≡ pages_of_class p m c =
+        between_multiples (live p (objects m) c) (pages_of_class p m c) (slots_of p c) some (omega arith) (omega arith) in
         let split = div-add-mod' (live p (objects m) c) (slots_of p c) in
-        let product : live p (objects m) c / slots_of p c * slots_of p c ≡ home_pages p m c * slots_of p c = ap (λ x. x * slots_of p c) quotient in
+        let product : live p (objects m) c / slots_of p c * slots_of p c ≡ pages_of_class p m c * slots_of p c = ap (λ x. x * slots_of p c) quotient in
         let used = none_free l.taken in
-        let sum = sum_others (home_pages p m) c 0 (classes p) (omega arith) (omega arith) in
-        let le = sum_kept (home_pages p m) (λ d. most_pages (live p (objects m) d) (slots_of p d) (bound_of p d)) (λ d. not (nat_eq d c)) 0 (classes p)
-        (λ d _ h. most_pages_least (home_pages p m d) (live p (objects m) d) (slots_of p d) (bound_of p d) (slots_some p ok d (omega arith))
+        let sum = sum_others (pages_of_class p m) c 0 (classes p) (omega arith) (omega arith) in
+        let le = sum_kept (pages_of_class p m) (λ d. most_pages (live p (objects m) d) (slots_of p d) (bound_of p d)) (λ d. not (nat_eq d c)) 0 (classes p)
+        (λ d _ h. most_pages_least (pages_of_class p m d) (live p (objects m) d) (slots_of p d) (bound_of p d) (slots_some p ok d (omega arith))
         (sound_can_hold p ok d (omega arith) m s)) in
         (omega arith, omega arith)
       where

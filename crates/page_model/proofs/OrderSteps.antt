@@ -11,7 +11,7 @@ use Rattle.page_model.specs.Held.{Held, Placed}
 use Rattle.page_model.specs.Paging.{Paging, IsPaging, class_for, classes, page_of}
 use Rattle.page_model.specs.Arrangement.{IsSound, LacksRoom, class_at, is_on, objects_on}
 use Rattle.page_model.specs.Order.{FreeFollows, IsOrderOf, MallocFollows, Order, ResizeFollows, not_full_in, slot_freed}
-use Rattle.page_model.specs.Steps.{IsFreePlace, Leaves, Moves, RefitsObject, Request, resized, resized_at, without, zeros_at}
+use Rattle.page_model.specs.Steps.{IsFreePlace, CallResult, Moves, RefitsObject, Request, resized, resized_at, without, zeros_at}
 use Rattle.page_model.proofs.NextMoves.{HasLeft, slot_left}
 use Rattle.page_model.proofs.NextSlots.{HasNext, next_slot}
 use Rattle.page_model.proofs.OrderFree.{freed_at, listed_freed, spare_kept}
@@ -46,7 +46,7 @@ pub record CanFree (p : Paging) (m : Held) (h : ℕ) (x : Placed) (limit : ℕ) 
 
 -- a resize can follow the order
 pub record CanResize (p : Paging) (m : Held) (asked : Request) (limit : ℕ) (o : Order) : Type 0 where
-  pub after : Leaves
+  pub after : CallResult
   pub new : Order
   pub step : RefitsObject p m asked after
   pub follows : ResizeFollows p m asked after o new

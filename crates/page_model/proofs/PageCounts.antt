@@ -10,7 +10,7 @@ use Rattle.cf_lemmas.proofs.Ranges.{one}
 use Rattle.page_model.specs.Held.{Held, objects}
 use Rattle.page_model.specs.Paging.{Paging, IsPaging, classes, slot_words, slots_of, bound_of}
 use Rattle.page_model.specs.Counts.{LieOn, CanHold}
-use Rattle.page_model.specs.Arrangement.{objects_on, not_full_pages, home_pages, live, IsSound}
+use Rattle.page_model.specs.Arrangement.{objects_on, not_full_pages, pages_of_class, live, IsSound}
 use Rattle.page_model.proofs.Counting.{part_full, part_yes, part_empty, part_over, less_counts, not_less_counts_none}
 use Rattle.page_model.proofs.PageLaws.{can_hold_bound}
 use Rattle.page_model.proofs.Sizes.{slot_fits}
@@ -87,16 +87,16 @@ module _ (p : Paging) (ok : IsPaging p) (c : ℕ) (lt : c < classes p) where
     within page = page_within p c page m size_some s
 
     -- the pages of a class are its full ones and its partly full ones
-    pub sound_stand : LieOn (home_pages p m c) (live p (objects m) c) (slots_of p c) (bound_of p c) (not_full_pages p m c)
-    unfolding home_pages not_full_pages
+    pub sound_stand : LieOn (pages_of_class p m c) (live p (objects m) c) (slots_of p c) (bound_of p c) (not_full_pages p m c)
+    unfolding pages_of_class not_full_pages
     sound_stand =
         let st = stands (objects_on p m c) (slots_of p c) slots_some 0 p.pages within in
         let count = live_by_pages p c m (λ q x f. (s.slots q x f).page) ∙ sym (live_is p c m) in
         stand_from _ _ st.0 _ _ (slots_of p c) (bound_of p c) st.1.all st.1.least st.1.most count (s.few_not_full c lt)
 
-    pub sound_can_hold : CanHold (home_pages p m c) (live p (objects m) c) (slots_of p c) (bound_of p c)
+    pub sound_can_hold : CanHold (pages_of_class p m c) (live p (objects m) c) (slots_of p c) (bound_of p c)
     sound_can_hold = (not_full_pages p m c, sound_stand)
 
     -- at most the pages that its objects fill, plus its bound
-    pub sound_few : home_pages p m c ≤ live p (objects m) c / slots_of p c + bound_of p c
-    sound_few = can_hold_bound (home_pages p m c) (live p (objects m) c) (slots_of p c) (bound_of p c) slots_some sound_can_hold
+    pub sound_few : pages_of_class p m c ≤ live p (objects m) c / slots_of p c + bound_of p c
+    sound_few = can_hold_bound (pages_of_class p m c) (live p (objects m) c) (slots_of p c) (bound_of p c) slots_some sound_can_hold

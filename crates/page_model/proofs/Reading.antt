@@ -1,4 +1,4 @@
--- For the laws `words_show_what_is_held` and `what_stands_at_places`: the words at an object's address determine its bytes.
+-- For the laws `words_show_what_is_held` and `held_at_has_places`: the words at an object's address determine its bytes.
 use Rattle.std.proofs.Common.{◌≡◌, ℕ, zero, suc, ◌+◌, ◌*◌, ◌/◌, ◌%◌, ◌^◌, ◌<◌, List, [], ◌∷◌, Option, Some, None, length, get_or, take, drop, arith, lit<, sym}
 use Rattle.std.proofs.Common.{◌∙◌, inl, inr, ap, refl}
 use Rattle.std.specs.Prelude.{option_map}

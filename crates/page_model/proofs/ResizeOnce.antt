@@ -6,12 +6,12 @@ use Rattle.page_model.specs.Held.{Held, Placed}
 use Rattle.page_model.specs.Paging.{IsPaging, Paging, class_for}
 use Rattle.page_model.specs.Arrangement.{IsSound, class_at}
 use Rattle.page_model.specs.Order.{Order, ResizeFollows, SlotFollows, TakesNext}
-use Rattle.page_model.specs.Steps.{ChangesClass, Leaves, Moves, RefitsObject, Request, ResizesInPlace, resized_at, without}
+use Rattle.page_model.specs.Steps.{ChangesClass, CallResult, Moves, RefitsObject, Request, ResizesInPlace, resized_at, without}
 use Rattle.page_model.proofs.Following.{next_once, slot_once}
 use Rattle.page_model.proofs.Resizing.{change_is}
 
 -- x changes its class, by an order
-record Changed (p : Paging) (m : Held) (asked : Request) (x : Placed) (after : Leaves) (old new : Order) : Type 0 where
+record Changed (p : Paging) (m : Held) (asked : Request) (x : Placed) (after : CallResult) (old new : Order) : Type 0 where
   place : ℕ
   between : Order
   taken : TakesNext p m old (class_for p asked.length) place between
@@ -20,7 +20,7 @@ record Changed (p : Paging) (m : Held) (asked : Request) (x : Placed) (after : L
   held : after.held ≡ insert (without m asked.number x.place after.moved) asked.number (resized_at place x asked.length)
 
 module _ (p : Paging) (ok : IsPaging p) (m : Held) (s : IsSound p m) (asked : Request) where
-  changed : (after : Leaves) (old new : Order) (r : ChangesClass p m asked after) → ResizeFollows p m asked after old new
+  changed : (after : CallResult) (old new : Order) (r : ChangesClass p m asked after) → ResizeFollows p m asked after old new
       → Changed p m asked r.object after old new
   changed after old new r f =
       let x = r.object in
@@ -41,7 +41,7 @@ module _ (p : Paging) (ok : IsPaging p) (m : Held) (s : IsSound p m) (asked : Re
         held = is.1 ∙ ap (λ a. insert (without m asked.number x.place after.moved) asked.number (resized_at a x asked.length)) places;
       }
 
-  changed_once : (x : Placed) (after other : Leaves) (old new next : Order) → Changed p m asked x after old new → Changed p m asked x other old next
+  changed_once : (x : Placed) (after other : CallResult) (old new next : Order) → Changed p m asked x after old new → Changed p m asked x other old next
       → (after ≡ other) × (new ≡ next)
   changed_once x after other old new next a b =
       let (places, orders) = next_once p m (class_for p asked.length) a.place b.place old a.between b.between a.taken b.taken in
@@ -53,7 +53,7 @@ module _ (p : Paging) (ok : IsPaging p) (m : Held) (s : IsSound p m) (asked : Re
       let whole : after ≡ other = λ i. record { held = held i; moved = moved i } in
       (whole, news)
 
-  stayed_once : (after other : Leaves) → ResizesInPlace p m asked after → ResizesInPlace p m asked other → after ≡ other
+  stayed_once : (after other : CallResult) → ResizesInPlace p m asked after → ResizesInPlace p m asked other → after ≡ other
   stayed_once after other r t =
       let same : r.object ≡ t.object = found_once m asked.number r.object t.object r.found t.found in
       let held : after.held ≡ other.held = r.placed
@@ -61,13 +61,13 @@ module _ (p : Paging) (ok : IsPaging p) (m : Held) (s : IsSound p m) (asked : Re
       let moved : after.moved ≡ other.moved = r.still ∙ sym t.still in
       λ i. record { held = held i; moved = moved i }
 
-  stayed_order : (after : Leaves) (old new : Order) → ResizesInPlace p m asked after → ResizeFollows p m asked after old new → new ≡ old
+  stayed_order : (after : CallResult) (old new : Order) → ResizesInPlace p m asked after → ResizeFollows p m asked after old new → new ≡ old
   stayed_order after old new r f = f.stays (r.same ∙ ap (class_at p) (found_once m asked.number r.object f.object r.found f.found))
 
-  not_both : (after other : Leaves) → ResizesInPlace p m asked after → ChangesClass p m asked other → ⊥
+  not_both : (after other : CallResult) → ResizesInPlace p m asked after → ChangesClass p m asked other → ⊥
   not_both after other r t = t.other (r.same ∙ ap (class_at p) (found_once m asked.number r.object t.object r.found t.found))
 
-  refits_once : (after other : Leaves) (old new next : Order) → RefitsObject p m asked after → ResizeFollows p m asked after old new
+  refits_once : (after other : CallResult) (old new next : Order) → RefitsObject p m asked after → ResizeFollows p m asked after old new
       → RefitsObject p m asked other → ResizeFollows p m asked other old next → (after ≡ other) × (new ≡ next)
   refits_once after other old new next (inl r) f (inl t) g =
       (stayed_once after other r t, stayed_order after old new r f ∙ sym (stayed_order other old next t g))
@@ -78,7 +78,7 @@ module _ (p : Paging) (ok : IsPaging p) (m : Held) (s : IsSound p m) (asked : Re
       changed_once r.object after other old new next (changed after old new r f)
       (subst (λ y. Changed p m asked y other old next) same (changed other old next t g))
 
-pub resize_once : (p : Paging) (m : Held) (asked : Request) (after other : Leaves) (old new next : Order) → IsPaging p → IsSound p m
+pub resize_once : (p : Paging) (m : Held) (asked : Request) (after other : CallResult) (old new next : Order) → IsPaging p → IsSound p m
     → RefitsObject p m asked after → ResizeFollows p m asked after old new
     → RefitsObject p m asked other → ResizeFollows p m asked other old next
     → (after ≡ other) × (new ≡ next)

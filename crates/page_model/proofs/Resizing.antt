@@ -8,7 +8,7 @@ use Rattle.cf_lemmas.proofs.Sums.{insert_again}
 use Rattle.page_model.specs.Held.{Held, Placed}
 use Rattle.page_model.specs.Paging.{Paging, IsPaging, page_of, class_for}
 use Rattle.page_model.specs.Arrangement.{class_at, objects_on, not_full_pages, IsSound}
-use Rattle.page_model.specs.Steps.{Request, Leaves, IsFreePlace, MustMove, MayFill, Moves, without, resized, resized_at, ResizesInPlace, ChangesClass}
+use Rattle.page_model.specs.Steps.{Request, CallResult, IsFreePlace, MustMove, MayFill, Moves, without, resized, resized_at, ResizesInPlace, ChangesClass}
 use Rattle.page_model.specs.Steps.{RefitsObject}
 use Rattle.cf_lemmas.proofs.Values.{still}
 use Rattle.page_model.proofs.Counting.{not_full-same}
@@ -24,7 +24,7 @@ length-resized v n = length-append (take n v) (replicate (n - length v) 0)
 pub class-resized : (p : Paging) (a n : ℕ) (x : Placed) → class_at p (resized_at a x n) ≡ class_for p n
 class-resized p a n x = ap (class_for p) (length-resized x.bytes n)
 
-sound_in_place : (p : Paging) (old : Held) (asked : Request) (after : Leaves) → IsSound p old → ResizesInPlace p old asked after → IsSound p after.held
+sound_in_place : (p : Paging) (old : Held) (asked : Request) (after : CallResult) → IsSound p old → ResizesInPlace p old asked after → IsSound p after.held
 sound_in_place p old asked after s r =
     let x : Placed = r.object in
     let class : class_at p (resized_at r.object.place r.object asked.length) ≡ class_at p r.object = class-resized p r.object.place asked.length r.object
@@ -165,7 +165,7 @@ changes_class p ok old s h n a spare x moved found other unused free moves = rec
 }
 
 -- every resize to another class (`ChangesClass`) has such a result
-pub change_is : (p : Paging) → IsPaging p → (old : Held) → IsSound p old → (asked : Request) (after : Leaves) (r : ChangesClass p old asked after)
+pub change_is : (p : Paging) → IsPaging p → (old : Held) → IsSound p old → (asked : Request) (after : CallResult) (r : ChangesClass p old asked after)
     → Moves p old r.object after.moved × (after.held ≡ insert (without old asked.number r.object.place after.moved) asked.number
     (resized_at r.place r.object asked.length))
 change_is p ok old s asked after r =
@@ -184,7 +184,7 @@ change_is p ok old s asked after r =
     )
 
 -- a resize keeps the arrangement sound
-pub sound_resize : (p : Paging) (old : Held) (asked : Request) (after : Leaves) → IsPaging p → IsSound p old → RefitsObject p old asked after
+pub sound_resize : (p : Paging) (old : Held) (asked : Request) (after : CallResult) → IsPaging p → IsSound p old → RefitsObject p old asked after
     → IsSound p after.held
 sound_resize p old asked after ok s (inl r) = sound_in_place p old asked after s r
 sound_resize p old asked after ok s (inr r) =

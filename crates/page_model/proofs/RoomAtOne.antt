@@ -6,9 +6,9 @@ use Rattle.std.specs.FinMap.{get, insert}
 use Rattle.cf_lemmas.proofs.Sums.{sum_by-inserted}
 use Rattle.cf_lemmas.proofs.Ranges.{one, sum_changed, sum_range_same}
 use Rattle.page_model.specs.Held.{Held, Objects, objects}
-use Rattle.page_model.specs.Paging.{Paging, IsPaging, AreOne, classes, slots_of, class_for}
+use Rattle.page_model.specs.Paging.{Paging, IsPaging, EveryBoundIsOne, classes, slots_of, class_for}
 use Rattle.page_model.specs.Counts.{LieOn, CanHold, ceil_div}
-use Rattle.page_model.specs.Arrangement.{live, home_pages, not_full_pages, used_pages, pages_needed, pages_needed_with, IsSound, LacksRoom}
+use Rattle.page_model.specs.Arrangement.{live, pages_of_class, not_full_pages, used_pages, pages_needed, pages_needed_with, IsSound, LacksRoom}
 use Rattle.cf_lemmas.proofs.Tests.{eq_yes, eq_no}
 use Rattle.page_model.proofs.Totals.{sum_same}
 use Rattle.page_model.proofs.PageCounts.{slots_some, sound_stand, sound_can_hold}
@@ -43,32 +43,32 @@ module _ (p : Paging) where
       (λ c. ceil_div (live p objs c + one (nat_eq (class_for p (length v)) c)) (slots_of p c)) (range_with_len 0 (classes p))
       (λ c. ap (λ n. ceil_div n (slots_of p c)) (live-inserted objs r v c none))
 
-module _ (p : Paging) (ok : IsPaging p) (ones : AreOne p) (m : Held) (s : IsSound p m) where
-  pub home_at_one : (c : ℕ) → c < classes p → home_pages p m c ≡ ceil_div (live p (objects m) c) (slots_of p c)
+module _ (p : Paging) (ok : IsPaging p) (ones : EveryBoundIsOne p) (m : Held) (s : IsSound p m) where
+  pub home_at_one : (c : ℕ) → c < classes p → pages_of_class p m c ≡ ceil_div (live p (objects m) c) (slots_of p c)
   home_at_one c lt =
       let some = slots_some p ok c lt in
-      let one_page : CanHold (home_pages p m c) (live p (objects m) c) (slots_of p c) 1 =
-      subst (CanHold (home_pages p m c) (live p (objects m) c) (slots_of p c)) (ones c lt) (sound_can_hold p ok c lt m s) in
-      can_hold_one (home_pages p m c) (live p (objects m) c) (slots_of p c) some one_page
+      let one_page : CanHold (pages_of_class p m c) (live p (objects m) c) (slots_of p c) 1 =
+      subst (CanHold (pages_of_class p m c) (live p (objects m) c) (slots_of p c)) (ones c lt) (sound_can_hold p ok c lt m s) in
+      can_hold_one (pages_of_class p m c) (live p (objects m) c) (slots_of p c) some one_page
 
   -- the pages in use are exactly those that the objects need by arithmetic
   pub used_at_one : used_pages p m ≡ pages_needed p (objects m)
   unfolding used_pages pages_needed
-  used_at_one = sum_range_same (home_pages p m) (λ c. ceil_div (live p (objects m) c) (slots_of p c)) 0 (classes p) (λ d _ h. home_at_one d (omega arith))
+  used_at_one = sum_range_same (pages_of_class p m) (λ c. ceil_div (live p (objects m) c) (slots_of p c)) 0 (classes p) (λ d _ h. home_at_one d (omega arith))
 
   module _ (n : ℕ) (fits : class_for p n < classes p) where
     needed_next : pages_needed_with p (objects m) n ≡ used_pages p m + (1 - not_full_pages p m (class_for p n))
     unfolding used_pages pages_needed_with
     needed_next =
         let c : ℕ = class_for p n in
-        let one_page : LieOn (home_pages p m (class_for p n)) (live p (objects m) (class_for p n)) (slots_of p (class_for p n)) 1
-        (not_full_pages p m (class_for p n)) = subst (λ k. LieOn (home_pages p m (class_for p n)) (live p (objects m) (class_for p n))
+        let one_page : LieOn (pages_of_class p m (class_for p n)) (live p (objects m) (class_for p n)) (slots_of p (class_for p n)) 1
+        (not_full_pages p m (class_for p n)) = subst (λ k. LieOn (pages_of_class p m (class_for p n)) (live p (objects m) (class_for p n))
         (slots_of p (class_for p n)) k (not_full_pages p m (class_for p n))) (ones (class_for p n) fits) (sound_stand p ok (class_for p n) fits m s) in
         let next = next_page _ _ _ _ (slots_some p ok (class_for p n) fits) one_page in
         let e = eq_yes (class_for p n) (class_for p n) refl in
-        let at : ceil_div (live p (objects m) (class_for p n) + one (nat_eq (class_for p n) (class_for p n))) (slots_of p (class_for p n)) ≡ home_pages p m
+        let at : ceil_div (live p (objects m) (class_for p n) + one (nat_eq (class_for p n) (class_for p n))) (slots_of p (class_for p n)) ≡ pages_of_class p m
         (class_for p n) + (1 - not_full_pages p m (class_for p n)) = rw e next in
-        let sum = sum_changed (λ d. ceil_div (live p (objects m) d + one (nat_eq (class_for p n) d)) (slots_of p d)) (home_pages p m) 0 (classes p)
+        let sum = sum_changed (λ d. ceil_div (live p (objects m) d + one (nat_eq (class_for p n) d)) (slots_of p d)) (pages_of_class p m) 0 (classes p)
         (class_for p n) (omega arith) (omega arith)
         (λ d _ h ne. (let f = eq_no (class_for p n) d (λ e. ne (sym e)) in let z : live p (objects m) d + 0 ≡ live p (objects m) d =
         omega arith in rw (f, z) (sym (home_at_one d (omega arith))))) in

@@ -15,7 +15,7 @@ use Rattle.std.proofs.lemmas.Nat.{div-add-mod'}
 use Rattle.std.proofs.Math.Nat.{mul-le-mul_left}
 use Rattle.cf_base.proofs.CallerLemmas.{are_sizes, page_size, size_within, whole_blocks}
 use Rattle.page_model.specs.Frames.{AreBlocks}
-use Rattle.page_model.specs.Paging.{Paging, IsPaging, AreOne, classes, slot_words, slots_of, class_for, paging_of, first_bounds}
+use Rattle.page_model.specs.Paging.{Paging, IsPaging, EveryBoundIsOne, classes, slot_words, slots_of, class_for, paging_of, first_bounds}
 
 -- a list of bounds, one of at least 1 for each class, makes a valid paging
 pub paged : (s : Profile) (layout : Layout) (bounds : List ℕ) → IsTrue (is_page_size s.page_words) → length bounds ≡ length (sizes s.page_words layout)
@@ -78,7 +78,7 @@ pub slot_fits : (p : Paging) → IsPaging p → (c : ℕ) → c < classes p → 
 slot_fits p ok c lt = size_within p.page_words p.sizes c ok.sized lt
 
 -- with k = 1 in the settings every class has the bound 1
-pub first_ones : (s : Profile) (layout : Layout) → s.k ≡ 1 → AreOne (paging_of s layout (first_bounds s layout))
+pub first_ones : (s : Profile) (layout : Layout) → s.k ≡ 1 → EveryBoundIsOne (paging_of s layout (first_bounds s layout))
 first_ones s layout one c lt = get_or-replicate {A = ℕ} (length (sizes s.page_words layout)) c s.k 0 lt ∙ one
 
 -- a page has at most a slot for every four words

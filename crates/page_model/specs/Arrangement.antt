@@ -28,8 +28,8 @@ unfoldable pub count_on : Paging → Held → ℕ → ℕ
 count_on p m page = count_by (λ (x : Placed). nat_eq (page_of p x.place) page) (values m)
 
 -- how many of the pages p hold an object of class c of the arrangement m
-unfoldable pub home_pages : Paging → Held → ℕ → ℕ
-home_pages p m c = count_by (λ page. nat_lt 0 (objects_on p m c page)) (range_with_len 0 p.pages)
+unfoldable pub pages_of_class : Paging → Held → ℕ → ℕ
+pages_of_class p m c = count_by (λ page. nat_lt 0 (objects_on p m c page)) (range_with_len 0 p.pages)
 
 -- how many of the pages p are partly full with class c: they hold an object of class c, but fewer than they have slots
 unfoldable pub not_full_pages : Paging → Held → ℕ → ℕ
@@ -37,7 +37,7 @@ not_full_pages p m c = count_by (λ page. nat_lt 0 (objects_on p m c page) && na
 
 -- how many of the pages p are in use by the arrangement m: the pages with an object of a class, summed over the classes
 unfoldable pub used_pages : Paging → Held → ℕ
-used_pages p m = sum_by (home_pages p m) (range_with_len 0 (classes p))
+used_pages p m = sum_by (pages_of_class p m) (range_with_len 0 (classes p))
 
 -- how many of the pages p are not in use by the arrangement m
 abbrev pub free_pages : Paging → Held → ℕ

@@ -5,7 +5,7 @@ use Rattle.cf_base.specs.declared.answers.Figures.{Figures}
 use Rattle.cf_base.specs.declared.answers.Totals.{Totals}
 use Rattle.page_model.specs.Held.{Held, Objects, objects}
 use Rattle.page_model.specs.Paging.{Paging, slot_words, slots_of, class_for}
-use Rattle.page_model.specs.Arrangement.{live, home_pages, not_full_pages, used_pages, free_pages}
+use Rattle.page_model.specs.Arrangement.{live, pages_of_class, not_full_pages, used_pages, free_pages}
 
 -- the figures of class c: the words of a slot, the slots of a page, the live objects, the pages with one, and those that are partly full
 abbrev pub figures_of : Paging → Held → ℕ → Figures
@@ -13,7 +13,7 @@ figures_of p m c = record {
   slot_words = slot_words p c;
   slots = slots_of p c;
   live = live p (objects m) c;
-  pages = home_pages p m c;
+  pages = pages_of_class p m c;
   not_full =
       not_full_pages p m c;
 }

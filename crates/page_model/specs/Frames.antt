@@ -7,7 +7,7 @@ use Rattle.cf_lemmas.specs.Exchanges.{exchanged}
 use Rattle.page_model.specs.Held.{Held, Placed}
 use Rattle.page_model.specs.Paging.{IsPaging, Paging, slot_words}
 use Rattle.page_model.specs.Arrangement.{IsSound, class_at}
-use Rattle.page_model.specs.Steps.{Leaves}
+use Rattle.page_model.specs.Steps.{CallResult}
 
 -- the block table of an empty heap: the numbers below n in order
 abbrev pub first_frames : ℕ → List ℕ
@@ -29,7 +29,7 @@ found m None = None
 found m (Some q) = get m q
 
 -- the block table after a free or a resize that turned the objects `old` into `after`: it changes only if another object moved
-abbrev pub frames_after : Paging → Held → Leaves → List ℕ → List ℕ
+abbrev pub frames_after : Paging → Held → CallResult → List ℕ → List ℕ
 frames_after p old after frames = frames_moved p (found old after.moved) (found after.held after.moved) frames
 
 -- the physical block of block i of the object at address a

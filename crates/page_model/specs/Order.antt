@@ -8,7 +8,7 @@ use Rattle.cf_base.specs.declared.kind.Kind.TheVariants.{Moving, NonMoving, Tlsf
 use Rattle.page_model.specs.Held.{Held, Placed}
 use Rattle.page_model.specs.Paging.{Paging, classes, class_for, slots_of, page_of, address_of}
 use Rattle.page_model.specs.Arrangement.{class_at, objects_on, count_on}
-use Rattle.page_model.specs.Steps.{Leaves, Request, resized_at}
+use Rattle.page_model.specs.Steps.{CallResult, Request, resized_at}
 
 -- what a manager uses next: the free pages (`pool`), the partly full pages of each class (`not_full`), and the numbers that no object has (`spare`); each list
 -- begins with the one used next
@@ -61,7 +61,7 @@ pub record IsLeastTaken (p : Paging) (m : Held) (c page slot : ℕ) : Type 0 whe
 
 -- a call takes a slot of class c on a partly full page: the lowest free one, at address a, of the first such page; if that fills the page, the page leaves the
 -- list of the class
-pub record TakesOnOpenPage (p : Paging) (m : Held) (old : Order) (c a : ℕ) (new : Order) : Type 0 where
+pub record TakesOnPartlyFullPage (p : Paging) (m : Held) (old : Order) (c a : ℕ) (new : Order) : Type 0 where
   pub page : ℕ
   pub slot : ℕ
   pub rest : List ℕ
@@ -82,7 +82,7 @@ pub record TakesOnFreePage (p : Paging) (old : Order) (c a : ℕ) (new : Order) 
 
 -- a call takes the next slot of class c, at address a: on the first partly full page, or, if there is none, on the first free one
 abbrev pub TakesNext : Paging → Held → Order → ℕ → ℕ → Order → Type 0
-TakesNext p m old c a new = TakesOnOpenPage p m old c a new ⊎ TakesOnFreePage p old c a new
+TakesNext p m old c a new = TakesOnPartlyFullPage p m old c a new ⊎ TakesOnFreePage p old c a new
 
 -- a malloc (`asked`) follows the order: it uses the first spare number and takes the next slot of its class, at `place`
 pub record MallocFollows (p : Paging) (m : Held) (asked : Request) (place : ℕ) (old new : Order) : Type 0 where
@@ -124,7 +124,7 @@ pub record FreeFollows (p : Paging) (m : Held) (h : ℕ) (moved : Option ℕ) (o
 
 -- a resize (`asked`, with the result `after`) follows the order: to another class it takes the next slot there, then frees the old one; within the class the
 -- order stays
-pub record ResizeFollows (p : Paging) (m : Held) (asked : Request) (after : Leaves) (old new : Order) : Type 0 where
+pub record ResizeFollows (p : Paging) (m : Held) (asked : Request) (after : CallResult) (old new : Order) : Type 0 where
   pub object : Placed
   pub found : get m asked.number ≡ Some object
   pub stays : class_for p asked.length ≡ class_at p object → new ≡ old

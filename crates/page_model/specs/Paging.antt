@@ -57,5 +57,5 @@ pub record IsPaging (p : Paging) : Type 0 where
   pub some : (c : ℕ) → c < classes p → 1 ≤ bound_of p c
 
 -- in each class at most one page may be partly full: every bound is 1
-abbrev pub AreOne : Paging → Type 0
-AreOne p = (c : ℕ) → c < classes p → bound_of p c ≡ 1
+abbrev pub EveryBoundIsOne : Paging → Type 0
+EveryBoundIsOne p = (c : ℕ) → c < classes p → bound_of p c ≡ 1

@@ -11,7 +11,7 @@ pub record Request : Type 0 where
   pub length : ℕ
 
 -- what a free or a resize leaves: the objects, and the number of the other object that moved, if one did
-pub record Leaves : Type 0 where
+pub record CallResult : Type 0 where
   pub held : Held
   pub moved : Option ℕ
 
@@ -61,7 +61,7 @@ without m h a None = remove m h
 without m h a (Some q) = moved_to (remove m h) q (get m q) a
 
 -- a free of object h turns the objects `old` into `after`: h is removed, and if `MustMove` holds one other object of its class moves to its address
-pub record RemovesObject (p : Paging) (old : Held) (h : ℕ) (after : Leaves) : Type 0 where
+pub record RemovesObject (p : Paging) (old : Held) (h : ℕ) (after : CallResult) : Type 0 where
   pub freed : Placed
   pub found : get old h ≡ Some freed
   pub moves : Moves p old freed after.moved
@@ -76,7 +76,7 @@ abbrev pub resized_at : ℕ → Placed → ℕ → Placed
 resized_at a x n = record { place = a; bytes = resized x.bytes n }
 
 -- a resize (`asked`) within the class: the object keeps its address, and no object moves
-pub record ResizesInPlace (p : Paging) (old : Held) (asked : Request) (after : Leaves) : Type 0 where
+pub record ResizesInPlace (p : Paging) (old : Held) (asked : Request) (after : CallResult) : Type 0 where
   pub object : Placed
   pub found : get old asked.number ≡ Some object
   pub same : class_for p asked.length ≡ class_at p object
@@ -85,7 +85,7 @@ pub record ResizesInPlace (p : Paging) (old : Held) (asked : Request) (after : L
 
 -- a resize (`asked`) to another class: a malloc under a spare number, with the old object still there, then a free of the old object; then the new object gets
 -- the old number
-pub record ChangesClass (p : Paging) (old : Held) (asked : Request) (after : Leaves) : Type 0 where
+pub record ChangesClass (p : Paging) (old : Held) (asked : Request) (after : CallResult) : Type 0 where
   pub object : Placed
   pub found : get old asked.number ≡ Some object
   pub other : class_for p asked.length ≢ class_at p object
@@ -98,5 +98,5 @@ pub record ChangesClass (p : Paging) (old : Held) (asked : Request) (after : Lea
   pub renamed : after.held ≡ insert (remove left spare) asked.number (resized_at place object asked.length)
 
 -- a resize (`asked`), within its class or to another, turns the objects `old` into `after`
-abbrev pub RefitsObject : Paging → Held → Request → Leaves → Type 0
+abbrev pub RefitsObject : Paging → Held → Request → CallResult → Type 0
 RefitsObject p old asked after = ResizesInPlace p old asked after ⊎ ChangesClass p old asked after

@@ -7,17 +7,17 @@ ghost use Rattle.page_model.specs.Frames.{IsPermuted, IsPhysical, AreFramed, blo
 ghost use Rattle.page_model.specs.Held.{Held, Placed};
 ghost use Rattle.page_model.specs.Image.{IsSlotImage, object_word, slot_for};
 ghost use Rattle.page_model.specs.Paging.{Paging};
-ghost use Rattle.page_model.specs.Steps.{RemovesObject, RefitsObject, Leaves, Request, ResizesInPlace};
+ghost use Rattle.page_model.specs.Steps.{RemovesObject, RefitsObject, CallResult, Request, ResizesInPlace};
 
 /// The block table (`frames`) of an empty heap with `n` blocks contains the number of each block
 /// once. It still does after a free of object `h`, and after a resize (`asked`), which turn the
 /// objects `old` on the pages `p` into `after`.
 pub fn frames_stay_permuted()
     ensures first { (n : ℕ) → IsPermuted (first_frames n) × (length (first_frames n) ≡ n) }
-    ensures free { (p : Paging) (old : Held) (frames : List ℕ) (h : ℕ) (after : Leaves)
+    ensures free { (p : Paging) (old : Held) (frames : List ℕ) (h : ℕ) (after : CallResult)
         → AreFramed p old frames → RemovesObject p old h after
         → AreFramed p after.held (frames_after p old after frames) }
-    ensures resize { (p : Paging) (old : Held) (frames : List ℕ) (asked : Request) (after : Leaves)
+    ensures resize { (p : Paging) (old : Held) (frames : List ℕ) (asked : Request) (after : CallResult)
         → AreFramed p old frames → RefitsObject p old asked after
         → AreFramed p after.held (frames_after p old after frames) }
 {}
@@ -28,19 +28,19 @@ pub fn frames_stay_permuted()
 /// after it, and `i` a block of its slot. `frames` is the block table before the call. A malloc has
 /// no clause here, since it moves no object.
 pub fn blocks_of_others_stay()
-    ensures free { (p : Paging) (old : Held) (frames : List ℕ) (h : ℕ) (after : Leaves)
+    ensures free { (p : Paging) (old : Held) (frames : List ℕ) (h : ℕ) (after : CallResult)
         → AreFramed p old frames → RemovesObject p old h after
         → (q : ℕ) (y z : Placed) → q ≢ h → get old q ≡ Some y → get after.held q ≡ Some z
         → (i : ℕ) → i < slot_for p (length y.bytes) / 4
         → block_of (frames_after p old after frames) z.place i ≡ block_of frames y.place i }
-    ensures resize { (p : Paging) (old : Held) (frames : List ℕ) (asked : Request) (after : Leaves)
+    ensures resize { (p : Paging) (old : Held) (frames : List ℕ) (asked : Request) (after : CallResult)
         → AreFramed p old frames → RefitsObject p old asked after
         → (q : ℕ) (y z : Placed) → q ≢ asked.number
         → get old q ≡ Some y → get after.held q ≡ Some z
         → (i : ℕ) → i < slot_for p (length y.bytes) / 4
         → block_of (frames_after p old after frames) z.place i ≡ block_of frames y.place i }
     ensures same_class { (p : Paging) (old : Held) (frames : List ℕ) (asked : Request)
-        (after : Leaves)
+        (after : CallResult)
         → ResizesInPlace p old asked after
         → (y z : Placed) → get old asked.number ≡ Some y → get after.held asked.number ≡ Some z
         → (i : ℕ) → block_of (frames_after p old after frames) z.place i
@@ -59,7 +59,7 @@ pub fn live_objects_share_no_block()
 /// The table (`frames`) names a physical block for block i / 4 of the slot of object `x`. Word `i`
 /// of the slot is word i modulo 4 of that block. So a call that keeps an object's blocks and bytes
 /// keeps its words in the region (`physical`).
-pub fn slots_stand_in_their_blocks()
+pub fn slots_are_in_their_blocks()
     ensures { (p : Paging) (m : Held) (frames words physical : List ℕ) → AreFramed p m frames
         → IsSlotImage p m words → IsPhysical frames words physical
         → (h i : ℕ) (x : Placed) → get m h ≡ Some x → i < slot_for p (length x.bytes)

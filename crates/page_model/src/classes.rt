@@ -7,7 +7,7 @@ ghost use Rattle.cf_base.specs.Settings.{Profile};
 ghost use Rattle.cf_base.specs.declared.kind.Layout.{Layout};
 ghost use Rattle.cf_base.specs.declared.kind.Layout.TheVariants.{Blocks};
 ghost use Rattle.page_model.specs.Frames.{AreBlocks};
-ghost use Rattle.page_model.specs.Paging.{AreOne, IsPaging, Paging, address_of, class_for, classes, first_bounds, page_of, paging_of, slot_words, slots_of};
+ghost use Rattle.page_model.specs.Paging.{EveryBoundIsOne, IsPaging, Paging, address_of, class_for, classes, first_bounds, page_of, paging_of, slot_words, slots_of};
 ghost use Rattle.page_model.specs.Arrangement.{IsSlotAt};
 
 /// The slot sizes of a page, in words or in whole blocks (`layout`), rise from at least 4 words to
@@ -28,7 +28,7 @@ pub fn slot_sizes_rise()
 /// `c` for every four words (`few`).
 pub fn slots_are_few_and_in_blocks()
     ensures ones { (s : Profile) (layout : Layout) → s.k ≡ 1
-        → AreOne (paging_of s layout (first_bounds s layout)) }
+        → EveryBoundIsOne (paging_of s layout (first_bounds s layout)) }
     ensures blocks { (s : Profile) (bounds : List ℕ) → IsTrue (is_page_size s.page_words)
         → AreBlocks (paging_of s Blocks bounds) }
     ensures few { (p : Paging) (c : ℕ) → IsPaging p → c < classes p

@@ -20,7 +20,7 @@ pub fn pages_and_objects_add_up()
 /// Object `h` with the bytes `v` is added to the objects `o`. This adds one to the live objects of
 /// its class, and none to those of another class `c`. It adds the object's bytes to the bytes
 /// asked, and the bytes of its slot to the bytes taken.
-pub fn figures_where_an_object_comes()
+pub fn figures_after_adding()
     ensures live { (p : Paging) (o : Objects) (h : ℕ) (v : List ℕ) (c : ℕ) → get o h ≡ None
         → live p (insert o h v) c ≡ live p o c + cond (nat_eq (class_for p (length v)) c) 1 0 }
     ensures asked { (o : Objects) (h : ℕ) (v : List ℕ) → get o h ≡ None
@@ -33,7 +33,7 @@ pub fn figures_where_an_object_comes()
 /// Object `h` with the bytes `v` is removed from the objects `o`. This subtracts one from the live
 /// objects of its class, and none from those of another class `c`. It subtracts the object's bytes
 /// from the bytes asked, and the bytes of its slot from the bytes taken.
-pub fn figures_where_an_object_goes()
+pub fn figures_after_removing()
     ensures live { (p : Paging) (o : Objects) (h : ℕ) (v : List ℕ) (c : ℕ) → get o h ≡ Some v
         → live p (remove o h) c + cond (nat_eq (class_for p (length v)) c) 1 0 ≡ live p o c }
     ensures asked { (o : Objects) (h : ℕ) (v : List ℕ) → get o h ≡ Some v

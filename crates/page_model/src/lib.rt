@@ -15,7 +15,7 @@ mod words;
 
 pub use blocks::{
     blocks_of_others_stay, frames_stay_permuted, live_objects_share_no_block,
-    slots_stand_in_their_blocks,
+    slots_are_in_their_blocks,
 };
 pub use classes::{
     a_class_holds_its_requests, slot_sizes_rise, slots_are_few_and_in_blocks, slots_have_addresses,
@@ -25,7 +25,7 @@ pub use counts::{
     pages_are_within_the_bound,
 };
 pub use figures::{
-    figures_where_an_object_comes, figures_where_an_object_goes, pages_and_objects_add_up,
+    figures_after_adding, figures_after_removing, pages_and_objects_add_up,
 };
 pub use order::{
     a_free_can_follow_an_order, a_malloc_can_follow_an_order, a_resize_can_follow_an_order,
@@ -43,6 +43,6 @@ pub use soundness::{
 };
 pub use words::{
     a_part_is_written, a_word_is_its_bytes, bytes_are_read_back, headers_show,
-    objects_stay_storable, what_stands_at_places, words_after_a_free, words_after_a_malloc,
-    words_after_a_resize, words_after_a_write, words_are_one_list, words_show_what_is_held,
+    objects_stay_storable, held_at_has_places, words_after_a_free, words_after_a_malloc,
+    words_after_a_resize, words_after_a_write, objects_determine_words, words_show_what_is_held,
 };

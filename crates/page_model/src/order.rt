@@ -6,7 +6,7 @@ ghost use Rattle.page_model.specs.Arrangement.{IsSound, LacksRoom, class_at};
 ghost use Rattle.page_model.specs.Held.{Held, Placed};
 ghost use Rattle.page_model.specs.Order.{FreeFollows, IsOrderOf, MallocFollows, Order, ResizeFollows};
 ghost use Rattle.page_model.specs.Paging.{IsPaging, Paging, class_for, classes};
-ghost use Rattle.page_model.specs.Steps.{IsFreePlace, Leaves, Moves, RefitsObject, RemovesObject, Request, without, zeros_at};
+ghost use Rattle.page_model.specs.Steps.{IsFreePlace, CallResult, Moves, RefitsObject, RemovesObject, Request, without, zeros_at};
 
 /// Two mallocs of the same length that follow the same order `old` use the same number and address,
 /// and leave the same order. Two frees of the same object `h` that follow the same order leave the
@@ -16,11 +16,11 @@ pub fn an_order_leaves_no_choice()
     ensures malloc { (p : Paging) (m : Held) (asked other : Request) (place elsewhere : ℕ) (old new next : Order)
         → MallocFollows p m asked place old new → MallocFollows p m other elsewhere old next → asked.length ≡ other.length
         → (asked.number ≡ other.number) × (place ≡ elsewhere) × (new ≡ next) }
-    ensures free { (p : Paging) (m : Held) (h : ℕ) (after other : Leaves) (old new next : Order) → IsSound p m
+    ensures free { (p : Paging) (m : Held) (h : ℕ) (after other : CallResult) (old new next : Order) → IsSound p m
         → RemovesObject p m h after → FreeFollows p m h after.moved old new
         → RemovesObject p m h other → FreeFollows p m h other.moved old next
         → (after ≡ other) × (new ≡ next) }
-    ensures resize { (p : Paging) (m : Held) (asked : Request) (after other : Leaves) (old new next : Order) → IsPaging p → IsSound p m
+    ensures resize { (p : Paging) (m : Held) (asked : Request) (after other : CallResult) (old new next : Order) → IsPaging p → IsSound p m
         → RefitsObject p m asked after → ResizeFollows p m asked after old new
         → RefitsObject p m asked other → ResizeFollows p m asked other old next
         → (after ≡ other) × (new ≡ next) }
@@ -54,6 +54,6 @@ pub fn a_resize_can_follow_an_order()
     ensures { (p : Paging) (m : Held) (limit : ℕ) (asked : Request) (x : Placed) (o : Order) → IsPaging p → IsSound p m → IsOrderOf p m limit o
         → get m asked.number ≡ Some x → class_for p asked.length < classes p
         → (class_for p asked.length ≢ class_at p x → ¬ LacksRoom p m (class_for p asked.length))
-        → (after : Leaves) × (new : Order) × RefitsObject p m asked after × ResizeFollows p m asked after o new
+        → (after : CallResult) × (new : Order) × RefitsObject p m asked after × ResizeFollows p m asked after o new
         × IsOrderOf p after.held limit new }
 {}

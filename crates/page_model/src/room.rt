@@ -5,7 +5,7 @@ ghost use Rattle.std.specs.FinMap.{get, insert};
 ghost use Rattle.page_model.specs.Arrangement.{IsSound, LacksRoom, free_pages, live, most_pages_besides, not_full_pages, pages_needed, pages_needed_with};
 ghost use Rattle.page_model.specs.Arrangement.{used_pages};
 ghost use Rattle.page_model.specs.Held.{Held, Objects, objects};
-ghost use Rattle.page_model.specs.Paging.{AreOne, IsPaging, Paging, class_for, classes, slots_of};
+ghost use Rattle.page_model.specs.Paging.{EveryBoundIsOne, IsPaging, Paging, class_for, classes, slots_of};
 
 /// Let `m` be a sound arrangement on the pages `p`. Class `c` has no slot left (`LacksRoom`) if and
 /// only if none of its pages is partly full and no page is free.
@@ -32,10 +32,10 @@ pub fn objects_need_no_more_pages()
         → pages_needed p (objects m) ≤ used_pages p m }
 {}
 
-/// Let each class have at most one partly full page (`AreOne`). Then a sound arrangement `m` on the
+/// Let each class have at most one partly full page (`EveryBoundIsOne`). Then a sound arrangement `m` on the
 /// pages `p` uses exactly the pages that its objects need (`pages_needed`).
 pub fn pages_are_those_needed_at_bound_one()
-    ensures { (p : Paging) (m : Held) → IsPaging p → AreOne p → IsSound p m
+    ensures { (p : Paging) (m : Held) → IsPaging p → EveryBoundIsOne p → IsSound p m
         → used_pages p m ≡ pages_needed p (objects m) }
 {}
 
@@ -45,7 +45,7 @@ pub fn pages_are_those_needed_at_bound_one()
 /// counts too. Clause `added`: `pages_needed_with` are the pages that the objects need once it is
 /// added, as `h` with the bytes `v`.
 pub fn lack_of_room_is_arithmetic_at_bound_one()
-    ensures room { (p : Paging) (m : Held) (n : ℕ) → IsPaging p → AreOne p → IsSound p m
+    ensures room { (p : Paging) (m : Held) (n : ℕ) → IsPaging p → EveryBoundIsOne p → IsSound p m
         → class_for p n < classes p
         → LacksRoom p m (class_for p n) ↔ (p.pages < pages_needed_with p (objects m) n) }
     ensures added { (p : Paging) (o : Objects) (h : ℕ) (v : List ℕ) → get o h ≡ None

@@ -3,18 +3,18 @@
 //! objects with their addresses.
 ghost use Rattle.std.specs.Prelude.{ℕ, ◌≡◌, ◌≢◌, ◌+◌, ◌/◌, ◌<◌, ◌≤◌, ◌&&◌, Option, Some, None, cond, length, nat_lt, replicate};
 ghost use Rattle.std.specs.FinMap.{empty, get, insert, remove};
-ghost use Rattle.page_model.specs.Arrangement.{IsSound, class_at, home_pages, is_on, live, not_full_pages, objects_on};
+ghost use Rattle.page_model.specs.Arrangement.{IsSound, class_at, pages_of_class, is_on, live, not_full_pages, objects_on};
 ghost use Rattle.page_model.specs.Counts.{CanHold, LieOn};
 ghost use Rattle.page_model.specs.Held.{Held, Placed, objects, places};
 ghost use Rattle.page_model.specs.Paging.{IsPaging, Paging, bound_of, class_for, classes, slots_of};
-ghost use Rattle.page_model.specs.Steps.{ChangesClass, IsFreePlace, RemovesObject, PlacesObject, RefitsObject, MayFill, Moves, MustMove, Leaves, Request};
+ghost use Rattle.page_model.specs.Steps.{ChangesClass, IsFreePlace, RemovesObject, PlacesObject, RefitsObject, MayFill, Moves, MustMove, CallResult, Request};
 ghost use Rattle.page_model.specs.Steps.{resized_at, without, zeros_at};
 
 /// The arrangement without objects is sound on all pages `p`, whatever the bounds. No class `c`
 /// uses a page there.
 pub fn nothing_is_a_sound_arrangement()
     ensures sound { (p : Paging) → IsSound p empty }
-    ensures pages { (p : Paging) (c : ℕ) → home_pages p empty c ≡ 0 }
+    ensures pages { (p : Paging) (c : ℕ) → pages_of_class p empty c ≡ 0 }
     ensures not_full { (p : Paging) (c : ℕ) → not_full_pages p empty c ≡ 0 }
 {}
 
@@ -25,12 +25,12 @@ pub fn nothing_is_a_sound_arrangement()
 /// (`slots`).
 pub fn page_counts_of_a_sound_arrangement()
     ensures can_hold { (p : Paging) (m : Held) (c : ℕ) → IsPaging p → IsSound p m → c < classes p
-        → CanHold (home_pages p m c) (live p (objects m) c) (slots_of p c) (bound_of p c) }
+        → CanHold (pages_of_class p m c) (live p (objects m) c) (slots_of p c) (bound_of p c) }
     ensures not_full { (p : Paging) (m : Held) (c : ℕ) → IsPaging p → IsSound p m → c < classes p
-        → LieOn (home_pages p m c) (live p (objects m) c) (slots_of p c) (bound_of p c)
+        → LieOn (pages_of_class p m c) (live p (objects m) c) (slots_of p c) (bound_of p c)
         (not_full_pages p m c) }
     ensures few { (p : Paging) (m : Held) (c : ℕ) → IsPaging p → IsSound p m → c < classes p
-        → home_pages p m c ≤ live p (objects m) c / slots_of p c + bound_of p c }
+        → pages_of_class p m c ≤ live p (objects m) c / slots_of p c + bound_of p c }
     ensures slots { (p : Paging) (m : Held) (c page : ℕ) → IsPaging p → IsSound p m → c < classes p
         → objects_on p m c page ≤ slots_of p c }
 {}
@@ -44,14 +44,14 @@ pub fn a_malloc_keeps_soundness()
 /// A free of object `h` that turns the arrangement `old` into `after` keeps it sound, whether
 /// another object moves or not.
 pub fn a_free_keeps_soundness()
-    ensures { (p : Paging) (old : Held) (h : ℕ) (after : Leaves) → IsPaging p → IsSound p old
+    ensures { (p : Paging) (old : Held) (h : ℕ) (after : CallResult) → IsPaging p → IsSound p old
         → RemovesObject p old h after → IsSound p after.held }
 {}
 
 /// A resize (`asked`) that turns the arrangement `old` into `after` keeps it sound, within the
 /// class and to another one.
 pub fn a_resize_keeps_soundness()
-    ensures { (p : Paging) (old : Held) (asked : Request) (after : Leaves) → IsPaging p
+    ensures { (p : Paging) (old : Held) (asked : Request) (after : CallResult) → IsPaging p
         → IsSound p old
         → RefitsObject p old asked after → IsSound p after.held }
 {}
@@ -67,7 +67,7 @@ pub fn a_resize_in_two_steps()
         → get m spare ≡ None → IsFreePlace p m n a → Moves p m x moved
         → ChangesClass p m (record { number = h; length = n })
         (record { held = insert (without m h x.place moved) h (resized_at a x n); moved = moved }) }
-    ensures taken { (p : Paging) (old : Held) (asked : Request) (after : Leaves) → IsPaging p
+    ensures taken { (p : Paging) (old : Held) (asked : Request) (after : CallResult) → IsPaging p
         → IsSound p old
         → (r : ChangesClass p old asked after)
         → Moves p old r.object after.moved
@@ -120,8 +120,8 @@ pub fn counts_after_a_free()
 pub fn page_counts_follow_one_page()
     ensures pages { (p : Paging) (old new : Held) (c page : ℕ) → page < p.pages
         → ((g : ℕ) → g ≢ page → objects_on p new c g ≡ objects_on p old c g)
-        → home_pages p new c + cond (nat_lt 0 (objects_on p old c page)) 1 0
-        ≡ home_pages p old c + cond (nat_lt 0 (objects_on p new c page)) 1 0 }
+        → pages_of_class p new c + cond (nat_lt 0 (objects_on p old c page)) 1 0
+        ≡ pages_of_class p old c + cond (nat_lt 0 (objects_on p new c page)) 1 0 }
     ensures not_full { (p : Paging) (old new : Held) (c page : ℕ) → page < p.pages
         → ((g : ℕ) → g ≢ page → objects_on p new c g ≡ objects_on p old c g)
         → not_full_pages p new c

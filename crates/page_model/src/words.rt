@@ -14,7 +14,7 @@ ghost use Rattle.page_model.specs.Steps.{IsFreePlace, MayFill, MustMove, resized
 /// objects `m` are equal (`one`). The words of an empty region of `n` words are zeros (`empty`).
 /// Words that are right for whole slots (`IsSlotImage`) are right for the objects without the rest
 /// of their slots (`own`).
-pub fn words_are_one_list()
+pub fn objects_determine_words()
     ensures one { (m : Held) (u v : List ℕ) → length u ≡ length v → IsImage m u → IsImage m v
         → u ≡ v }
     ensures empty { (p : Paging) (n : ℕ) → IsSlotImage p empty (replicate n 0) }
@@ -127,7 +127,7 @@ pub fn words_show_what_is_held()
 /// The objects that `held_at` computes from the words and from the addresses by number (`at`) have
 /// these addresses, and the bytes that the words hold there. Each number of their contents is a
 /// byte.
-pub fn what_stands_at_places()
+pub fn held_at_has_places()
     ensures places { (words : List ℕ) (at : FinMap nat_cmp ℕ) → places (held_at words at) ≡ at }
     ensures found { (words : List ℕ) (at : FinMap nat_cmp ℕ) (h : ℕ) (x : Placed)
         → get (held_at words at) h ≡ Some x

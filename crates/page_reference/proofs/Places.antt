@@ -1,11 +1,11 @@
--- For `Plain::number_at` and `PlainOrder`: the object at an address, searched number by number, and the first page of a list.
+-- For `ReferencePages::number_at` and `ReferenceOrder`: the object at an address, searched number by number, and the first page of a list.
 use Rattle.std.proofs.Common.{◌≡◌, ◌≢◌, ℕ, ◌+◌, ◌<◌, ◌≤◌, ◌∙◌, List, [], ◌∷◌, Option, Some, None, arith, drop, inl, inr, refl, subst, sym}
 use Rattle.std.specs.Prelude.{if◌then◌else◌, nat_eq, slice_get}
 use Rattle.std.proofs.lemmas.Bool.{cases_lt}
 use Rattle.std.specs.FinMap.{get}
 use Rattle.page_model.specs.Arrangement.{objects_on}
 use Rattle.page_model.specs.Held.{Held, Placed}
-use Rattle.page_model.specs.Order.{Order, IsLeastFree, TakesOnOpenPage, not_full_in, with_not_full}
+use Rattle.page_model.specs.Order.{Order, IsLeastFree, TakesOnPartlyFullPage, not_full_in, with_not_full}
 use Rattle.page_model.specs.Paging.{Paging, address_of, slots_of}
 use Rattle.page_reference.specs.Next.{BeginsWithNoPage, HasNoMover, HasNoNext, HasNoObject, HasNoSlot, IsAt, IsEntryAt, IsFreePage, IsFullPage}
 
@@ -39,7 +39,7 @@ no_first (x ∷ pages) is = absurd (cc)
 -- the lowest free slot of the first partly full page is taken
 pub takes_open : (p : Paging) (m : Held) (o new : Order) (c page slot : ℕ) → slice_get (not_full_in o c) 0 ≡ Some page → IsLeastFree p m c page slot
     → new ≡ (if nat_eq (objects_on p m c page + 1) (slots_of p c) then with_not_full o c (drop 1 (not_full_in o c)) else o)
-    → TakesOnOpenPage p m o c (address_of p c page slot) new
+    → TakesOnPartlyFullPage p m o c (address_of p c page slot) new
 takes_open p m o new c page slot first least left = record {
   page = page;
   slot = slot;

@@ -1,4 +1,4 @@
--- For `Plain::image`: in a sound arrangement no two objects share a word, and all words of objects are in the region.
+-- For `ReferencePages::image`: in a sound arrangement no two objects share a word, and all words of objects are in the region.
 use Rattle.std.proofs.Common.{◌≡◌, ℕ, ◌≤◌, ◌<◌, true, Some, length, get_or, arith, inl, inr}
 use Rattle.std.specs.Prelude.{nat_le}
 use Rattle.std.specs.List.{position_or_len}

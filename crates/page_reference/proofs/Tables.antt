@@ -1,4 +1,4 @@
--- For `Plain::put`, `remove` and `move_to`: changes of a table of objects, and of the map that it represents.
+-- For `ReferencePages::put`, `remove` and `move_to`: changes of a table of objects, and of the map that it represents.
 use Rattle.std.proofs.Common.{◌≡◌, ℕ, ◌+◌, ◌<◌, ◌≤◌, List, [], ◌∷◌, ◌++◌, Option, Some, None, length, get_or, set, map, sym, ◌∙◌, ap, refl, inl, inr}
 use Rattle.std.specs.Prelude.{option_map}
 use Rattle.std.proofs.lemmas.List.{map-set, length-map, get_or_past, get_or-map, set-get_or}

@@ -1,4 +1,4 @@
--- For `word_at` and `Plain::image`: a word of the region, searched object by object.
+-- For `word_at` and `ReferencePages::image`: a word of the region, searched object by object.
 use Rattle.std.proofs.Common.{◌≡◌, ℕ, ◌+◌, ◌*◌, ◌<◌, ◌≤◌, List, [], ◌∷◌, ◌++◌, Option, Some, None, length, get_or, map, arith, sym, ◌∙◌, ap, refl, inl, inr}
 use Rattle.std.proofs.Common.{subst}
 use Rattle.std.specs.Prelude.{option_map}
@@ -11,7 +11,7 @@ use Rattle.page_model.specs.Paging.{Paging}
 use Rattle.page_model.specs.Image.{IsOutside, IsDisjoint, IsApart, IsImage}
 use Rattle.page_reference.specs.declared.object.Object.{Object}
 use Rattle.page_reference.specs.Amounts.{placed, held_of}
-use Rattle.page_reference.specs.Words.{IsWordAt, HasWord, Misses, AreInside}
+use Rattle.page_reference.specs.Words.{IsWordAt, HasWord, IsNoWordOf, AreInside}
 use Rattle.page_reference.proofs.Tables.{get_held}
 
 not_both : (a n i w : ℕ) → i < n → a + i ≡ w → IsOutside a n w → ⊥
@@ -40,7 +40,7 @@ module _ (m : Held) (w : ℕ) where
   }
 
   -- 0 if no object has the word
-  pub word_missed : ((h : ℕ) → Misses (get m h) w) → IsWordAt m w 0
+  pub word_missed : ((h : ℕ) → IsNoWordOf (get m h) w) → IsWordAt m w 0
   word_missed none = record {
     held = λ q y p i lt at. absurd (not_both y.place (need (length y.bytes)) i w lt at (none q y p));
     zero = λ _. refl;
@@ -52,7 +52,7 @@ module _ (os : List (Option Object)) where
   entry_is h e lt is = ap (option_map placed) is ∙ sym (get_held os h ∙ get_or-map (option_map placed) os h e None lt)
 
   -- numbers after the end of the table have no words
-  pub missed_past : (h w : ℕ) → length os ≤ h → Misses (get (held_of os) h) w
+  pub missed_past : (h w : ℕ) → length os ≤ h → IsNoWordOf (get (held_of os) h) w
   missed_past h w past x is = absurd (
       let past' : length (map (option_map placed) os) ≤ h = rw (length-map os (option_map placed)) past in
       let none : get (held_of os) h ≡ None = get_held os h ∙ get_or_past (map (option_map placed) os) h None past' in

@@ -53,6 +53,6 @@ abbrev pub AreAllUsed : Paging → Held → Type 0
 AreAllUsed p m = (page : ℕ) → page < p.pages → 0 < count_on p m page
 
 -- there is an object, and a free of it moves another one into its slot
-abbrev pub MovesOne : Paging → Held → Option Placed → Type 0
-MovesOne p m None = ⊥
-MovesOne p m (Some x) = MustMove p m x
+abbrev pub MustMoveAnother : Paging → Held → Option Placed → Type 0
+MustMoveAnother p m None = ⊥
+MustMoveAnother p m (Some x) = MustMove p m x

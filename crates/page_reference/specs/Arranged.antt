@@ -16,13 +16,13 @@ abbrev pub paging_code : Coded Paging
 paging_code = code_by (ℕ × (ℕ × (List ℕ × List ℕ))) (coded× coded_ℕ (coded× coded_ℕ (coded× (coded_list coded_ℕ) (coded_list coded_ℕ))))
     (λ p. (p.pages, (p.page_words, (p.sizes, p.bounds)))) (λ q. record { pages = q.0; page_words = q.1.0; sizes = q.1.1.0; bounds = q.1.1.1 }) (λ _. refl)
 
--- pages and objects encoded as a pair, which the model of `Plain` needs
+-- pages and objects encoded as a pair, which the model of `ReferencePages` needs
 abbrev pub arranged_code : Coded Arranged
 arranged_code = code_by (Paging × Held) (coded× paging_code (map.code coded_ℕ placed_code)) (λ a. (a.paging, a.held)) (λ q. record { paging = q.0; held = q.1 })
     (λ _. refl)
 
 -- the pages are within the limits of a heap: at most 4,096 of at most 16,384 words, with slot sizes that rise to the page, and a bound for each size
-pub record IsModest (p : Paging) : Type 0 where
+pub record IsWithinLimits (p : Paging) : Type 0 where
   pub few : p.pages ≤ 4096
   pub some : 1 ≤ p.page_words
   pub small : p.page_words ≤ 16384

@@ -6,12 +6,12 @@ use Rattle.page_model.specs.Arrangement.{class_at}
 use Rattle.page_model.specs.Held.{Held, Placed}
 use Rattle.page_model.specs.Order.{Order, IsNextToMove, not_full_in, IsTaken, ResizeFollows, SlotFollows, TakesNext}
 use Rattle.page_model.specs.Paging.{Paging, address_of, class_for, classes, slots_of}
-use Rattle.page_model.specs.Steps.{Leaves, Request, resized_at}
-use Rattle.page_reference.specs.Amounts.{MovesOne}
-use Rattle.page_reference.specs.declared.order.PlainOrder.{PlainOrder}
+use Rattle.page_model.specs.Steps.{CallResult, Request, resized_at}
+use Rattle.page_reference.specs.Amounts.{MustMoveAnother}
+use Rattle.page_reference.specs.declared.order.ReferenceOrder.{ReferenceOrder}
 
--- the order, as the model sees it, that the lists of the `PlainOrder` o are
-abbrev pub order_of : PlainOrder → Order
+-- the order, as the model sees it, that the lists of the `ReferenceOrder` o are
+abbrev pub order_of : ReferenceOrder → Order
 order_of o = record { pool = o.pool.items; not_full = map (λ pages. pages.items) o.not_full.items; spare = o.spare.items }
 
 -- the object of number q is at address a
@@ -65,7 +65,7 @@ HasNoMover p m o c = HasNoObject p m c (not_full_in o c)
 
 -- a free can't follow the order o: if object h is live and some class holds it, another object must move, and none is next
 abbrev pub CannotLeave : Paging → Held → Order → ℕ → Type 0
-CannotLeave p m o h = (x : Placed) → get m h ≡ Some x → class_at p x < classes p → MovesOne p m (get m h) × HasNoMover p m o (class_at p x)
+CannotLeave p m o h = (x : Placed) → get m h ≡ Some x → class_at p x < classes p → MustMoveAnother p m (get m h) × HasNoMover p m o (class_at p x)
 
 -- object h leaves its slot, and object `moved`, if there is one, moves there; the order changes from `old` to `new`
 pub record LeavesSlot (p : Paging) (m : Held) (h : ℕ) (moved : Option ℕ) (old new : Order) : Type 0 where
@@ -75,12 +75,12 @@ pub record LeavesSlot (p : Paging) (m : Held) (h : ℕ) (moved : Option ℕ) (ol
 
 -- `moved` of a free of object h is right: an object moves if and only if the free must move one
 abbrev pub MovesTo : Paging → Held → ℕ → Option ℕ → Type 0
-MovesTo p m h None = ¬ MovesOne p m (get m h)
-MovesTo p m h (Some q) = MovesOne p m (get m h)
+MovesTo p m h None = ¬ MustMoveAnother p m (get m h)
+MovesTo p m h (Some q) = MustMoveAnother p m (get m h)
 
 -- a resize (`asked`) follows the order `old` and leaves the order `new`, if it leaves the object at the address `place` and moves the other object `moved`
 abbrev pub FollowsResize : Paging → Held → Request → ℕ → Option ℕ → Order → Order → Type 0
-FollowsResize p m asked place moved old new = (after : Leaves) → after.moved ≡ moved
+FollowsResize p m asked place moved old new = (after : CallResult) → after.moved ≡ moved
     → ((x : Placed) → get m asked.number ≡ Some x → get after.held asked.number ≡ Some (resized_at place x asked.length))
     → ResizeFollows p m asked after old new
 

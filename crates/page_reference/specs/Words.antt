@@ -21,8 +21,8 @@ pub record HasWord (h : ℕ) (o : Option Placed) (w word : ℕ) : Type 0 where
   pub value : word ≡ object_word h object.bytes index
 
 -- there is no object o, or word w of the region is none of its words
-abbrev pub Misses : Option Placed → ℕ → Type 0
-Misses o w = (x : Placed) → o ≡ Some x → IsOutsideOf need x w
+abbrev pub IsNoWordOf : Option Placed → ℕ → Type 0
+IsNoWordOf o w = (x : Placed) → o ≡ Some x → IsOutsideOf need x w
 
 -- the words of all objects of m are in the region
 abbrev pub AreInside : Paging → Held → Type 0

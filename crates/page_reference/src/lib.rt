@@ -7,8 +7,8 @@ pub mod frames;
 mod object;
 pub mod order;
 mod pages;
-mod plain;
+mod reference_pages;
 pub mod steps;
 mod words;
 
-pub use plain::Plain;
+pub use reference_pages::ReferencePages;

@@ -21,7 +21,7 @@ pub struct Pages {
 
 impl Model for Pages {
     ghost use Rattle.page_model.specs.Paging.{Paging};
-    ghost use Rattle.page_reference.specs.Arranged.{paging_code, IsModest};
+    ghost use Rattle.page_reference.specs.Arranged.{paging_code, IsWithinLimits};
 
     ghost Value = { Paging };
 
@@ -29,7 +29,7 @@ impl Model for Pages {
 
     ghost view = { λ p. record { pages = p.pages; page_words = p.page_words; sizes = p.sizes.items; bounds = p.bounds.items } };
 
-    ghost invariant = { λ p. IsModest (record { pages = p.pages; page_words = p.page_words; sizes = p.sizes.items; bounds = p.bounds.items }) };
+    ghost invariant = { λ p. IsWithinLimits (record { pages = p.pages; page_words = p.page_words; sizes = p.sizes.items; bounds = p.bounds.items }) };
 }
 
 impl Pages {

@@ -7,39 +7,39 @@ ghost use Rattle.page_model.specs.Paging.{classes, slots_of};
 ghost use Rattle.page_model.specs.WordSteps.{blocks_of as blocks, copy_steps as copying, run_steps as running, slot_steps as moving, wipe_steps as wiping};
 ghost use Rattle.page_reference.specs.Next.{order_of};
 
-use crate::order::PlainOrder;
-use crate::plain::Plain;
+use crate::order::ReferenceOrder;
+use crate::reference_pages::ReferencePages;
 use cf_base::Kind;
 
-impl PlainOrder {
-    /// The steps of taking the next slot of class `c` in the heap `plain`.
-    pub fn steps_to_take(&self, plain: &Plain, c: u32) -> u64
-        requires { c < classes plain.now.paging }
-        ensures value { result ≡ taking plain.now.paging plain.now.held (order_of self.now) c }
+impl ReferenceOrder {
+    /// The steps of taking the next slot of class `c` in the heap `reference_pages`.
+    pub fn steps_to_take(&self, reference_pages: &ReferencePages, c: u32) -> u64
+        requires { c < classes reference_pages.now.paging }
+        ensures value { result ≡ taking reference_pages.now.paging reference_pages.now.held (order_of self.now) c }
         ensures few { result ≤ 13 }
     {
         match self.not_full_in(c).first().copied() {
-            Some(page) => plain.steps_to_open(c, page),
+            Some(page) => reference_pages.steps_to_open(c, page),
             None => 11,
         }
     }
 
     /// The steps of finding and freeing the slot of the object of class `c` that is next to move in
-    /// the heap `plain`; 0 if no page of the class is partly full.
-    pub fn steps_to_fill(&self, plain: &Plain, c: u32) -> u64
-        requires { c < classes plain.now.paging }
-        ensures value { result ≡ filling plain.now.paging plain.now.held (order_of self.now) c }
+    /// the heap `reference_pages`; 0 if no page of the class is partly full.
+    pub fn steps_to_fill(&self, reference_pages: &ReferencePages, c: u32) -> u64
+        requires { c < classes reference_pages.now.paging }
+        ensures value { result ≡ filling reference_pages.now.paging reference_pages.now.held (order_of self.now) c }
         ensures few { result ≤ 12 }
     {
         match self.not_full_in(c).first().copied() {
-            Some(page) if plain.objects_on(c, page) == 1 => 12,
+            Some(page) if reference_pages.objects_on(c, page) == 1 => 12,
             Some(_) => 7,
             None => 0,
         }
     }
 }
 
-impl Plain {
+impl ReferencePages {
     /// The steps of taking a slot of class `c` on the page, which is partly full.
     fn steps_to_open(&self, c: u32, page: u32) -> u64
         requires { c < classes self.now.paging }

@@ -4,7 +4,7 @@ ghost use Rattle.std.specs.Prelude.{◌≡◌, ◌*◌, ◌^◌, ◌<◌, ◌≤
 ghost use Rattle.cf_base.specs.Classes.{need};
 ghost use Rattle.page_model.specs.Image.{IsApart, object_word, word_of_bytes};
 ghost use Rattle.page_reference.specs.Amounts.{held_of, placed};
-ghost use Rattle.page_reference.specs.Words.{HasWord, IsWordAt, Misses};
+ghost use Rattle.page_reference.specs.Words.{HasWord, IsWordAt, IsNoWordOf};
 
 use crate::object::Object;
 use cf_base::need_of;
@@ -55,7 +55,7 @@ fn word_of_object(number: u32, object: &Object, i: u32) -> u64
 /// the object's number.
 fn word_in(number: u32, entry: &Option<Object>, w: u32) -> Option<u64>
     ensures found { IfSome result (λ word. HasWord number (option_map placed entry.now) w word) }
-    ensures none { IfNone result (Misses (option_map placed entry.now) w) }
+    ensures none { IfNone result (IsNoWordOf (option_map placed entry.now) w) }
 {
     match entry {
         Some(object) => word_of(number, object, w),
@@ -66,7 +66,7 @@ fn word_in(number: u32, entry: &Option<Object>, w: u32) -> Option<u64>
 /// Word `w` of the region, if the object with this number has that word; else none.
 fn word_of(number: u32, object: &Object, w: u32) -> Option<u64>
     ensures found { IfSome result (λ word. HasWord number (Some (placed object.now)) w word) }
-    ensures none { IfNone result (Misses (Some (placed object.now)) w) }
+    ensures none { IfNone result (IsNoWordOf (Some (placed object.now)) w) }
 {
     if object.place <= w && w - object.place < need_of(object.length) {
         Some(word_of_object(number, object, w - object.place))

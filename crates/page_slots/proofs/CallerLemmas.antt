@@ -20,7 +20,7 @@ use Rattle.page_slots.specs.Tables.{Tables, AreOthers, AreTables, IsOf, IsPageOf
 use Rattle.page_slots.specs.Tables.{KeepsForeign, slot_at, slots_on, tables, used_in}
 use Rattle.page_slots.specs.Take.{TakesAt, TakesSlot}
 use Rattle.page_slots.specs.Release.{FillsFrom, IsFiller, MovesObject, Vacates}
-use Rattle.page_slots.specs.Occupying.{Occupies, Serve, ServePart, class_table}
+use Rattle.page_slots.specs.Occupying.{Occupies, FitPages, FitPagesShared, class_table}
 use Rattle.page_slots.proofs.Pages.{free_page, listed_page, of_list, placed_in}
 use Rattle.page_slots.proofs.TablesAfterTake.{Gains, front_listed, gains_whole, taken_gains}
 use Rattle.page_slots.proofs.TablesAfterFree.{Loses, loses, loses_whole}
@@ -35,17 +35,17 @@ pub use Rattle.page_slots.proofs.NextSlots.{drop_same, fill_same, filler_next, o
 pub use Rattle.page_slots.proofs.Start.{first_occupied, first_table, first_tables, first_whole, new_serve, no_pages}
 pub use Rattle.page_slots.proofs.PageNumbers.{free_pages_are, home_pages_are, not_full_pages_are, pages_are}
 
-module _ {p : Paging} (ok : IsPaging p) {m : Held} {old new : Tables} (serve : ServePart p old) (o : Occupies p m old)
+module _ {p : Paging} (ok : IsPaging p) {m : Held} {old new : Tables} (serve : FitPagesShared p old) (o : Occupies p m old)
     (kept : AreTables (class_table p) new) where
   -- a slot of class c was taken
   module _ {c a : ℕ} (class : c < classes p) (t : TakesAt (class_table p) old c a new) where
     gains : Gains (class_table p) old new c t.page t.slot
     gains = taken_gains (class_table p) old serve.tables c class a new t kept.lists kept.pool
 
-    pub taken_part : ServePart p new
+    pub taken_part : FitPagesShared p new
     taken_part = record { tables = kept; pages = gains.pages ∙ serve.pages }
 
-    pub taken_serve : NoneForeign old → Serve p new
+    pub taken_serve : NoneForeign old → FitPages p new
     taken_serve whole = record { part = taken_part; whole = gains_whole (class_table p) old new c t.page t.slot gains whole }
 
     on_page_of : page_of p a ≡ t.page
@@ -96,10 +96,10 @@ module _ {p : Paging} (ok : IsPaging p) {m : Held} {old new : Tables} (serve : S
     lost : Loses (class_table p) old new c page slot
     lost = loses (class_table p) old serve.tables c page slot new v kept.lists kept.pool
 
-    pub vacated_part : ServePart p new
+    pub vacated_part : FitPagesShared p new
     vacated_part = record { tables = kept; pages = lost.pages ∙ serve.pages }
 
-    pub vacated_serve : NoneForeign old → Serve p new
+    pub vacated_serve : NoneForeign old → FitPages p new
     vacated_serve whole = record { part = vacated_part; whole = loses_whole (class_table p) old new c page slot lost whole }
 
     pub vacated_occupied : Occupies p (remove m h) new
@@ -109,7 +109,7 @@ module _ {p : Paging} (ok : IsPaging p) {m : Held} {old new : Tables} (serve : S
 abbrev pub filler_in : {k : ClassTable} {old new : Tables} {c a : ℕ} → FillsFrom k old c a new → IsFiller k old.maps old.lists c a
 filler_in f = record { page = f.page; slot = f.slot; address = f.address; front = f.front; least = f.least; used = f.vacates.used }
 
-module _ {p : Paging} (ok : IsPaging p) {m : Held} {t : Tables} (serve : ServePart p t) (o : Occupies p m t) where
+module _ {p : Paging} (ok : IsPaging p) {m : Held} {t : Tables} (serve : FitPagesShared p t) (o : Occupies p m t) where
   -- the object that moves into a freed slot of class c
   module _ {c a : ℕ} (f : IsFiller (class_table p) t.maps t.lists c a) where
     filler_page : Contains (pages_in t.lists c NotFull) f.page
@@ -150,7 +150,7 @@ module _ {p : Paging} (ok : IsPaging p) {m : Held} {t : Tables} (serve : ServePa
       → IsSound p m → (q : ℕ) {y : Placed} → get m q ≡ Some y → y.place ≡ a → MayFill p m x y
   filler_may x f s q found at = record { class = (filler_is f s q found at).0; not_full = filler_not_full f s q found at }
 
-module _ {p : Paging} (ok : IsPaging p) {m : Held} {old new : Tables} (serve : ServePart p old) (o : Occupies p m old) (kept : AreTables (class_table p) new)
+module _ {p : Paging} (ok : IsPaging p) {m : Held} {old new : Tables} (serve : FitPagesShared p old) (o : Occupies p m old) (kept : AreTables (class_table p) new)
     (h : ℕ) {x : Placed} (some : get m h ≡ Some x) {a : ℕ} (f : FillsFrom (class_table p) old (class_at p x) a new) where
   abbrev filling : IsFiller (class_table p) old.maps old.lists (class_at p x) a
   filling = filler_in f
@@ -158,10 +158,10 @@ module _ {p : Paging} (ok : IsPaging p) {m : Held} {old new : Tables} (serve : S
   filled_lost : Loses (class_table p) old new (class_at p x) f.page f.slot
   filled_lost = loses (class_table p) old serve.tables (class_at p x) f.page f.slot new f.vacates kept.lists kept.pool
 
-  pub filled_part : ServePart p new
+  pub filled_part : FitPagesShared p new
   filled_part = record { tables = kept; pages = filled_lost.pages ∙ serve.pages }
 
-  pub filled_serve : NoneForeign old → Serve p new
+  pub filled_serve : NoneForeign old → FitPages p new
   filled_serve whole = record { part = filled_part; whole = loses_whole (class_table p) old new (class_at p x) f.page f.slot filled_lost whole }
 
   -- x is freed, and the object at a moves to its address
@@ -177,7 +177,7 @@ module _ {p : Paging} (ok : IsPaging p) {m : Held} {old new : Tables} (serve : S
       subst (λ n. Occupies p n new) (removed_twice m h q (record { place = x.place; bytes = y.bytes })) renamed in
       subst (λ z. Occupies p (moved_to (remove m h) q z x.place) new) (sym found) once
 
-module _ {p : Paging} (ok : IsPaging p) {m : Held} {t : Tables} (serve : ServePart p t) (o : Occupies p m t) where
+module _ {p : Paging} (ok : IsPaging p) {m : Held} {t : Tables} (serve : FitPagesShared p t) (o : Occupies p m t) where
   -- if no slot was taken, the class has no slot left
   pub refused_lacks_room : NoneForeign t → (c : ℕ) (new : Tables) → TakesSlot (class_table p) t c None new → LacksRoom p m c
   refused_lacks_room whole c new r = lacks_room p ok m t serve o whole c r.0 r.1

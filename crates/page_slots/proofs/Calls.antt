@@ -19,7 +19,7 @@ use Rattle.page_pool.specs.Pool.{Pool, TakesFront, is_in_pool}
 use Rattle.page_slots.specs.Tables.{Tables, AreTables, IsOf, IsPageOf, JoinsList, slots_in, slots_on, tables, used_in}
 use Rattle.page_model.specs.Order.{drop_steps}
 use Rattle.page_slots.specs.Release.{HasUsedSlot, steps_to_vacate}
-use Rattle.page_slots.specs.Take.{FillsPage, TakesOnOpenPage, TakesOnFreePage, steps_to_take}
+use Rattle.page_slots.specs.Take.{FillsPage, TakesOnPartlyFullPage, TakesOnFreePage, steps_to_take}
 use Rattle.page_slots.proofs.Pages.{placed_in, listed_page, listed_class, of_list}
 use Rattle.page_slots.proofs.TablesAfterTake.{front_listed, pool_front}
 
@@ -101,7 +101,7 @@ module _ (k : ClassTable) (t : Tables) (a : AreTables k t) where
           → slice_get slots slot ≡ Some false
           → map ≡ set slots slot true → (used_in map ≡ length map → FillsPage t.lists c page lists)
           → (used_in map ≢ length map → lists ≡ t.lists)
-          → TakesOnOpenPage t c page slot (tables (set t.maps page map) lists t.pool)
+          → TakesOnPartlyFullPage t c page slot (tables (set t.maps page map) lists t.pool)
       took_open slot map lists least free is filled not_filled =
           let here : get_or (set t.maps page map) page [] ≡ map = get_or-set_same t.maps page map [] front_inside in record {
             front = sym front;

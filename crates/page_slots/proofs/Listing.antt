@@ -1,4 +1,4 @@
--- For `leave_if_filled`, `open_if_full` and the tables after a call: which pages are in a list after one joined or left it.
+-- For `leave_if_filled`, `move_if_full` and the tables after a call: which pages are in a list after one joined or left it.
 use Rattle.std.proofs.Common.{◌≡◌, ◌≢◌, ℕ, List, ◌∷◌, refl, sym, ◌∙◌, ap, subst, inl, inr}
 use Rattle.std.specs.Prelude.{◌⊎◌}
 use Rattle.std.specs.List.{Contains}

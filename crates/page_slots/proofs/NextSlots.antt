@@ -24,9 +24,9 @@ use Rattle.page_model.specs.Order.{Order, IsLeastFree, IsNextToMove, IsOrderOf, 
 use Rattle.page_model.specs.Order.{drop_steps, fill_steps, steps_to_drop as order_drop, steps_to_fill as order_fill}
 use Rattle.page_slots.specs.Tables.{Tables, AreTables, IsOf, IsPageOf, IsUsed, LeavesList, slot_at, slots_on, used_in}
 use Rattle.page_slots.specs.Release.{IsFiller, Vacates, steps_to_drop as table_drop, steps_to_fill as table_fill}
-use Rattle.page_slots.specs.Take.{TakesAt, TakesOnFreePage, TakesOnOpenPage, steps_to_take as table_steps}
-use Rattle.page_slots.specs.Occupying.{Occupies, Serve, ServePart, class_table}
-use Rattle.page_slots.specs.Orders.{open_lists, order_of}
+use Rattle.page_slots.specs.Take.{TakesAt, TakesOnFreePage, TakesOnPartlyFullPage, steps_to_take as table_steps}
+use Rattle.page_slots.specs.Occupying.{Occupies, FitPages, FitPagesShared, class_table}
+use Rattle.page_slots.specs.Orders.{partly_full_lists, order_of}
 use Rattle.page_slots.proofs.Pages.{free_page, list_of, listed_page, of_list, one_class, placed_in}
 use Rattle.page_slots.proofs.Bits.{not_both}
 use Rattle.page_slots.proofs.TablesAfterFree.{used as used_less}
@@ -42,11 +42,11 @@ module _ (n : ℕ) where
   pub open_at : (t : Tables) (spare : List ℕ) (c : ℕ) → c < n → not_full_in (order_of n t spare) c ≡ pages_in t.lists c NotFull
   open_at t spare c lt = get_or-map-range_with_len (λ c. pages_in t.lists c NotFull) 0 n c c [] lt (omega arith)
 
-  long : (lists : PageLists) → length (open_lists n lists) ≡ n
+  long : (lists : PageLists) → length (partly_full_lists n lists) ≡ n
   long lists = length-map-range_with_len (λ c. pages_in lists c NotFull) 0 n
 
   -- all lists stay
-  pub open_same : (old new : PageLists) → ((d : ℕ) → pages_in new d NotFull ≡ pages_in old d NotFull) → open_lists n new ≡ open_lists n old
+  pub open_same : (old new : PageLists) → ((d : ℕ) → pages_in new d NotFull ≡ pages_in old d NotFull) → partly_full_lists n new ≡ partly_full_lists n old
   open_same old new same = same_lists _ _ (long new ∙ sym (long old)) (λ k d lt. (
       let l = long new in
       get_or-map-range_with_len (λ c. pages_in new c NotFull) 0 n k k d (omega arith) (omega arith) ∙ same k
@@ -54,18 +54,18 @@ module _ (n : ℕ) where
 
   -- one list changes
   pub open_set : (old new : PageLists) (c : ℕ) (pages : List ℕ) → c < n → pages_in new c NotFull ≡ pages
-      → ((d : ℕ) → d ≢ c → pages_in new d NotFull ≡ pages_in old d NotFull) → open_lists n new ≡ set (open_lists n old) c pages
-  open_set old new c pages inside here others = same_lists _ _ (long new ∙ sym (length-set (open_lists n old) c pages ∙ long old)) (λ k d lt. (
+      → ((d : ℕ) → d ≢ c → pages_in new d NotFull ≡ pages_in old d NotFull) → partly_full_lists n new ≡ set (partly_full_lists n old) c pages
+  open_set old new c pages inside here others = same_lists _ _ (long new ∙ sym (length-set (partly_full_lists n old) c pages ∙ long old)) (λ k d lt. (
       let l = long new in let lo = long old in
       get_or-map-range_with_len (λ c. pages_in new c NotFull) 0 n k k d (omega arith) (omega arith)
       ∙ elim (cases_eq k c) [
-        | inl is ↦ ap (λ j. pages_in new j NotFull) is ∙ here ∙ sym (ap (λ j. get_or (set (open_lists n old) c pages) j d) is
-            ∙ get_or-set_same (open_lists n old) c pages d (omega arith))
-        | inr ne ↦ others k ne ∙ sym (get_or-set_other (open_lists n old) c k pages d ne
+        | inl is ↦ ap (λ j. pages_in new j NotFull) is ∙ here ∙ sym (ap (λ j. get_or (set (partly_full_lists n old) c pages) j d) is
+            ∙ get_or-set_same (partly_full_lists n old) c pages d (omega arith))
+        | inr ne ↦ others k ne ∙ sym (get_or-set_other (partly_full_lists n old) c k pages d ne
             ∙ get_or-map-range_with_len (λ c. pages_in old c NotFull) 0 n k k d (omega arith) (omega arith))
       ]))
 
-module _ {p : Paging} (ok : IsPaging p) {m : Held} {old new : Tables} (serve : ServePart p old) (o : Occupies p m old)
+module _ {p : Paging} (ok : IsPaging p) {m : Held} {old new : Tables} (serve : FitPagesShared p old) (o : Occupies p m old)
     (kept : AreTables (class_table p) new) {c : ℕ} (class : c < classes p) (spare : List ℕ) where
   abbrev before : Order
   before = order_of (classes p) old spare
@@ -75,7 +75,7 @@ module _ {p : Paging} (ok : IsPaging p) {m : Held} {old new : Tables} (serve : S
 
   module _ {a page slot : ℕ} (address : a ≡ address_of p c page slot) where
     -- the slot is on a partly full page
-    module _ (on : TakesOnOpenPage old c page slot new) (g : Gains (class_table p) old new c page slot) where
+    module _ (on : TakesOnPartlyFullPage old c page slot new) (g : Gains (class_table p) old new c page slot) where
       listed : Contains (pages_in old.lists c NotFull) page
       listed = front_listed (pages_in old.lists c NotFull) page on.front
 
@@ -117,7 +117,7 @@ module _ {p : Paging} (ok : IsPaging p) {m : Held} {old new : Tables} (serve : S
                 rw (eq_yes _ _ e) (λ i. record { pool = pool i; not_full = lists i; spare = spare }))
             | inr ne ↦ (
                 let e : objects_on p m c page + 1 ≢ slots_of p c = λ same. ne (omega arith) in
-                let lists = ap (open_lists (classes p)) (on.not_filled ne) in
+                let lists = ap (partly_full_lists (classes p)) (on.not_filled ne) in
                 rw (eq_no _ _ e) (λ i. record { pool = pool i; not_full = lists i; spare = spare }))
           ]
 
@@ -167,7 +167,7 @@ distinct_free : (free : List ℕ) → HasNoRepeats free → IsDistinct nat_eq fr
 distinct_free [] once = distinct_nil
 distinct_free (page ∷ free) once = distinct_cons page free (contains_no page free once.0) (distinct_free free once.1)
 
-module _ {p : Paging} (ok : IsPaging p) {m : Held} {t : Tables} (serve : Serve p t) (o : Occupies p m t) where
+module _ {p : Paging} (ok : IsPaging p) {m : Held} {t : Tables} (serve : FitPages p t) (o : Occupies p m t) where
   abbrev k : ClassTable
   k = class_table p
 
@@ -219,7 +219,7 @@ module _ {p : Paging} (ok : IsPaging p) {m : Held} {t : Tables} (serve : Serve p
   }
 
 -- A slot of a page became free.
-module _ {p : Paging} (ok : IsPaging p) {m : Held} {old new : Tables} (serve : ServePart p old) (o : Occupies p m old)
+module _ {p : Paging} (ok : IsPaging p) {m : Held} {old new : Tables} (serve : FitPagesShared p old) (o : Occupies p m old)
     (kept : AreTables (class_table p) new) {c : ℕ} (class : c < classes p) (spare : List ℕ) {page slot : ℕ} (v : Vacates old c page slot new) where
   abbrev was : Order
   was = order_of (classes p) old spare
@@ -278,7 +278,7 @@ module _ {p : Paging} (ok : IsPaging p) {m : Held} {old new : Tables} (serve : S
     where
       by : (w : Which) → v.which ≡ w → now ≡ was
       by NotFull is =
-          let lists = ap (open_lists (classes p)) (v.still some is) in
+          let lists = ap (partly_full_lists (classes p)) (v.still some is) in
           let pool = ap (λ (q : Pool). q.free) (v.kept some) in
           (λ i. record { pool = pool i; not_full = lists i; spare = spare })
       by Full is = absurd (
@@ -300,7 +300,7 @@ module _ {p : Paging} (ok : IsPaging p) {m : Held} {old new : Tables} (serve : S
   ]
 
 -- The object that moves into a freed slot is the next one to move.
-module _ {p : Paging} (ok : IsPaging p) {m : Held} {t : Tables} (serve : ServePart p t) (o : Occupies p m t) {c : ℕ} (class : c < classes p) (spare : List ℕ)
+module _ {p : Paging} (ok : IsPaging p) {m : Held} {t : Tables} (serve : FitPagesShared p t) (o : Occupies p m t) {c : ℕ} (class : c < classes p) (spare : List ℕ)
     {a : ℕ} (f : IsFiller (class_table p) t.maps t.lists c a) where
   filler_listed : Contains (pages_in t.lists c NotFull) f.page
   filler_listed = front_listed (pages_in t.lists c NotFull) f.page f.front
@@ -338,7 +338,7 @@ module _ {p : Paging} (ok : IsPaging p) {m : Held} {t : Tables} (serve : ServePa
   }
 
 -- The steps of taking a slot, by the tables and by the order.
-module _ {p : Paging} {m : Held} {t : Tables} (serve : ServePart p t) (o : Occupies p m t) {c : ℕ} (class : c < classes p) (spare : List ℕ) where
+module _ {p : Paging} {m : Held} {t : Tables} (serve : FitPagesShared p t) (o : Occupies p m t) {c : ℕ} (class : c < classes p) (spare : List ℕ) where
   pub steps_same : (a : ℕ) (new : Tables) → TakesAt (class_table p) t c a new
       → table_steps (class_table p) t c ≡ order_steps p m (order_of (classes p) t spare) c
   steps_same a new taken = elim taken.taken [
@@ -376,7 +376,7 @@ module _ {p : Paging} {m : Held} {t : Tables} (serve : ServePart p t) (o : Occup
       by_table ∙ ap fill_steps (sym counts) ∙ sym by_order
 
 -- empty lists
-pub open_empty : (n classes pages : ℕ) → open_lists n (empty_lists classes pages) ≡ replicate n []
+pub open_empty : (n classes pages : ℕ) → partly_full_lists n (empty_lists classes pages) ≡ replicate n []
 open_empty n classes pages = same_lists _ _ (long n (empty_lists classes pages) ∙ sym (length-replicate n [])) (λ k d lt. (
     let l = long n (empty_lists classes pages) in
     get_or-map-range_with_len (λ c. pages_in (empty_lists classes pages) c NotFull) 0 n k k d (omega arith) (omega arith)

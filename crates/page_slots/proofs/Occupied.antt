@@ -11,7 +11,7 @@ use Rattle.page_model.specs.Arrangement.{class_at, objects_on, count_on, IsSlotA
 use Rattle.page_model.proofs.CallerLemmas.{address_is_slot, slot_is_address, on_page, standing, objects_on-exchanged}
 use Rattle.cf_lemmas.proofs.Values.{still}
 use Rattle.page_slots.specs.Tables.{Tables, IsOf, IsUsed, IsFreePage, slot_at, slots_on}
-use Rattle.page_slots.specs.Occupying.{Occupies, ServePart, class_table}
+use Rattle.page_slots.specs.Occupying.{Occupies, FitPagesShared, class_table}
 use Rattle.page_slots.proofs.Pages.{listed_page, listed_class, of_list}
 
 pub used_along : (t : Tables) (c d g page s slot : ℕ) → c ≡ d → g ≡ page → s ≡ slot → IsUsed t c g s → IsUsed t d page slot
@@ -23,7 +23,7 @@ pub free_of_none : (t : Tables) (c page : ℕ) → IsFreePage t page → IsOf t 
 free_of_none t c page f (inl h) = f.unlisted c Full h
 free_of_none t c page f (inr h) = f.unlisted c NotFull h
 
-module _ (p : Paging) (ok : IsPaging p) (t : Tables) (serve : ServePart p t) where
+module _ (p : Paging) (ok : IsPaging p) (t : Tables) (serve : FitPagesShared p t) where
   -- a page of a class is one of the pages
   pub of_below : (c page : ℕ) → IsOf t c page → (c < classes p) × (page < p.pages)
   of_below c page of =

@@ -11,13 +11,13 @@ use Rattle.page_model.specs.Paging.{Paging, IsPaging, page_of}
 use Rattle.page_model.specs.Arrangement.{class_at, objects_on, IsSound}
 use Rattle.page_model.proofs.CallerLemmas.{objects_on-away, objects_on-left}
 use Rattle.page_slots.specs.Tables.{Tables, IsOf, IsUsed, slot_at, slots_on, used_in}
-use Rattle.page_slots.specs.Occupying.{Occupies, ServePart, class_table}
+use Rattle.page_slots.specs.Occupying.{Occupies, FitPagesShared, class_table}
 use Rattle.page_slots.proofs.Bits.{set_here, set_there, used_some, not_both}
 use Rattle.page_slots.proofs.Pages.{same_of, was_of, one_class}
 use Rattle.page_slots.proofs.TablesAfterFree.{Loses}
 use Rattle.page_slots.proofs.Occupied.{used_along, free_of_none, stands_at, place_is}
 
-module _ (p : Paging) (ok : IsPaging p) (m : Held) (s : IsSound p m) (old new : Tables) (serve : ServePart p old) (o : Occupies p m old) (c page slot : ℕ)
+module _ (p : Paging) (ok : IsPaging p) (m : Held) (s : IsSound p m) (old new : Tables) (serve : FitPagesShared p old) (o : Occupies p m old) (c page slot : ℕ)
     (l : Loses (class_table p) old new c page slot)
     (h : ℕ) (x : Placed) (some : get m h ≡ Some x) (is_c : class_at p x ≡ c) (on : page_of p x.place ≡ page)
     (at : slot_at (class_table p) c x.place ≡ slot) where

@@ -13,13 +13,13 @@ use Rattle.page_model.specs.Arrangement.{class_at, is_on, objects_on, IsSlotAt}
 use Rattle.page_model.proofs.CallerLemmas.{address_is_slot, on_yes, objects_on-inserted, objects_on-elsewhere}
 use Rattle.cf_lemmas.proofs.Values.{still}
 use Rattle.page_slots.specs.Tables.{Tables, IsOf, IsUsed, slot_at, slots_in, slots_on, used_in}
-use Rattle.page_slots.specs.Occupying.{Occupies, ServePart, class_table}
+use Rattle.page_slots.specs.Occupying.{Occupies, FitPagesShared, class_table}
 use Rattle.page_slots.proofs.Bits.{set_here, set_there, none_used, not_both}
 use Rattle.page_slots.proofs.Pages.{same_of, was_of, one_class}
 use Rattle.page_slots.proofs.TablesAfterTake.{Gains}
 use Rattle.page_slots.proofs.Occupied.{used_along, free_of_none, none_counts}
 
-module _ (p : Paging) (ok : IsPaging p) (m : Held) (old new : Tables) (serve : ServePart p old) (o : Occupies p m old) (c page slot : ℕ)
+module _ (p : Paging) (ok : IsPaging p) (m : Held) (old new : Tables) (serve : FitPagesShared p old) (o : Occupies p m old) (c page slot : ℕ)
     (g : Gains (class_table p) old new c page slot) where
   place : ℕ
   place = address_of p c page slot

@@ -11,10 +11,10 @@ use Rattle.class_lists.specs.PageLists.{pages_in}
 use Rattle.page_pool.specs.Pool.{is_in_pool}
 use Rattle.page_model.specs.Held.{Held}
 use Rattle.page_model.specs.Paging.{Paging, IsPaging, slots_of}
-use Rattle.page_model.specs.Arrangement.{objects_on, count_on, home_pages, not_full_pages, used_pages, free_pages, IsSound, LacksRoom}
+use Rattle.page_model.specs.Arrangement.{objects_on, count_on, pages_of_class, not_full_pages, used_pages, free_pages, IsSound, LacksRoom}
 use Rattle.page_model.proofs.CallerLemmas.{part_full, less_counts as lt_yes, not_less_counts_none as lt_no, on_page, stands_here, sum_same, sum_plus, used_is}
 use Rattle.page_slots.specs.Tables.{Tables, HasUsed, IsOf, IsPageOf, NoneForeign, slots_on, used_in}
-use Rattle.page_slots.specs.Occupying.{Occupies, ServePart, class_table}
+use Rattle.page_slots.specs.Occupying.{Occupies, FitPagesShared, class_table}
 use Rattle.page_slots.proofs.Pages.{placed_in, listed_page, list_of, free_page, taken_page}
 use Rattle.page_slots.proofs.Counted.{any_contains, contains_no, count_both, count_members, no_repeats}
 use Rattle.page_slots.proofs.Occupied.{free_bare, none_counts}
@@ -28,7 +28,7 @@ part_not n s all = (let b : nat_lt n s ≡ false = grind (arith, nat_tests) in r
 part_none : (n s : ℕ) → n ≡ 0 → part_full n s ≡ false
 part_none n s e = rw e refl
 
-module _ (p : Paging) (ok : IsPaging p) (m : Held) (t : Tables) (serve : ServePart p t) (o : Occupies p m t) where
+module _ (p : Paging) (ok : IsPaging p) (m : Held) (t : Tables) (serve : FitPagesShared p t) (o : Occupies p m t) where
   listed : (c page : ℕ) (w : Which) → Contains (pages_in t.lists c w) page → IsPageOf (class_table p) t page c w
   listed c page w h = placed_in (class_table p) t serve.tables c page w h
 
@@ -108,8 +108,8 @@ module _ (p : Paging) (ok : IsPaging p) (m : Held) (t : Tables) (serve : ServePa
       (λ page _. same_part c page) ∙ members c NotFull
 
   -- the pages of a class are those of its two lists
-  pub home_pages_are : (c : ℕ) → home_pages p m c ≡ length (pages_in t.lists c Full) + length (pages_in t.lists c NotFull)
-  unfolding home_pages
+  pub home_pages_are : (c : ℕ) → pages_of_class p m c ≡ length (pages_in t.lists c Full) + length (pages_in t.lists c NotFull)
+  unfolding pages_of_class
   home_pages_are c =
       let e = sum_same (λ page. one (nat_lt 0 (objects_on p m c page)))
       (λ page. one (is_in_pool (pages_in t.lists c Full) page) + one (is_in_pool (pages_in t.lists c NotFull) page)) (range_with_len 0 p.pages) (split c) in

@@ -22,7 +22,7 @@ use Rattle.page_pool.proofs.CallerLemmas.{pooled_range}
 use Rattle.page_model.specs.Held.{Placed}
 use Rattle.page_model.specs.Paging.{Paging}
 use Rattle.page_slots.specs.Tables.{AreTables, IsOf, NoneForeign, tables, used_in}
-use Rattle.page_slots.specs.Occupying.{Occupies, Serve, class_table}
+use Rattle.page_slots.specs.Occupying.{Occupies, FitPages, class_table}
 use Rattle.page_slots.proofs.Listing.{along}
 use Rattle.page_slots.proofs.Pages.{other_free}
 use Rattle.page_slots.proofs.TablesAfterTake.{free_head}
@@ -115,7 +115,7 @@ module _ (p : Paging) (n : ℕ) (maps : List (List Bool)) (lists : PageLists) (p
   tables_are : tables maps lists pool ≡ tables maps (empty_lists n p.pages) (record { pages = p.pages; free = range_with_len 0 p.pages })
   tables_are = ap (λ l. tables maps l pool) lists_are ∙ ap (tables maps (empty_lists n p.pages)) pool_is
 
-  pub new_serve : Serve p (tables maps lists pool)
+  pub new_serve : FitPages p (tables maps lists pool)
   new_serve = record {
     part = record { tables = new_tables; pages = ap (λ (q : Pool). q.pages) pool_is };
     whole = subst NoneForeign (sym tables_are) (first_whole n p.pages maps);

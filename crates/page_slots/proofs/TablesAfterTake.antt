@@ -16,7 +16,7 @@ use Rattle.page_pool.specs.Pool.{Pool, IsPool, TakesFront, is_in_pool}
 use Rattle.page_pool.proofs.CallerLemmas.{front_gone, front_below}
 use Rattle.page_slots.specs.Tables.{Tables, AreTables, IsOf, IsPageOf, IsFreePage, IsForeign, JoinsList, NoneForeign}
 use Rattle.page_slots.specs.Tables.{KeepsForeign, slots_in, slots_on, used_in}
-use Rattle.page_slots.specs.Take.{FillsPage, TakesAt, TakesOnOpenPage, TakesOnFreePage}
+use Rattle.page_slots.specs.Take.{FillsPage, TakesAt, TakesOnPartlyFullPage, TakesOnFreePage}
 use Rattle.page_slots.proofs.Listing.{along, joined_here, joined_comes, joined_stays, joined_pages, joined_classes, left_comes, left_stays, left_pages}
 use Rattle.page_slots.proofs.Listing.{left_classes}
 use Rattle.page_slots.proofs.Pages.{IsSame, other_free, map_here, map_there, maps_long, placed_in, listed_page, list_of, free_page, some_slots}
@@ -75,7 +75,7 @@ module _ (k : ClassTable) (old new : Tables) (c page slot : ℕ) (g : Gains k ol
 
 module _ (k : ClassTable) (old : Tables) (a : AreTables k old) (c page : ℕ) (new : Tables) (apart : AreApart new.lists) where
   -- the slot is on a partly full page
-  module _ (slot : ℕ) (t : TakesOnOpenPage old c page slot new) where
+  module _ (slot : ℕ) (t : TakesOnPartlyFullPage old c page slot new) where
     there : Contains (pages_in old.lists c NotFull) page
     there = front_listed (pages_in old.lists c NotFull) page t.front
 

@@ -12,13 +12,13 @@ abbrev pub class_table : Paging → ClassTable
 class_table p = record { page_words = p.page_words; sizes = p.sizes }
 
 -- the tables t have the pages and classes of p; some pages may be foreign
-pub record ServePart (p : Paging) (t : Tables) : Type 0 where
+pub record FitPagesShared (p : Paging) (t : Tables) : Type 0 where
   pub tables : AreTables (class_table p) t
   pub pages : t.pool.pages ≡ p.pages
 
 -- the tables t have the pages and classes of p, and no page is foreign
-pub record Serve (p : Paging) (t : Tables) : Type 0 where
-  pub part : ServePart p t
+pub record FitPages (p : Paging) (t : Tables) : Type 0 where
+  pub part : FitPagesShared p t
   pub whole : NoneForeign t
 
 -- The objects m are at the used slots of the tables t: each object is at a used slot of its class, and each used slot has an object. So a page of a class has

@@ -9,7 +9,7 @@ use Rattle.page_model.specs.Order.{drop_steps, fill_steps}
 use Rattle.page_slots.specs.Tables.{Tables, JoinsList, LeavesList, address_in, slots_on, used_in}
 
 -- a page of class c moves from the full pages to the partly full ones, of which it becomes the first
-pub record OpensPage (old : PageLists) (c page : ℕ) (new : PageLists) : Type 0 where
+pub record MakesPagePartlyFull (old : PageLists) (c page : ℕ) (new : PageLists) : Type 0 where
   pub between : PageLists
   pub leaves : LeavesList old c Full page between
   pub joins : JoinsList between c NotFull page new
@@ -23,7 +23,7 @@ pub record Vacates (old : Tables) (c page slot : ℕ) (new : Tables) : Type 0 wh
   pub maps : new.maps ≡ slice_set old.maps page (slice_set (slots_on old page) slot false)
   pub emptied : used_in (slots_on new page) ≡ 0 → LeavesList old.lists c which page new.lists
   pub returned : used_in (slots_on new page) ≡ 0 → new.pool ≡ record old.pool { free = page ∷ old.pool.free }
-  pub opened : used_in (slots_on new page) ≢ 0 → which ≡ Full → OpensPage old.lists c page new.lists
+  pub opened : used_in (slots_on new page) ≢ 0 → which ≡ Full → MakesPagePartlyFull old.lists c page new.lists
   pub still : used_in (slots_on new page) ≢ 0 → which ≡ NotFull → new.lists ≡ old.lists
   pub kept : used_in (slots_on new page) ≢ 0 → new.pool ≡ old.pool
 

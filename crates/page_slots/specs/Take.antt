@@ -15,7 +15,7 @@ pub record FillsPage (old : PageLists) (c page : ℕ) (new : PageLists) : Type 0
   pub joins : JoinsList between c Full page new
 
 -- a call takes the lowest free slot of the first partly full page of class c; if that fills the page, it moves to the full ones
-pub record TakesOnOpenPage (old : Tables) (c page slot : ℕ) (new : Tables) : Type 0 where
+pub record TakesOnPartlyFullPage (old : Tables) (c page slot : ℕ) (new : Tables) : Type 0 where
   pub front : slice_get (pages_in old.lists c NotFull) 0 ≡ Some page
   pub least : position (λ used. not used) (slots_on old page) ≡ Some slot
   pub free : slice_get (slots_on old page) slot ≡ Some false
@@ -38,7 +38,7 @@ pub record TakesAt (k : ClassTable) (old : Tables) (c a : ℕ) (new : Tables) : 
   pub page : ℕ
   pub slot : ℕ
   pub address : a ≡ address_in k c page slot
-  pub taken : TakesOnOpenPage old c page slot new ⊎ ((slot ≡ 0) × TakesOnFreePage k old c page new)
+  pub taken : TakesOnPartlyFullPage old c page slot new ⊎ ((slot ≡ 0) × TakesOnFreePage k old c page new)
 
 -- a call takes a slot of class c, at this address (`Some`); or there is none (`None`), since no page of the class is partly full and no page is free, and
 -- nothing changes

@@ -8,7 +8,7 @@ ghost use Rattle.page_model.specs.Held.{Held, Placed};
 ghost use Rattle.page_model.specs.Order as Order;
 ghost use Rattle.page_model.specs.Order.{IsNextToMove, IsOrderOf, TakesNext, slot_freed};
 ghost use Rattle.page_model.specs.Paging.{IsPaging, Paging, classes};
-ghost use Rattle.page_slots.specs.Occupying.{Occupies, Serve, ServePart, class_table};
+ghost use Rattle.page_slots.specs.Occupying.{Occupies, FitPages, FitPagesShared, class_table};
 ghost use Rattle.page_slots.specs.Orders.{order_of};
 ghost use Rattle.page_slots.specs.Release.{IsFiller, Vacates, steps_to_drop, steps_to_fill};
 ghost use Rattle.page_slots.specs.Tables.{AreTables, IsOf, Tables};
@@ -20,7 +20,7 @@ ghost use Rattle.class_lists.specs.PageLists.{pages_in};
 /// order afterwards is the one that the model computes.
 pub fn the_next_slot_is_taken()
     ensures { (p : Paging) (m : Held) (old new : Tables) (c a : ℕ) (spare : List ℕ)
-        → IsPaging p → ServePart p old → Occupies p m old → AreTables (class_table p) new → c < classes p
+        → IsPaging p → FitPagesShared p old → Occupies p m old → AreTables (class_table p) new → c < classes p
         → TakesAt (class_table p) old c a new
         → TakesNext p m (order_of (classes p) old spare) c a (order_of (classes p) new spare) }
 {}
@@ -29,7 +29,7 @@ pub fn the_next_slot_is_taken()
 /// computes (`slot_freed`).
 pub fn a_freed_slot_follows_the_order()
     ensures { (p : Paging) (m : Held) (old new : Tables) (c page slot : ℕ) (spare : List ℕ)
-        → IsPaging p → ServePart p old → Occupies p m old → AreTables (class_table p) new → c < classes p
+        → IsPaging p → FitPagesShared p old → Occupies p m old → AreTables (class_table p) new → c < classes p
         → Vacates old c page slot new
         → order_of (classes p) new spare ≡ slot_freed p m (order_of (classes p) old spare) c page }
 {}
@@ -38,7 +38,7 @@ pub fn a_freed_slot_follows_the_order()
 /// in their order.
 pub fn the_filler_is_next_to_move()
     ensures { (p : Paging) (m : Held) (t : Tables) (c a : ℕ) (y : Placed) (spare : List ℕ)
-        → IsPaging p → ServePart p t → Occupies p m t → c < classes p
+        → IsPaging p → FitPagesShared p t → Occupies p m t → c < classes p
         → IsFiller (class_table p) t.maps t.lists c a → y.place ≡ a
         → IsNextToMove p m (order_of (classes p) t spare) c y }
 {}
@@ -47,13 +47,13 @@ pub fn the_filler_is_next_to_move()
 /// order and the numbers of objects on the pages.
 pub fn steps_follow_the_order()
     ensures take { (p : Paging) (m : Held) (old new : Tables) (c a : ℕ) (spare : List ℕ)
-        → ServePart p old → Occupies p m old → c < classes p → TakesAt (class_table p) old c a new
+        → FitPagesShared p old → Occupies p m old → c < classes p → TakesAt (class_table p) old c a new
         → steps_to_take (class_table p) old c ≡ Order.steps_to_take p m (order_of (classes p) old spare) c }
     ensures drop { (p : Paging) (m : Held) (t : Tables) (c page : ℕ)
-        → ServePart p t → Occupies p m t → c < classes p → IsOf t c page
+        → FitPagesShared p t → Occupies p m t → c < classes p → IsOf t c page
         → steps_to_drop t page ≡ Order.steps_to_drop p m c page }
     ensures fill { (p : Paging) (m : Held) (t : Tables) (c page : ℕ) (spare : List ℕ)
-        → ServePart p t → Occupies p m t → c < classes p → slice_get (pages_in t.lists c NotFull) 0 ≡ Some page
+        → FitPagesShared p t → Occupies p m t → c < classes p → slice_get (pages_in t.lists c NotFull) 0 ≡ Some page
         → steps_to_fill t c ≡ Order.steps_to_fill p m (order_of (classes p) t spare) c }
 {}
 
@@ -62,7 +62,7 @@ pub fn steps_follow_the_order()
 /// each once.
 pub fn the_order_is_of_the_arrangement()
     ensures { (p : Paging) (m : Held) (t : Tables) (limit : ℕ) (spare : List ℕ)
-        → IsPaging p → Serve p t → Occupies p m t
+        → IsPaging p → FitPages p t → Occupies p m t
         → ((h : ℕ) → Contains spare h → (h < limit) × (get m h ≡ None)) → IsDistinct nat_eq spare → length spare + len m ≡ limit
         → IsOrderOf p m limit (order_of (classes p) t spare) }
 {}

@@ -9,7 +9,7 @@ ghost use Rattle.page_pool.specs.Pool.{IsPool, Pool, is_in_pool};
 ghost use Rattle.size_classes.specs.Table.{IsClassTable};
 ghost use Rattle.page_slots.specs.PageTables.{tables_with};
 ghost use Rattle.page_slots.specs.Tables.{AreTables, IsUsed, KeepsForeign, page_at, slot_at, used_in};
-ghost use Rattle.page_slots.specs.Release.{FillsFrom, HasUsedSlot, IsFiller, MovesObject, OpensPage, Vacates, steps_to_drop, steps_to_fill, steps_to_vacate};
+ghost use Rattle.page_slots.specs.Release.{FillsFrom, HasUsedSlot, IsFiller, MovesObject, MakesPagePartlyFull, Vacates, steps_to_drop, steps_to_fill, steps_to_vacate};
 
 use crate::page_tables::PageTables;
 use crate::place::{address_of, slot_of};
@@ -148,7 +148,7 @@ impl PageTables {
             lists.unlink(c, which, page, steps);
             self.pool.give(page, steps);
         } else {
-            open_if_full(lists, c, which, page, steps);
+            move_if_full(lists, c, which, page, steps);
         }
     }
 }
@@ -169,11 +169,11 @@ fn list_of(map: &SlotMap, steps: &mut Steps) -> Which
 
 /// If the page is in the list of full pages of class c, moves it to the partly full pages; else
 /// does nothing. `which` is the list that it is in.
-fn open_if_full(lists: &mut ClassLists, c: u32, which: Which, page: u32, steps: &mut Steps)
+fn move_if_full(lists: &mut ClassLists, c: u32, which: Which, page: u32, steps: &mut Steps)
     requires class { c < lists.old.classes }
     requires apart { AreApart lists.old }
     requires listed { Contains (pages_in lists.old c which) page }
-    ensures opened { which ≡ Which.Full → OpensPage lists.old c page lists.new }
+    ensures opened { which ≡ Which.Full → MakesPagePartlyFull lists.old c page lists.new }
     ensures still { which ≡ Which.NotFull → lists.new ≡ lists.old }
     ensures kept { AreApart lists.new }
     ensures steps { RoseBy steps.old steps.new (elim which [ Full ↦ 8 | NotFull ↦ 0 ]) }

@@ -12,7 +12,7 @@ use Rattle.page_model.specs.Figures.{taken_bytes}
 use Rattle.page_model.proofs.CallerLemmas.{on_none, sound_empty, none_live, none_taken}
 use Rattle.cf_lemmas.proofs.Positions.{position_is, position_none}
 use Rattle.cf_lemmas.proofs.Tests.{eq_no, eq_yes}
-use Rattle.cf_model.specs.Answers.{bound_put}
+use Rattle.cf_model.specs.Answers.{with_bound}
 use Rattle.paged_heap.specs.Heap.{Heap}
 use Rattle.paged_heap.specs.Layout.{IsValid, held_in, paging_at, state_of}
 use Rattle.paged_heap.proofs.ByKind.{framed_kept}
@@ -67,7 +67,7 @@ module _ (h : Heap) (k : IsValid h) (none : held_in h ≡ empty) (c b : ℕ) (lt
         ∙ sym (ap (taken_bytes (paging_at (rebound h c b))) (no_objects_in h none) ∙ none_taken (paging_at (rebound h c b)));
   }
 
-  pub rebound_state : state_of (rebound h c b) ≡ bound_put (state_of h) (Some c) b
+  pub rebound_state : state_of (rebound h c b) ≡ with_bound (state_of h) (Some c) b
   rebound_state = ap (λ bs. record (state_of h) { bounds = bs }) (take-set-lt (length h.classes.sizes) h.bounds c b lt)
 
 -- the class with slots of this many words is the first of that size

@@ -16,8 +16,8 @@ use Rattle.class_lists.specs.PageLists.{empty_lists}
 use Rattle.page_pool.specs.Pool.{Pool}
 use Rattle.proxy_table.specs.Proxies.{Proxies, AreBelowLimit, no_proxies}
 use Rattle.page_slots.specs.Tables.{tables}
-use Rattle.page_slots.specs.Occupying.{Occupies, Serve}
-use Rattle.page_slots.specs.Orders.{open_lists}
+use Rattle.page_slots.specs.Occupying.{Occupies, FitPages}
+use Rattle.page_slots.specs.Orders.{partly_full_lists}
 use Rattle.page_slots.proofs.CallerLemmas.{first_occupied, first_table, new_serve, open_empty}
 use Rattle.cf_base.specs.Settings.{profile_of}
 use Rattle.page_model.specs.Order.{first_order}
@@ -62,7 +62,7 @@ module _ (h : Heap) (f : IsFirst h) where
   few : length (sizes h.settings.page_words (layout_of h.kind)) ≤ 67
   few = (are_sizes h.settings.page_words (layout_of h.kind) h.settings.page_size).few
 
-  serve : Serve (paging_at h) (tables_in h)
+  serve : FitPages (paging_at h) (tables_in h)
   serve =
       let small = h.settings.small_region in
       new_serve (paging_at h) (length h.classes.sizes) h.maps h.lists h.pool (first_table h.settings.page_words (layout_of h.kind) h.settings.page_size)
@@ -105,8 +105,8 @@ module _ (h : Heap) (f : IsFirst h) where
   -- the order lists pages and numbers in rising order
   order_first : order_in h ≡ first_order (paging_in (empty_heap h.kind (profile_of h.settings) [])) h.settings.proxies
   order_first =
-      let lists : open_lists (length h.classes.sizes) h.lists ≡ replicate (length (sizes h.settings.page_words (layout_of h.kind))) [] =
-      ap (open_lists (length h.classes.sizes)) f.lists ∙ open_empty (length h.classes.sizes) (length h.classes.sizes) h.settings.pages
+      let lists : partly_full_lists (length h.classes.sizes) h.lists ≡ replicate (length (sizes h.settings.page_words (layout_of h.kind))) [] =
+      ap (partly_full_lists (length h.classes.sizes)) f.lists ∙ open_empty (length h.classes.sizes) (length h.classes.sizes) h.settings.pages
       ∙ ap (λ n. replicate n []) many in
       let pool = ap (λ (q : Pool). q.free) f.pool in
       let spare = ap (λ (x : Proxies). x.free) f.proxies in

@@ -5,7 +5,7 @@ use Rattle.std.specs.FinMap.{len}
 use Rattle.cf_base.specs.declared.answers.Totals.{Totals}
 use Rattle.page_model.specs.Held.{Held, objects}
 use Rattle.page_model.specs.Paging.{Paging}
-use Rattle.page_model.specs.Arrangement.{home_pages, not_full_pages, used_pages, free_pages}
+use Rattle.page_model.specs.Arrangement.{pages_of_class, not_full_pages, used_pages, free_pages}
 use Rattle.page_model.specs.Figures.{asked_bytes, taken_bytes, totals_of}
 use Rattle.page_model.proofs.CallerLemmas.{len-objects, home_at_most}
 use Rattle.class_lists.specs.PageLists.{pages_in}
@@ -23,7 +23,7 @@ pub totals_same : (p : Paging) (m : Held) (l a t h u f g : ℕ) → l ≡ len (o
 totals_same p m l a t h u f g el ea et eh eu ef eg = rw (el, ea, et, eh, eu, ef, eg) refl
 
 module _ (h : Heap) (k : IsValid h) where
-  pub home_is : (c : ℕ) → home_pages (paging_at h) (held_in h) c ≡ length (pages_in h.lists c Full) + length (pages_in h.lists c NotFull)
+  pub home_is : (c : ℕ) → pages_of_class (paging_at h) (held_in h) c ≡ length (pages_in h.lists c Full) + length (pages_in h.lists c NotFull)
   home_is c = home_pages_are (paging_at h) (paging_ok h k) (held_in h) (tables_in h) k.serve.part k.occupied c
 
   pub home_few : (c : ℕ) → length (pages_in h.lists c Full) + length (pages_in h.lists c NotFull) ≤ 4096

@@ -16,12 +16,12 @@ use Rattle.page_slots.proofs.CallerLemmas.{vacated_occupied, vacated_order, vaca
 use Rattle.page_slots.specs.Orders.{order_of}
 use Rattle.paged_heap.specs.Heap.{Heap}
 use Rattle.paged_heap.specs.Layout.{IsFramed, IsValid, held_in, order_in, paging_at, tables_in}
-use Rattle.paged_heap.specs.Free.{IsMoving, IsObjectAt}
+use Rattle.paged_heap.specs.Free.{MustMoveInto, IsObjectAt}
 use Rattle.paged_heap.proofs.LayoutFacts.{as_many, paging_ok, table_is}
 use Rattle.paged_heap.proofs.Preserved.{Becomes, places_are, rest_from}
 use Rattle.paged_heap.proofs.FreedObject.{follows_from, goes, it, it_class, it_found, it_slot, moving, page_same, rest_held, slot_same}
 
-module _ {h : Heap} (k : IsValid h) {q a size c : ℕ} (o : IsObjectAt h q a size c) (still : IsMoving h a c → ⊥) (e g n : Heap)
+module _ {h : Heap} (k : IsValid h) {q a size c : ℕ} (o : IsObjectAt h q a size c) (still : MustMoveInto h a c → ⊥) (e g n : Heap)
     (erased : e ≡ record h { proxies = without_place h.proxies q; words = e.words })
     (gone : Clears h.words e.words (record { from = a; count = get_or h.classes.sizes c 0 })) (long : length e.words ≡ length h.words)
     (framed : IsFramed h.kind n) (handles : AreBelowLimit e.proxies)

@@ -15,13 +15,13 @@ use Rattle.proxy_table.specs.Proxies.{AreBelowLimit, Proxies, with_place, withou
 use Rattle.cf_model.specs.Steps.{frames_left}
 use Rattle.page_slots.specs.Release.{FillsFrom}
 use Rattle.page_slots.specs.Tables.{AreTables, Tables}
-use Rattle.page_slots.specs.Occupying.{Occupies, Serve, class_table}
+use Rattle.page_slots.specs.Occupying.{Occupies, FitPages, class_table}
 use Rattle.page_slots.proofs.CallerLemmas.{filled_occupied, filled_serve, filler, filler_in, filler_is, filler_may, filler_next, vacated_order}
 use Rattle.page_slots.specs.Orders.{order_of}
 use Rattle.virtual_words.specs.Words.{IsWhole}
 use Rattle.paged_heap.specs.Heap.{Heap}
 use Rattle.paged_heap.specs.Layout.{IsFramed, IsValid, held_in, order_in, paging_at, state_of, tables_in}
-use Rattle.paged_heap.specs.Free.{IsMoving, IsObjectAt, MovesSlot}
+use Rattle.paged_heap.specs.Free.{MustMoveInto, IsObjectAt, MovesSlot}
 use Rattle.paged_heap.proofs.ByKind.{frames_change}
 use Rattle.paged_heap.proofs.WholeBlocks.{whole_slot}
 use Rattle.paged_heap.proofs.LayoutFacts.{as_many, number_small, paging_ok, place_known, table_is}
@@ -32,11 +32,11 @@ use Rattle.paged_heap.proofs.FreedObject.{follows_from, goes, it, it_class, it_f
 pub record Fills (h : Heap) (q a size c b : ℕ) (new : Tables) : Type 0 where
   pub valid : IsValid h
   pub object : IsObjectAt h q a size c
-  pub moves : IsMoving h a c
+  pub moves : MustMoveInto h a c
   pub filled : FillsFrom h.classes (tables_in h) c b new
   pub tables : AreTables h.classes new
 
-pub fills_of : {h : Heap} {q a size c b : ℕ} {new : Tables} → IsValid h → IsObjectAt h q a size c → IsMoving h a c → FillsFrom h.classes (tables_in h) c b new
+pub fills_of : {h : Heap} {q a size c b : ℕ} {new : Tables} → IsValid h → IsObjectAt h q a size c → MustMoveInto h a c → FillsFrom h.classes (tables_in h) c b new
     → AreTables h.classes new → Fills h q a size c b new
 fills_of valid object moves filled tables = record { valid = valid; object = object; moves = moves; filled = filled; tables = tables }
 
@@ -171,7 +171,7 @@ module _ {h : Heap} {q a size c b : ℕ} {new : Tables} (f : Fills h q a size c 
         moved.long
         (image n.words moved.words)
         framed
-        (subst (Serve (paging_at h)) (sym on) (filled_serve (paging_ok h k) k.serve.part k.occupied kept_tables q (it_found k o) fills k.serve.whole))
+        (subst (FitPages (paging_at h)) (sym on) (filled_serve (paging_ok h k) k.serve.part k.occupied kept_tables q (it_found k o) fills k.serve.whole))
         (subst (Occupies (paging_at h) (moved_to (remove (held_in h) q) r (get (held_in h) r) a)) (sym on)
         (filled_occupied (paging_ok h k) k.serve.part k.occupied kept_tables q (it_found k o) fills k.sound r there at due))
         (ap (λ (x : Heap). x.proxies.limit) whole)
@@ -204,7 +204,7 @@ module _ {h : Heap} {q a size c b : ℕ} {new : Tables} (f : Fills h q a size c 
         ∙ sym (frames_change h.kind h k.framed (rest_held k o n (Some r) mover) r y (record { place = a; bytes = y.bytes }) there e)
 
   -- The slot was found, the number released and the object taken out of the counts; w are the slot's words and i is the other's number.
-  pub record Leaves (t g : Heap) (w i : ℕ) : Type 0 where
+  pub record CallResult (t g : Heap) (w i : ℕ) : Type 0 where
     pub size_w : w ≡ words
     pub is : i ≡ r
     pub found : t ≡ record h { maps = t.maps; lists = t.lists; pool = t.pool }
@@ -217,7 +217,7 @@ module _ {h : Heap} {q a size c b : ℕ} {new : Tables} (f : Fills h q a size c 
     }
 
   -- as above, with the number of the other object read from its header
-  pub leaves_of : {t g : Heap} {w i word : ℕ} {proxies : Proxies} → t ≡ record h { maps = t.maps; lists = t.lists; pool = t.pool }
+  pub call_result : {t g : Heap} {w i word : ℕ} {proxies : Proxies} → t ≡ record h { maps = t.maps; lists = t.lists; pool = t.pool }
       → word ≡ get_or t.words b 0 → i ≡ word % 2 ^ 32
       → w ≡ words → proxies ≡ without_place t.proxies q
       → g ≡ record t {
@@ -226,8 +226,8 @@ module _ {h : Heap} {q a size c b : ℕ} {new : Tables} (f : Fills h q a size c 
         asked = t.asked - size;
         taken = t.taken - 8 * get_or t.classes.sizes c 0;
       }
-      → Leaves t g w i
-  leaves_of {t} {g} {w} {i} {word} {proxies} found read number size_w released counted = record {
+      → CallResult t g w i
+  call_result {t} {g} {w} {i} {word} {proxies} found read number size_w released counted = record {
     size_w = size_w;
     is = number ∙ ap (λ v. v % 2 ^ 32) read ∙ ap (λ (x : Heap). get_or x.words b 0 % 2 ^ 32) found ∙ number_shown;
     found = found;
@@ -236,7 +236,7 @@ module _ {h : Heap} {q a size c b : ℕ} {new : Tables} (f : Fills h q a size c 
     counted = counted;
   }
 
-  module _ {t g : Heap} {w i : ℕ} (l : Leaves t g w i) where
+  module _ {t g : Heap} {w i : ℕ} (l : CallResult t g w i) where
     counted_is : g ≡ record h {
       maps = t.maps;
       lists = t.lists;

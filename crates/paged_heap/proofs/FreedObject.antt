@@ -21,14 +21,14 @@ use Rattle.class_lists.specs.declared.Which.TheVariants.{NotFull}
 use Rattle.proxy_table.specs.Proxies.{AreBelowLimit}
 use Rattle.page_slots.specs.Release.{MovesObject}
 use Rattle.page_slots.specs.Tables.{IsUsed, page_at, slot_at, slots_on}
-use Rattle.page_slots.specs.Occupying.{Occupies, Serve, class_table}
+use Rattle.page_slots.specs.Occupying.{Occupies, FitPages, class_table}
 use Rattle.page_slots.specs.Orders.{order_of}
 use Rattle.page_slots.proofs.CallerLemmas.{moves_is, moves_some}
 use Rattle.cf_model.specs.State.{HeapState}
-use Rattle.cf_model.specs.Steps.{FreesObject, MovesIn, frames_left, number_of, leaves_of}
+use Rattle.cf_model.specs.Steps.{FreesObject, MovesIn, frames_left, number_of, call_result}
 use Rattle.paged_heap.specs.Heap.{Heap}
 use Rattle.paged_heap.specs.Layout.{IsFramed, IsValid, held_in, order_in, paging_at, state_of, tables_in}
-use Rattle.paged_heap.specs.Free.{IsMoving, IsObjectAt}
+use Rattle.paged_heap.specs.Free.{MustMoveInto, IsObjectAt}
 use Rattle.cf_lemmas.proofs.Tallies.{counted_out}
 use Rattle.paged_heap.proofs.ByKind.{moves_in, slot_in_is, tiling_stays}
 use Rattle.paged_heap.proofs.LayoutFacts.{as_many, bound_is, few_classes, paged_kind, paging_ok, sizes_are, table_is}
@@ -102,13 +102,13 @@ module _ {h : Heap} (k : IsValid h) {q a size c : ℕ} (o : IsObjectAt h q a siz
   bound_same = sym (bound_is h k c class_listed) ∙ ap (bound_of (paging_at h)) (sym it_class)
 
   -- the test of a move is the model's
-  pub must : IsMoving h a c → MustMove (paging_at h) (held_in h) it
+  pub must : MustMoveInto h a c → MustMove (paging_at h) (held_in h) it
   must v = (moves_is (paging_ok h k) k.serve.part k.occupied q it_found).0 (along _ _ _ _ _ _ (sym page_same) (sym it_class) bound_same v)
 
-  pub moving : MustMove (paging_at h) (held_in h) it → IsMoving h a c
+  pub moving : MustMove (paging_at h) (held_in h) it → MustMoveInto h a c
   moving v = along _ _ _ _ _ _ page_same it_class (sym bound_same) ((moves_is (paging_ok h k) k.serve.part k.occupied q it_found).1 v)
 
-  pub some_not_full : IsMoving h a c → 1 ≤ length (pages_in h.lists c NotFull)
+  pub some_not_full : MustMoveInto h a c → 1 ≤ length (pages_in h.lists c NotFull)
   some_not_full v =
       let l = moves_some (paging_ok h k) k.serve.part k.occupied q it_found (must v) (let e = it_class in let lt = o.in_range in omega arith) in
       subst (λ d. 1 ≤ length (pages_in h.lists d NotFull)) it_class l
@@ -153,7 +153,7 @@ module _ {h : Heap} (k : IsValid h) {q a size c : ℕ} (o : IsObjectAt h q a siz
           omega arith
 
       pub goes : n ≡ with_parts h n → n.proxies.places ≡ places rest_held → length n.words ≡ length h.words → IsSlotImage (paging_at h) rest_held n.words
-          → IsFramed h.kind n → Serve (paging_at h) (tables_in n) → Occupies (paging_at h) rest_held (tables_in n) → n.proxies.limit ≡ h.proxies.limit
+          → IsFramed h.kind n → FitPages (paging_at h) (tables_in n) → Occupies (paging_at h) rest_held (tables_in n) → n.proxies.limit ≡ h.proxies.limit
           → AreBelowLimit n.proxies → Becomes h n rest_held
       goes rest at long image framed serve occupied limit handles = record {
         rest = rest;
@@ -194,7 +194,7 @@ module _ {h : Heap} (k : IsValid h) {q a size c : ℕ} (o : IsObjectAt h q a siz
             moves = subst (MovesIn h.kind (state_of h) it) (sym is) (moves_in h.kind (paged_kind h k) (state_of h) it moved mv);
             held = held_is h n k rest_held b ∙ ap (without (held_in h) q a) (sym is);
             left = ap objects (held_is h n k rest_held b) ∙ objects_are;
-            frames = frames ∙ ap (λ v. frames_left h.kind (state_of h) (leaves_of (state_of h) q it v)) (sym is);
+            frames = frames ∙ ap (λ v. frames_left h.kind (state_of h) (call_result (state_of h) q it v)) (sym is);
             tiling = ap (λ (s : HeapState). s.tiling) same ∙ sym (tiling_stays h.kind (paged_kind h k) (state_of h) a);
             rest = record {
               kind = ap (λ (s : HeapState). s.kind) same;

@@ -23,7 +23,7 @@ use Rattle.page_slots.proofs.Pages.{free_page}
 use Rattle.page_slots.proofs.CallerLemmas.{refused_lacks_room, taken_is_free}
 use Rattle.cf_model.specs.Rules.{IsPaged}
 use Rattle.cf_model.specs.State.{HeapState}
-use Rattle.cf_model.specs.Steps.{ChangesCost, IsMallocStep, IsRefusedBy, WantsProxy, WantsSpace}
+use Rattle.cf_model.specs.Steps.{ChangesCost, IsMallocStep, IsRefusedBy, LacksProxy, LacksSpace}
 use Rattle.cf_model.proofs.Exactly.{given_is_not_refused, one_cause}
 use Rattle.paged_heap.specs.Heap.{Heap}
 use Rattle.paged_heap.specs.Layout.{IsValid, held_in, paging_at, state_of, tables_in}
@@ -65,14 +65,14 @@ module _ (h : Heap) (k : IsValid h) (c : ℕ) where
   ]
 
 module _ (h : Heap) (k : IsValid h) (bytes c : ℕ) (found : Some c ≡ class_of h.classes.sizes bytes) where
-  pub wants_proxy : len h.proxies.places ≡ h.settings.proxies → WantsProxy (state_of h) bytes
-  wants_proxy all = record { fits = (class_is h k bytes c found).0; all = held_len h k ∙ all }
+  pub lacks_proxy : len h.proxies.places ≡ h.settings.proxies → LacksProxy (state_of h) bytes
+  lacks_proxy all = record { fits = (class_is h k bytes c found).0; all = held_len h k ∙ all }
 
   few_proxies : len h.proxies.places ≢ h.settings.proxies → len h.proxies.places < h.settings.proxies
   few_proxies ne = (let f = k.handles.few in let e = k.numbers in omega arith)
 
-  pub wants_space : len h.proxies.places ≢ h.settings.proxies → length (pages_in h.lists c NotFull) + length h.pool.free ≡ 0 → WantsSpace (state_of h) bytes
-  wants_space ne none =
+  pub lacks_space : len h.proxies.places ≢ h.settings.proxies → length (pages_in h.lists c NotFull) + length h.pool.free ≡ 0 → LacksSpace (state_of h) bytes
+  lacks_space ne none =
       let is = class_is h k bytes c found in
       record {
         fits = is.0;

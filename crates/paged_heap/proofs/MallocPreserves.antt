@@ -23,7 +23,7 @@ use Rattle.page_slots.specs.Occupying.{class_table}
 use Rattle.page_slots.specs.Orders.{order_of}
 use Rattle.page_slots.proofs.CallerLemmas.{taken_is_free, taken_next, taken_occupied, taken_serve}
 use Rattle.cf_model.specs.Answers.{place_of}
-use Rattle.cf_model.specs.Steps.{GivesObject}
+use Rattle.cf_model.specs.Steps.{AddsObject}
 use Rattle.paged_heap.specs.Heap.{Heap}
 use Rattle.paged_heap.specs.Layout.{IsValid, held_in, order_in, paging_at, state_of, tables_in}
 use Rattle.cf_lemmas.proofs.Tallies.{counted_in}
@@ -144,7 +144,7 @@ module _ (h n : Heap) (k : IsValid h) (c a bytes q : ℕ) (co : IsAdded h n c a 
       subst (λ (o : Option ℕ). IfSome o (λ b. MallocFollows (paging_at h) (held_in h) (record { number = q; length = bytes }) b (order_in h) (order_in n)))
       (sym there) follows
 
-  pub comes_given : GivesObject (state_of h) (record { number = q; length = bytes }) (state_of n)
+  pub comes_given : AddsObject (state_of h) (record { number = q; length = bytes }) (state_of n)
   comes_given = record {
     fits = co.fits;
     few = (let e = held_len h k in let f = co.few in omega arith);

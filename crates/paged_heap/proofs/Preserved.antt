@@ -13,7 +13,7 @@ use Rattle.page_model.specs.Figures.{asked_bytes, taken_bytes}
 use Rattle.page_model.proofs.CallerLemmas.{held_from_image, held_at_bytes, places-held_at, own_words}
 use Rattle.cf_lemmas.proofs.MapValues.{get-map_values}
 use Rattle.proxy_table.specs.Proxies.{AreBelowLimit}
-use Rattle.page_slots.specs.Occupying.{Occupies, Serve}
+use Rattle.page_slots.specs.Occupying.{Occupies, FitPages}
 use Rattle.paged_heap.specs.Heap.{Heap}
 use Rattle.paged_heap.specs.Layout.{IsFramed, IsValid, held_in, paging_at, state_of, tables_in}
 use Rattle.paged_heap.proofs.LayoutFacts.{number_small, paging_ok}
@@ -42,7 +42,7 @@ pub record Becomes (h n : Heap) (m : Held) : Type 0 where
   pub long : length n.words ≡ length h.words
   pub image : IsSlotImage (paging_at h) m n.words
   pub sound : IsSound (paging_at h) m
-  pub serve : Serve (paging_at h) (tables_in n)
+  pub serve : FitPages (paging_at h) (tables_in n)
   pub occupied : Occupies (paging_at h) m (tables_in n)
   pub limit : n.proxies.limit ≡ h.proxies.limit
   pub handles : AreBelowLimit n.proxies

@@ -15,7 +15,7 @@ use Rattle.cf_model.specs.Answers.{place_of}
 use Rattle.cf_model.specs.Steps.{PassesEnd, ReadsBytes}
 use Rattle.paged_heap.specs.Heap.{Heap}
 use Rattle.paged_heap.specs.Layout.{IsValid, held_in, paging_at, state_of}
-use Rattle.paged_heap.specs.Access.{Lies}
+use Rattle.paged_heap.specs.Access.{HoldsBytesAt}
 use Rattle.paged_heap.proofs.LayoutFacts.{paging_ok}
 use Rattle.paged_heap.proofs.Preserved.{has_place}
 use Rattle.paged_heap.proofs.CountLimits.{page_small}
@@ -55,11 +55,11 @@ module _ (h : Heap) (k : IsValid h) (q a : ℕ) (some : get h.proxies.places q �
   pub passes : (at count : ℕ) → length bytes < at + count → PassesEnd (state_of h) (record { number = q; from = at }) count
   passes at count more = record { object = record { place = a; bytes = bytes }; found = held; past = more }
 
-  pub lies : (at count : ℕ) → at + count ≤ length bytes → Lies h (record { number = q; from = at }) count a
+  pub lies : (at count : ℕ) → at + count ≤ length bytes → HoldsBytesAt h (record { number = q; from = at }) count a
   lies at count fits = record { found = held; within = fits }
 
 -- the words of a part are in the region
-module _ (h : Heap) (k : IsValid h) (q at count a : ℕ) (l : Lies h (record { number = q; from = at }) count a) where
+module _ (h : Heap) (k : IsValid h) (q at count a : ℕ) (l : HoldsBytesAt h (record { number = q; from = at }) count a) where
   abbrev pub object : Placed
   object = record { place = a; bytes = bytes_at h.words a }
 

@@ -23,7 +23,7 @@ use Rattle.page_model.proofs.CallerLemmas.{change_is, class-resized, length-resi
 use Rattle.size_classes.specs.Table.{ClassTable}
 use Rattle.proxy_table.specs.Proxies.{AreBelowLimit}
 use Rattle.page_slots.specs.Tables.{IsUsed, page_at, slot_at}
-use Rattle.page_slots.specs.Occupying.{Occupies, Serve, class_table}
+use Rattle.page_slots.specs.Occupying.{Occupies, FitPages, class_table}
 use Rattle.page_slots.specs.Orders.{order_of}
 use Rattle.page_slots.proofs.CallerLemmas.{taken_next, taken_occupied, taken_serve}
 use Rattle.cf_model.specs.Steps.{ResizesObject, frames_left, number_of}
@@ -83,7 +83,7 @@ module _ {h : Heap} (k : IsValid h) {x : Change} (is : IsChange h x) {b : ℕ} {
   pub both_sound : IsSound (paging_at h) both
   both_sound = sound_placed (paging_at h) (held_in h) spare new unused (paging_ok h k) k.sound new_free
 
-  pub both_serve : Serve (paging_at h) (tables_in n)
+  pub both_serve : FitPages (paging_at h) (tables_in n)
   both_serve = taken_serve (paging_ok h k) k.serve.part k.occupied (of_table k is en.taken en.tables) is.in_range (at_table k is en.taken en.tables) k.serve.whole
 
   pub both_occupied : Occupies (paging_at h) both (tables_in n)
@@ -261,7 +261,7 @@ module _ {h : Heap} (k : IsValid h) {x : Change} (is : IsChange h x) {b : ℕ} {
 
     module _ (m : Heap) (same : Keeps m) where
       pub changes : IsFramed h.kind m → m.proxies.places ≡ places after → length m.words ≡ length h.words → IsSlotImage (paging_at h) after m.words
-          → Serve (paging_at h) (tables_in m) → Occupies (paging_at h) after (tables_in m) → AreBelowLimit m.proxies → Becomes h m after
+          → FitPages (paging_at h) (tables_in m) → Occupies (paging_at h) after (tables_in m) → AreBelowLimit m.proxies → Becomes h m after
       changes framed at long image serve occupied handles = record {
         framed = framed;
         rest = rest_from h m (same.kind ∙ en.kind) (same.settings ∙ en.settings) (same.classes ∙ en.classes) (same.bounds ∙ en.bounds);

@@ -21,7 +21,7 @@ use Rattle.page_slots.proofs.CallerLemmas.{renumbered_occupied, vacated_occupied
 use Rattle.paged_heap.specs.Heap.{Heap}
 use Rattle.paged_heap.specs.declared.resize_class.Change.{Change}
 use Rattle.paged_heap.specs.ResizeClass.{EntersAt, IsChange, old_words}
-use Rattle.paged_heap.specs.Free.{IsMoving}
+use Rattle.paged_heap.specs.Free.{MustMoveInto}
 use Rattle.paged_heap.specs.Layout.{IsFramed, IsValid, held_in, paging_at, state_of, tables_in}
 use Rattle.cf_model.specs.Steps.{frames_left}
 use Rattle.paged_heap.proofs.ByKind.{frames_stay}
@@ -31,7 +31,7 @@ use Rattle.paged_heap.proofs.FreedObject.{it_class, moving, page_same, slot_same
 use Rattle.paged_heap.proofs.ResizeClass.{Keeps, after, after_is, both, both_occupied, both_sound, both_serve, changes, entered_long, found, found_still, middle}
 use Rattle.paged_heap.proofs.ResizeClass.{freed_same, must_before, new, new_free, object, order_between, rewritten, spare, spare_is_other, then_cleared, unused}
 
-module _ {h : Heap} (k : IsValid h) {x : Change} (is : IsChange h x) {b : ℕ} {n : Heap} (en : EntersAt h x b n) (stays : IsMoving h x.place x.class → ⊥)
+module _ {h : Heap} (k : IsValid h) {x : Change} (is : IsChange h x) {b : ℕ} {n : Heap} (en : EntersAt h x b n) (stays : MustMoveInto h x.place x.class → ⊥)
     (e m : Heap)
     (wiped : e ≡ record n { words = e.words }) (gone : Clears n.words e.words (record { from = x.place; count = old_words h x }))
     (long : length e.words ≡ length n.words) (framed : IsFramed h.kind m)

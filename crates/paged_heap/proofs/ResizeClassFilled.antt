@@ -21,7 +21,7 @@ use Rattle.virtual_words.specs.Words.{IsWhole}
 use Rattle.proxy_table.specs.Proxies.{AreBelowLimit, Proxies, with_place}
 use Rattle.page_slots.specs.Release.{FillsFrom}
 use Rattle.page_slots.specs.Tables.{AreTables, Tables}
-use Rattle.page_slots.specs.Occupying.{Occupies, Serve, class_table}
+use Rattle.page_slots.specs.Occupying.{Occupies, FitPages, class_table}
 use Rattle.page_slots.specs.Orders.{order_of}
 use Rattle.page_slots.proofs.CallerLemmas.{filled_occupied, filled_serve, filler, filler_in, filler_is, filler_may, filler_next, moves_some}
 use Rattle.page_slots.proofs.CallerLemmas.{renumbered_occupied, vacated_order}
@@ -30,7 +30,7 @@ use Rattle.class_lists.specs.declared.Which.TheVariants.{NotFull}
 use Rattle.paged_heap.specs.Heap.{Heap}
 use Rattle.paged_heap.specs.declared.resize_class.Change.{Change}
 use Rattle.paged_heap.specs.ResizeClass.{EntersAt, IsChange, old_words}
-use Rattle.paged_heap.specs.Free.{IsMoving, MovesSlot}
+use Rattle.paged_heap.specs.Free.{MustMoveInto, MovesSlot}
 use Rattle.paged_heap.specs.Layout.{IsFramed, IsValid, held_in, paging_at, state_of, tables_in}
 use Rattle.paged_heap.proofs.ByKind.{frames_change}
 use Rattle.paged_heap.proofs.WholeBlocks.{whole_slot}
@@ -53,7 +53,7 @@ placed_in_turn m q r a b ne = equal_maps _ _ (λ t. elim (cases_eq t q) [
   ]
 ])
 
-module _ {h : Heap} (k : IsValid h) {x : Change} (is : IsChange h x) {b : ℕ} {n : Heap} (en : EntersAt h x b n) (moves : IsMoving h x.place x.class) where
+module _ {h : Heap} (k : IsValid h) {x : Change} (is : IsChange h x) {b : ℕ} {n : Heap} (en : EntersAt h x b n) (moves : MustMoveInto h x.place x.class) where
   still_due : MustMove (paging_at h) (both k is en) (object k is en)
   still_due = must_still k is en (must k is.object moves)
 
@@ -70,11 +70,11 @@ pub record Refills (h : Heap) (x : Change) (b : ℕ) (n : Heap) (f : ℕ) (t : T
   pub valid : IsValid h
   pub change : IsChange h x
   pub enters : EntersAt h x b n
-  pub moves : IsMoving h x.place x.class
+  pub moves : MustMoveInto h x.place x.class
   pub filled : FillsFrom n.classes (tables_in n) x.class f t
   pub tables : AreTables n.classes t
 
-pub refills_of : {h : Heap} {x : Change} {b : ℕ} {n : Heap} {f : ℕ} {t : Tables} → IsValid h → IsChange h x → EntersAt h x b n → IsMoving h x.place x.class
+pub refills_of : {h : Heap} {x : Change} {b : ℕ} {n : Heap} {f : ℕ} {t : Tables} → IsValid h → IsChange h x → EntersAt h x b n → MustMoveInto h x.place x.class
     → FillsFrom n.classes (tables_in n) x.class f t → AreTables n.classes t → Refills h x b n f t
 refills_of valid change enters moves filled tables = record { valid = valid; change = change; enters = enters; moves = moves; filled = filled; tables = tables }
 
@@ -378,7 +378,7 @@ module _ {h : Heap} {x : Change} {b : ℕ} {n : Heap} {f : ℕ} {t : Tables} (fs
         (ap (λ (o : Heap). o.proxies.places) whole ∙ ap (λ (p : Proxies). insert p.places r x.place) en.proxies ∙ sym after_places)
         (shift.long ∙ entered_long k is en)
         (image m.words shift.long shift.words)
-        (subst (Serve (paging_at h)) (sym on)
+        (subst (FitPages (paging_at h)) (sym on)
         (filled_serve (paging_ok h k) (both_serve k is en).part (both_occupied k is en) kept_tables x.handle.0 (found_still k is en) fills
         (both_serve k is en).whole))
         (subst (Occupies (paging_at h) (after k is en (Some r) mover)) (sym on) occupied)

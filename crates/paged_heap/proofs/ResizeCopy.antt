@@ -9,7 +9,7 @@ use Rattle.page_model.specs.Steps.{IsFreePlace, resized}
 use Rattle.page_model.proofs.CallerLemmas.{bytes_at-AreBytes, length-resized, place_is_zeros, resized_are_bytes}
 use Rattle.paged_heap.specs.Heap.{Heap}
 use Rattle.paged_heap.specs.declared.resize_class.Change.{Change}
-use Rattle.paged_heap.specs.ResizeClass.{Carries, IsChange, kept_words, old_words}
+use Rattle.paged_heap.specs.ResizeClass.{CopiesToSlot, IsChange, kept_words, old_words}
 use Rattle.paged_heap.specs.Layout.{IsValid, held_in, paging_at}
 use Rattle.paged_heap.proofs.ResizeInPlace.{holds_bytes}
 use Rattle.paged_heap.proofs.ResizeEnter.{new_holds, new_inside, none_spare, slots_apart}
@@ -18,7 +18,7 @@ use Rattle.paged_heap.proofs.FreedObject.{it_inside, it_slot}
 use Rattle.paged_heap.proofs.ObjectWords.{before, few, past_new, past_old, was_byte, was_small, word_is, zero_byte}
 
 module _ {h : Heap} (k : IsValid h) {x : Change} (is : IsChange h x) {b : ℕ} (free : IsFreePlace (paging_at h) (held_in h) x.bytes b) {new : List ℕ}
-    (ca : Carries h.words new x b) where
+    (ca : CopiesToSlot h.words new x b) where
   abbrev old : List ℕ
   old = bytes_at h.words x.place
 

@@ -23,7 +23,7 @@ use Rattle.page_slots.specs.Occupying.{class_table}
 use Rattle.page_slots.proofs.CallerLemmas.{taken_is_free}
 use Rattle.paged_heap.specs.Heap.{Heap}
 use Rattle.paged_heap.specs.declared.resize_class.Change.{Change}
-use Rattle.paged_heap.specs.ResizeClass.{Carries, EntersAt, FindsNoRoom, IsChange, kept_words, old_words}
+use Rattle.paged_heap.specs.ResizeClass.{CopiesToSlot, EntersAt, FindsNoRoom, IsChange, kept_words, old_words}
 use Rattle.paged_heap.specs.Layout.{IsValid, held_in, paging_at, state_of, tables_in}
 use Rattle.paged_heap.proofs.ByKind.{unmoved}
 use Rattle.paged_heap.proofs.LayoutFacts.{number_small, paged_kind, paging_ok, table_is}
@@ -105,7 +105,7 @@ words_apart a b s z w (inr l) p q = inl (omega arith)
 pub entered : (h : Heap) (x : Change) → IsChange h x → (b : ℕ) (t c o n : Heap) → TakesAt h.classes (tables_in h) x.to b (tables_in t)
     → AreTables h.classes (tables_in t)
     → t ≡ record h { maps = t.maps; lists = t.lists; pool = t.pool }
-    → c ≡ record t { proxies = with_place t.proxies x.handle.0 b; words = c.words } → c.proxies.free ≡ t.proxies.free → Carries t.words c.words x b
+    → c ≡ record t { proxies = with_place t.proxies x.handle.0 b; words = c.words } → c.proxies.free ≡ t.proxies.free → CopiesToSlot t.words c.words x b
     → AreBelowLimit c.proxies
     → o ≡ record c {
       live = set c.live x.class (get_or c.live x.class 0 - 1);
@@ -127,8 +127,8 @@ entered h x is b t c o n taken tables et ec free carries handles eo en =
       taken = subst (TakesAt h.classes (tables_in h) x.to b) (sym (ap tables_in to_n)) taken;
       tables = subst (AreTables h.classes) (sym (ap tables_in to_n)) tables;
       kind = ap (λ (z : Heap). z.kind) to_n;
-      words = subst (λ ws. Carries ws n.words x b) (ap (λ (z : Heap). z.words) et)
-          (subst (λ ws. Carries t.words ws x b) (sym (ap (λ (z : Heap). z.words) en ∙ ap (λ (z : Heap). z.words) eo)) carries);
+      words = subst (λ ws. CopiesToSlot ws n.words x b) (ap (λ (z : Heap). z.words) et)
+          (subst (λ ws. CopiesToSlot t.words ws x b) (sym (ap (λ (z : Heap). z.words) en ∙ ap (λ (z : Heap). z.words) eo)) carries);
       frames = ap (λ (z : Heap). z.frames) to_n;
       proxies = ap (λ (z : Heap). z.proxies) to_n;
       free = ap (λ (z : Heap). z.proxies.free) en ∙ ap (λ (z : Heap). z.proxies.free) eo ∙ free ∙ ap (λ (z : Heap). z.proxies.free) et;

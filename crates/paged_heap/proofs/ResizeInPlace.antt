@@ -13,7 +13,7 @@ use Rattle.page_model.specs.Bytes.{AreBytes, byte_of, bytes_at}
 use Rattle.page_model.specs.Image.{Clears, IsOutside, IsSlotImage, Rewrites, header_word, object_word, slot_for}
 use Rattle.page_model.specs.Paging.{class_for, classes, slot_words}
 use Rattle.page_model.specs.Order.{ResizeFollows}
-use Rattle.page_model.specs.Steps.{Leaves, resized}
+use Rattle.page_model.specs.Steps.{CallResult, resized}
 use Rattle.page_model.proofs.CallerLemmas.{bytes_at-AreBytes, length-resized, image_after_write, resized_are_bytes, class_holds}
 use Rattle.word_bytes.proofs.CallerLemmas.{overwritten_before, overwritten_inside}
 use Rattle.cf_model.specs.Steps.{ResizesObject, frames_left, number_of}
@@ -284,7 +284,7 @@ module _ (h t n : Heap) (k : IsValid h) (q a m c : ℕ) (o : IsObjectAt h q a m 
   }
 
   -- the tables and the numbers are as they were
-  pub fits_chosen : (after : Leaves) → ResizeFollows (paging_at h) (held_in h) (record { number = q; length = size }) after (order_in h) (order_in n)
+  pub fits_chosen : (after : CallResult) → ResizeFollows (paging_at h) (held_in h) (record { number = q; length = size }) after (order_in h) (order_in n)
   fits_chosen after = record {
     object = record { place = a; bytes = old };
     found = it_found k o;

@@ -20,13 +20,13 @@ use Rattle.page_model.proofs.CallerLemmas.{written_are_bytes}
 use Rattle.page_model.proofs.CallerLemmas.{written_before, written_behind, written_inside, written_nothing}
 use Rattle.word_bytes.specs.Cells.{overwritten}
 use Rattle.word_bytes.proofs.CallerLemmas.{overwritten_before, overwritten_behind, overwritten_inside}
-use Rattle.page_slots.specs.Occupying.{Occupies, Serve}
+use Rattle.page_slots.specs.Occupying.{Occupies, FitPages}
 use Rattle.page_slots.proofs.CallerLemmas.{rewritten_occupied}
 use Rattle.proxy_table.specs.Proxies.{AreBelowLimit}
 use Rattle.cf_model.specs.Steps.{WritesBytes}
 use Rattle.paged_heap.specs.Heap.{Heap}
 use Rattle.paged_heap.specs.Layout.{IsValid, held_in, paging_at, state_of, tables_in}
-use Rattle.paged_heap.specs.Access.{Lies}
+use Rattle.paged_heap.specs.Access.{HoldsBytesAt}
 use Rattle.word_bytes.specs.Overwriting.{Overwrites}
 use Rattle.paged_heap.proofs.ByKind.{framed_kept, outside_in}
 use Rattle.paged_heap.proofs.LayoutFacts.{paged_kind, paging_ok}
@@ -86,7 +86,7 @@ module _ (h n : Heap) (k : IsValid h) (q a : ℕ) (some : get (held_in h) q ≡ 
     long = long;
     image = image;
     sound = still_sound;
-    serve = subst (Serve (paging_at h)) (sym (ap tables_in rest)) k.serve;
+    serve = subst (FitPages (paging_at h)) (sym (ap tables_in rest)) k.serve;
     occupied = subst (Occupies (paging_at h) changed) (sym (ap tables_in rest)) (rewritten_occupied k.occupied q some u class);
     limit = ap (λ (x : Heap). x.proxies.limit) rest;
     handles = subst AreBelowLimit (sym (ap (λ (x : Heap). x.proxies) rest)) k.handles;
@@ -117,7 +117,7 @@ module _ (h n : Heap) (k : IsValid h) (q a : ℕ) (some : get (held_in h) q ≡ 
   changed_kept = becomes_kept h n k changed changes
 
 -- the bytes of a part are written
-module _ (h n : Heap) (k : IsValid h) (q at a : ℕ) (bytes : List ℕ) (l : Lies h (record { number = q; from = at }) (length bytes) a)
+module _ (h n : Heap) (k : IsValid h) (q at a : ℕ) (bytes : List ℕ) (l : HoldsBytesAt h (record { number = q; from = at }) (length bytes) a)
     (each : AreBytes bytes) (rest : n ≡ record h { words = n.words })
     (w : Overwrites h.words n.words (record { from = a + 1 + at / 8; count = (at % 8 + length bytes + 7) / 8 }) (at % 8) bytes) where
   abbrev old : List ℕ
@@ -224,7 +224,7 @@ module _ (h n : Heap) (k : IsValid h) (q at a : ℕ) (bytes : List ℕ) (l : Lie
 
 -- to write no bytes changes nothing
 pub wrote_nothing : (h : Heap) → IsValid h → (q at a : ℕ) (bytes : List ℕ) → length bytes ≡ 0
-    → Lies h (record { number = q; from = at }) (length bytes) a → WritesBytes (state_of h) (record { number = q; from = at }) bytes (state_of h)
+    → HoldsBytesAt h (record { number = q; from = at }) (length bytes) a → WritesBytes (state_of h) (record { number = q; from = at }) bytes (state_of h)
 wrote_nothing h k q at a [] none l = record {
   object = record { place = a; bytes = bytes_at h.words a };
   found = l.found;

@@ -26,8 +26,8 @@ abbrev pub placed_at : Heap → ℕ → Placed
 placed_at h a = record { place = a; bytes = bytes_at h.words a }
 
 -- if the object of class c at the address `place` leaves its slot, another object must move there
-abbrev pub IsMoving : Heap → ℕ → ℕ → Type 0
-IsMoving h place c = MovesObject (slots_on (tables_in h) (page_at h.classes place)) (length (pages_in h.lists c NotFull)) (slice_index h.bounds c)
+abbrev pub MustMoveInto : Heap → ℕ → ℕ → Type 0
+MustMoveInto h place c = MovesObject (slots_on (tables_in h) (page_at h.classes place)) (length (pages_in h.lists c NotFull)) (slice_index h.bounds c)
 
 -- the object of the slot of n words at b moves to the slot at a, from the heap `old` to `new`: its words are copied to a, and those at b become zeros; with a
 -- block table the two slots exchange their blocks

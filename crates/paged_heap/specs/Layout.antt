@@ -14,10 +14,10 @@ use Rattle.page_model.specs.Order.{Order}
 use Rattle.size_classes.specs.Table.{table_of}
 use Rattle.proxy_table.specs.Proxies.{AreBelowLimit}
 use Rattle.page_slots.specs.Tables.{Tables, tables}
-use Rattle.page_slots.specs.Occupying.{Occupies, Serve}
+use Rattle.page_slots.specs.Occupying.{Occupies, FitPages}
 use Rattle.page_slots.specs.Orders.{order_of}
 use Rattle.cf_model.specs.State.{HeapState, closed_state, layout_of, paging_in}
-use Rattle.virtual_words.specs.Words.{AreLaid}
+use Rattle.virtual_words.specs.Words.{FitTable}
 use Rattle.paged_heap.specs.declared.open_heap.OpenHeap.{OpenHeap}
 use Rattle.paged_heap.specs.Heap.{Heap, seen}
 
@@ -76,7 +76,7 @@ pub record IsValid (h : Heap) : Type 0 where
   -- the arrangement is sound: each object is in a slot of its class, and no class has more partly full pages than its bound
   pub sound : IsSound (paging_at h) (held_in h)
   -- the tables are for these pages and classes
-  pub serve : Serve (paging_at h) (tables_in h)
+  pub serve : FitPages (paging_at h) (tables_in h)
   -- the used slots of the tables are those of the objects
   pub occupied : Occupies (paging_at h) (held_in h) (tables_in h)
   -- the numbers of the objects are below the number of proxies
@@ -94,7 +94,7 @@ pub record IsValid (h : Heap) : Type 0 where
 
 -- the invariant of an open heap in memory: its region and block table fit its kind, and the `Heap` of it keeps the invariant
 pub record Holds (kind : Kind) (h : OpenHeap) : Type 0 where
-  pub laid : AreLaid kind h.blocks h.region
+  pub laid : FitTable kind h.blocks h.region
   pub kept : IsValid (seen kind h)
 
 -- the state of a manager whose heap h is open

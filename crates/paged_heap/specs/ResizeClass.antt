@@ -38,7 +38,7 @@ kept_words x = (min x.length x.bytes + 7) / 8
 
 -- What `copy_to_slot` does to the words: the kept ones are copied to the slot at b and cleared at their old place (`moved`); if the object becomes shorter,
 -- its bytes from the new length on are cleared (`cut`); and its header is written at b.
-pub record Carries (old new : List ℕ) (x : Change) (b : ℕ) : Type 0 where
+pub record CopiesToSlot (old new : List ℕ) (x : Change) (b : ℕ) : Type 0 where
   pub moved : List ℕ
   pub moves : MovesWords old moved (record { from = x.place + 1; count = kept_words x }) (b + 1)
   pub long : length moved ≡ length old
@@ -56,7 +56,7 @@ pub record EntersAt (h : Heap) (x : Change) (b : ℕ) (n : Heap) : Type 0 where
   pub taken : TakesAt h.classes (tables_in h) x.to b (tables_in n)
   pub tables : AreTables h.classes (tables_in n)
   pub kind : n.kind ≡ h.kind
-  pub words : Carries h.words n.words x b
+  pub words : CopiesToSlot h.words n.words x b
   pub frames : n.frames ≡ h.frames
   pub proxies : n.proxies ≡ with_place h.proxies x.handle.0 b
   pub free : n.proxies.free ≡ h.proxies.free
@@ -72,9 +72,9 @@ pub record FindsNoRoom (h : Heap) (x : Change) (n : Heap) : Type 0 where
   pub rest : n ≡ record h { maps = n.maps; lists = n.lists; pool = n.pool }
 
 -- what `enter_class` does to the heap h: it copies the object to the slot at b (`Some`), or finds no free slot (`None`)
-abbrev pub Enters : Heap → Change → Option ℕ → Heap → Type 0
-Enters h x None n = FindsNoRoom h x n
-Enters h x (Some b) n = EntersAt h x b n
+abbrev pub EntersClass : Heap → Change → Option ℕ → Heap → Type 0
+EntersClass h x None n = FindsNoRoom h x n
+EntersClass h x (Some b) n = EntersAt h x b n
 
 -- the most steps of a change of class in the heap h, by the kind, the kept words and the words of the old slot; none if refused
 abbrev pub changing_steps : Kind → Heap → Change → Result Resized ResizeFault → ℕ

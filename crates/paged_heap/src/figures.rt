@@ -1,6 +1,6 @@
 //! The figures of an open heap: counts of live objects, bytes, pages and slots.
 ghost use Rattle.std.specs.Prelude.{◌≡◌, ◌*◌, ◌<◌, ◌≤◌, if◌then◌else◌, nat_eq, nat_lt, Some, None};
-ghost use Rattle.page_model.specs.Arrangement.{home_pages, not_full_pages, free_pages};
+ghost use Rattle.page_model.specs.Arrangement.{pages_of_class, not_full_pages, free_pages};
 ghost use Rattle.page_model.specs.Figures.{figures_of, totals_of};
 ghost use Rattle.page_model.specs.Paging.{classes};
 ghost use Rattle.paged_heap.specs.Heap.{seen};
@@ -25,7 +25,7 @@ impl OpenHeap {
     pub fn pages_of<A: Mapping>(&self, c: u32) -> u32
         requires kept { Holds A.kind self.now }
         requires class { c < classes (paging_at (seen A.kind self.now)) }
-        ensures { result ≡ home_pages (paging_at (seen A.kind self.now)) (held_in (seen A.kind self.now)) c }
+        ensures { result ≡ pages_of_class (paging_at (seen A.kind self.now)) (held_in (seen A.kind self.now)) c }
     {
         self.lists.len(c, Which::Full) + self.lists.len(c, Which::NotFull)
     }

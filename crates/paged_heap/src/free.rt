@@ -7,12 +7,12 @@ ghost use Rattle.page_model.specs.Order.{word_steps};
 ghost use Rattle.cf_model.specs.Costs.{free_bound};
 ghost use Rattle.cf_model.specs.Steps.{FreesObject, IsFreeStep};
 ghost use Rattle.proxy_table.specs.Proxies.{AreBelowLimit, with_place, without_place};
-ghost use Rattle.virtual_words.specs.Words.{AreLaid, IsWhole, run_bound, run_steps, slot_steps};
+ghost use Rattle.virtual_words.specs.Words.{FitTable, IsWhole, run_bound, run_steps, slot_steps};
 ghost use Rattle.paged_heap.specs.Costs.{free_steps};
 ghost use Rattle.cf_model.specs.ExactCosts.{free_cost, leaving_cost};
 ghost use Rattle.cf_model.specs.Ordered.{IsOrderedFree};
 ghost use Rattle.paged_heap.specs.Choices.{FreeChooses};
-ghost use Rattle.paged_heap.specs.Free.{IsObjectAt, IsMoving, MovesSlot, placed_at};
+ghost use Rattle.paged_heap.specs.Free.{IsObjectAt, MustMoveInto, MovesSlot, placed_at};
 ghost use Rattle.paged_heap.specs.Heap.{seen};
 ghost use Rattle.paged_heap.specs.Layout.{Holds, order_in, state_at};
 
@@ -82,7 +82,7 @@ impl OpenHeap {
     ) -> Freed
         requires kept { Holds A.kind self.old }
         requires object { IsObjectAt (seen A.kind self.old) h.0 place length c }
-        requires stays { IsMoving (seen A.kind self.old) place c → ⊥ }
+        requires stays { MustMoveInto (seen A.kind self.old) place c → ⊥ }
         ensures step { FreesObject (state_at A.kind self.old) h.0 result (state_at A.kind self.new) }
         ensures kept { Holds A.kind self.new }
         ensures choice { FreeChooses (seen A.kind self.old) h.0 result (seen A.kind self.new) }
@@ -113,7 +113,7 @@ impl OpenHeap {
     ) -> Freed
         requires kept { Holds A.kind self.old }
         requires object { IsObjectAt (seen A.kind self.old) h.0 place length c }
-        requires moves { IsMoving (seen A.kind self.old) place c }
+        requires moves { MustMoveInto (seen A.kind self.old) place c }
         ensures step { FreesObject (state_at A.kind self.old) h.0 result (state_at A.kind self.new) }
         ensures kept { Holds A.kind self.new }
         ensures choice { FreeChooses (seen A.kind self.old) h.0 result (seen A.kind self.new) }
@@ -137,7 +137,7 @@ impl OpenHeap {
     /// Releases the number h, and clears the `slot_words` words of its object's slot at `place`.
     /// The slot stays used in the tables.
     fn erase<A: Mapping>(&mut self, h: Handle, place: u32, slot_words: u32, steps: &mut Steps)
-        requires laid { AreLaid A.kind self.old.blocks self.old.region }
+        requires laid { FitTable A.kind self.old.blocks self.old.region }
         requires live { IsSome (map.get self.old.proxies.places h.0) }
         requires within { place + slot_words ≤ length self.old.region }
         ensures rest { seen A.kind self.new ≡ record (seen A.kind self.old) {
@@ -146,7 +146,7 @@ impl OpenHeap {
         } }
         ensures words { Clears (seen A.kind self.old).words (seen A.kind self.new).words (record { from = place; count = slot_words }) }
         ensures len { length self.new.region ≡ length self.old.region }
-        ensures laid { AreLaid A.kind self.new.blocks self.new.region }
+        ensures laid { FitTable A.kind self.new.blocks self.new.region }
         ensures handles { AreBelowLimit self.new.proxies }
         ensures bound { RoseAtMost steps.old steps.new (2 + run_bound slot_words) }
         ensures steps { RoseBy steps.old steps.new (2 + run_steps A.kind place slot_words) }
@@ -165,7 +165,7 @@ impl OpenHeap {
         slot_words: u32,
         steps: &mut Steps,
     )
-        requires laid { AreLaid A.kind self.old.blocks self.old.region }
+        requires laid { FitTable A.kind self.old.blocks self.old.region }
         requires live { IsSome (map.get self.old.proxies.places h.0) }
         requires source { from + slot_words ≤ length self.old.region }
         requires target { to + slot_words ≤ length self.old.region }
@@ -180,7 +180,7 @@ impl OpenHeap {
         } }
         ensures free { self.new.proxies.free ≡ self.old.proxies.free }
         ensures moves { MovesSlot (seen A.kind self.old) (seen A.kind self.new) from to slot_words }
-        ensures laid { AreLaid A.kind self.new.blocks self.new.region }
+        ensures laid { FitTable A.kind self.new.blocks self.new.region }
         ensures handles { AreBelowLimit self.new.proxies }
         ensures bound { RoseAtMost steps.old steps.new (1 + run_bound slot_words) }
         ensures steps { RoseBy steps.old steps.new (slot_steps A.kind slot_words + 1) }

@@ -12,7 +12,7 @@ ghost use Rattle.page_model.specs.Order.{word_steps};
 ghost use Rattle.cf_model.specs.State.{HeapState};
 ghost use Rattle.cf_model.specs.Steps.{IsMallocStep, IsRefusedBy};
 ghost use Rattle.proxy_table.specs.Proxies.{AreBelowLimit, with_place};
-ghost use Rattle.virtual_words.specs.Words.{AreLaid};
+ghost use Rattle.virtual_words.specs.Words.{FitTable};
 ghost use Rattle.paged_heap.specs.Costs.{malloc_steps};
 ghost use Rattle.cf_model.specs.ExactCosts.{malloc_cost};
 ghost use Rattle.cf_model.specs.Ordered.{IsOrderedMalloc};
@@ -121,7 +121,7 @@ impl OpenHeap {
     /// Binds the next free number to the address `place`, writes the header of an object of `bytes`
     /// bytes there, and returns the number.
     fn bind<A: Mapping>(&mut self, place: u32, bytes: u32, steps: &mut Steps) -> Handle
-        requires laid { AreLaid A.kind self.old.blocks self.old.region }
+        requires laid { FitTable A.kind self.old.blocks self.old.region }
         requires some { map.len self.old.proxies.places ≢ self.old.proxies.limit }
         requires within { place < length self.old.region }
         ensures unused { map.get self.old.proxies.places result.0 ≡ None }
@@ -131,7 +131,7 @@ impl OpenHeap {
           proxies = with_place self.old.proxies result.0 place;
           words = slice_set (seen A.kind self.old).words place (header_word result.0 bytes);
         } }
-        ensures laid { AreLaid A.kind self.new.blocks self.new.region }
+        ensures laid { FitTable A.kind self.new.blocks self.new.region }
         ensures handles { AreBelowLimit self.new.proxies }
         ensures bound { RoseAtMost steps.old steps.new 4 }
         ensures steps { RoseBy steps.old steps.new (2 + word_steps A.kind) }

@@ -6,7 +6,7 @@ ghost use Rattle.page_model.specs.Paging.{class_for};
 ghost use Rattle.cf_base.specs.Classes.{need};
 ghost use Rattle.cf_model.specs.Costs.{resize_bound};
 ghost use Rattle.cf_model.specs.Steps.{IsResizeStep, ResizesObject};
-ghost use Rattle.virtual_words.specs.Words.{AreLaid, run_bound};
+ghost use Rattle.virtual_words.specs.Words.{FitTable, run_bound};
 ghost use Rattle.paged_heap.specs.Costs.{resize_steps};
 ghost use Rattle.paged_heap.specs.ZeroTail.{Cuts};
 ghost use Rattle.cf_model.specs.ExactCosts.{resize_cost, tail_steps};
@@ -139,12 +139,12 @@ impl OpenHeap {
         bytes: u32,
         steps: &mut Steps,
     )
-        requires laid { AreLaid A.kind self.old.blocks self.old.region }
+        requires laid { FitTable A.kind self.old.blocks self.old.region }
         requires within { place + 1 + (bytes + 7) / 8 ≤ length self.old.region }
         requires small { place + 1 + (bytes + 7) / 8 < 4294967296 }
         ensures rest { seen A.kind self.new ≡ record (seen A.kind self.old) { words = (seen A.kind self.new).words } }
         ensures len { length self.new.region ≡ length self.old.region }
-        ensures laid { AreLaid A.kind self.new.blocks self.new.region }
+        ensures laid { FitTable A.kind self.new.blocks self.new.region }
         ensures cut { keep < bytes → Cuts (seen A.kind self.old).words (seen A.kind self.new).words place keep bytes }
         ensures kept { bytes ≤ keep → self.new ≡ self.old }
         ensures bound { RoseAtMost steps.old steps.new (run_bound ((bytes + 7) / 8 - keep / 8) + 4) }

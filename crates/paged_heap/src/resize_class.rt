@@ -6,10 +6,10 @@ ghost use Rattle.page_model.specs.Image.{Clears, IsDisjoint};
 ghost use Rattle.page_model.specs.Order.{word_steps};
 ghost use Rattle.cf_model.specs.Steps.{IsResizeStep};
 ghost use Rattle.proxy_table.specs.Proxies.{AreBelowLimit, with_place};
-ghost use Rattle.virtual_words.specs.Words.{AreInStep, AreLaid, copy_steps, run_bound, run_steps};
-ghost use Rattle.paged_heap.specs.ResizeClass.{Carries, Enters, IsChange, changing_bound, changing_cost, changing_steps, entering_cost, kept_words};
+ghost use Rattle.virtual_words.specs.Words.{AreInStep, FitTable, copy_steps, run_bound, run_steps};
+ghost use Rattle.paged_heap.specs.ResizeClass.{CopiesToSlot, EntersClass, IsChange, changing_bound, changing_cost, changing_steps, entering_cost, kept_words};
 ghost use Rattle.paged_heap.specs.Choices.{ResizeChooses};
-ghost use Rattle.paged_heap.specs.Free.{IsMoving};
+ghost use Rattle.paged_heap.specs.Free.{MustMoveInto};
 ghost use Rattle.paged_heap.specs.Heap.{seen};
 ghost use Rattle.paged_heap.specs.Layout.{Holds, state_at};
 ghost use Rattle.cf_model.specs.ExactCosts.{tail_steps};
@@ -79,7 +79,7 @@ impl OpenHeap {
     ) -> Result<Resized, ResizeFault>
         requires kept { Holds A.kind self.old }
         requires change { IsChange (seen A.kind self.old) x }
-        requires stays { IsMoving (seen A.kind self.old) x.place x.class → ⊥ }
+        requires stays { MustMoveInto (seen A.kind self.old) x.place x.class → ⊥ }
         ensures step { IsResizeStep (state_at A.kind self.old) (record { number = x.handle.0; length = x.bytes }) result (state_at A.kind self.new) }
         ensures kept { Holds A.kind self.new }
         ensures cause { IfErr result (λ e. e ≡ ResizeFault.Space) }
@@ -112,7 +112,7 @@ impl OpenHeap {
     ) -> Result<Resized, ResizeFault>
         requires kept { Holds A.kind self.old }
         requires change { IsChange (seen A.kind self.old) x }
-        requires moves { IsMoving (seen A.kind self.old) x.place x.class }
+        requires moves { MustMoveInto (seen A.kind self.old) x.place x.class }
         ensures step { IsResizeStep (state_at A.kind self.old) (record { number = x.handle.0; length = x.bytes }) result (state_at A.kind self.new) }
         ensures kept { Holds A.kind self.new }
         ensures cause { IfErr result (λ e. e ≡ ResizeFault.Space) }
@@ -142,8 +142,8 @@ impl OpenHeap {
     fn enter_class<A: Mapping>(&mut self, x: Change, steps: &mut Steps) -> Option<u32>
         requires kept { Holds A.kind self.old }
         requires change { IsChange (seen A.kind self.old) x }
-        ensures entered { Enters (seen A.kind self.old) x result (seen A.kind self.new) }
-        ensures laid { AreLaid A.kind self.new.blocks self.new.region }
+        ensures entered { EntersClass (seen A.kind self.old) x result (seen A.kind self.new) }
+        ensures laid { FitTable A.kind self.new.blocks self.new.region }
         ensures refused { IsNone result → steps.new ≡ steps.old }
         ensures bound { RoseAtMost steps.old steps.new (40 + run_bound (kept_words x)) }
         ensures steps { RoseAtMost steps.old steps.new (14 + 2 * word_steps A.kind + copy_steps A.kind 1 (kept_words x)) }
@@ -165,7 +165,7 @@ impl OpenHeap {
     /// clears their words in the old slot, writes a header with the new length at `to`, and changes
     /// the address in the proxy. The caller clears or fills the old slot.
     fn copy_to_slot<A: Mapping>(&mut self, x: Change, to: u32, steps: &mut Steps)
-        requires laid { AreLaid A.kind self.old.blocks self.old.region }
+        requires laid { FitTable A.kind self.old.blocks self.old.region }
         requires live { IsSome (map.get self.old.proxies.places x.handle.0) }
         requires small { length self.old.region ≤ 2 ^ 23 }
         requires source { x.place + 1 + kept_words x ≤ length self.old.region }
@@ -177,8 +177,8 @@ impl OpenHeap {
           words = (seen A.kind self.new).words;
         } }
         ensures free { self.new.proxies.free ≡ self.old.proxies.free }
-        ensures words { Carries (seen A.kind self.old).words (seen A.kind self.new).words x to }
-        ensures laid { AreLaid A.kind self.new.blocks self.new.region }
+        ensures words { CopiesToSlot (seen A.kind self.old).words (seen A.kind self.new).words x to }
+        ensures laid { FitTable A.kind self.new.blocks self.new.region }
         ensures handles { AreBelowLimit self.new.proxies }
         ensures bound { RoseAtMost steps.old steps.new (14 + run_bound (kept_words x)) }
         ensures steps { RoseBy steps.old steps.new
@@ -204,12 +204,12 @@ impl OpenHeap {
 
     /// Clears the `slot_words` words of the slot at the address `place`, and changes nothing else.
     fn wipe<A: Mapping>(&mut self, place: u32, slot_words: u32, steps: &mut Steps)
-        requires laid { AreLaid A.kind self.old.blocks self.old.region }
+        requires laid { FitTable A.kind self.old.blocks self.old.region }
         requires within { place + slot_words ≤ length self.old.region }
         ensures rest { seen A.kind self.new ≡ record (seen A.kind self.old) { words = (seen A.kind self.new).words } }
         ensures words { Clears (seen A.kind self.old).words (seen A.kind self.new).words (record { from = place; count = slot_words }) }
         ensures len { length self.new.region ≡ length self.old.region }
-        ensures laid { AreLaid A.kind self.new.blocks self.new.region }
+        ensures laid { FitTable A.kind self.new.blocks self.new.region }
         ensures bound { RoseAtMost steps.old steps.new (run_bound slot_words) }
         ensures steps { RoseBy steps.old steps.new (run_steps A.kind place slot_words) }
     {

@@ -3,7 +3,7 @@ use Rattle.std.proofs.Common.{◌≡◌, ℕ, ◌+◌, ◌<◌, ◌≤◌, lengt
 use Rattle.cf_base.specs.declared.answers.Figures.{Figures}
 use Rattle.class_lists.specs.PageLists.{pages_in}
 use Rattle.class_lists.specs.declared.Which.TheVariants.{Full, NotFull}
-use Rattle.page_model.specs.Arrangement.{home_pages, live, not_full_pages}
+use Rattle.page_model.specs.Arrangement.{pages_of_class, live, not_full_pages}
 use Rattle.page_model.specs.Figures.{figures_of}
 use Rattle.page_model.specs.Held.{Held, objects}
 use Rattle.page_model.specs.Paging.{Paging, classes, slot_words, slots_of}
@@ -19,7 +19,7 @@ use Rattle.quota_heap.proofs.Tasks.{part_is}
 use Rattle.size_classes.specs.Table.{ClassTable}
 use Rattle.cf_base.specs.Classes.{slots}
 
-figures_same : (p : Paging) (m : Held) (c w s l g n : ℕ) → w ≡ slot_words p c → s ≡ slots_of p c → l ≡ live p (objects m) c → g ≡ home_pages p m c
+figures_same : (p : Paging) (m : Held) (c w s l g n : ℕ) → w ≡ slot_words p c → s ≡ slots_of p c → l ≡ live p (objects m) c → g ≡ pages_of_class p m c
     → n ≡ not_full_pages p m c → ◌≡◌ {A = Figures} (record { slot_words = w; slots = s; live = l; pages = g; not_full = n }) (figures_of p m c)
 figures_same p m c w s l g n ew es el eg en = rw (ew, es, el, eg, en) refl
 

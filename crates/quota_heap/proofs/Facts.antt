@@ -12,7 +12,7 @@ use Rattle.page_model.specs.Arrangement.{used_pages}
 use Rattle.page_model.specs.Bytes.{bytes_at}
 use Rattle.page_model.specs.Held.{Placed}
 use Rattle.page_model.specs.Image.{slot_for}
-use Rattle.page_model.specs.Paging.{AreOne, IsPaging, class_for, classes, slot_words}
+use Rattle.page_model.specs.Paging.{EveryBoundIsOne, IsPaging, class_for, classes, slot_words}
 use Rattle.page_model.proofs.CallerLemmas.{class_fits, class_holds, class_known, class_none, held_at_is, len-objects, object_inside, slot_fits}
 use Rattle.page_model.proofs.CallerLemmas.{used_at_one, live_few}
 use Rattle.page_slots.specs.Occupying.{class_table}
@@ -27,7 +27,7 @@ module _ (g : SharedPages) where
   pub paging_ok : IsPaging (paging_at g)
   paging_ok = tasks_paged (profile_of g.settings) g.settings.page_size
 
-  pub at_one : AreOne (paging_at g)
+  pub at_one : EveryBoundIsOne (paging_at g)
   at_one = tasks_at_one (profile_of g.settings)
 
   module _ (k : ArePages g) where

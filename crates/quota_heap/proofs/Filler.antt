@@ -6,7 +6,7 @@ use Rattle.page_model.specs.Image.{IsDisjoint}
 use Rattle.page_slots.specs.Release.{FillsFrom}
 use Rattle.page_slots.specs.Tables.{AreTables, Tables}
 use Rattle.quota_model.specs.Parts.{key_of}
-use Rattle.quota_heap.specs.Calls.{IsMoving, IsObjectAt}
+use Rattle.quota_heap.specs.Calls.{MustMoveInto, IsObjectAt}
 use Rattle.quota_heap.specs.Layout.{ArePages, IsTask, tables_of}
 use Rattle.quota_heap.specs.declared.shared_pages.SharedPages.{SharedPages}
 use Rattle.quota_heap.specs.declared.task.Task.{Task}
@@ -20,7 +20,7 @@ pub record IsFiller (g : SharedPages) (x : Task) (t q b w : ℕ) : Type 0 where
   pub still : get (remove x.proxies.places q) (w - t * 65536) ≡ Some b
 
 module _ {g : SharedPages} (k : ArePages g) {t : ℕ} {x : Task} (i : IsTask g t x) {q a size c : ℕ} (o : IsObjectAt g x q a size c) (new : Tables)
-    (tables : AreTables g.tables.classes new) (b : ℕ) (moves : IsMoving g x a c) (f : FillsFrom g.tables.classes (tables_of g x) c b new) where
+    (tables : AreTables g.tables.classes new) (b : ℕ) (moves : MustMoveInto g x a c) (f : FillsFrom g.tables.classes (tables_of g x) c b new) where
   pub filler_account : length new.pool.free ≤ x.pages + length g.tables.pool.free
   filler_account = (let y = other k i o new tables b moves f in filled_account k i o new tables b moves f y.0 y.1 y.2 y.3)
 

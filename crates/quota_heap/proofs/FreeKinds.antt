@@ -18,7 +18,7 @@ use Rattle.page_model.specs.Paging.{slot_words}
 use Rattle.page_model.specs.Steps.{MayFill, Moves, MustMove, moved_to, without}
 use Rattle.page_model.proofs.CallerLemmas.{mover_is_other, sound_apart_from}
 use Rattle.page_slots.specs.Release.{FillsFrom, Vacates}
-use Rattle.page_slots.specs.Occupying.{Occupies, ServePart, class_table}
+use Rattle.page_slots.specs.Occupying.{Occupies, FitPagesShared, class_table}
 use Rattle.page_slots.specs.Tables.{AreTables, Tables, page_at, slot_at}
 use Rattle.page_slots.proofs.CallerLemmas.{filled_occupied, filled_part, filler, filler_in, filler_may, vacated_occupied, vacated_part}
 use Rattle.proxy_table.specs.Proxies.{Proxies}
@@ -26,7 +26,7 @@ use Rattle.quota_model.specs.Joined.{AreNumbers, joined, places_at}
 use Rattle.quota_model.proofs.CallerLemmas.{joined_insert, joined_remove, moved_image, numbers_set, removed_image}
 use Rattle.quota_model.specs.Parts.{key_of, part_of}
 use Rattle.quota_model.proofs.CallerLemmas.{found_whole}
-use Rattle.quota_heap.specs.Calls.{Fills, Goes, IsMoving, IsObjectAt, IsRemoved}
+use Rattle.quota_heap.specs.Calls.{FreesAndFills, FreesAlone, MustMoveInto, IsObjectAt, IsRemoved}
 use Rattle.quota_heap.specs.Layout.{ArePages, IsTask, IsTaskIn, IsValid, held_in, held_of, paging_at, places_of, state_of, tables_of}
 use Rattle.quota_heap.specs.Steps.{FreesOfTask}
 use Rattle.quota_heap.specs.declared.shared_pages.SharedPages.{SharedPages}
@@ -46,7 +46,7 @@ module _ {g : SharedPages} (k : ArePages g) {t : ℕ} {x : Task} (i : IsTask g t
   of_table = subst (λ s. AreTables s new) (sym (table_is g k)) tables
 
   module _ (v : Vacates (tables_of g x) c (page_at g.tables.classes a) (slot_at g.tables.classes c a) new) where
-    pub vacated_serves : ServePart (paging_at g) new
+    pub vacated_serves : FitPagesShared (paging_at g) new
     vacated_serves = vacated_part (paging_ok g) i.serve i.occupied of_table i.sound q (it_found k i o) v (it_class k i o) (page_same k i o) (slot_same k i o)
 
     pub vacated_occupies : Occupies (paging_at g) (remove (held_of g x) q) new
@@ -61,7 +61,7 @@ module _ {g : SharedPages} (k : ArePages g) {t : ℕ} {x : Task} (i : IsTask g t
         omega arith
 
   -- the tables `new` after another object, at address b, moved to the freed slot, and its own slot was freed
-  module _ (b : ℕ) (moves : IsMoving g x a c) (f : FillsFrom g.tables.classes (tables_of g x) c b new) where
+  module _ (b : ℕ) (moves : MustMoveInto g x a c) (f : FillsFrom g.tables.classes (tables_of g x) c b new) where
     pub due : MustMove (paging_at g) (held_of g x) (it k i o)
     due = must k i o moves
 
@@ -82,7 +82,7 @@ module _ {g : SharedPages} (k : ArePages g) {t : ℕ} {x : Task} (i : IsTask g t
       pub same_slot : get_or g.tables.classes.sizes c 0 ≡ slot_for (paging_at g) (length y.bytes)
       same_slot = it_slot k i o ∙ sym (ap (slot_words (paging_at g)) may.class)
 
-      pub filled_serves : ServePart (paging_at g) new
+      pub filled_serves : FitPagesShared (paging_at g) new
       filled_serves = filled_part (paging_ok g) i.serve i.occupied of_table q (it_found k i o) fills
 
       pub filled_occupies : Occupies (paging_at g) (without (held_of g x) q a (Some r)) new
@@ -131,7 +131,7 @@ module _ {g : SharedPages} (k : ArePages g) {t : ℕ} {x : Task} (i : IsTask g t
 -- a free of task t from heap h to heap n, which moves no other object
 module _ (h n : OpenTasks) (k : IsValid h) (t : ℕ) (x x' : Task) (at : IsTaskIn h t x) (tasks : n.tasks.items ≡ set h.tasks.items t x')
     (granted : n.granted ≡ h.granted) (q a size c : ℕ)
-    (o : IsObjectAt h.shared_pages x q a size c) (still : IsMoving h.shared_pages x a c → ⊥) (go : Goes h.shared_pages x q a c n.shared_pages x') where
+    (o : IsObjectAt h.shared_pages x q a size c) (still : MustMoveInto h.shared_pages x a c → ⊥) (go : FreesAlone h.shared_pages x q a c n.shared_pages x') where
   abbrev i : IsTask h.shared_pages t x
   i = k.task t x at
 
@@ -172,7 +172,7 @@ module _ (h n : OpenTasks) (k : IsValid h) (t : ℕ) (x x' : Task) (at : IsTaskI
 -- a free of task t from heap h to heap n, which moves object r to the freed slot
 module _ (h n : OpenTasks) (k : IsValid h) (t : ℕ) (x x' : Task) (at : IsTaskIn h t x) (tasks : n.tasks.items ≡ set h.tasks.items t x')
     (granted : n.granted ≡ h.granted) (q a size c r : ℕ)
-    (o : IsObjectAt h.shared_pages x q a size c) (moves : IsMoving h.shared_pages x a c) (fi : Fills h.shared_pages x q a c r n.shared_pages x') where
+    (o : IsObjectAt h.shared_pages x q a size c) (moves : MustMoveInto h.shared_pages x a c) (fi : FreesAndFills h.shared_pages x q a c r n.shared_pages x') where
   abbrev i' : IsTask h.shared_pages t x
   i' = k.task t x at
 

@@ -19,7 +19,7 @@ use Rattle.page_model.specs.Paging.{bound_of, class_for, classes, page_of, slot_
 use Rattle.page_model.specs.Steps.{Moves, MustMove, without}
 use Rattle.page_model.proofs.CallerLemmas.{bytes_held, live_taken, storable_without}
 use Rattle.page_slots.specs.Release.{MovesObject}
-use Rattle.page_slots.specs.Occupying.{Occupies, ServePart, class_table}
+use Rattle.page_slots.specs.Occupying.{Occupies, FitPagesShared, class_table}
 use Rattle.page_slots.specs.Tables.{IsUsed, page_at, slot_at, slots_on}
 use Rattle.page_slots.proofs.CallerLemmas.{found_page, moves_is, moves_some}
 use Rattle.quota_model.specs.Joined.{joined}
@@ -27,7 +27,7 @@ use Rattle.quota_model.specs.Parts.{key_of, part_of}
 use Rattle.quota_model.specs.Shared.{IsShared, RemovesForTask}
 use Rattle.quota_model.proofs.CallerLemmas.{free_quotas, free_shared, others_kept, own_freed, own_without}
 use Rattle.size_classes.specs.Table.{ClassTable}
-use Rattle.quota_heap.specs.Calls.{IsMoving, IsObjectAt, KeepsRest}
+use Rattle.quota_heap.specs.Calls.{MustMoveInto, IsObjectAt, KeepsRest}
 use Rattle.quota_heap.specs.Layout.{ArePages, IsTask, IsTaskIn, IsValid, held_in, held_of, objects_of, paging_at, places_of, quotas_of, state_of, tables_of}
 use Rattle.quota_heap.specs.State.{QuotaState}
 use Rattle.quota_heap.specs.Steps.{FreesOfTask, with_held}
@@ -100,14 +100,14 @@ module _ {g : SharedPages} (k : ArePages g) {t : ℕ} {x : Task} (i : IsTask g t
   bound_same : 1 ≡ bound_of (paging_at g) (class_at (paging_at g) it)
   bound_same = sym (at_one g (class_at (paging_at g) it) (let e = it_class in let lt = o.in_range in omega arith))
 
-  -- the condition that the code tests (`IsMoving`) holds if and only if the freed object's slot must be filled in the model (`MustMove`)
-  pub must : IsMoving g x a c → MustMove (paging_at g) (held_of g x) it
+  -- the condition that the code tests (`MustMoveInto`) holds if and only if the freed object's slot must be filled in the model (`MustMove`)
+  pub must : MustMoveInto g x a c → MustMove (paging_at g) (held_of g x) it
   must v = (moves_is (paging_ok g) i.serve i.occupied q it_found).0 (along _ _ _ _ _ _ (sym page_same) (sym it_class) bound_same v)
 
-  pub moving : MustMove (paging_at g) (held_of g x) it → IsMoving g x a c
+  pub moving : MustMove (paging_at g) (held_of g x) it → MustMoveInto g x a c
   moving v = along _ _ _ _ _ _ page_same it_class (sym bound_same) ((moves_is (paging_ok g) i.serve i.occupied q it_found).1 v)
 
-  pub some_not_full : IsMoving g x a c → 1 ≤ length (pages_in x.lists c NotFull)
+  pub some_not_full : MustMoveInto g x a c → 1 ≤ length (pages_in x.lists c NotFull)
   some_not_full v =
       let l = moves_some (paging_ok g) i.serve i.occupied q it_found (must v) (let e = it_class in let lt = o.in_range in omega arith) in
       subst (λ d. 1 ≤ length (pages_in x.lists d NotFull)) it_class l
@@ -159,7 +159,7 @@ module _ (h n : OpenTasks) (k : IsValid h) (t : ℕ) (x x' : Task) (at : IsTaskI
         omega arith
 
     pub goes : joined (places_of (set h.tasks.items t x')) ≡ places after → length n.shared_pages.region ≡ length h.shared_pages.region
-        → IsSlotImage (paging_at h.shared_pages) after n.shared_pages.region → ServePart (paging_at h.shared_pages) (tables_of n.shared_pages x')
+        → IsSlotImage (paging_at h.shared_pages) after n.shared_pages.region → FitPagesShared (paging_at h.shared_pages) (tables_of n.shared_pages x')
         → Occupies (paging_at h.shared_pages) (without (held_of h.shared_pages x) q a moved) (tables_of n.shared_pages x') → x'.proxies.limit ≡ x.proxies.limit
         → Accounts (tables_of h.shared_pages x) (tables_of n.shared_pages x') c → Becomes h n t x x' after
     goes at_places long image serve occupied limit accounts =

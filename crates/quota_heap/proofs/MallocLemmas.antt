@@ -16,7 +16,7 @@ use Rattle.page_model.specs.Image.{IsSlotImage, header_word}
 use Rattle.page_model.specs.Paging.{class_for, classes, page_of}
 use Rattle.page_model.specs.Steps.{IsFreePlace, Request, zeros_at}
 use Rattle.page_model.proofs.CallerLemmas.{bytes_missing, live_added, malloc_objects, malloc_places, storable_added, zeros_are_bytes, class_of_zeros}
-use Rattle.page_slots.specs.Occupying.{Occupies, ServePart, class_table}
+use Rattle.page_slots.specs.Occupying.{Occupies, FitPagesShared, class_table}
 use Rattle.page_slots.specs.Tables.{AreTables, IsForeign, IsOf, Tables}
 use Rattle.page_slots.specs.Take.{TakesAt}
 use Rattle.page_slots.proofs.CallerLemmas.{taken_is_free, taken_occupied, taken_part}
@@ -28,7 +28,7 @@ use Rattle.quota_model.specs.Shared.{PlacesForTask}
 use Rattle.quota_model.proofs.CallerLemmas.{found_part, others_stay, part_inserted, quotas_stay, stays_shared}
 use Rattle.quota_heap.specs.Calls.{IsAdded}
 use Rattle.quota_heap.specs.Layout.{ArePages, IsTask, IsTaskIn, IsValid, held_in, held_of, objects_of, paging_at, places_of, quotas_of, state_of, tables_of}
-use Rattle.quota_heap.specs.Steps.{GivesTask}
+use Rattle.quota_heap.specs.Steps.{AddsObjectOfTask}
 use Rattle.quota_heap.specs.declared.shared_pages.SharedPages.{SharedPages}
 use Rattle.quota_heap.specs.declared.open_tasks.OpenTasks.{OpenTasks}
 use Rattle.quota_heap.specs.declared.task.Task.{Task}
@@ -61,7 +61,7 @@ module _ (g : SharedPages) (k : ArePages g) (t : ℕ) (x : Task) (i : IsTask g t
   pub taken_free : (n : ℕ) → class_for (paging_at g) n ≡ c → IsFreePlace (paging_at g) (held_of g x) n a
   taken_free n class = taken_is_free (paging_ok g) i.serve i.occupied of_table lt at_table n class
 
-  pub taken_serves : ServePart (paging_at g) new
+  pub taken_serves : FitPagesShared (paging_at g) new
   taken_serves = taken_part (paging_ok g) i.serve i.occupied of_table lt at_table
 
   pub taken_occupies : (q : ℕ) (y : Placed) → get (held_of g x) q ≡ None → y.place ≡ a → class_at (paging_at g) y ≡ c
@@ -233,7 +233,7 @@ module _ (h n : OpenTasks) (k : IsValid h) (t : ℕ) (x x' : Task) (at : IsTaskI
   pub comes_kept : IsValid n
   comes_kept = becomes_kept h n k t x x' after becomes
 
-  pub comes_given : GivesTask (state_of h) t (record { number = q; length = bytes }) (state_of n)
+  pub comes_given : AddsObjectOfTask (state_of h) t (record { number = q; length = bytes }) (state_of n)
   comes_given =
       let whole = becomes_state h n k t x x' after becomes in
       let held : (state_of n).held ≡ after = ap (λ (s : QuotaState). s.held) whole in

@@ -4,10 +4,10 @@ use Rattle.std.specs.Prelude.{nat_eq}
 use Rattle.std.proofs.lemmas.Bool.{cases_eq, cases_lt}
 use Rattle.cf_lemmas.proofs.Tests.{eq_no, eq_yes}
 use Rattle.cf_lemmas.proofs.Ranges.{sum_changed}
-use Rattle.page_model.specs.Arrangement.{IsSound, home_pages, live, not_full_pages, pages_needed, pages_needed_with}
+use Rattle.page_model.specs.Arrangement.{IsSound, pages_of_class, live, not_full_pages, pages_needed, pages_needed_with}
 use Rattle.page_model.specs.Counts.{CanHold, LieOn, ceil_div}
 use Rattle.page_model.specs.Held.{Held, objects}
-use Rattle.page_model.specs.Paging.{AreOne, IsPaging, Paging, class_for, classes, slots_of}
+use Rattle.page_model.specs.Paging.{EveryBoundIsOne, IsPaging, Paging, class_for, classes, slots_of}
 use Rattle.page_model.proofs.CallerLemmas.{can_hold_one, slots_some, sound_stand, home_at_one}
 
 -- if n objects are on some pages, these pages, with one more if none of them is partly full, can hold n + 1 objects
@@ -43,9 +43,9 @@ one_more (suc h) n m (suc zero) pos s =
     ]
 one_more h n m (suc (suc q)) pos s = absurd (omega (arith, s.few))
 
-module _ (p : Paging) (ok : IsPaging p) (ones : AreOne p) (m : Held) (s : IsSound p m) where
-  stand : (c : ℕ) → c < classes p → LieOn (home_pages p m c) (live p (objects m) c) (slots_of p c) 1 (not_full_pages p m c)
-  stand c lt = subst (λ k. LieOn (home_pages p m c) (live p (objects m) c) (slots_of p c) k (not_full_pages p m c)) (ones c lt) (sound_stand p ok c lt m s)
+module _ (p : Paging) (ok : IsPaging p) (ones : EveryBoundIsOne p) (m : Held) (s : IsSound p m) where
+  stand : (c : ℕ) → c < classes p → LieOn (pages_of_class p m c) (live p (objects m) c) (slots_of p c) 1 (not_full_pages p m c)
+  stand c lt = subst (λ k. LieOn (pages_of_class p m c) (live p (objects m) c) (slots_of p c) k (not_full_pages p m c)) (ones c lt) (sound_stand p ok c lt m s)
 
   pub not_full_few : (c : ℕ) → c < classes p → not_full_pages p m c ≤ 1
   not_full_few c lt = (stand c lt).few
@@ -59,7 +59,7 @@ module _ (p : Paging) (ok : IsPaging p) (ones : AreOne p) (m : Held) (s : IsSoun
       let next = can_hold_one _ _ _ (slots_some p ok (class_for p n) fits)
       (one_more _ _ _ _ (slots_some p ok (class_for p n) fits) (stand (class_for p n) fits)) in
       let at : ceil_div (live p (objects m) (class_for p n) + cond (nat_eq (class_for p n) (class_for p n)) 1 0) (slots_of p (class_for p n))
-      ≡ home_pages p m (class_for p n) + (1 - not_full_pages p m (class_for p n)) = rw yes (sym next) in
+      ≡ pages_of_class p m (class_for p n) + (1 - not_full_pages p m (class_for p n)) = rw yes (sym next) in
       let was = home_at_one p ok ones m s (class_for p n) fits in
       let sum = sum_changed (λ d. ceil_div (live p (objects m) d + cond (nat_eq (class_for p n) d) 1 0) (slots_of p d))
       (λ d. ceil_div (live p (objects m) d) (slots_of p d)) 0 (classes p) (class_for p n) (omega arith) (omega arith)

@@ -21,7 +21,7 @@ use Rattle.page_model.specs.Held.{objects}
 use Rattle.page_model.specs.Image.{IsSlotImage, slot_for}
 use Rattle.page_model.proofs.CallerLemmas.{image_empty, sound_empty, nothing_held, no_objects, none_live}
 use Rattle.page_pool.specs.Pool.{Pool}
-use Rattle.page_slots.specs.Occupying.{Occupies, ServePart}
+use Rattle.page_slots.specs.Occupying.{Occupies, FitPagesShared}
 use Rattle.page_slots.specs.PageTables.{AreFirst, tables_with}
 use Rattle.page_slots.proofs.CallerLemmas.{first_occupied, first_table, new_serve, no_pages}
 use Rattle.proxy_table.specs.Proxies.{AreBelowLimit, no_proxies}
@@ -96,7 +96,7 @@ module _ (s : Settings) (h : OpenTasks) (f : AreFirstPages s h.shared_pages) (n 
   first_is t x e = replicated 16 (first_task n s.pages s.proxies) t x (sym (ap (λ ts. slice_get ts t) tasks) ∙ e)
 
   -- the tables are those of pages that are all free
-  shown : ServePart (paging_at h.shared_pages) (tables_with h.shared_pages.tables (empty_lists n s.pages))
+  shown : FitPagesShared (paging_at h.shared_pages) (tables_with h.shared_pages.tables (empty_lists n s.pages))
   shown =
       let first : AreFirst h.shared_pages.settings Words h.shared_pages.tables =
       subst (λ t. AreFirst t Words h.shared_pages.tables) (sym f.settings) f.tables in

@@ -8,14 +8,14 @@ use Rattle.size_classes.specs.Table.{ClassTable}
 use Rattle.class_lists.specs.declared.Which.{Which}
 use Rattle.class_lists.specs.declared.Which.TheVariants.{Full, NotFull}
 use Rattle.class_lists.specs.PageLists.{AreApart, PageLists, pages_in}
-use Rattle.page_model.specs.Arrangement.{home_pages, used_pages}
+use Rattle.page_model.specs.Arrangement.{pages_of_class, used_pages}
 use Rattle.page_model.specs.Held.{Held}
 use Rattle.page_model.specs.Paging.{IsPaging, Paging, classes}
 use Rattle.page_pool.specs.Pool.{Pool}
 use Rattle.page_slots.specs.Release.{FillsFrom, Vacates}
-use Rattle.page_slots.specs.Occupying.{Occupies, ServePart}
+use Rattle.page_slots.specs.Occupying.{Occupies, FitPagesShared}
 use Rattle.page_slots.specs.Tables.{AreTables, JoinsList, LeavesList, Tables, slots_in, slots_on, used_in}
-use Rattle.page_slots.specs.Take.{TakesAt, TakesOnFreePage, TakesOnOpenPage}
+use Rattle.page_slots.specs.Take.{TakesAt, TakesOnFreePage, TakesOnPartlyFullPage}
 use Rattle.page_slots.proofs.CallerLemmas.{home_pages_are, front_listed}
 use Rattle.cf_lemmas.proofs.Ranges.{sum_changed}
 
@@ -83,7 +83,7 @@ module _ (k : ClassTable) (old : Tables) (a : AreTables k old) (c : ℕ) (new : 
   pool_same : new.pool ≡ old.pool → length new.pool.free ≡ length old.pool.free
   pool_same e = ap (λ (p : Pool). length p.free) e
 
-  open_accounts : (page slot : ℕ) → TakesOnOpenPage old c page slot new → Accounts old new c
+  open_accounts : (page slot : ℕ) → TakesOnPartlyFullPage old c page slot new → Accounts old new c
   open_accounts page slot t =
       let p = pool_same t.pool in
       elim (cases_eq (used_in (slots_on new page)) (length (slots_on new page))) [
@@ -137,13 +137,13 @@ module _ (k : ClassTable) (old : Tables) (a : AreTables k old) (c : ℕ) (new : 
   fill_accounts at f = vacate_accounts f.page f.slot f.vacates
 
 -- the pages that the task uses and those of the pool sum to the same before and after, if its objects were m and are m'
-pub used_accounts : (p : Paging) → IsPaging p → (m m' : Held) (old new : Tables) → ServePart p old → Occupies p m old → ServePart p new → Occupies p m' new
+pub used_accounts : (p : Paging) → IsPaging p → (m m' : Held) (old new : Tables) → FitPagesShared p old → Occupies p m old → FitPagesShared p new → Occupies p m' new
     → (c : ℕ) → c < classes p → Accounts old new c → used_pages p m' + length new.pool.free ≡ used_pages p m + length old.pool.free
 unfolding used_pages
 used_accounts p ok m m' old new serve o serve' o' c lt a =
     let was = home_pages_are p ok m old serve o c in
     let now = home_pages_are p ok m' new serve' o' c in
-    let sum = sum_changed (home_pages p m') (home_pages p m) 0 (classes p) c (omega arith) (omega arith)
+    let sum = sum_changed (pages_of_class p m') (pages_of_class p m) 0 (classes p) c (omega arith) (omega arith)
     (λ d _ _ ne. home_pages_are p ok m' new serve' o' d ∙ a.others d ne ∙ sym (home_pages_are p ok m old serve o d)) in
     let here = a.here in
     omega arith

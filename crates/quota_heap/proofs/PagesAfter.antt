@@ -4,7 +4,7 @@ use Rattle.page_model.specs.Arrangement.{IsSound, pages_needed, used_pages}
 use Rattle.page_model.specs.Held.{Held, objects}
 use Rattle.page_model.specs.Paging.{classes}
 use Rattle.page_model.proofs.CallerLemmas.{used_at_one}
-use Rattle.page_slots.specs.Occupying.{Occupies, ServePart}
+use Rattle.page_slots.specs.Occupying.{Occupies, FitPagesShared}
 use Rattle.page_slots.specs.Tables.{Tables}
 use Rattle.quota_heap.specs.Layout.{ArePages, IsTask, held_of, paging_at, tables_of}
 use Rattle.quota_heap.specs.declared.shared_pages.SharedPages.{SharedPages}
@@ -13,7 +13,7 @@ use Rattle.quota_heap.proofs.Facts.{at_one, paging_ok, used_is}
 use Rattle.quota_heap.proofs.PageAccount.{Accounts, used_accounts}
 
 module _ (g : SharedPages) (k : ArePages g) (t : ℕ) (x : Task) (i : IsTask g t x) (c : ℕ) (lt : c < classes (paging_at g)) (m : Held) (new : Tables)
-    (serve : ServePart (paging_at g) new) (occupied : Occupies (paging_at g) m new) (a : Accounts (tables_of g x) new c) where
+    (serve : FitPagesShared (paging_at g) new) (occupied : Occupies (paging_at g) m new) (a : Accounts (tables_of g x) new c) where
   -- the pages of the task and those of the pool sum to the same as before
   pub used_after : used_pages (paging_at g) m + length new.pool.free ≡ x.pages + length g.tables.pool.free
   used_after =

@@ -23,11 +23,11 @@ use Rattle.quota_model.specs.Joined.{joined}
 use Rattle.quota_model.proofs.CallerLemmas.{image_of_write, live_same, needed_same, others_rewritten, own_rewritten, rewritten_quotas, rewritten_shared}
 use Rattle.quota_model.specs.Parts.{key_of, part_of}
 use Rattle.quota_model.proofs.CallerLemmas.{found_whole}
-use Rattle.cf_model.specs.Steps.{Part}
+use Rattle.cf_model.specs.Steps.{Position}
 use Rattle.word_bytes.specs.Cells.{overwritten}
 use Rattle.word_bytes.specs.Overwriting.{Overwrites, byte_from}
 use Rattle.word_bytes.proofs.CallerLemmas.{overwritten_before, overwritten_behind, overwritten_inside}
-use Rattle.quota_heap.specs.Calls.{IsFound, IsFoundIn, IsMissing, Lies}
+use Rattle.quota_heap.specs.Calls.{IsFound, IsFoundIn, IsMissing, HoldsBytesAt}
 use Rattle.quota_heap.specs.Layout.{IsTask, IsTaskIn, IsValid, held_in, held_of, paging_at, places_of, quotas_of, state_of, tables_of}
 use Rattle.quota_heap.specs.State.{held_by}
 use Rattle.quota_heap.specs.Steps.{IsFault, ReadsOfTask, WritesForTask, with_held}
@@ -49,21 +49,21 @@ module _ (h : OpenTasks) (k : IsValid h) (t : ℕ) (x : Task) (at : IsTaskIn h t
   no_object q e = ap (λ m. get m q) (part_is h k t x at) ∙ no_place h.shared_pages k.shared_pages t x i q e
 
   -- the cause of a fault of `find`, as contracts show it
-  pub fault_is : (part : Part) (count : ℕ) (e : AccessFault) → IsMissing h.shared_pages x part count e → IsFault (state_of h) t part count e
-  fault_is part count Unknown none = no_object part.number none
-  fault_is part count Range p = record {
+  pub fault_is : (position : Position) (count : ℕ) (e : AccessFault) → IsMissing h.shared_pages x position count e → IsFault (state_of h) t position count e
+  fault_is position count Unknown none = no_object position.number none
+  fault_is position count Range p = record {
     object = record { place = p.place; bytes = bytes_at h.shared_pages.region p.place };
-    found = object_by part.number p.place p.found;
+    found = object_by position.number p.place p.found;
     past = p.past;
   }
 
   -- what `find` of the shared pages returns for the task is right for the heap
-  pub found_in : (part : Part) (count : ℕ) (r : Result ℕ AccessFault) → IsFound h.shared_pages x part count r → IsFoundIn h t part count r
-  found_in part count (Ok place) l = λ y e. (
+  pub found_in : (position : Position) (count : ℕ) (r : Result ℕ AccessFault) → IsFound h.shared_pages x position count r → IsFoundIn h t position count r
+  found_in position count (Ok place) l = λ y e. (
       let z : Some x ≡ Some y = sym at ∙ e in
       let same : x ≡ y = cc in
-      subst (λ (z : Task). Lies h.shared_pages z part count place) same l)
-  found_in part count (Err e) m = fault_is part count e m
+      subst (λ (z : Task). HoldsBytesAt h.shared_pages z position count place) same l)
+  found_in position count (Err e) m = fault_is position count e m
 
 pub none_to : {X A B : Type 0} (r : Option X) → (A → B) → IfNone r A → IfNone r B
 none_to None f p = f p
@@ -74,75 +74,75 @@ some_to None f p = p
 some_to (Some x) f p = f x p
 
 -- the words that hold the `count` bytes of a found object are in the region
-module _ (h : OpenTasks) (k : IsValid h) (t : ℕ) (x : Task) (at : IsTaskIn h t x) (part : Part) (count a : ℕ) (l : Lies h.shared_pages x part count a) where
+module _ (h : OpenTasks) (k : IsValid h) (t : ℕ) (x : Task) (at : IsTaskIn h t x) (position : Position) (count a : ℕ) (l : HoldsBytesAt h.shared_pages x position count a) where
   abbrev task : IsTask h.shared_pages t x
   task = k.task t x at
 
   abbrev pub from : ℕ
-  from = part.from
+  from = position.from
 
-  pub words_in : 1 ≤ count → a + 1 + part.from / 8 + (part.from % 8 + count + 7) / 8 ≤ length h.shared_pages.region
+  pub words_in : 1 ≤ count → a + 1 + position.from / 8 + (position.from % 8 + count + 7) / 8 ≤ length h.shared_pages.region
   words_in some =
-      let s = slot_there h.shared_pages k.shared_pages t x task part.number a l.found in
-      let o = holds h.shared_pages k.shared_pages t x task part.number a l.found in
+      let s = slot_there h.shared_pages k.shared_pages t x task position.number a l.found in
+      let o = holds h.shared_pages k.shared_pages t x task position.number a l.found in
       let w = l.within in
       omega arith
 
-  pub place_small : 1 ≤ count → a + 1 + part.from / 8 ≤ 2 ^ 23
+  pub place_small : 1 ≤ count → a + 1 + position.from / 8 ≤ 2 ^ 23
   place_small some = (let w = words_in some in let long = k.shared_pages.words_long in let small = h.shared_pages.settings.small_region in omega arith)
 
   pub count_few : count ≤ 131072
-  count_few = (let f = bytes_few h.shared_pages k.shared_pages t x task part.number a l.found in let w = l.within in omega arith)
+  count_few = (let f = bytes_few h.shared_pages k.shared_pages t x task position.number a l.found in let w = l.within in omega arith)
 
   -- the bytes that the code reads are those of the object
   pub read_is : (out : List ℕ) → length out ≡ count
-      → ((j : ℕ) → j < length out → get_or out j 0 ≡ byte_from h.shared_pages.region (a + 1 + part.from / 8) (part.from % 8 + j))
-      → ReadsOfTask (state_of h) t part count out
+      → ((j : ℕ) → j < length out → get_or out j 0 ≡ byte_from h.shared_pages.region (a + 1 + position.from / 8) (position.from % 8 + j))
+      → ReadsOfTask (state_of h) t position count out
   read_is out long each = record {
     object = record { place = a; bytes = bytes_at h.shared_pages.region a };
-    found = object_by h k t x at part.number a l.found;
+    found = object_by h k t x at position.number a l.found;
     within = l.within;
     value =
         let w = l.within in
-        let lt = length-take count (drop part.from (bytes_at h.shared_pages.region a)) in
-        let ld = length-drop part.from (bytes_at h.shared_pages.region a) in
-        same_number_lists out (take count (drop part.from (bytes_at h.shared_pages.region a))) (omega arith) (λ j less.
-        let same : a + 1 + part.from / 8 + (part.from % 8 + j) / 8 ≡ a + 1 + (part.from + j) / 8 = omega arith in
-        let rest : (part.from % 8 + j) % 8 ≡ (part.from + j) % 8 = omega arith in
-        each j less ∙ ap (λ d. byte_of ((part.from % 8 + j) % 8) (get_or h.shared_pages.region d 0)) same
-        ∙ ap (λ r. byte_of r (get_or h.shared_pages.region (a + 1 + (part.from + j) / 8) 0)) rest
-        ∙ sym (byte_is h.shared_pages.region a (part.from + j) (omega arith)) ∙ sym (get_or-drop part.from (bytes_at h.shared_pages.region a) j 0)
-        ∙ sym (get_or-take count (drop part.from (bytes_at h.shared_pages.region a)) j 0 (omega arith)));
+        let lt = length-take count (drop position.from (bytes_at h.shared_pages.region a)) in
+        let ld = length-drop position.from (bytes_at h.shared_pages.region a) in
+        same_number_lists out (take count (drop position.from (bytes_at h.shared_pages.region a))) (omega arith) (λ j less.
+        let same : a + 1 + position.from / 8 + (position.from % 8 + j) / 8 ≡ a + 1 + (position.from + j) / 8 = omega arith in
+        let rest : (position.from % 8 + j) % 8 ≡ (position.from + j) % 8 = omega arith in
+        each j less ∙ ap (λ d. byte_of ((position.from % 8 + j) % 8) (get_or h.shared_pages.region d 0)) same
+        ∙ ap (λ r. byte_of r (get_or h.shared_pages.region (a + 1 + (position.from + j) / 8) 0)) rest
+        ∙ sym (byte_is h.shared_pages.region a (position.from + j) (omega arith)) ∙ sym (get_or-drop position.from (bytes_at h.shared_pages.region a) j 0)
+        ∙ sym (get_or-take count (drop position.from (bytes_at h.shared_pages.region a)) j 0 (omega arith)));
   }
 
   -- a read of no bytes
-  pub reads_nothing : (out : List ℕ) → length out ≡ count → count ≡ 0 → ReadsOfTask (state_of h) t part count out
+  pub reads_nothing : (out : List ℕ) → length out ≡ count → count ≡ 0 → ReadsOfTask (state_of h) t position count out
   reads_nothing out long none = read_is out long (λ j less. absurd (omega arith))
 
 -- a write of `bytes` to the found object at address a, after which the region has the words `words`
-module _ (h : OpenTasks) (k : IsValid h) (t : ℕ) (x : Task) (at : IsTaskIn h t x) (part : Part) (a : ℕ) (bytes : List ℕ)
-    (l : Lies h.shared_pages x part (length bytes) a) (each : AreBytes bytes) (words : List ℕ)
-    (w : Overwrites h.shared_pages.region words (record { from = a + 1 + part.from / 8; count = (part.from % 8 + length bytes + 7) / 8 }) (part.from % 8) bytes) where
+module _ (h : OpenTasks) (k : IsValid h) (t : ℕ) (x : Task) (at : IsTaskIn h t x) (position : Position) (a : ℕ) (bytes : List ℕ)
+    (l : HoldsBytesAt h.shared_pages x position (length bytes) a) (each : AreBytes bytes) (words : List ℕ)
+    (w : Overwrites h.shared_pages.region words (record { from = a + 1 + position.from / 8; count = (position.from % 8 + length bytes + 7) / 8 }) (position.from % 8) bytes) where
   abbrev own : IsTask h.shared_pages t x
   own = k.task t x at
 
   abbrev q : ℕ
-  q = part.number
+  q = position.number
 
   abbrev pos : ℕ
-  pos = part.from
+  pos = position.from
 
   abbrev pub left : OpenTasks
   left = record h { shared_pages = record h.shared_pages { region = words } }
 
   abbrev key : ℕ
-  key = key_of t part.number
+  key = key_of t position.number
 
   abbrev old : List ℕ
   old = bytes_at h.shared_pages.region a
 
   abbrev new : List ℕ
-  new = written (bytes_at h.shared_pages.region a) part.from bytes
+  new = written (bytes_at h.shared_pages.region a) position.from bytes
 
   abbrev it : Placed
   it = record { place = a; bytes = bytes_at h.shared_pages.region a }
@@ -233,7 +233,7 @@ module _ (h : OpenTasks) (k : IsValid h) (t : ℕ) (x : Task) (at : IsTaskIn h t
   }
 
   abbrev pub changed : Held
-  changed = insert (held_in h) (key_of t part.number) (record { place = a; bytes = written (bytes_at h.shared_pages.region a) part.from bytes })
+  changed = insert (held_in h) (key_of t position.number) (record { place = a; bytes = written (bytes_at h.shared_pages.region a) position.from bytes })
 
   image : IsSlotImage (paging_at h.shared_pages) changed words
   image =
@@ -288,7 +288,7 @@ module _ (h : OpenTasks) (k : IsValid h) (t : ℕ) (x : Task) (at : IsTaskIn h t
   pub wrote_kept : IsValid left
   wrote_kept = becomes_kept h left k t x x changed becomes
 
-  pub wrote : WritesForTask (state_of h) t part bytes (state_of left)
+  pub wrote : WritesForTask (state_of h) t position bytes (state_of left)
   wrote = record {
     object = it;
     found = object_by h k t x at q a l.found;
@@ -297,21 +297,21 @@ module _ (h : OpenTasks) (k : IsValid h) (t : ℕ) (x : Task) (at : IsTaskIn h t
   }
 
 -- a write of no bytes changes nothing
-pub wrote_nothing : (h : OpenTasks) (k : IsValid h) (t : ℕ) (x : Task) (at : IsTaskIn h t x) (part : Part) (a : ℕ) (bytes : List ℕ) → length bytes ≡ 0
-    → Lies h.shared_pages x part (length bytes) a → WritesForTask (state_of h) t part bytes (state_of h)
-wrote_nothing h k t x at part a [] none l =
+pub wrote_nothing : (h : OpenTasks) (k : IsValid h) (t : ℕ) (x : Task) (at : IsTaskIn h t x) (position : Position) (a : ℕ) (bytes : List ℕ) → length bytes ≡ 0
+    → HoldsBytesAt h.shared_pages x position (length bytes) a → WritesForTask (state_of h) t position bytes (state_of h)
+wrote_nothing h k t x at position a [] none l =
     let it : Placed = record { place = a; bytes = bytes_at h.shared_pages.region a } in
-    let found = object_by h k t x at part.number a l.found in
-    let whole = found_whole (held_in h) t part.number (record { place = a; bytes = bytes_at h.shared_pages.region a }) found in
+    let found = object_by h k t x at position.number a l.found in
+    let whole = found_whole (held_in h) t position.number (record { place = a; bytes = bytes_at h.shared_pages.region a }) found in
     record {
       object = record { place = a; bytes = bytes_at h.shared_pages.region a };
       found = found;
       within = l.within;
       whole =
           let fits = l.within in
-          let same = written_nothing (bytes_at h.shared_pages.region a) part.from (omega arith) in
+          let same = written_nothing (bytes_at h.shared_pages.region a) position.from (omega arith) in
           ap (λ m. with_held (state_of h) m h.shared_pages.region)
-          (sym (ap (λ v. insert (held_in h) (key_of t part.number) (record { place = a; bytes = v })) same
-          ∙ inserted_there (held_in h) (key_of t part.number) (record { place = a; bytes = bytes_at h.shared_pages.region a }) whole));
+          (sym (ap (λ v. insert (held_in h) (key_of t position.number) (record { place = a; bytes = v })) same
+          ∙ inserted_there (held_in h) (key_of t position.number) (record { place = a; bytes = bytes_at h.shared_pages.region a }) whole));
     }
-wrote_nothing h k t x at part a (y ∷ ys) none l = absurd (omega arith)
+wrote_nothing h k t x at position a (y ∷ ys) none l = absurd (omega arith)

@@ -13,7 +13,7 @@ use Rattle.page_model.specs.Held.{Held, Placed, objects, places}
 use Rattle.page_model.specs.Image.{IsSlotImage, header_word}
 use Rattle.page_model.specs.Paging.{classes}
 use Rattle.page_model.proofs.CallerLemmas.{class_holds, held_at_bytes, held_from_image, places-held_at}
-use Rattle.page_slots.specs.Occupying.{Occupies, ServePart}
+use Rattle.page_slots.specs.Occupying.{Occupies, FitPagesShared}
 use Rattle.page_slots.specs.Tables.{AreOthers, AreTables}
 use Rattle.page_slots.proofs.CallerLemmas.{mine_elsewhere, others_elsewhere, others_occupied, others_tables}
 use Rattle.quota_model.specs.Joined.{AreNumbers, joined}
@@ -44,7 +44,7 @@ pub record Becomes (h n : OpenTasks) (t : ℕ) (x x' : Task) (m : Held) : Type 0
   pub shared : IsShared (profile_of h.shared_pages.settings) m
   pub quotas : AreQuotas (profile_of h.shared_pages.settings) (quotas_of h.tasks.items) m
   pub others : (u : ℕ) → u ≢ t → part_of m u ≡ part_of (held_in h) u
-  pub serve : ServePart (paging_at h.shared_pages) (tables_of n.shared_pages x')
+  pub serve : FitPagesShared (paging_at h.shared_pages) (tables_of n.shared_pages x')
   pub occupied : Occupies (paging_at h.shared_pages) (part_of m t) (tables_of n.shared_pages x')
   pub limit : x'.proxies.limit ≡ x.proxies.limit
   pub live_long : length x'.live ≡ 128

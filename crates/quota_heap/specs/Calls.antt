@@ -6,7 +6,7 @@ use Rattle.class_lists.specs.PageLists.{pages_in}
 use Rattle.class_lists.specs.declared.Which.TheVariants.{NotFull}
 use Rattle.cf_base.specs.declared.answers.AccessFault.{AccessFault}
 use Rattle.cf_base.specs.declared.answers.AccessFault.TheVariants.{Unknown, Range}
-use Rattle.cf_model.specs.Steps.{Part}
+use Rattle.cf_model.specs.Steps.{Position}
 use Rattle.page_model.specs.Bytes.{bytes_at}
 use Rattle.page_model.specs.Image.{Clears, MovesWords, header_word}
 use Rattle.page_model.specs.Paging.{class_for, classes}
@@ -51,11 +51,11 @@ pub record IsObjectAt (g : SharedPages) (x : Task) (q place bytes c : ℕ) : Typ
   pub in_range : c < classes (paging_at g)
 
 -- a free of task x's object at the address `place`, of class c, must move another object to its slot
-abbrev pub IsMoving : SharedPages → Task → ℕ → ℕ → Type 0
-IsMoving g x place c = MovesObject (slots_on (tables_of g x) (page_at g.tables.classes place)) (length (pages_in x.lists c NotFull)) 1
+abbrev pub MustMoveInto : SharedPages → Task → ℕ → ℕ → Type 0
+MustMoveInto g x place c = MovesObject (slots_on (tables_of g x) (page_at g.tables.classes place)) (length (pages_in x.lists c NotFull)) 1
 
 -- what `free_alone` does: it removes object q from task x, and frees and clears its slot, at the address `place` and of class c
-pub record Goes (g : SharedPages) (x : Task) (q place c : ℕ) (g' : SharedPages) (x' : Task) : Type 0 where
+pub record FreesAlone (g : SharedPages) (x : Task) (q place c : ℕ) (g' : SharedPages) (x' : Task) : Type 0 where
   pub rest : KeepsRest g x g' x'
   pub vacated : Vacates (tables_of g x) c (page_at g.tables.classes place) (slot_at g.tables.classes c place) (tables_of g' x')
   pub proxies : x'.proxies ≡ without_place x.proxies q
@@ -65,7 +65,7 @@ pub record Goes (g : SharedPages) (x : Task) (q place c : ℕ) (g' : SharedPages
 
 -- what `free_and_fill` does: it removes object q, whose slot of class c is at `place`; moves object r of task x from the address `from` to that slot; and
 -- frees the slot that r leaves
-pub record Fills (g : SharedPages) (x : Task) (q place c r : ℕ) (g' : SharedPages) (x' : Task) : Type 0 where
+pub record FreesAndFills (g : SharedPages) (x : Task) (q place c r : ℕ) (g' : SharedPages) (x' : Task) : Type 0 where
   pub rest : KeepsRest g x g' x'
   pub from : ℕ
   pub filled : FillsFrom g.tables.classes (tables_of g x) c from (tables_of g' x')
@@ -75,33 +75,33 @@ pub record Fills (g : SharedPages) (x : Task) (q place c r : ℕ) (g' : SharedPa
   pub words_long : length g'.region ≡ length g.region
   pub live : x'.live ≡ slice_set x.live c (slice_index x.live c - 1)
 
--- object `part.number` of task x has the address `place`, and `count` bytes from byte `part.from` on
-pub record Lies (g : SharedPages) (x : Task) (part : Part) (count place : ℕ) : Type 0 where
-  pub found : get x.proxies.places part.number ≡ Some place
-  pub within : part.from + count ≤ length (bytes_at g.region place)
+-- object `position.number` of task x has the address `place`, and `count` bytes from byte `position.from` on
+pub record HoldsBytesAt (g : SharedPages) (x : Task) (position : Position) (count place : ℕ) : Type 0 where
+  pub found : get x.proxies.places position.number ≡ Some place
+  pub within : position.from + count ≤ length (bytes_at g.region place)
 
--- object `part.number` of task x is live, but has fewer than `count` bytes from byte `part.from` on
-pub record Passes (g : SharedPages) (x : Task) (part : Part) (count : ℕ) : Type 0 where
+-- object `position.number` of task x is live, but has fewer than `count` bytes from byte `position.from` on
+pub record IsPastEnd (g : SharedPages) (x : Task) (position : Position) (count : ℕ) : Type 0 where
   pub place : ℕ
-  pub found : get x.proxies.places part.number ≡ Some place
-  pub past : length (bytes_at g.region place) < part.from + count
+  pub found : get x.proxies.places position.number ≡ Some place
+  pub past : length (bytes_at g.region place) < position.from + count
 
 -- the cause of each fault of `find`: the object is not live, or the bytes pass its end
-abbrev pub IsMissing : SharedPages → Task → Part → ℕ → AccessFault → Type 0
-IsMissing g x part count Unknown = get x.proxies.places part.number ≡ None
-IsMissing g x part count Range = Passes g x part count
+abbrev pub IsMissing : SharedPages → Task → Position → ℕ → AccessFault → Type 0
+IsMissing g x position count Unknown = get x.proxies.places position.number ≡ None
+IsMissing g x position count Range = IsPastEnd g x position count
 
--- what `find` returns for the object `part.number` of task x: its address, or the fault, whose cause holds
-abbrev pub IsFound : SharedPages → Task → Part → ℕ → Result ℕ AccessFault → Type 0
-IsFound g x part count (Ok place) = Lies g x part count place
-IsFound g x part count (Err e) = IsMissing g x part count e
+-- what `find` returns for the object `position.number` of task x: its address, or the fault, whose cause holds
+abbrev pub IsFound : SharedPages → Task → Position → ℕ → Result ℕ AccessFault → Type 0
+IsFound g x position count (Ok place) = HoldsBytesAt g x position count place
+IsFound g x position count (Err e) = IsMissing g x position count e
 
 -- what `free_inner` does to the object q of class c at the address `place`: it removes the object; exactly if the slot must be filled, it moves object r there
 abbrev pub IsRemoved : SharedPages → Task → ℕ → ℕ → ℕ → Option ℕ → SharedPages → Task → Type 0
-IsRemoved g x q place c None g' x' = (IsMoving g x place c → ⊥) × Goes g x q place c g' x'
-IsRemoved g x q place c (Some r) g' x' = IsMoving g x place c × Fills g x q place c r g' x'
+IsRemoved g x q place c None g' x' = (MustMoveInto g x place c → ⊥) × FreesAlone g x q place c g' x'
+IsRemoved g x q place c (Some r) g' x' = MustMoveInto g x place c × FreesAndFills g x q place c r g' x'
 
 -- as `IsFound`, for task t of an open heap
-abbrev pub IsFoundIn : OpenTasks → ℕ → Part → ℕ → Result ℕ AccessFault → Type 0
-IsFoundIn h t part count (Ok place) = (x : Task) → slice_get h.tasks.items t ≡ Some x → Lies h.shared_pages x part count place
-IsFoundIn h t part count (Err e) = IsFault (state_of h) t part count e
+abbrev pub IsFoundIn : OpenTasks → ℕ → Position → ℕ → Result ℕ AccessFault → Type 0
+IsFoundIn h t position count (Ok place) = (x : Task) → slice_get h.tasks.items t ≡ Some x → HoldsBytesAt h.shared_pages x position count place
+IsFoundIn h t position count (Err e) = IsFault (state_of h) t position count e

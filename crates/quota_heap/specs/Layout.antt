@@ -11,7 +11,7 @@ use Rattle.page_model.specs.Bytes.{held_at}
 use Rattle.page_model.specs.Held.{Held, Objects, Placed, objects}
 use Rattle.page_model.specs.Image.{IsSlotImage, header_word}
 use Rattle.page_model.specs.Paging.{Paging, classes}
-use Rattle.page_slots.specs.Occupying.{Occupies, ServePart}
+use Rattle.page_slots.specs.Occupying.{Occupies, FitPagesShared}
 use Rattle.page_slots.specs.PageTables.{AreFirst, tables_with}
 use Rattle.page_slots.specs.Tables.{AreOthers, Tables}
 use Rattle.proxy_table.specs.Proxies.{AreBelowLimit, no_proxies}
@@ -50,7 +50,7 @@ pub record ArePages (g : SharedPages) : Type 0 where
 -- object holds its key, made of t and its number, and its length; the task's proxies and counts are those of its objects.
 pub record IsTask (g : SharedPages) (t : ℕ) (x : Task) : Type 0 where
   pub sound : IsSound (paging_at g) (held_of g x)
-  pub serve : ServePart (paging_at g) (tables_of g x)
+  pub serve : FitPagesShared (paging_at g) (tables_of g x)
   pub occupied : Occupies (paging_at g) (held_of g x) (tables_of g x)
   pub headed : (q : ℕ) (y : Placed) → get (held_of g x) q ≡ Some y → slice_index g.region y.place ≡ header_word (key_of t q) (length y.bytes)
   pub numbers : x.proxies.limit ≡ g.settings.proxies

@@ -8,7 +8,7 @@ use Rattle.cf_base.specs.declared.answers.Freed.{Freed}
 use Rattle.cf_base.specs.declared.answers.Handle.{Handle}
 use Rattle.cf_base.specs.declared.answers.NotLive.{NotLive}
 use Rattle.cf_base.specs.declared.answers.Refusal.{Refusal}
-use Rattle.cf_model.specs.Steps.{Part, number_of}
+use Rattle.cf_model.specs.Steps.{Position, number_of}
 use Rattle.page_model.specs.Bytes.{written}
 use Rattle.page_model.specs.Figures.{figures_of}
 use Rattle.page_model.specs.Held.{Held, Placed}
@@ -32,14 +32,14 @@ IsQuotaStep old task n (Ok done) new = (quota_refusal old.profile old.quotas tas
 IsQuotaStep old task n (Err e) new = (quota_refusal old.profile old.quotas task n (objects_by old task) ≡ Some e) × (new ≡ old)
 
 -- a malloc of a task that is not refused: it adds an object of zeros with the number and the length of `asked`, and changes only the objects and the words
-pub record GivesTask (old : QuotaState) (task : ℕ) (asked : Request) (new : QuotaState) : Type 0 where
+pub record AddsObjectOfTask (old : QuotaState) (task : ℕ) (asked : Request) (new : QuotaState) : Type 0 where
   pub granted : malloc_refusal old.profile (quota_of old task) (objects_by old task) asked.length ≡ None
   pub placed : PlacesForTask old.profile old.held task asked new.held
   pub whole : new ≡ with_held old new.held new.words
 
 -- a malloc of n bytes adds an object of the task, or is refused and changes nothing
 abbrev pub IsMallocStep : QuotaState → ℕ → ℕ → Result Handle Refusal → QuotaState → Type 0
-IsMallocStep old task n (Ok h) new = GivesTask old task (record { number = h.0; length = n }) new
+IsMallocStep old task n (Ok h) new = AddsObjectOfTask old task (record { number = h.0; length = n }) new
 IsMallocStep old task n (Err e) new = (malloc_refusal old.profile (quota_of old task) (objects_by old task) n ≡ Some e) × (new ≡ old)
 
 -- a free of the live object h of a task: it removes h, and moves another object of the task to its slot if it must; `freed` has the words of the slot and
@@ -54,41 +54,41 @@ abbrev pub IsFreeStep : QuotaState → ℕ → ℕ → Result Freed NotLive → 
 IsFreeStep old task h (Ok freed) new = FreesOfTask old task h freed new
 IsFreeStep old task h (Err e) new = (get (held_by old task) h ≡ None) × (new ≡ old)
 
--- the task's object `part.number` is live, but has fewer than `count` bytes from byte `part.from` on
-pub record PassesEnd (s : QuotaState) (task : ℕ) (part : Part) (count : ℕ) : Type 0 where
+-- the task's object `position.number` is live, but has fewer than `count` bytes from byte `position.from` on
+pub record PassesEnd (s : QuotaState) (task : ℕ) (position : Position) (count : ℕ) : Type 0 where
   pub object : Placed
-  pub found : get (held_by s task) part.number ≡ Some object
-  pub past : length object.bytes < part.from + count
+  pub found : get (held_by s task) position.number ≡ Some object
+  pub past : length object.bytes < position.from + count
 
 -- the cause of each refusal of a read or a write of `count` bytes: the task has no such object, or the bytes pass its end
-abbrev pub IsFault : QuotaState → ℕ → Part → ℕ → AccessFault → Type 0
-IsFault s task part count Unknown = get (held_by s task) part.number ≡ None
-IsFault s task part count Range = PassesEnd s task part count
+abbrev pub IsFault : QuotaState → ℕ → Position → ℕ → AccessFault → Type 0
+IsFault s task position count Unknown = get (held_by s task) position.number ≡ None
+IsFault s task position count Range = PassesEnd s task position count
 
--- a write that is not refused: the task's object `part.number` has these bytes from byte `part.from` on, and no other object changes
-pub record WritesForTask (old : QuotaState) (task : ℕ) (part : Part) (bytes : List ℕ) (new : QuotaState) : Type 0 where
+-- a write that is not refused: the task's object `position.number` has these bytes from byte `position.from` on, and no other object changes
+pub record WritesForTask (old : QuotaState) (task : ℕ) (position : Position) (bytes : List ℕ) (new : QuotaState) : Type 0 where
   pub object : Placed
-  pub found : get (held_by old task) part.number ≡ Some object
-  pub within : part.from + length bytes ≤ length object.bytes
+  pub found : get (held_by old task) position.number ≡ Some object
+  pub within : position.from + length bytes ≤ length object.bytes
   pub whole : new ≡ with_held old
-      (insert old.held (key_of task part.number) (record { place = object.place; bytes = written object.bytes part.from bytes })) new.words
+      (insert old.held (key_of task position.number) (record { place = object.place; bytes = written object.bytes position.from bytes })) new.words
 
 -- a write changes bytes of the task's object, or fails for its cause and changes nothing
-abbrev pub IsWriteStep : QuotaState → ℕ → Part → List ℕ → Result Unit AccessFault → QuotaState → Type 0
-IsWriteStep old task part bytes (Ok done) new = WritesForTask old task part bytes new
-IsWriteStep old task part bytes (Err e) new = IsFault old task part (length bytes) e × (new ≡ old)
+abbrev pub IsWriteStep : QuotaState → ℕ → Position → List ℕ → Result Unit AccessFault → QuotaState → Type 0
+IsWriteStep old task position bytes (Ok done) new = WritesForTask old task position bytes new
+IsWriteStep old task position bytes (Err e) new = IsFault old task position (length bytes) e × (new ≡ old)
 
--- a read that is not refused returns `count` bytes of the task's object `part.number` from byte `part.from` on
-pub record ReadsOfTask (s : QuotaState) (task : ℕ) (part : Part) (count : ℕ) (out : List ℕ) : Type 0 where
+-- a read that is not refused returns `count` bytes of the task's object `position.number` from byte `position.from` on
+pub record ReadsOfTask (s : QuotaState) (task : ℕ) (position : Position) (count : ℕ) (out : List ℕ) : Type 0 where
   pub object : Placed
-  pub found : get (held_by s task) part.number ≡ Some object
-  pub within : part.from + count ≤ length object.bytes
-  pub value : out ≡ take count (drop part.from object.bytes)
+  pub found : get (held_by s task) position.number ≡ Some object
+  pub within : position.from + count ≤ length object.bytes
+  pub value : out ≡ take count (drop position.from object.bytes)
 
 -- a read makes the caller's bytes `old` the bytes `out` of the task's object, or fails for its cause and leaves them unchanged
-abbrev pub IsReadAnswer : QuotaState → ℕ → Part → List ℕ → Result Unit AccessFault → List ℕ → Type 0
-IsReadAnswer s task part old (Ok done) out = ReadsOfTask s task part (length old) out
-IsReadAnswer s task part old (Err e) out = IsFault s task part (length old) e × (out ≡ old)
+abbrev pub IsReadAnswer : QuotaState → ℕ → Position → List ℕ → Result Unit AccessFault → List ℕ → Type 0
+IsReadAnswer s task position old (Ok done) out = ReadsOfTask s task position (length old) out
+IsReadAnswer s task position old (Err e) out = IsFault s task position (length old) e × (out ≡ old)
 
 -- the figures of class c of a task; none if there is no such class
 abbrev pub figures_by : QuotaState → ℕ → ℕ → Option Figures

@@ -2,7 +2,7 @@
 ghost use Rattle.std.specs.Prelude.{◌≡◌, ◌+◌, ◌*◌, ◌<◌, ◌≤◌, IfSome, IsSome, None, slice_index};
 ghost use Rattle.step_ledger.specs.Counting.{RoseAtMost};
 ghost use Rattle.cf_model.specs.Steps.{number_of};
-ghost use Rattle.quota_heap.specs.Calls.{Fills, Goes, IsMoving, IsObjectAt, IsRemoved};
+ghost use Rattle.quota_heap.specs.Calls.{FreesAndFills, FreesAlone, MustMoveInto, IsObjectAt, IsRemoved};
 ghost use Rattle.quota_heap.specs.Layout.{ArePages, IsTask};
 
 use crate::shared_pages::{Found, SharedPages, shift, wipe};
@@ -56,7 +56,7 @@ impl SharedPages {
         requires kept { IsTask self.old t task.old }
         requires few { task.old.pages ≤ 4096 }
         requires object { IsObjectAt self.old task.old h.0 x.place x.length x.class }
-        ensures goes { Goes self.old task.old h.0 x.place x.class self.new task.new }
+        ensures goes { FreesAlone self.old task.old h.0 x.place x.class self.new task.new }
         ensures still { result.moved ≡ None }
         ensures slot { result.slot_words ≡ slice_index self.old.tables.classes.sizes x.class }
         ensures bound { RoseAtMost steps.old steps.new (15 + result.slot_words) }
@@ -90,8 +90,8 @@ impl SharedPages {
         requires sixteen { t < 16 }
         requires few { task.old.pages ≤ 4096 }
         requires object { IsObjectAt self.old task.old h.0 x.place x.length x.class }
-        requires moves { IsMoving self.old task.old x.place x.class }
-        ensures fills { IfSome result.moved (λ other. Fills self.old task.old h.0 x.place x.class other.0 self.new task.new) }
+        requires moves { MustMoveInto self.old task.old x.place x.class }
+        ensures fills { IfSome result.moved (λ other. FreesAndFills self.old task.old h.0 x.place x.class other.0 self.new task.new) }
         ensures moved { IsSome result.moved }
         ensures slot { result.slot_words ≡ slice_index self.old.tables.classes.sizes x.class }
         ensures bound { RoseAtMost steps.old steps.new (16 + result.slot_words) }

@@ -8,7 +8,7 @@ use Rattle.cf_base.specs.declared.answers.Refusal.TheVariants as refusal
 use Rattle.cf_lemmas.proofs.Ranges.{one}
 use Rattle.cf_lemmas.proofs.Tests.{eq_yes, lt_no, lt_yes}
 use Rattle.quota_model.proofs.CallerLemmas.{enough_iff, granted_within, live_of-inserted, none_iff, one_answer}
-use Rattle.quota_model.specs.Admission.{CanBeAsked, IsAdmission, Share, declared, declared_in_all, first_large, first_short, in_order, live_of, pages_of}
+use Rattle.quota_model.specs.Admission.{CanBeAsked, IsAdmission, Share, declared, declared_in_all, first_large, first_refused_for_space, in_order, live_of, pages_of}
 use Rattle.quota_model.specs.Refusals.{task_paging}
 use Rattle.quota_model.specs.declared.answers.Admission.{Admission}
 use Rattle.quota_model.specs.declared.answers.Admission.TheVariants.{Yes, No, Size, Proxies}
@@ -31,7 +31,7 @@ byte_at k reply = get_or (get_or reply 0 []) k 0
 -- `admission` is the only answer that `IsAdmission` allows
 module _ (t : Share) (needs : List Need) where
   by_parts : (x : Option ℕ) (b : Bool) (y : Option ℕ) → first_large t.profile needs ≡ x → nat_lt t.profile.proxies (declared_in_all needs) ≡ b
-      → first_short t empty 0 (in_order needs) ≡ y → IsAdmission t needs (admission_by x b y)
+      → first_refused_for_space t empty 0 (in_order needs) ≡ y → IsAdmission t needs (admission_by x b y)
   by_parts (Some entry) b y large exceeds short = large
   by_parts None true y large exceeds short = elim (cases_lt t.profile.proxies (declared_in_all needs)) [
     | inl lt ↦ (large, lt)
@@ -42,7 +42,7 @@ module _ (t : Share) (needs : List Need) where
     | inr le ↦ by_short y short (record { none_large = large; few = le })
   ]
     where
-      by_short : (y : Option ℕ) → first_short t empty 0 (in_order needs) ≡ y → CanBeAsked t.profile needs → IsAdmission t needs (admission_by None false y)
+      by_short : (y : Option ℕ) → first_refused_for_space t empty 0 (in_order needs) ≡ y → CanBeAsked t.profile needs → IsAdmission t needs (admission_by None false y)
       by_short None short asked = (asked, (enough_iff t needs asked).1 ((none_iff t needs asked).0 short))
       by_short (Some nth) short asked = (asked, short)
 

@@ -2,7 +2,7 @@
 use Rattle.std.specs.Prelude.{◌≡◌, ℕ, ◌++◌, Bool, true, false, List, [], ◌∷◌, Option, Some, None, codes, if◌then◌else◌, length, nat_eq, nat_lt, slice_index}
 use Rattle.std.specs.FinMap.{empty}
 use Rattle.cf_base.specs.Settings.{Profile, at_bound_one}
-use Rattle.quota_model.specs.Admission.{Share, declared_in_all, first_large, first_short, in_order}
+use Rattle.quota_model.specs.Admission.{Share, declared_in_all, first_large, first_refused_for_space, in_order}
 use Rattle.quota_model.specs.declared.answers.Admission.{Admission}
 use Rattle.quota_model.specs.declared.answers.Admission.TheVariants.{Yes, No, Size, Proxies}
 use Rattle.quota_model.specs.declared.answers.Need.{Need}
@@ -49,7 +49,7 @@ admission_by None false None = Yes
 -- the result of `admit` for a task with the share `t` (settings and quota) that declared these needs
 abbrev pub admission : Share → List Need → Admission
 admission t needs =
-    admission_by (first_large t.profile needs) (nat_lt t.profile.proxies (declared_in_all needs)) (first_short t empty 0 (in_order needs))
+    admission_by (first_large t.profile needs) (nat_lt t.profile.proxies (declared_in_all needs)) (first_refused_for_space t empty 0 (in_order needs))
 
 -- the share of a task: the settings of the heap, and the task's quota in pages
 abbrev pub share_of : Tasks → ℕ → Share

@@ -9,7 +9,7 @@ use Rattle.std.specs.Ordering.{nat_cmp}
 use Rattle.std.specs.FinMap.{empty, get-empty, len-empty}
 use Rattle.cf_lemmas.proofs.Values.{no_values}
 use Rattle.page_model.specs.Paging.{Paging, class_for}
-use Rattle.quota_model.specs.Admission.{CanBeAsked, IsAdmission, IsEnough, Share, count_of_class, first_large, first_short}
+use Rattle.quota_model.specs.Admission.{CanBeAsked, IsAdmission, IsEnough, Share, count_of_class, first_large, first_refused_for_space}
 use Rattle.quota_model.specs.Admission.{in_order, live_of, mallocs, pages_of}
 use Rattle.quota_model.specs.Refusals.{task_paging}
 use Rattle.quota_model.specs.declared.answers.Admission.{Admission}
@@ -45,7 +45,7 @@ nothing_agrees = record {
 }
 
 module _ (t : Share) (needs : List Need) (asked : CanBeAsked t.profile needs) where
-  whole_shown : IsInOrderAt (task_paging t.profile) t.quota [] (in_order needs) 0 (first_short t empty 0 (in_order needs))
+  whole_shown : IsInOrderAt (task_paging t.profile) t.quota [] (in_order needs) 0 (first_refused_for_space t empty 0 (in_order needs))
   whole_shown =
       let count = length-in_order needs in
       let few = asked.few in
@@ -53,9 +53,9 @@ module _ (t : Share) (needs : List Need) (asked : CanBeAsked t.profile needs) wh
       shown t (in_order needs) empty 0 [] (all_fit t.profile needs asked.none_large) (omega arith) nothing_agrees (omega arith)
 
   pub enough_iff : IsEnough t needs ↔ (pages_of (task_paging t.profile) (in_order needs) ≤ t.quota)
-  enough_iff = (λ enough. go enough (first_short t empty 0 (in_order needs)) refl whole_shown, λ le. is_enough t needs le)
+  enough_iff = (λ enough. go enough (first_refused_for_space t empty 0 (in_order needs)) refl whole_shown, λ le. is_enough t needs le)
     where
-      go : IsEnough t needs → (x : Option ℕ) → first_short t empty 0 (in_order needs) ≡ x → IsInOrderAt (task_paging t.profile) t.quota [] (in_order needs) 0 x
+      go : IsEnough t needs → (x : Option ℕ) → first_refused_for_space t empty 0 (in_order needs) ≡ x → IsInOrderAt (task_paging t.profile) t.quota [] (in_order needs) 0 x
           → pages_of (task_paging t.profile) (in_order needs) ≤ t.quota
       go enough None e x = x
       go enough (Some nth) e x =
@@ -77,10 +77,10 @@ module _ (t : Share) (needs : List Need) (asked : CanBeAsked t.profile needs) wh
       let below = takes_below (task_paging t.profile) (in_order needs) (suc shown.0) (omega arith) in
       absurd (omega arith)
 
-  pub none_iff : (first_short t empty 0 (in_order needs) ≡ None) ↔ (pages_of (task_paging t.profile) (in_order needs) ≤ t.quota)
+  pub none_iff : (first_refused_for_space t empty 0 (in_order needs) ≡ None) ↔ (pages_of (task_paging t.profile) (in_order needs) ≤ t.quota)
   none_iff = (
     λ e. subst (λ (x : Option ℕ). IsInOrderAt (task_paging t.profile) t.quota [] (in_order needs) 0 x) e whole_shown,
-    none_from (first_short t empty 0 (in_order needs)) whole_shown,
+    none_from (first_refused_for_space t empty 0 (in_order needs)) whole_shown,
   )
 
   -- the first sum that passes the quota
@@ -124,14 +124,14 @@ module _ (t : Share) (needs : List Need) (asked : CanBeAsked t.profile needs) wh
         ]
       ]
 
-  pub some_iff : (nth : ℕ) → (first_short t empty 0 (in_order needs) ≡ Some nth) ↔ IsFirst nth
+  pub some_iff : (nth : ℕ) → (first_refused_for_space t empty 0 (in_order needs) ≡ Some nth) ↔ IsFirst nth
   some_iff nth = (
     λ e. first_from nth (subst (λ (x : Option ℕ). IsInOrderAt (task_paging t.profile) t.quota [] (in_order needs) 0 x) e whole_shown),
-    λ first. some_from (first_short t empty 0 (in_order needs)) whole_shown nth first,
+    λ first. some_from (first_refused_for_space t empty 0 (in_order needs)) whole_shown nth first,
   )
 
 module _ (t : Share) (needs : List Need) where
-  yes_or_no : (nth : ℕ) → CanBeAsked t.profile needs → IsEnough t needs → first_short t empty 0 (in_order needs) ≡ Some nth → ⊥
+  yes_or_no : (nth : ℕ) → CanBeAsked t.profile needs → IsEnough t needs → first_refused_for_space t empty 0 (in_order needs) ≡ Some nth → ⊥
   yes_or_no nth asked enough short =
       let le = (enough_iff t needs asked).0 enough in
       let none = (none_iff t needs asked).1 le in

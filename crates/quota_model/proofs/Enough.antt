@@ -16,7 +16,7 @@ use Rattle.cf_lemmas.proofs.Values.{no_values}
 use Rattle.page_model.specs.Arrangement.{live, pages_needed_with}
 use Rattle.page_model.specs.Held.{Objects}
 use Rattle.page_model.specs.Paging.{class_for}
-use Rattle.quota_model.specs.Admission.{AreWithin, Call, CanBeAsked, IsEnough, IsShort, IsWithin, RunsShort, Share, after, asks, count_of_class, declared, frees, granted}
+use Rattle.quota_model.specs.Admission.{AreWithin, Call, CanBeAsked, IsEnough, IsRefusedForSpace, IsWithin, MeetsRefusalForSpace, Share, after, asks, count_of_class, declared, frees, granted}
 use Rattle.quota_model.specs.Admission.{in_order, live_of, pages_of}
 use Rattle.quota_model.specs.Refusals.{malloc_refusal, task_paging}
 use Rattle.quota_model.specs.declared.answers.Need.{Need}
@@ -127,7 +127,7 @@ module _ (t : Share) (needs : List Need) where
       λ i. cond (size i) (Some refusal.Size) (cond (proxy i) (Some refusal.Proxy) (cond (pages i) (Some refusal.Space) None))
 
   module _ (enough : pages_of (task_paging t.profile) (in_order needs) ≤ t.quota) where
-    not_short : (o : Objects) → IsBounded o → (call : Call) → IsWithin t needs o call → ¬ IsShort t o call
+    not_short : (o : Objects) → IsBounded o → (call : Call) → IsWithin t needs o call → ¬ IsRefusedForSpace t o call
     not_short o bounded (asks h n) w e = (let a = short_passes o n e in let b = needed_within o n bounded w.2 in omega arith)
     not_short o bounded (frees h) w e = e
 
@@ -156,7 +156,7 @@ module _ (t : Share) (needs : List Need) where
     stays_bounded o bounded (asks h n) w = granted_bounded o bounded h n w.0 w.2 (malloc_refusal t.profile t.quota o n)
     stays_bounded o bounded (frees h) w = removed_bounded o bounded h (get o h) refl w
 
-    never_short : (calls : List Call) (o : Objects) → IsBounded o → AreWithin t needs o calls → ¬ RunsShort t o calls
+    never_short : (calls : List Call) (o : Objects) → IsBounded o → AreWithin t needs o calls → ¬ MeetsRefusalForSpace t o calls
     never_short [] o bounded w e = e
     never_short (call ∷ rest) o bounded w e = elim e [
       | inl now ↦ not_short o bounded call w.0 now

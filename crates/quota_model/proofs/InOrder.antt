@@ -15,7 +15,7 @@ use Rattle.cf_lemmas.proofs.Tests.{eq_no, eq_yes, lt_no, lt_yes}
 use Rattle.page_model.specs.Arrangement.{live, pages_needed_with}
 use Rattle.page_model.specs.Held.{Objects}
 use Rattle.page_model.specs.Paging.{Paging, class_for}
-use Rattle.quota_model.specs.Admission.{AreWithin, RunsShort, Share, count_of_class, declared, first_short, granted, is_short, live_of, mallocs}
+use Rattle.quota_model.specs.Admission.{AreWithin, MeetsRefusalForSpace, Share, count_of_class, declared, first_refused_for_space, granted, is_short, live_of, mallocs}
 use Rattle.quota_model.specs.Admission.{pages_of}
 use Rattle.quota_model.specs.Refusals.{malloc_refusal, task_paging}
 use Rattle.quota_model.specs.declared.answers.Need.{Need}
@@ -30,7 +30,7 @@ pub record FirstPast (p : Paging) (quota : ℕ) (pre rest : List ℕ) (i : ℕ) 
   pub enough : pages_of p (pre ++ take i rest) ≤ quota
   pub past : quota < pages_of p (pre ++ take (suc i) rest)
 
--- the meaning of `first_short`: None if `pre` and `rest` are within the quota; else the number of the first entry past it, from k + 1 on
+-- the meaning of `first_refused_for_space`: None if `pre` and `rest` are within the quota; else the number of the first entry past it, from k + 1 on
 abbrev pub IsInOrderAt : Paging → ℕ → List ℕ → List ℕ → ℕ → Option ℕ → Type 0
 IsInOrderAt p quota pre rest k None = pages_of p (pre ++ rest) ≤ quota
 IsInOrderAt p quota pre rest k (Some nth) = (i : ℕ) × (nth ≡ k + suc i) × FirstPast p quota pre rest i
@@ -99,7 +99,7 @@ module _ (t : Share) where
       rw (x, y, z)
 
   pub shown : (rest : List ℕ) (o : Objects) (k : ℕ) (pre : List ℕ) → AllFit t.profile.page_words rest → k + length rest ≤ t.profile.proxies → Agrees o k pre
-      → pages_of (task_paging t.profile) pre ≤ t.quota → IsInOrderAt (task_paging t.profile) t.quota pre rest k (first_short t o k rest)
+      → pages_of (task_paging t.profile) pre ≤ t.quota → IsInOrderAt (task_paging t.profile) t.quota pre rest k (first_refused_for_space t o k rest)
   shown [] o k pre fit few a le = subst (λ xs. pages_of (task_paging t.profile) xs ≤ t.quota) (sym (append-nil pre)) le
   shown (n ∷ ns) o k pre fit few a le =
       let r = refusal_is o k pre n a fit.0 (omega arith) in
@@ -107,7 +107,7 @@ module _ (t : Share) where
         | inl more ↦ (
             let e : malloc_refusal t.profile t.quota o n ≡ Some refusal.Space = r ∙ ap (λ b. cond b (Some refusal.Space) None) (lt_yes _ _ more) in
             subst (λ (x : Option Refusal). IsInOrderAt (task_paging t.profile) t.quota pre (n ∷ ns) k
-            (cond (is_short x) (Some (k + 1)) (first_short t (granted x o k n) (k + 1) ns))) (sym e) (
+            (cond (is_short x) (Some (k + 1)) (first_refused_for_space t (granted x o k n) (k + 1) ns))) (sym e) (
               0,
               omega arith,
               record {
@@ -119,8 +119,8 @@ module _ (t : Share) where
         | inr fine ↦ (
             let e : malloc_refusal t.profile t.quota o n ≡ None = r ∙ ap (λ b. cond b (Some refusal.Space) None) (lt_no _ _ fine) in
             subst (λ (x : Option Refusal). IsInOrderAt (task_paging t.profile) t.quota pre (n ∷ ns) k
-            (cond (is_short x) (Some (k + 1)) (first_short t (granted x o k n) (k + 1) ns))) (sym e)
-            (lifted (task_paging t.profile) t.quota pre n ns k (first_short t (insert o k (replicate n 0)) (k + 1) ns)
+            (cond (is_short x) (Some (k + 1)) (first_refused_for_space t (granted x o k n) (k + 1) ns))) (sym e)
+            (lifted (task_paging t.profile) t.quota pre n ns k (first_refused_for_space t (insert o k (replicate n 0)) (k + 1) ns)
             (shown ns (insert o k (replicate n 0)) (k + 1) (pre ++ n ∷ []) fit.1 (omega arith) (agrees_more o k pre n a) fine)))
       ]
 
@@ -149,11 +149,11 @@ module _ (t : Share) where
   short_or_not (Some refusal.Proxy) = inl refl
   short_or_not (Some refusal.Space) = inr refl
 
-  -- if `first_short` finds a malloc, one of the mallocs is refused for space (`RunsShort`)
-  pub runs_short : (rest : List ℕ) (o : Objects) (k nth : ℕ) → first_short t o k rest ≡ Some nth → RunsShort t o (mallocs k rest)
+  -- if `first_refused_for_space` finds a malloc, one of the mallocs is refused for space (`MeetsRefusalForSpace`)
+  pub runs_short : (rest : List ℕ) (o : Objects) (k nth : ℕ) → first_refused_for_space t o k rest ≡ Some nth → MeetsRefusalForSpace t o (mallocs k rest)
   runs_short [] o k nth e = absurd (let e' : None ≡ Some nth = e in cc)
   runs_short (n ∷ ns) o k nth e = elim (short_or_not (malloc_refusal t.profile t.quota o n)) [
     | inl granted' ↦ inr (runs_short ns (granted (malloc_refusal t.profile t.quota o n) o k n) (k + 1) nth (sym
-        (ap (λ b. cond b (Some (k + 1)) (first_short t (granted (malloc_refusal t.profile t.quota o n) o k n) (k + 1) ns)) granted') ∙ e))
+        (ap (λ b. cond b (Some (k + 1)) (first_refused_for_space t (granted (malloc_refusal t.profile t.quota o n) o k n) (k + 1) ns)) granted') ∙ e))
     | inr short ↦ inl short
   ]

@@ -10,7 +10,7 @@ use Rattle.cf_base.specs.declared.kind.Layout.TheVariants.{Words}
 use Rattle.cf_lemmas.proofs.Ranges.{one, sum_at_least, sum_grows}
 use Rattle.page_model.specs.Arrangement.{count_on, used_pages}
 use Rattle.page_model.specs.Held.{Held}
-use Rattle.page_model.specs.Paging.{AreOne, IsPaging}
+use Rattle.page_model.specs.Paging.{EveryBoundIsOne, IsPaging}
 use Rattle.page_model.proofs.CallerLemmas.{first_ones, first_paged, less_counts, not_less_counts_none, one_le, standing, stands_here, sum_plus, sum_same}
 use Rattle.page_model.proofs.CallerLemmas.{sum_zeros, used_at_one, used_is}
 use Rattle.quota_model.specs.Parts.{number_of, part_of, task_of}
@@ -21,7 +21,7 @@ use Rattle.quota_model.proofs.TaskParts.{found_part}
 pub tasks_paged : (s : Profile) → IsTrue (is_page_size s.page_words) → IsPaging (task_paging s)
 tasks_paged s is_page = first_paged (record s { k = 1 }) Words is_page (omega arith)
 
-pub tasks_at_one : (s : Profile) → AreOne (task_paging s)
+pub tasks_at_one : (s : Profile) → EveryBoundIsOne (task_paging s)
 tasks_at_one s = first_ones (record s { k = 1 }) Words refl
 
 -- the order of two sums doesn't matter

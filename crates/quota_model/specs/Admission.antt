@@ -37,14 +37,14 @@ after t o (asks h n) = granted (malloc_refusal t.profile t.quota o n) o h n
 after t o (frees h) = remove o h
 
 -- the call is a malloc that is refused for space (`Space`)
-abbrev pub IsShort : Share → Objects → Call → Type 0
-IsShort t o (asks h n) = malloc_refusal t.profile t.quota o n ≡ Some refusal.Space
-IsShort t o (frees h) = ⊥
+abbrev pub IsRefusedForSpace : Share → Objects → Call → Type 0
+IsRefusedForSpace t o (asks h n) = malloc_refusal t.profile t.quota o n ≡ Some refusal.Space
+IsRefusedForSpace t o (frees h) = ⊥
 
 -- if the calls are made one after the other, beginning with the objects o, one of them is a malloc that is refused for space
-abbrev pub RunsShort : Share → Objects → List Call → Type 0
-RunsShort t o [] = ⊥
-RunsShort t o (call ∷ rest) = IsShort t o call ⊎ RunsShort t (after t o call) rest
+abbrev pub MeetsRefusalForSpace : Share → Objects → List Call → Type 0
+MeetsRefusalForSpace t o [] = ⊥
+MeetsRefusalForSpace t o (call ∷ rest) = IsRefusedForSpace t o call ⊎ MeetsRefusalForSpace t (after t o call) rest
 
 -- how many objects of n bytes the entries declare: the counts of all entries for this length, added up
 abbrev pub declared : List Need → ℕ → ℕ
@@ -67,7 +67,7 @@ AreWithin t needs o (call ∷ rest) = IsWithin t needs o call × AreWithin t nee
 
 -- The quota is enough for the declared objects: no list of calls within what is declared, begun without objects, has a malloc that is refused for space.
 abbrev pub IsEnough : Share → List Need → Type 0
-IsEnough t needs = (calls : List Call) → AreWithin t needs empty calls → ¬ RunsShort t empty calls
+IsEnough t needs = (calls : List Call) → AreWithin t needs empty calls → ¬ MeetsRefusalForSpace t empty calls
 
 -- the lengths of all declared objects, in bytes: entry by entry, each length as often as its count
 abbrev pub in_order : List Need → List ℕ
@@ -88,11 +88,11 @@ is_short (Some refusal.Space) = true
 
 -- The number of the first malloc that is refused for space, if one is, when objects of these lengths are allocated one after the other, beginning with the
 -- objects o. The mallocs are counted from k + 1 on.
-abbrev pub first_short : Share → Objects → ℕ → List ℕ → Option ℕ
-first_short t o k [] = None
-first_short t o k (n ∷ ns) =
+abbrev pub first_refused_for_space : Share → Objects → ℕ → List ℕ → Option ℕ
+first_refused_for_space t o k [] = None
+first_refused_for_space t o k (n ∷ ns) =
     if is_short (malloc_refusal t.profile t.quota o n) then Some (k + 1)
-    else first_short t (granted (malloc_refusal t.profile t.quota o n) o k n) (k + 1) ns
+    else first_refused_for_space t (granted (malloc_refusal t.profile t.quota o n) o k n) (k + 1) ns
 
 -- how many of these lengths are of class c
 abbrev pub count_of_class : Paging → List ℕ → ℕ → ℕ
@@ -121,4 +121,4 @@ abbrev pub IsAdmission : Share → List Need → Admission → Type 0
 IsAdmission t needs (Size entry) = first_large t.profile needs ≡ Some entry
 IsAdmission t needs Proxies = (first_large t.profile needs ≡ None) × (t.profile.proxies < declared_in_all needs)
 IsAdmission t needs Yes = CanBeAsked t.profile needs × IsEnough t needs
-IsAdmission t needs (No nth) = CanBeAsked t.profile needs × (first_short t empty 0 (in_order needs) ≡ Some nth)
+IsAdmission t needs (No nth) = CanBeAsked t.profile needs × (first_refused_for_space t empty 0 (in_order needs) ≡ Some nth)

@@ -2,7 +2,7 @@
 //! is for each length the most objects of that length that are live at one time.
 ghost use Rattle.std.specs.Prelude.{ℕ, ◌≡◌, ◌-◌, ◌<◌, ◌≤◌, ◌↔◌, List, None, Some, length, take};
 ghost use Rattle.std.specs.FinMap.{empty};
-ghost use Rattle.quota_model.specs.Admission.{CanBeAsked, IsAdmission, IsEnough, Share, first_short, in_order, pages_of};
+ghost use Rattle.quota_model.specs.Admission.{CanBeAsked, IsAdmission, IsEnough, Share, first_refused_for_space, in_order, pages_of};
 ghost use Rattle.quota_model.specs.Refusals.{task_paging};
 ghost use Rattle.quota_model.specs.declared.answers.Admission.{Admission};
 ghost use Rattle.quota_model.specs.declared.answers.Need.{Need};
@@ -25,11 +25,11 @@ pub fn a_quota_is_enough_by_ceilings()
 pub fn the_first_refusal_is_the_first_sum_past_the_quota()
     ensures none { (t : Share) (needs : List Need)
         → CanBeAsked t.profile needs
-        → (first_short t empty 0 (in_order needs) ≡ None)
+        → (first_refused_for_space t empty 0 (in_order needs) ≡ None)
         ↔ (pages_of (task_paging t.profile) (in_order needs) ≤ t.quota) }
     ensures some { (t : Share) (needs : List Need) (nth : ℕ)
         → CanBeAsked t.profile needs
-        → (first_short t empty 0 (in_order needs) ≡ Some nth)
+        → (first_refused_for_space t empty 0 (in_order needs) ≡ Some nth)
         ↔ ((1 ≤ nth) × (nth ≤ length (in_order needs))
         × (pages_of (task_paging t.profile) (take (nth - 1) (in_order needs)) ≤ t.quota)
         × (t.quota < pages_of (task_paging t.profile) (take nth (in_order needs)))) }

@@ -20,7 +20,7 @@ use Rattle.cf_lemmas.proofs.Ranges.{one, sum_at_least, sum_le}
 use Rattle.cf_lemmas.proofs.Searches.{few_keys, fresh_key}
 use Rattle.cf_lemmas.proofs.Tests.{eq_no, eq_yes, lt_yes}
 use Rattle.cf_model.specs.State.{region_words}
-use Rattle.page_model.specs.Arrangement.{IsSound, class_at, home_pages, live, not_full_pages, pages_needed, pages_needed_with}
+use Rattle.page_model.specs.Arrangement.{IsSound, class_at, pages_of_class, live, not_full_pages, pages_needed, pages_needed_with}
 use Rattle.page_model.specs.Arrangement.{count_on, used_pages}
 use Rattle.page_model.specs.Bytes.{written}
 use Rattle.page_model.specs.Counts.{LieOn, ceil_div}
@@ -56,28 +56,28 @@ module _ (p : Paging) (ok : IsPaging p) (m : Held) (s : IsSound p m) (ones : (c 
   abbrev c : ℕ
   c = class_for p n
 
-  stand : LieOn (home_pages p m c) (live p (objects m) c) (slots_of p c) 1 0
-  stand = subst (λ q. LieOn (home_pages p m c) (live p (objects m) c) (slots_of p c) 1 q) none
-      (subst (λ k. LieOn (home_pages p m c) (live p (objects m) c) (slots_of p c) k (not_full_pages p m c)) (ones c lt) (sound_stand p ok c lt m s))
+  stand : LieOn (pages_of_class p m c) (live p (objects m) c) (slots_of p c) 1 0
+  stand = subst (λ q. LieOn (pages_of_class p m c) (live p (objects m) c) (slots_of p c) 1 q) none
+      (subst (λ k. LieOn (pages_of_class p m c) (live p (objects m) c) (slots_of p c) k (not_full_pages p m c)) (ones c lt) (sound_stand p ok c lt m s))
 
-  filled : live p (objects m) c ≡ home_pages p m c * slots_of p c
+  filled : live p (objects m) c ≡ pages_of_class p m c * slots_of p c
   filled =
-      let e : home_pages p m c - 0 ≡ home_pages p m c = omega arith in
-      let low : home_pages p m c * slots_of p c + 0 ≤ live p (objects m) c = rw e at stand.least in
-      let high : live p (objects m) c ≤ home_pages p m c * slots_of p c + 0 * (slots_of p c - 1) = rw e at stand.most in
+      let e : pages_of_class p m c - 0 ≡ pages_of_class p m c = omega arith in
+      let low : pages_of_class p m c * slots_of p c + 0 ≤ live p (objects m) c = rw e at stand.least in
+      let high : live p (objects m) c ≤ pages_of_class p m c * slots_of p c + 0 * (slots_of p c - 1) = rw e at stand.most in
       omega arith
 
-  at_home : (k : ℕ) → k ≤ 1 → ceil_div (live p (objects m) c + k) (slots_of p c) ≡ home_pages p m c + k
+  at_home : (k : ℕ) → k ≤ 1 → ceil_div (live p (objects m) c + k) (slots_of p c) ≡ pages_of_class p m c + k
   at_home zero le = (
       let pos = slots_some p ok c lt in
       let f = filled in
-      let e : home_pages p m c + 0 ≡ home_pages p m c = omega arith in
-      between_multiples (live p (objects m) c + 0 + (slots_of p c - 1)) (home_pages p m c) (slots_of p c) pos (omega arith) (omega arith) ∙ sym e)
+      let e : pages_of_class p m c + 0 ≡ pages_of_class p m c = omega arith in
+      between_multiples (live p (objects m) c + 0 + (slots_of p c - 1)) (pages_of_class p m c) (slots_of p c) pos (omega arith) (omega arith) ∙ sym e)
   at_home (suc zero) le = (
       let pos = slots_some p ok c lt in
       let f = filled in
-      let e : (home_pages p m c + 1) * slots_of p c ≡ home_pages p m c * slots_of p c + slots_of p c = omega arith in
-      between_multiples (live p (objects m) c + 1 + (slots_of p c - 1)) (home_pages p m c + 1) (slots_of p c) pos (omega arith) (omega arith))
+      let e : (pages_of_class p m c + 1) * slots_of p c ≡ pages_of_class p m c * slots_of p c + slots_of p c = omega arith in
+      between_multiples (live p (objects m) c + 1 + (slots_of p c - 1)) (pages_of_class p m c + 1) (slots_of p c) pos (omega arith) (omega arith))
   at_home (suc (suc k)) le = absurd (omega arith)
 
   grows : (d : ℕ) → ceil_div (live p (objects m) d) (slots_of p d) + one (nat_eq c d) ≤ ceil_div (live p (objects m) d + one (nat_eq c d)) (slots_of p d)
@@ -86,13 +86,13 @@ module _ (p : Paging) (ok : IsPaging p) (m : Held) (s : IsSound p m) (ones : (c 
         let yes : one (nat_eq c d) ≡ 1 = ap one (eq_yes c d is) in
         let a = at_home 0 (omega arith) in
         let z : live p (objects m) c + 0 ≡ live p (objects m) c = omega arith in
-        let a' : ceil_div (live p (objects m) c) (slots_of p c) ≡ home_pages p m c + 0 = ap (λ x. ceil_div x (slots_of p c)) (sym z) ∙ a in
+        let a' : ceil_div (live p (objects m) c) (slots_of p c) ≡ pages_of_class p m c + 0 = ap (λ x. ceil_div x (slots_of p c)) (sym z) ∙ a in
         let b = at_home 1 (omega arith) in
-        let a'' : ceil_div (live p (objects m) d) (slots_of p d) ≡ home_pages p m c + 0 = subst (λ e. ceil_div (live p (objects m) e) (slots_of p e)
-        ≡ home_pages p m c + 0) is a' in
-        let b' : ceil_div (live p (objects m) d + 1) (slots_of p d) ≡ home_pages p m c + 1 = subst (λ e. ceil_div (live p (objects m) e + 1) (slots_of p e)
-        ≡ home_pages p m c + 1) is b in
-        let b'' : ceil_div (live p (objects m) d + one (nat_eq c d)) (slots_of p d) ≡ home_pages p m c + 1 =
+        let a'' : ceil_div (live p (objects m) d) (slots_of p d) ≡ pages_of_class p m c + 0 = subst (λ e. ceil_div (live p (objects m) e) (slots_of p e)
+        ≡ pages_of_class p m c + 0) is a' in
+        let b' : ceil_div (live p (objects m) d + 1) (slots_of p d) ≡ pages_of_class p m c + 1 = subst (λ e. ceil_div (live p (objects m) e + 1) (slots_of p e)
+        ≡ pages_of_class p m c + 1) is b in
+        let b'' : ceil_div (live p (objects m) d + one (nat_eq c d)) (slots_of p d) ≡ pages_of_class p m c + 1 =
         ap (λ k. ceil_div (live p (objects m) d + k) (slots_of p d)) yes ∙ b' in
         omega arith)
     | inr ne ↦ (

@@ -5,7 +5,7 @@ use Rattle.std.specs.Prelude.{sum_by}
 use Rattle.std.specs.List.{range_with_len}
 use Rattle.cf_base.specs.declared.answers.Figures.{Figures}
 use Rattle.frag_report.proofs.CallerLemmas.{class_past, class_there, one_class_more}
-use Rattle.page_model.specs.Arrangement.{home_pages, used_pages}
+use Rattle.page_model.specs.Arrangement.{pages_of_class, used_pages}
 use Rattle.page_model.specs.Figures.{figures_of}
 use Rattle.page_model.specs.Held.{Held}
 use Rattle.page_model.specs.Paging.{Paging, classes}
@@ -35,16 +35,16 @@ module _ (s : QuotaState) (task : ℕ) where
   pub few_classes : KeepsTasks s → classes p ≤ 67
   few_classes rules = (tasks_paged s.profile rules.page_size).sized.few
 
-  pub pages_more : (c used : ℕ) (f : Figures) → f ≡ figures_of p held c → used ≡ sum_by (home_pages p held) (range_with_len 0 c)
-      → used + f.pages ≡ sum_by (home_pages p held) (range_with_len 0 (c + 1))
+  pub pages_more : (c used : ℕ) (f : Figures) → f ≡ figures_of p held c → used ≡ sum_by (pages_of_class p held) (range_with_len 0 c)
+      → used + f.pages ≡ sum_by (pages_of_class p held) (range_with_len 0 (c + 1))
   pages_more c used f is so_far =
-      let a : sum_by (home_pages p held) (range_with_len 0 (c + 1)) ≡ sum_by (home_pages p held) (range_with_len 0 c ++ c ∷ []) =
-      ap (sum_by (home_pages p held)) (one_class_more c) in
-      let b = sum-append (home_pages p held) (range_with_len 0 c) c in
-      let e : f.pages ≡ home_pages p held c = ap (λ (g : Figures). g.pages) is in
+      let a : sum_by (pages_of_class p held) (range_with_len 0 (c + 1)) ≡ sum_by (pages_of_class p held) (range_with_len 0 c ++ c ∷ []) =
+      ap (sum_by (pages_of_class p held)) (one_class_more c) in
+      let b = sum-append (pages_of_class p held) (range_with_len 0 c) c in
+      let e : f.pages ≡ pages_of_class p held c = ap (λ (g : Figures). g.pages) is in
       omega arith
 
   -- after all classes, the pages counted are the pages that the task uses
-  pub all_pages : (c used : ℕ) → c ≡ classes p → used ≡ sum_by (home_pages p held) (range_with_len 0 c) → used ≡ used_pages p held
+  pub all_pages : (c used : ℕ) → c ≡ classes p → used ≡ sum_by (pages_of_class p held) (range_with_len 0 c) → used ≡ used_pages p held
   unfolding used_pages
-  all_pages c used is so_far = so_far ∙ ap (λ k. sum_by (home_pages p held) (range_with_len 0 k)) is
+  all_pages c used is so_far = so_far ∙ ap (λ k. sum_by (pages_of_class p held) (range_with_len 0 k)) is

@@ -16,14 +16,14 @@ use Rattle.page_model.specs.Image.{slot_for}
 use Rattle.page_model.proofs.CallerLemmas.{image_empty}
 use Rattle.quota_heap.specs.State.{KeepsTasks, QuotaState, empty_state, held_by, objects_by, quota_of}
 use Rattle.quota_laws.specs.Tasks.{quota_text, quotas_after}
-use Rattle.quota_model.specs.Admission.{CanBeAsked, IsAdmission, Share, declared_in_all, first_large, first_short, in_order}
+use Rattle.quota_model.specs.Admission.{CanBeAsked, IsAdmission, Share, declared_in_all, first_large, first_refused_for_space, in_order}
 use Rattle.quota_model.specs.Refusals.{task_paging}
 use Rattle.quota_model.specs.declared.answers.Admission.{Admission}
 use Rattle.quota_model.specs.declared.answers.Admission.TheVariants.{Yes, No, Size, Proxies}
 use Rattle.quota_model.specs.declared.answers.Need.{Need}
 use Rattle.quota_model.specs.declared.answers.QuotaFault.{QuotaFault}
 use Rattle.quota_model.proofs.CallerLemmas.{enough_iff, first_quotas, first_shared, granted_quotas, none_iff}
-use Rattle.run_laws.specs.Sayable.{IsSayable}
+use Rattle.run_laws.specs.ValidItems.{IsValidCommand}
 use Rattle.run_laws.proofs.CallerLemmas.{CanGoOn}
 use Rattle.run_model.specs.Replies.{malloc_text, write_text}
 use Rattle.run_model.specs.Steps.{ids_given}
@@ -34,7 +34,7 @@ use Rattle.quota_session.specs.Playing.{BeginsAtOne, BeginsQuotas}
 use Rattle.quota_session.specs.QuotaRun.{IsGoingQuotas, QuotaRun, QuotaStep, StepsPresent, admission_text, first_session, need_text, needs_of}
 use Rattle.quota_session.specs.QuotaRun.{present_run, quota_fault}
 use Rattle.quota_session.specs.QuotaRun.{with_ids, with_need, with_present}
-use Rattle.quota_session.specs.TaskRun.{FreesIdOfTask, MallocsForTask, StaysTask, TaskRun, TaskStep, WritesIdOfTask, task_run, task_look}
+use Rattle.quota_session.specs.TaskRun.{FreesIdOfTask, MallocsForTask, StaysTask, TaskRun, TaskStep, WritesIdOfTask, task_run, task_shown}
 use Rattle.quota_session.proofs.CallsThere.{PageLaw, free_there, malloc_there, write_there}
 use Rattle.quota_session.proofs.RunInvariant.{still_going}
 use Rattle.quota_session.proofs.OpenLemmas.{begins_going}
@@ -93,13 +93,13 @@ module _ (law : PageLaw) (old : TaskRun) (rules : KeepsTasks old.heap) (lt : old
   task_there (command.Malloc id n) = malloc_at (get old.ids id) id n
   task_there (command.Free id) = free_at (get old.ids id) id refl
   task_there (command.Write id at bytes) = write_at (get old.ids id) id at bytes refl
-  task_there c = record { reply = task_look old c; ids = old.ids; heap = old.heap; done = (refl, refl) }
+  task_there c = record { reply = task_shown old c; ids = old.ids; heap = old.heap; done = (refl, refl) }
 
 -- the needs that a task declared have an admission
 admission_there : (t : Share) (needs : List Need) → (a : Admission) × IsAdmission t needs a
 admission_there t needs = by_large (first_large t.profile needs) refl
   where
-    by_short : CanBeAsked t.profile needs → (o : Option ℕ) → first_short t empty 0 (in_order needs) ≡ o → (a : Admission) × IsAdmission t needs a
+    by_short : CanBeAsked t.profile needs → (o : Option ℕ) → first_refused_for_space t empty 0 (in_order needs) ≡ o → (a : Admission) × IsAdmission t needs a
     by_short asked None is = (Yes, (asked, (enough_iff t needs asked).1 ((none_iff t needs asked).0 is)))
     by_short asked (Some nth) is = (No nth, (asked, is))
 
@@ -107,7 +107,7 @@ admission_there t needs = by_large (first_large t.profile needs) refl
     by_large (Some entry) is = (Size entry, is)
     by_large None is = elim (cases_lt t.profile.proxies (declared_in_all needs)) [
       | inl many ↦ (Proxies, (is, many))
-      | inr few ↦ by_short (record { none_large = is; few = few }) (first_short t empty 0 (in_order needs)) refl
+      | inr few ↦ by_short (record { none_large = is; few = few }) (first_refused_for_space t empty 0 (in_order needs)) refl
     ]
 
 module _ (law : PageLaw) (old : QuotaRun) (going : IsGoingQuotas old) where
@@ -148,7 +148,7 @@ module _ (law : PageLaw) (old : QuotaRun) (going : IsGoingQuotas old) where
       (a.reply, record old { session = with_ids old.session a.ids; heap = a.heap }, record { ids = a.ids; step = a.done; whole = refl })
 
   -- every command of the grammar has a reply
-  pub turn_there : (c : Command) → IsSayable c → (reply : Reply) × (new : QuotaRun) × QuotaStep old c reply new
+  pub turn_there : (c : Command) → IsValidCommand c → (reply : Reply) × (new : QuotaRun) × QuotaStep old c reply new
   turn_there (command.Task task) can = (said (codes "ok"), with_present old task, (refl, refl))
   turn_there (command.Quota task pages) can = (
     said (quota_text (quota_fault old.heap task pages)),

@@ -19,7 +19,7 @@ use Rattle.quota_model.specs.Refusals.{task_paging}
 use Rattle.quota_model.specs.declared.answers.Need.{Need}
 use Rattle.quota_model.specs.declared.answers.QuotaFault.{QuotaFault}
 use Rattle.quota_model.specs.declared.answers.QuotaFault.TheVariants.{Sum, Used}
-use Rattle.run_laws.specs.Sayable.{AreSayable, IsSayable, IsSayableItem}
+use Rattle.run_laws.specs.ValidItems.{AreValidItems, IsValidCommand, IsValidItem}
 use Rattle.run_laws.proofs.CallerLemmas.{items_sayable}
 use Rattle.run_model.specs.Plays.{PlayStep}
 use Rattle.script_loop.specs.ScriptOutcome.{MOST_BYTES, items_within}
@@ -103,7 +103,7 @@ module _ (old : QuotaRun) (going : IsGoingQuotas old) where
   below task le = omega arith
 
   -- the tasks after a command, and the task that is present then
-  pub tasks_after : (c : Command) (reply : Reply) (new : QuotaRun) → IsSayable c → QuotaStep old c reply new → tasks_of new ≡ after_if t (item_of now c)
+  pub tasks_after : (c : Command) (reply : Reply) (new : QuotaRun) → IsValidCommand c → QuotaStep old c reply new → tasks_of new ≡ after_if t (item_of now c)
   tasks_after (command.Task task) reply new can step = ap tasks_of step.1
   tasks_after (command.Quota task pages) reply new can step = quota_after task pages reply new (below task can.formed) step
   tasks_after (command.Need task bytes count) reply new can step = ap tasks_of step.1
@@ -156,7 +156,7 @@ begun_shown p s b = λ i. record {
 
 module _ (old : QuotaRun) (going : IsGoingQuotas old) where
   -- the entries after a command
-  needs_shown : (c : Command) (reply : Reply) (new : QuotaRun) → IsSayable c → QuotaStep old c reply new → (u : ℕ)
+  needs_shown : (c : Command) (reply : Reply) (new : QuotaRun) → IsValidCommand c → QuotaStep old c reply new → (u : ℕ)
       → needs_of new.session u ≡ needs_after (needs_of old.session) c u
   needs_shown (command.Task task) reply new can step u = ap (λ (r : QuotaRun). needs_of r.session u) step.1
   needs_shown (command.Quota task pages) reply new can step u = ap (λ (r : QuotaRun). needs_of r.session u) step.whole
@@ -175,7 +175,7 @@ module _ (old : QuotaRun) (going : IsGoingQuotas old) where
   needs_shown (command.Admit task) reply new can step u = ap (λ (r : QuotaRun). needs_of r.session u) step.1
   needs_shown c reply new can step u = ap (λ (r : QuotaRun). needs_of r.session u) step.whole
 
-  state_shown : (c : Command) (reply : Reply) (new : QuotaRun) → IsSayable c → QuotaStep old c reply new → state_of new ≡ state_after (state_of old) c
+  state_shown : (c : Command) (reply : Reply) (new : QuotaRun) → IsValidCommand c → QuotaStep old c reply new → state_of new ≡ state_after (state_of old) c
   state_shown c reply new can step = λ i. record {
     present = present_then old going c reply new step i;
     tasks = tasks_after old going c reply new can step i;
@@ -183,7 +183,7 @@ module _ (old : QuotaRun) (going : IsGoingQuotas old) where
   }
 
   -- the reply to any command
-  command_shown : (c : Command) (reply : Reply) (new : QuotaRun) → IsSayable c → QuotaStep old c reply new → reply ≡ command_reply (state_of old) c
+  command_shown : (c : Command) (reply : Reply) (new : QuotaRun) → IsValidCommand c → QuotaStep old c reply new → reply ≡ command_reply (state_of old) c
   command_shown (command.Task task) reply new can step = step.0
   command_shown (command.Quota task pages) reply new can step = step.reply_is
       ∙ ap (λ f. said (quota_text f)) (fault_same old going task pages (below old going task can.formed))
@@ -203,7 +203,7 @@ record IsShownItem (old : Option QuotaRun) (item : Item) (reply : Reply) (new : 
   state : option_map state_of new ≡ state_in (option_map state_of old) item
   going : GoesOn new
 
-item_shown : (old : Option QuotaRun) (item : Item) (reply : Reply) (new : Option QuotaRun) → GoesOn old → IsSayableItem item
+item_shown : (old : Option QuotaRun) (item : Item) (reply : Reply) (new : Option QuotaRun) → GoesOn old → IsValidItem item
     → PlayStep BeginsAtOne QuotaStep old item reply new → IsShownItem old item reply new
 item_shown old (starts p) reply new going can step = record {
   reply_is = step.1.1;
@@ -226,7 +226,7 @@ item_shown old (bad n) reply new going can step = record {
   going = subst GoesOn (sym step.1) going;
 }
 
-run_shown : (items : List Item) (old : Option QuotaRun) (replies : List Reply) (end : Option QuotaRun) → GoesOn old → AreSayable items
+run_shown : (items : List Item) (old : Option QuotaRun) (replies : List Reply) (end : Option QuotaRun) → GoesOn old → AreValidItems items
     → RunsQuotas old items replies end → replies ≡ task_replies (option_map state_of old) items
 run_shown [] old replies end going can run = run.0
 run_shown (item ∷ rest) old replies end going can run =
@@ -235,7 +235,7 @@ run_shown (item ∷ rest) old replies end going can run =
     ∙ (λ i. now.reply_is i ∷ task_replies (now.state i) rest)
 
 -- the replies to a script are those of its transcript
-pub transcript_shown : (items : List Item) (replies : List Reply) (end : Option QuotaRun) → AreSayable items → RunsQuotas None items replies end
+pub transcript_shown : (items : List Item) (replies : List Reply) (end : Option QuotaRun) → AreValidItems items → RunsQuotas None items replies end
     → MeetsTasks items replies
 transcript_shown items replies end can run = run_shown items None replies end tt can run
 

@@ -9,14 +9,14 @@ use Rattle.cf_base.specs.declared.answers.Handle.{Handle}
 use Rattle.cf_base.specs.declared.answers.Refusal.{Refusal}
 use Rattle.cf_io.specs.Texts.{Reply}
 use Rattle.cf_lemmas.proofs.MapValues.{get-map_values}
-use Rattle.cf_model.specs.Steps.{Part, number_of}
+use Rattle.cf_model.specs.Steps.{Position, number_of}
 use Rattle.id_table.specs.Ids.{Ids}
 use Rattle.page_model.specs.Bytes.{written}
 use Rattle.page_model.specs.Held.{Objects, Placed, objects}
 use Rattle.page_model.specs.Paging.{class_for}
 use Rattle.page_model.proofs.CallerLemmas.{length-written}
 use Rattle.quota_heap.specs.State.{KeepsTasks, QuotaState, held_by, objects_by}
-use Rattle.quota_heap.specs.Steps.{FreesOfTask, GivesTask, IsMallocStep, IsWriteStep, WritesForTask}
+use Rattle.quota_heap.specs.Steps.{FreesOfTask, AddsObjectOfTask, IsMallocStep, IsWriteStep, WritesForTask}
 use Rattle.quota_model.proofs.CallerLemmas.{objects_rewritten, others_rewritten}
 use Rattle.quota_model.specs.Refusals.{task_paging}
 use Rattle.quota_model.proofs.CallerLemmas.{others_kept, others_stay, own_freed, own_objects}
@@ -50,7 +50,7 @@ rest_same task old new rules same = subst (λ (s : QuotaState). KeepsRest task o
 
 -- the objects after a malloc, a free and a write
 module _ (old new : QuotaState) (rules : KeepsTasks old) (kept : KeepsTasks new) (task : ℕ) where
-  module _ (h n : ℕ) (g : GivesTask old task (record { number = h; length = n }) new) where
+  module _ (h n : ℕ) (g : AddsObjectOfTask old task (record { number = h; length = n }) new) where
     pub given_rest : KeepsRest task old new
     given_rest = record {
       rules = kept;
@@ -78,12 +78,12 @@ module _ (old new : QuotaState) (rules : KeepsTasks old) (kept : KeepsTasks new)
     pub freed_objects : objects_by new task ≡ remove (objects_by old task) h
     freed_objects = own_freed old.profile old.held task h (number_of freed.moved) new.held rules.page_size rules.shared f.removed
 
-  module _ (part : Part) (bytes : List ℕ) (w : WritesForTask old task part bytes new) where
+  module _ (position : Position) (bytes : List ℕ) (w : WritesForTask old task position bytes new) where
     abbrev now : List ℕ
-    now = written (w.object).bytes part.from bytes
+    now = written (w.object).bytes position.from bytes
 
     same_class : class_for (task_paging old.profile) (length now) ≡ class_for (task_paging old.profile) (length (w.object).bytes)
-    same_class = ap (class_for (task_paging old.profile)) (length-written (w.object).bytes part.from bytes w.within)
+    same_class = ap (class_for (task_paging old.profile)) (length-written (w.object).bytes position.from bytes w.within)
 
     pub written_rest : KeepsRest task old new
     written_rest = record {
@@ -91,15 +91,15 @@ module _ (old new : QuotaState) (rules : KeepsTasks old) (kept : KeepsTasks new)
       profile = ap (λ (s : QuotaState). s.profile) w.whole;
       quotas = ap (λ (s : QuotaState). s.quotas) w.whole;
       others = λ u ne. ap (λ (s : QuotaState). objects_by s u) w.whole
-          ∙ ap (λ m. objects m) (others_rewritten old.profile old.held task part.number w.object w.found now same_class u ne);
+          ∙ ap (λ m. objects m) (others_rewritten old.profile old.held task position.number w.object w.found now same_class u ne);
     }
 
-    pub written_objects : objects_by new task ≡ insert (objects_by old task) part.number now
+    pub written_objects : objects_by new task ≡ insert (objects_by old task) position.number now
     written_objects = ap (λ (s : QuotaState). objects_by s task) w.whole
-        ∙ objects_rewritten old.profile old.held task part.number w.object w.found now same_class
+        ∙ objects_rewritten old.profile old.held task position.number w.object w.found now same_class
 
-    pub written_found : get (objects_by old task) part.number ≡ Some (w.object).bytes
-    written_found = bytes_by old task part.number (Some w.object) w.found
+    pub written_found : get (objects_by old task) position.number ≡ Some (w.object).bytes
+    written_found = bytes_by old task position.number (Some w.object) w.found
 
 module _ (old new : TaskRun) (rules : KeepsTasks old.heap) (tied : AreTiedTo old.ids (objects_by old.heap old.task)) (reply : Reply) where
   abbrev TiedBy : Ids → Objects → Type 0
@@ -137,16 +137,16 @@ module _ (old new : TaskRun) (rules : KeepsTasks old.heap) (tied : AreTiedTo old
         (tied_less old.ids (objects_by old.heap old.task) tied id h live));
   }
 
-  writes : (part : Part) (bytes : List ℕ) → WritesIdOfTask old part bytes reply new → IsKept old new
-  writes part bytes w = by_answer w.answer w.step
+  writes : (position : Position) (bytes : List ℕ) → WritesIdOfTask old position bytes reply new → IsKept old new
+  writes position bytes w = by_answer w.answer w.step
     where
-      by_answer : (r : Result Unit AccessFault) → IsWriteStep old.heap old.task part bytes r new.heap → IsKept old new
+      by_answer : (r : Result Unit AccessFault) → IsWriteStep old.heap old.task position bytes r new.heap → IsKept old new
       by_answer (Ok u) step = record {
-        rest = written_rest old.heap new.heap rules w.rules old.task part bytes step;
+        rest = written_rest old.heap new.heap rules w.rules old.task position bytes step;
         tied = subst (λ (i : Ids). TiedBy i (objects_by new.heap old.task)) (sym w.ids)
-            (subst (TiedBy old.ids) (sym (written_objects old.heap new.heap rules w.rules old.task part bytes step))
-            (tied_same old.ids (objects_by old.heap old.task) tied part.number (step.object).bytes _
-            (written_found old.heap new.heap rules w.rules old.task part bytes step)));
+            (subst (TiedBy old.ids) (sym (written_objects old.heap new.heap rules w.rules old.task position bytes step))
+            (tied_same old.ids (objects_by old.heap old.task) tied position.number (step.object).bytes _
+            (written_found old.heap new.heap rules w.rules old.task position bytes step)));
       }
       by_answer (Err e) (cause, still) = unchanged old.ids w.ids refl still
 

@@ -9,7 +9,7 @@ use Rattle.cf_base.specs.declared.answers.Handle.{Handle}
 use Rattle.cf_base.specs.declared.answers.Refusal.{Refusal}
 use Rattle.cf_base.specs.declared.answers.Totals.{Totals}
 use Rattle.cf_io.specs.Texts.{Reply, said}
-use Rattle.cf_model.specs.Steps.{Part}
+use Rattle.cf_model.specs.Steps.{Position}
 use Rattle.id_table.specs.Ids.{Ids}
 use Rattle.page_model.specs.Arrangement.{live, used_pages}
 use Rattle.page_model.specs.Figures.{figures_of, totals_of}
@@ -78,20 +78,20 @@ pub record FreesIdOfTask (old : TaskRun) (id h : ℕ) (reply : Reply) (new : Tas
   pub task : new.task ≡ old.task
   pub reply_is : reply ≡ said (codes "ok")
 
--- a write into a live object, which `part` names by its handle and its first byte: the heap replaces the bytes, or refuses; the reply shows which
-pub record WritesIdOfTask (old : TaskRun) (part : Part) (bytes : List ℕ) (reply : Reply) (new : TaskRun) : Type 0 where
+-- a write into a live object, which `position` names by its handle and its first byte: the heap replaces the bytes, or refuses; the reply shows which
+pub record WritesIdOfTask (old : TaskRun) (position : Position) (bytes : List ℕ) (reply : Reply) (new : TaskRun) : Type 0 where
   pub answer : Result Unit AccessFault
-  pub step : IsWriteStep old.heap old.task part bytes answer new.heap
+  pub step : IsWriteStep old.heap old.task position bytes answer new.heap
   pub rules : KeepsTasks new.heap
   pub ids : new.ids ≡ old.ids
   pub task : new.task ≡ old.task
   pub reply_is : reply ≡ said (write_text answer)
 
 -- the reply to a command that changes nothing: to `r` bytes of the object, to `walk` the report; `none` to a command of another mode
-abbrev pub task_look : TaskRun → Command → Reply
-task_look s (Read id at count) = said (read_text (task_object s id) at count)
-task_look s Walk = task_report s.heap s.task
-task_look s command = said (codes "none")
+abbrev pub task_shown : TaskRun → Command → Reply
+task_shown s (Read id at count) = said (read_text (task_object s id) at count)
+task_shown s Walk = task_report s.heap s.task
+task_shown s command = said (codes "none")
 
 -- One command of a task: the task before it, its reply, and the task after it.
 abbrev pub TaskStep : TaskRun → Command → Reply → TaskRun → Type 0
@@ -99,4 +99,4 @@ TaskStep old (Malloc id bytes) reply new = MatchOption (get old.ids id) (Mallocs
 TaskStep old (Free id) reply new = MatchOption (get old.ids id) (StaysTask old (codes "unknown") reply new) (λ h. FreesIdOfTask old id h reply new)
 TaskStep old (Write id at bytes) reply new =
     MatchOption (get old.ids id) (StaysTask old (codes "unknown") reply new) (λ h. WritesIdOfTask old (record { number = h; from = at }) bytes reply new)
-TaskStep old command reply new = (reply ≡ task_look old command) × (new ≡ old)
+TaskStep old command reply new = (reply ≡ task_shown old command) × (new ≡ old)

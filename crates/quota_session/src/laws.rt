@@ -6,7 +6,7 @@ ghost use Rattle.cf_io.specs.Texts.{Reply, text_of};
 ghost use Rattle.cf_model.specs.Rules.{AreInRange};
 ghost use Rattle.quota_laws.specs.Tasks.{is_for_task, task_reply};
 ghost use Rattle.quota_laws.specs.Transcript.{MeetsTasks};
-ghost use Rattle.run_laws.specs.Sayable.{AreSayable, IsSayable};
+ghost use Rattle.run_laws.specs.ValidItems.{AreValidItems, IsValidCommand};
 ghost use Rattle.script_loop.specs.Consequences.{IsPrefixBy};
 ghost use Rattle.script_loop.specs.ScriptOutcome.{Effects, WroteInPart, items_within};
 ghost use Rattle.script_reader.specs.Commands.{IsWellFormed};
@@ -29,7 +29,7 @@ pub fn a_task_is_answered_from_its_own()
         → is_for_task command ≡ true → QuotaStep old command reply new
         → reply ≡ task_reply (tasks_of old) old.session.present command }
     ensures after { (old new : QuotaRun) (command : Command) (reply : Reply) → IsGoingQuotas old
-        → IsSayable command → QuotaStep old command reply new
+        → IsValidCommand command → QuotaStep old command reply new
         → tasks_of new ≡ after_if (tasks_of old) (item_of old.session.present command) }
     ensures alike { (task : ℕ) (one other after later : QuotaRun) (command : Command) (reply shown : Reply)
         → IsGoingQuotas one → IsGoingQuotas other → AreAlikeFor task one other
@@ -45,7 +45,7 @@ pub fn a_task_is_answered_from_its_own()
 /// of its own.
 pub fn reads_give_what_was_written()
     ensures run { (items : List Item) (replies : List Reply) (new : Option QuotaRun)
-        → AreSayable items → RunsQuotas None items replies new → AreReadsOfTasks None items replies }
+        → AreValidItems items → RunsQuotas None items replies new → AreReadsOfTasks None items replies }
     ensures script { (given : List ℕ) (ended : Bool) (replies : List Reply) (new : Option QuotaRun)
         → RunsQuotas None (items given ended) replies new → AreReadsOfTasks None (items given ended) replies }
 {
@@ -56,7 +56,7 @@ pub fn reads_give_what_was_written()
 /// address or choice of the heap changes a reply.
 pub fn one_transcript_of_tasks()
     ensures run { (items : List Item) (replies : List Reply) (new : Option QuotaRun)
-        → AreSayable items → RunsQuotas None items replies new → MeetsTasks items replies }
+        → AreValidItems items → RunsQuotas None items replies new → MeetsTasks items replies }
     ensures script { (given : List ℕ) (ended : Bool) (replies : List Reply) (new : Option QuotaRun)
         → RunsQuotas None (items given ended) replies new → MeetsTasks (items given ended) replies }
 {
@@ -68,7 +68,7 @@ pub fn one_transcript_of_tasks()
 pub fn each_command_has_its_turn()
     ensures begins { (p : Profile) → AreInRange p → (new : QuotaRun) × BeginsQuotas p new }
     ensures begun { (p : Profile) (new : QuotaRun) → BeginsQuotas p new → IsGoingQuotas new }
-    ensures answered { (old : QuotaRun) (command : Command) → IsGoingQuotas old → IsSayable command
+    ensures answered { (old : QuotaRun) (command : Command) → IsGoingQuotas old → IsValidCommand command
         → (reply : Reply) × (new : QuotaRun) × QuotaStep old command reply new }
     ensures going { (old new : QuotaRun) (command : Command) (reply : Reply) → IsGoingQuotas old
         → IsWellFormed command → QuotaStep old command reply new → IsGoingQuotas new }

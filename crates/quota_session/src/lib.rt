@@ -5,7 +5,7 @@
 mod changes;
 mod laws;
 mod needs;
-mod player;
+mod mode_handler;
 mod records;
 mod reports;
 mod session;
@@ -15,5 +15,5 @@ pub use laws::{
     a_run_of_tasks_can_always_go_on, a_task_is_answered_from_its_own, each_command_has_its_turn,
     one_transcript_of_tasks, reads_give_what_was_written, what_was_cut_is_a_prefix,
 };
-pub use player::{QuotaPlayer, run_quotas};
+pub use mode_handler::{QuotaHandler, run_quotas};
 pub use session::QuotaSession;

@@ -8,12 +8,12 @@ use admission::Need;
 use std::marker::Model;
 
 /// The most entries that a task can declare.
-const MOST: usize = 64;
+const MOST_ENTRIES: usize = 64;
 
 /// The entries that one task declared, at most 64. They are stored in place, so that `need` allocates nothing.
 #[derive(Drop)]
 pub(crate) struct Needs {
-    entries: [Need; MOST],
+    entries: [Need; MOST_ENTRIES],
     count: usize,
 }
 
@@ -38,7 +38,7 @@ impl Needs {
         ensures { result ≡ [] }
     {
         Needs {
-            entries: [Need { bytes: 0, count: 0 }; MOST],
+            entries: [Need { bytes: 0, count: 0 }; MOST_ENTRIES],
             count: 0,
         }
     }
@@ -56,7 +56,7 @@ impl Needs {
         ensures room { result ≡ nat_lt (length self.old) 64 }
         ensures value { self.new ≡ one_more self.old entry }
     {
-        if self.count == MOST {
+        if self.count == MOST_ENTRIES {
             return false;
         }
         self.entries[self.count] = entry;

@@ -10,7 +10,7 @@ ghost use Rattle.cf_session.specs.Apply.{outcome_in};
 ghost use Rattle.quota_heap.specs.State.{KeepsTasks, objects_by};
 ghost use Rattle.script_reader.specs.Commands.{IsWellFormed};
 ghost use Rattle.script_reader.specs.Owned.{owned_command};
-ghost use Rattle.script_loop.specs.Applying.{Applies, Speaks};
+ghost use Rattle.script_loop.specs.Applying.{Applies, BuildsReply};
 ghost use Rattle.id_table.specs.Ties.{AreTiedTo};
 ghost use Rattle.quota_session.specs.Costs.{most_steps, task_steps};
 ghost use Rattle.quota_session.specs.Layout.{IsOfTask, IsOneLine, session_of};
@@ -34,7 +34,7 @@ use std::marker::Model;
 use step_ledger::{Meter, Steps};
 
 /// The most bytes that one `r` reads.
-const MOST: usize = 4_096;
+const MOST_READ: usize = 4_096;
 
 /// For each of sixteen tasks its ids and its declared needs; and which task is present.
 #[derive(Drop)]
@@ -43,7 +43,7 @@ pub struct QuotaSession {
     /// The line in which a reply is built.
     line: Line,
     /// The buffer for the bytes of a read.
-    buffer: [u8; MOST],
+    buffer: [u8; MOST_READ],
 }
 
 impl Model for QuotaSession {
@@ -68,7 +68,7 @@ impl QuotaSession {
         Ok(QuotaSession {
             records: Records::new(alloc)?,
             line: Line::new(),
-            buffer: [0; MOST],
+            buffer: [0; MOST_READ],
         })
     }
 
@@ -195,7 +195,7 @@ fn answer<K: Sink>(
             ended(written, Outcome::Other)
         }
         _ => {
-            let outcome = speak(records, heap, s, c, buffer, line, steps);
+            let outcome = build_reply(records, heap, s, c, buffer, line, steps);
             ended(put_line(line, out), outcome)
         }
     }
@@ -203,7 +203,7 @@ fn answer<K: Sink>(
 
 /// Does a command whose reply is one line, that is, any but `walk`, and builds the text of the reply in
 /// `line`.
-fn speak(
+fn build_reply(
     records: &mut Records,
     heap: &mut QuotaHeap,
     s: &Settings,
@@ -217,7 +217,7 @@ fn speak(
     requires one { IsOneLine (owned_command c) }
     requires buffer { length buffer.old ≡ 4096 }
     requires count { steps.old ≤ 2 ^ 63 }
-    ensures speaks { Speaks QuotaStep (quota_run (Some (profile_of s.now)) (session_of records.old) heap.old) (owned_command c.entry)
+    ensures speaks { BuildsReply QuotaStep (quota_run (Some (profile_of s.now)) (session_of records.old) heap.old) (owned_command c.entry)
         (quota_run (Some (profile_of s.now)) (session_of records.new) heap.new) line.new }
     ensures outcome { result ≡ outcome_in line.new }
     ensures steps { RoseAtMost steps.old steps.new
@@ -238,13 +238,13 @@ fn speak(
             let needs = &records.needs[task as usize];
             push_admission(line, admit(s, quota, needs.entries()))
         }
-        _ => speak_present(records, heap, c, buffer, line, steps),
+        _ => build_reply_present(records, heap, c, buffer, line, steps),
     }
 }
 
 /// Does a command that names no task, for the present task, and builds the text of its reply in `line`. The
 /// command isn't `walk`.
-fn speak_present(
+fn build_reply_present(
     records: &mut Records,
     heap: &mut QuotaHeap,
     c: CommandRef,
@@ -268,12 +268,12 @@ fn speak_present(
 {
     let task = records.present;
     let ids = &mut records.ids[task as usize];
-    speak_task(ids, heap, task, c, buffer, line, steps)
+    build_reply_task(ids, heap, task, c, buffer, line, steps)
 }
 
 /// Does a command that names no task, for the task `task`, whose ids are `ids`, and builds the text of its
 /// reply in `line`. The command isn't `walk`; the reply to a command of another mode is `none`.
-fn speak_task(
+fn build_reply_task(
     ids: &mut IdTable,
     heap: &mut QuotaHeap,
     task: u32,
@@ -290,7 +290,7 @@ fn speak_task(
     requires buffer { length buffer.old ≡ 4096 }
     requires count { steps.old ≤ 2 ^ 63 }
     requires empty { line.old ≡ [] }
-    ensures speaks { Speaks TaskStep (task_run task ids.old heap.old) (owned_command c.entry) (task_run task ids.new heap.new) line.new }
+    ensures speaks { BuildsReply TaskStep (task_run task ids.old heap.old) (owned_command c.entry) (task_run task ids.new heap.new) line.new }
     ensures outcome { result ≡ outcome_in line.new }
     ensures steps { RoseAtMost steps.old steps.new (task_steps (task_run task ids.old heap.old) (owned_command c.entry)) }
 {

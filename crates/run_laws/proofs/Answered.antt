@@ -20,7 +20,7 @@ use Rattle.cf_model.specs.Costs.{resize_bound}
 use Rattle.cf_model.specs.Ordered.{Follows, IsOrderedFree, IsOrderedMalloc, IsOrderedResize}
 use Rattle.cf_model.specs.Rules.{AreObjects, KeepsRules}
 use Rattle.cf_model.specs.State.{HeapState}
-use Rattle.cf_model.specs.Steps.{FreesObject, IsMallocStep, IsResizeStep, IsWriteStep, Part}
+use Rattle.cf_model.specs.Steps.{FreesObject, IsMallocStep, IsResizeStep, IsWriteStep, Position}
 use Rattle.run_model.specs.Sessions.{CostsAtMost, CostsByKind}
 use Rattle.run_model.proofs.CallerLemmas.{bytes_held}
 use Rattle.cf_lemmas.proofs.Searches.{len_without}
@@ -105,10 +105,10 @@ module _ (old : HeapState) where
     pub kept : KeepsRules heap
     pub cost : CostsByKind heap.kind heap.cost (96 + 2 * freed.slot_words) (41 + freed.slot_words)
 
-  pub record HasWrite (part : Part) (bytes : List ℕ) : Type 0 where
+  pub record HasWrite (position : Position) (bytes : List ℕ) : Type 0 where
     pub answer : Result Unit AccessFault
     pub heap : HeapState
-    pub step : IsWriteStep old part bytes answer heap
+    pub step : IsWriteStep old position bytes answer heap
     pub kept : KeepsRules heap
 
   pub record HasResize (asked : Request) : Type 0 where

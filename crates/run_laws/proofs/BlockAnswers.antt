@@ -21,7 +21,7 @@ use Rattle.page_model.specs.Bytes.{AreBytes, written}
 use Rattle.page_model.specs.Held.{Held, Placed, objects}
 use Rattle.page_model.specs.Image.{IsOutside}
 use Rattle.page_model.specs.Order.{Order}
-use Rattle.page_model.specs.Steps.{Leaves, Request, zeros_at}
+use Rattle.page_model.specs.Steps.{CallResult, Request, zeros_at}
 use Rattle.page_model.proofs.CallerLemmas.{len-objects, malloc_objects, length-written, written_are_bytes, zeros_are_bytes}
 use Rattle.cf_lemmas.proofs.Tests.{eq_no}
 use Rattle.block_model.specs.Buckets.{AreLawful, FreeLists}
@@ -32,14 +32,14 @@ use Rattle.block_model.specs.Words.{AreTilingWords}
 use Rattle.block_model.proofs.CallerLemmas.{carve_at_most, carve_follows, carve_is_malloc, carve_keeps_lists, free_keeps_tiling, malloc_gives}
 use Rattle.block_model.proofs.CallerLemmas.{none_at_most, refilled, refilled_long, refilled_outside, refilled_words, carved_or_lacking, release_at_most}
 use Rattle.block_model.proofs.CallerLemmas.{malloc_keeps_tiling, release_keeps_lists}
-use Rattle.cf_model.specs.Answers.{bound_put, class_with, place_of}
+use Rattle.cf_model.specs.Answers.{with_bound, class_with, place_of}
 use Rattle.cf_model.specs.ExactCosts.{block_malloc_cost}
 use Rattle.cf_model.specs.Families as family
 use Rattle.cf_model.specs.Families.{IsTiled, free_lists_of, list_count_of}
 use Rattle.cf_model.specs.Ordered.{CarvesInOrder, FreeByOrder, IsOrderedFree, IsOrderedMalloc, MallocByOrder, ResizeByOrder}
 use Rattle.cf_model.specs.Rules.{AreOwned, IsBlockOrder, KeepsRules, KeepsRulesOf, KeepsTiling, content_word, listed_by}
 use Rattle.cf_model.specs.State.{HeapState, region_words}
-use Rattle.cf_model.specs.Steps.{IsPlacedBy, IsRefusedBy, IsUnmoved, LacksRoomIn, MovesIn, Part, StaysOutside, frames_left, leaves_of, slot_in, tiling_left}
+use Rattle.cf_model.specs.Steps.{IsPlacedBy, IsRefusedBy, IsLeftByRefusal, LacksRoomIn, MovesIn, Position, StaysOutside, frames_left, call_result, slot_in, tiling_left}
 use Rattle.cf_model.proofs.CallerLemmas.{lawful, link_outside, links_stay, need_is_small, owned_free, owned_malloc, owned_replaced}
 use Rattle.run_model.specs.Sessions.{CostsAtMost, CostsByKind}
 use Rattle.run_model.specs.Steps.{class_to_bound}
@@ -305,7 +305,7 @@ module _ (old : HeapState) (rules : KeepsRules old) (with_blocks : IsTiled old.k
   -- ---- free
 
   -- the block table stays
-  frames_stay : (after : Leaves) → frames_left old.kind old after ≡ old.frames
+  frames_stay : (after : CallResult) → frames_left old.kind old after ≡ old.frames
   frames_stay after = by_kind old.kind with_blocks
     where
       by_kind : (k : Kind) → IsTiled k → frames_left k old after ≡ old.frames
@@ -342,7 +342,7 @@ module _ (old : HeapState) (rules : KeepsRules old) (with_blocks : IsTiled old.k
             moves = rw (with_blocks, MovesIn) refl;
             held = refl;
             left = gone;
-            frames = sym (frames_stay (leaves_of old h x None));
+            frames = sym (frames_stay (call_result old h x None));
             tiling = rw (with_blocks, tiling_left) refl;
             rest = record { kind = refl; opened = refl; profile = refl; bounds = refl };
           };
@@ -384,15 +384,15 @@ module _ (old : HeapState) (rules : KeepsRules old) (with_blocks : IsTiled old.k
   -- ---- write, resize, bound
 
   -- every write into a live object has a result
-  pub write_done : (part : Part) (bytes : List ℕ) (x : Placed) → AreBytes bytes → get old.held part.number ≡ Some x → HasWrite old part bytes
-  write_done part bytes x are there = elim (cases_lt (length x.bytes) (part.from + length bytes)) [
+  pub write_done : (position : Position) (bytes : List ℕ) (x : Placed) → AreBytes bytes → get old.held position.number ≡ Some x → HasWrite old position bytes
+  write_done position bytes x are there = elim (cases_lt (length x.bytes) (position.from + length bytes)) [
     | inl past ↦ record { answer = Err access.Range; heap = old; step = (record { object = x; found = there; past = past }, refl); kept = rules }
     | inr within ↦ (
-        let h = part.number in
-        let v = written x.bytes part.from bytes in
+        let h = position.number in
+        let v = written x.bytes position.from bytes in
         let y : Placed = record x { bytes = v } in
         let m : Held = insert old.held h y in
-        let long : length v ≡ length x.bytes = length-written x.bytes part.from bytes within in
+        let long : length v ≡ length x.bytes = length-written x.bytes position.from bytes within in
         let own = tiling.owned.placed h x there in
         let b = own.0 in
         let others : (a : ℕ) (c : Block) (q : ℕ) → a ≢ x.place → block_at old.tiling a ≡ Some c → c.owner ≡ Some q → (i : ℕ)
@@ -408,7 +408,7 @@ module _ (old : HeapState) (rules : KeepsRules old) (with_blocks : IsTiled old.k
         size old.tiling old.words x.place b h tiling.tiling tiling.words rules.region own.1 own.2.owner others in
         let few : AreFew old.profile.proxies (objects m) = subst (AreFew old.profile.proxies) (sym (map_values-insert (λ (z : Placed). z.bytes) old.held h y))
         (few_changed old.profile.proxies (objects old.held) few_old h x.bytes v (bytes_held old.held h x there)
-        (written_are_bytes x.bytes part.from bytes within (rules.numbers.bytes h x there) are)) in
+        (written_are_bytes x.bytes position.from bytes within (rules.numbers.bytes h x there) are)) in
         let block : size_at old.tiling x.place ≡ b.size = ap size_of own.1 in
         record {
           answer = Ok tt;
@@ -449,14 +449,14 @@ module _ (old : HeapState) (rules : KeepsRules old) (with_blocks : IsTiled old.k
   resize_done asked x there = record {
     answer = Err resize.Kind;
     heap = old;
-    step = (record { object = x; found = there; blocks = with_blocks }, rw (with_blocks, IsUnmoved) refl);
+    step = (record { object = x; found = there; blocks = with_blocks }, rw (with_blocks, IsLeftByRefusal) refl);
     ordered = follows_same (ResizeByOrder old asked (Err resize.Kind) old) old.order (λ was. rw (with_blocks, ResizeByOrder) refl);
     kept = rules;
     cost = rw (with_blocks, CostsAtMost) tt;
   }
 
   -- no class gets a bound
-  pub bound_done : (slot_words k : ℕ) → KeepsRules (bound_put old (class_to_bound old slot_words) k)
+  pub bound_done : (slot_words k : ℕ) → KeepsRules (with_bound old (class_to_bound old slot_words) k)
   bound_done slot_words k = elim (cases_eq (len old.held) 0) [
     | inl none ↦ rw (none, with_blocks, class_with) rules
     | inr ne ↦ (let e = eq_no (len old.held) 0 ne in rw e rules)

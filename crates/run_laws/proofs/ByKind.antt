@@ -5,7 +5,7 @@ use Rattle.cf_base.specs.declared.kind.Kind.{Kind}
 use Rattle.cf_base.specs.declared.kind.Kind.TheVariants.{Moving, NonMoving, Tlsf, HalfFit}
 use Rattle.page_model.specs.Frames.{AreBlocks, IsPermuted, frames_after}
 use Rattle.page_model.specs.Paging.{paging_of}
-use Rattle.page_model.specs.Steps.{Leaves}
+use Rattle.page_model.specs.Steps.{CallResult}
 use Rattle.page_model.proofs.CallerLemmas.{in_blocks}
 use Rattle.cf_model.specs.Rules.{IsPaged, KeepsPages, KeepsRules, KeepsRulesOf, KeepsTable}
 use Rattle.cf_model.specs.State.{HeapState, layout_of, paging_in}
@@ -22,7 +22,7 @@ table_moved Tlsf a b p f kept = f ∙ kept
 table_moved HalfFit a b p f kept = f ∙ kept
 
 -- the block table after a step, if exchanging blocks permutes it
-pub table_stepped : (k : Kind) (s : HeapState) (after : Leaves) → s.kind ≡ k → IsPaged k → KeepsRules s → KeepsTable k s
+pub table_stepped : (k : Kind) (s : HeapState) (after : CallResult) → s.kind ≡ k → IsPaged k → KeepsRules s → KeepsTable k s
     → (AreBlocks (paging_in s) → length s.frames ≡ (paging_in s).pages * (paging_in s).page_words / 4 → IsPermuted s.frames
     → IsPermuted (frames_after (paging_in s) s.held after s.frames) × (length (frames_after (paging_in s) s.held after s.frames) ≡ length s.frames))
     → KeepsTable k (record s { frames = frames_left k s after })

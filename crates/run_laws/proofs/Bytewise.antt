@@ -1,4 +1,4 @@
--- For `bytes_are_told_one_by_one`: what a write and a resize do to each byte of an id.
+-- For `commands_change_only_these_bytes`: what a write and a resize do to each byte of an id.
 use Rattle.std.proofs.Common.{◌≡◌, ◌≢◌, ℕ, ◌+◌, ◌<◌, ◌≤◌, List, Option, Some, None, length, get_or, ◌∙◌, ap, refl, inl, inr}
 use Rattle.std.specs.FinMap.{get, insert}
 use Rattle.cf_lemmas.proofs.Maps.{get_inserted, get_insert_other}

@@ -6,7 +6,7 @@ use Rattle.cf_base.specs.Settings.{Profile}
 use Rattle.cf_base.specs.declared.kind.Kind.{Kind}
 use Rattle.page_model.specs.Bytes.{AreBytes}
 use Rattle.page_model.specs.Steps.{Request}
-use Rattle.cf_model.specs.Answers.{bound_put}
+use Rattle.cf_model.specs.Answers.{with_bound}
 use Rattle.cf_model.specs.Costs.{resize_bound}
 use Rattle.cf_model.specs.Rules.{AreInRange}
 use Rattle.cf_model.specs.Steps.{empty_heap}
@@ -14,13 +14,13 @@ use Rattle.cf_model.proofs.CallerLemmas.{empty_there}
 use Rattle.script_reader.specs.declared.command.Command.{Command}
 use Rattle.script_reader.specs.declared.command.Command.TheVariants.{Malloc, Free, Write, Bound, Resize}
 use Rattle.run_model.specs.Replies.{malloc_text, resize_text, shown, write_text}
-use Rattle.run_model.specs.Runs.{Begins, Turn}
+use Rattle.run_model.specs.Runs.{Begins, IsCommandStep}
 use Rattle.run_model.specs.Sessions.{IsGoing, RunState, counted, fresh_session}
 use Rattle.run_model.specs.Steps.{Step, bound_text, class_to_bound, ids_given, session_resized}
 use Rattle.run_model.proofs.CallerLemmas.{FreesAt, MallocsAt, ResizesAt, WritesAt}
 use Rattle.run_model.specs.Texts.{Reply, said}
 use Rattle.run_model.proofs.CallerLemmas.{step_meets_bounds}
-use Rattle.run_laws.specs.Sayable.{IsSayable}
+use Rattle.run_laws.specs.ValidItems.{IsValidCommand}
 use Rattle.run_laws.proofs.HeapAnswers.{HasAnswers, answers}
 
 -- a reply, and the state after it
@@ -80,20 +80,20 @@ module _ (old : RunState) (going : IsGoing old) where
         done = record { answer = r.answer; step = r.step; ordered = r.ordered; rules = r.kept; cost = r.cost; session = refl; reply_is = refl };
       }
 
-  step_there : (c : Command) → IsSayable c → HasAnswer (Step old c)
+  step_there : (c : Command) → IsValidCommand c → HasAnswer (Step old c)
   step_there (Malloc id bytes) can = malloc_at (get old.session.ids id) (record { number = id; length = bytes })
   step_there (Free id) can = free_at (get old.session.ids id) id refl
   step_there (Write id at bytes) can = write_at (get old.session.ids id) id at bytes can.bytes refl
   step_there (Resize id bytes) can = resize_at (get old.session.ids id) id bytes refl
   step_there (Bound slot_words k) can = record {
     reply = said (bound_text (class_to_bound old.heap slot_words));
-    new = record { session = old.session; heap = bound_put old.heap (class_to_bound old.heap slot_words) k };
+    new = record { session = old.session; heap = with_bound old.heap (class_to_bound old.heap slot_words) k };
     done = record { heap = refl; rules = heap.bound slot_words k can.formed.0 can.formed.1; session = refl; reply_is = refl };
   }
   step_there c can = record { reply = shown old c; new = old; done = (refl, refl) }
 
 -- every well-formed command gets a reply
-pub turn_there : (old : RunState) (c : Command) → IsGoing old → IsSayable c → (reply : Reply) × (new : RunState) × Turn old c reply new
+pub turn_there : (old : RunState) (c : Command) → IsGoing old → IsValidCommand c → (reply : Reply) × (new : RunState) × IsCommandStep old c reply new
 turn_there old c going can =
     let s = step_there old going c can in
     (s.reply, s.new, record { step = s.done; bounds = step_meets_bounds old s.new c s.reply going s.done })

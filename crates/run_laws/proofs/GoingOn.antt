@@ -4,12 +4,12 @@ use Rattle.std.specs.Prelude.{codes}
 use Rattle.cf_base.specs.declared.kind.Kind.{Kind}
 use Rattle.cf_model.specs.State.{HeapState}
 use Rattle.script_reader.specs.Items.{Item, asks, bad, starts}
-use Rattle.run_model.specs.Runs.{BeginsOne, ItemStep, Run, Turn}
+use Rattle.run_model.specs.Runs.{BeginsOne, ItemStep, Run, IsCommandStep}
 use Rattle.run_model.specs.Sessions.{IsGoing, RunState}
 use Rattle.run_model.specs.Texts.{Reply, said, text_of}
 use Rattle.run_model.proofs.CallerLemmas.{begins_going, step_going, step_same}
 use Rattle.run_model.proofs.CallerLemmas.{text_joined}
-use Rattle.run_laws.specs.Sayable.{AreSayable, IsUnderWay}
+use Rattle.run_laws.specs.ValidItems.{AreValidItems, IsUnderWay}
 use Rattle.run_laws.proofs.CommandAnswers.{begins_there, turn_there}
 use Rattle.run_laws.proofs.RunsThere.{CanGoOn, run_goes_on}
 
@@ -30,7 +30,7 @@ run_keeps kind old [] replies new on run = subst (IsUnderWay kind) (sym run.1) o
 run_keeps kind old (item ∷ rest) replies new on run = run_keeps kind run.0 rest run.2 new (item_keeps kind old item run.1 run.0 on run.3) run.5
 
 -- a run of this kind begins, and each command has a step
-pub kind_goes_on : (kind : Kind) → CanGoOn (BeginsOne kind) Turn
+pub kind_goes_on : (kind : Kind) → CanGoOn (BeginsOne kind) IsCommandStep
 kind_goes_on kind = record {
   is_going = λ s. (s.heap.kind ≡ kind) × IsGoing s;
   begins_going = λ p reply s b. (ap (λ (h : HeapState). h.kind) (b.0).heap, begins_going kind p s b.0);
@@ -43,12 +43,12 @@ kind_goes_on kind = record {
 }
 
 -- what was written of a prefix of the items is a prefix of the text of all
-pub front_written : (kind : Kind) (items done after : List Item) (replies : List Reply) (mid : Option RunState) (lead written lost : List ℕ) → AreSayable items
+pub front_written : (kind : Kind) (items done after : List Item) (replies : List Reply) (mid : Option RunState) (lead written lost : List ℕ) → AreValidItems items
     → items ≡ done ++ after → Run kind None done replies mid
     → text_of lead replies ≡ written ++ lost → (all : List Reply) × (end : Option RunState) × (rest : List ℕ) × Run kind None items all end
     × (text_of lead all ≡ written ++ rest)
 front_written kind items done after replies mid lead written lost can is run cut =
-    let on = run_goes_on (BeginsOne kind) Turn (kind_goes_on kind) items done after replies mid can is run in (
+    let on = run_goes_on (BeginsOne kind) IsCommandStep (kind_goes_on kind) items done after replies mid can is run in (
       replies ++ on.0,
       on.1,
       lost ++ text_of lead on.0,

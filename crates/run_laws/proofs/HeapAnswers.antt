@@ -4,12 +4,12 @@ use Rattle.std.specs.FinMap.{get}
 use Rattle.page_model.specs.Bytes.{AreBytes}
 use Rattle.page_model.specs.Held.{Placed}
 use Rattle.page_model.specs.Steps.{Request}
-use Rattle.cf_model.specs.Answers.{bound_put}
+use Rattle.cf_model.specs.Answers.{with_bound}
 use Rattle.cf_model.specs.Families as family
 use Rattle.cf_model.specs.Families.{Family, family_of}
 use Rattle.cf_model.specs.Rules.{KeepsRules}
 use Rattle.cf_model.specs.State.{HeapState}
-use Rattle.cf_model.specs.Steps.{Part}
+use Rattle.cf_model.specs.Steps.{Position}
 use Rattle.run_model.specs.Steps.{class_to_bound}
 use Rattle.run_laws.proofs.Answered.{HasFree, HasMalloc, HasResize, HasWrite}
 use Rattle.run_laws.proofs.BlockAnswers as blocks
@@ -22,9 +22,9 @@ use Rattle.run_laws.proofs.PageResize as page_resize
 pub record HasAnswers (s : HeapState) : Type 0 where
   pub malloc : (n : ℕ) → HasMalloc s n
   pub free : (h : ℕ) (x : Placed) → get s.held h ≡ Some x → HasFree s h
-  pub write : (part : Part) (bytes : List ℕ) (x : Placed) → AreBytes bytes → get s.held part.number ≡ Some x → HasWrite s part bytes
+  pub write : (position : Position) (bytes : List ℕ) (x : Placed) → AreBytes bytes → get s.held position.number ≡ Some x → HasWrite s position bytes
   pub resize : (asked : Request) (x : Placed) → get s.held asked.number ≡ Some x → HasResize s asked
-  pub bound : (slot_words k : ℕ) → 1 ≤ k → k ≤ 64 → KeepsRules (bound_put s (class_to_bound s slot_words) k)
+  pub bound : (slot_words k : ℕ) → 1 ≤ k → k ≤ 64 → KeepsRules (with_bound s (class_to_bound s slot_words) k)
 
 pub answers : (s : HeapState) → KeepsRules s → HasAnswers s
 answers s rules = by_family (family_of s.kind) refl

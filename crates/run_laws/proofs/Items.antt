@@ -1,4 +1,4 @@
--- For `items_can_be_said`: each function of the grammar returns valid commands and settings alone.
+-- For `items_are_valid`: each function of the grammar returns valid commands and settings alone.
 use Rattle.std.proofs.Common.{◌≡◌, ℕ, Bool, true, false, cond, ◌+◌, ◌*◌, ◌/◌, ◌%◌, ◌≤◌, List, [], ◌∷◌, Option, Some, None, Result, Ok, Err, length, arith, sym}
 use Rattle.std.proofs.Common.{ap, refl, subst}
 use Rattle.std.specs.Prelude.{⊤, ◌==◌, codes, nat_le, option_map}
@@ -21,7 +21,7 @@ use Rattle.script_reader.specs.Commands.{id_and_number, id_in, id_number_and_len
 use Rattle.script_reader.specs.Commands.{number_and_bound, number_from, one_id, one_number, one_of, one_task, peek_in, place_command_in, quota_in, read_in}
 use Rattle.script_reader.specs.Commands.{resize_in, settings_if, settings_in, task_and_number, task_and_numbers, task_command_in, task_in, three_of, two_of}
 use Rattle.script_reader.specs.Commands.{word_command, write_in, ◌>>=◌}
-use Rattle.script_reader.specs.Items.{Item, Saying, asks, gives_or_breaks, is_comment, item, item_in, item_or_wrong, items, items_at, items_by, line_says}
+use Rattle.script_reader.specs.Items.{Item, LineMeaning, asks, gives_or_breaks, is_comment, item, item_in, item_or_wrong, items, items_at, items_by, line_says}
 use Rattle.script_reader.specs.Items.{nothing, stage_after, starts, tokens_say, verdict, wrong}
 use Rattle.script_reader.specs.Lines.{is_too_long, lines, tokens, without_return}
 use Rattle.script_reader.specs.declared.command.Command.{Command}
@@ -29,7 +29,7 @@ use Rattle.script_reader.specs.declared.command.Command.TheVariants.{Malloc, Fre
 use Rattle.script_reader.specs.declared.command.Command.TheVariants.{Task, Quota, Need, Admit}
 use Rattle.script_reader.specs.declared.stage.Stage.{Stage}
 use Rattle.script_reader.specs.declared.stage.Stage.TheVariants.{Opening}
-use Rattle.run_laws.specs.Sayable.{AreSayable, HasBytes, IsSayable, IsSayableItem}
+use Rattle.run_laws.specs.ValidItems.{AreValidItems, HasBytes, IsValidCommand, IsValidItem}
 
 -- the value of the option, if there is one, satisfies P
 record OfSort {A : Type 0} (P : A → Type 0) (o : Option A) : Type 0 where
@@ -108,63 +108,63 @@ payload text = go (is_within 2 8192 (length text)) refl
 
 -- commands
 abbrev Can : Option Command → Type 0
-Can o = OfSort IsSayable o
+Can o = OfSort IsValidCommand o
 
-plain : (c : Command) → IsWellFormed c → HasBytes c → IsSayable c
+plain : (c : Command) → IsWellFormed c → HasBytes c → IsValidCommand c
 plain c formed bytes = record { formed = formed; bytes = bytes }
 
 one_task_in : (args : List (List ℕ)) → OfSort (IsFrom 0 15) (one_task args)
 one_task_in args = bound_any (IsFrom 0 15) _ (one_of args) (number_of_range 0 15)
 
 can_malloc : (args : List (List ℕ)) → Can (malloc_in args)
-can_malloc args = mapped_any IsSayable (λ p. Malloc p.0 p.1) (id_and_number args) (λ p. plain (Malloc p.0 p.1) tt tt)
+can_malloc args = mapped_any IsValidCommand (λ p. Malloc p.0 p.1) (id_and_number args) (λ p. plain (Malloc p.0 p.1) tt tt)
 
 can_free : (args : List (List ℕ)) → Can (free_in args)
-can_free args = mapped_any IsSayable (λ id. Free id) (one_id args) (λ id. plain (Free id) tt tt)
+can_free args = mapped_any IsValidCommand (λ id. Free id) (one_id args) (λ id. plain (Free id) tt tt)
 
 can_write : (args : List (List ℕ)) → Can (write_in args)
-can_write args = bound_any IsSayable _ (id_number_and_text args)
-    (λ p. bound IsPayload IsSayable _ (bytes_in p.2) (payload p.2)
-    (λ v is. sort_some IsSayable (Write p.0 p.1 v) (plain (Write p.0 p.1 v) (is.some, is.few) is.are)))
+can_write args = bound_any IsValidCommand _ (id_number_and_text args)
+    (λ p. bound IsPayload IsValidCommand _ (bytes_in p.2) (payload p.2)
+    (λ v is. sort_some IsValidCommand (Write p.0 p.1 v) (plain (Write p.0 p.1 v) (is.some, is.few) is.are)))
 
 abbrev IsShort : ℕ × ℕ × ℕ → Type 0
 IsShort p = p.2 ≤ 4096
 
 can_read : (args : List (List ℕ)) → Can (read_in args)
-can_read args = mapped IsShort IsSayable (λ p. Read p.0 p.1 p.2) (id_number_and_length args)
+can_read args = mapped IsShort IsValidCommand (λ p. Read p.0 p.1 p.2) (id_number_and_length args)
     (bound_any IsShort _ (three_of args) (λ a. bound_any IsShort _ (id_in a.0) (λ id. bound_any IsShort _ (number_in a.1)
     (λ n. bound (IsFrom 0 4096) IsShort _ (length_in a.2) (number_of_range 0 4096 a.2) (λ len is. sort_some IsShort (id, n, len) is.1)))))
     (λ p is. plain (Read p.0 p.1 p.2) is tt)
 
 can_place : (args : List (List ℕ)) → Can (place_command_in args)
-can_place args = mapped_any IsSayable (λ id. Place id) (one_id args) (λ id. plain (Place id) tt tt)
+can_place args = mapped_any IsValidCommand (λ id. Place id) (one_id args) (λ id. plain (Place id) tt tt)
 
 can_block : (args : List (List ℕ)) → Can (block_command_in args)
-can_block args = mapped_any IsSayable (λ p. Block p.0 p.1) (id_and_number args) (λ p. plain (Block p.0 p.1) tt tt)
+can_block args = mapped_any IsValidCommand (λ p. Block p.0 p.1) (id_and_number args) (λ p. plain (Block p.0 p.1) tt tt)
 
 can_peek : (args : List (List ℕ)) → Can (peek_in args)
-can_peek args = mapped_any IsSayable (λ word. Peek word) (one_number args) (λ word. plain (Peek word) tt tt)
+can_peek args = mapped_any IsValidCommand (λ word. Peek word) (one_number args) (λ word. plain (Peek word) tt tt)
 
 abbrev HasBound : ℕ × ℕ → Type 0
 HasBound p = IsFrom 1 64 p.1
 
 can_bound : (args : List (List ℕ)) → Can (bound_command_in args)
-can_bound args = mapped HasBound IsSayable (λ p. Bound p.0 p.1) (number_and_bound args)
+can_bound args = mapped HasBound IsValidCommand (λ p. Bound p.0 p.1) (number_and_bound args)
     (bound_any HasBound _ (two_of args) (λ a. bound_any HasBound _ (number_in a.0)
     (λ n. bound (IsFrom 1 64) HasBound _ (bound_in a.1) (number_of_range 1 64 a.1) (λ k is. sort_some HasBound (n, k) is))))
     (λ p is. plain (Bound p.0 p.1) is tt)
 
 can_resize : (args : List (List ℕ)) → Can (resize_in args)
-can_resize args = mapped_any IsSayable (λ p. Resize p.0 p.1) (id_and_number args) (λ p. plain (Resize p.0 p.1) tt tt)
+can_resize args = mapped_any IsValidCommand (λ p. Resize p.0 p.1) (id_and_number args) (λ p. plain (Resize p.0 p.1) tt tt)
 
 can_task : (args : List (List ℕ)) → Can (task_command_in args)
-can_task args = mapped (IsFrom 0 15) IsSayable (λ task. Task task) (one_task args) (one_task_in args) (λ task is. plain (Task task) is.1 tt)
+can_task args = mapped (IsFrom 0 15) IsValidCommand (λ task. Task task) (one_task args) (one_task_in args) (λ task is. plain (Task task) is.1 tt)
 
 abbrev HasTask : ℕ × ℕ → Type 0
 HasTask p = p.0 ≤ 15
 
 can_quota : (args : List (List ℕ)) → Can (quota_in args)
-can_quota args = mapped HasTask IsSayable (λ p. Quota p.0 p.1) (task_and_number args)
+can_quota args = mapped HasTask IsValidCommand (λ p. Quota p.0 p.1) (task_and_number args)
     (bound_any HasTask _ (two_of args) (λ a. bound (IsFrom 0 15) HasTask _ (task_in a.0) (number_of_range 0 15 a.0)
     (λ task is. bound_any HasTask _ (number_in a.1) (λ n. sort_some HasTask (task, n) is.1))))
     (λ p is. plain (Quota p.0 p.1) is tt)
@@ -173,20 +173,20 @@ abbrev IsOfTask : ℕ × ℕ × ℕ → Type 0
 IsOfTask p = p.0 ≤ 15
 
 can_need : (args : List (List ℕ)) → Can (need_in args)
-can_need args = mapped IsOfTask IsSayable (λ p. Need p.0 p.1 p.2) (task_and_numbers args)
+can_need args = mapped IsOfTask IsValidCommand (λ p. Need p.0 p.1 p.2) (task_and_numbers args)
     (bound_any IsOfTask _ (three_of args) (λ a. bound (IsFrom 0 15) IsOfTask _ (task_in a.0) (number_of_range 0 15 a.0)
     (λ task is. bound_any IsOfTask _ (number_in a.1) (λ m. bound_any IsOfTask _ (number_in a.2) (λ n. sort_some IsOfTask (task, m, n) is.1)))))
     (λ p is. plain (Need p.0 p.1 p.2) is tt)
 
 can_admit : (args : List (List ℕ)) → Can (admit_in args)
-can_admit args = mapped (IsFrom 0 15) IsSayable (λ task. Admit task) (one_task args) (one_task_in args) (λ task is. plain (Admit task) is.1 tt)
+can_admit args = mapped (IsFrom 0 15) IsValidCommand (λ task. Admit task) (one_task args) (one_task_in args) (λ task is. plain (Admit task) is.1 tt)
 
-can_alone : (c : Command) (args : List (List ℕ)) → IsSayable c → Can (alone_in c args)
-can_alone c args is = either IsSayable (none_of args) (Some c) None (sort_some IsSayable c is) (sort_none IsSayable)
+can_alone : (c : Command) (args : List (List ℕ)) → IsValidCommand c → Can (alone_in c args)
+can_alone c args is = either IsValidCommand (none_of args) (Some c) None (sort_some IsValidCommand c is) (sort_none IsValidCommand)
 
 -- one of two commands, by a test
 if_test : (b : Bool) (x y : Option Command) → Can x → Can y → Can (cond b x y)
-if_test = either IsSayable
+if_test = either IsValidCommand
 
 can_letter : (letter : ℕ) (args : List (List ℕ)) → Can (letter_command letter args)
 can_letter letter args =
@@ -200,7 +200,7 @@ can_letter letter args =
     if_test (letter == byte "k") (bound_command_in args) _ (can_bound args) (
     if_test (letter == byte "z") (resize_in args) _ (can_resize args) (
     if_test (letter == byte "s") (alone_in Slice args) _ (can_alone Slice args (plain Slice tt tt)) (
-    if_test (letter == byte "t") (task_command_in args) None (can_task args) (sort_none IsSayable)))))))))))
+    if_test (letter == byte "t") (task_command_in args) None (can_task args) (sort_none IsValidCommand)))))))))))
 
 can_word : (word : List ℕ) (args : List (List ℕ)) → Can (word_command word args)
 can_word word args =
@@ -209,7 +209,7 @@ can_word word args =
     if_test (bytes_eq word (codes "steps")) (alone_in Steps args) _ (can_alone Steps args (plain Steps tt tt)) (
     if_test (bytes_eq word (codes "quota")) (quota_in args) _ (can_quota args) (
     if_test (bytes_eq word (codes "need")) (need_in args) _ (can_need args) (
-    if_test (bytes_eq word (codes "admit")) (admit_in args) None (can_admit args) (sort_none IsSayable))))))
+    if_test (bytes_eq word (codes "admit")) (admit_in args) None (can_admit args) (sort_none IsValidCommand))))))
 
 can_command : (word : List ℕ) (args : List (List ℕ)) → Can (command_of word args)
 can_command [] args = can_word [] args
@@ -283,20 +283,20 @@ can_open args = bound_any AreInRange _ (four_of args) (λ p. bound_any AreInRang
     (λ page_bytes. bound_any AreInRange _ (number_in p.2) (λ k. bound_any AreInRange _ (number_in p.3) (λ proxies. in_range pages page_bytes k proxies)))))
 
 -- the result of reading a line
-abbrev CanSay : Saying → Type 0
-CanSay (item i) = IsSayableItem i
+abbrev CanSay : LineMeaning → Type 0
+CanSay (item i) = IsValidItem i
 CanSay saying = ⊤
 
-can_item : (word : List ℕ) (args : List (List ℕ)) → OfSort IsSayableItem (item_in word args)
-can_item word args = either IsSayableItem (bytes_eq word (codes "heap")) (option_map starts (settings_in args)) (option_map asks (command_of word args))
-    (mapped AreInRange IsSayableItem starts (settings_in args) (can_open args) (λ p is. is))
-    (mapped IsSayable IsSayableItem asks (command_of word args) (can_command word args) (λ c is. is))
+can_item : (word : List ℕ) (args : List (List ℕ)) → OfSort IsValidItem (item_in word args)
+can_item word args = either IsValidItem (bytes_eq word (codes "heap")) (option_map starts (settings_in args)) (option_map asks (command_of word args))
+    (mapped AreInRange IsValidItem starts (settings_in args) (can_open args) (λ p is. is))
+    (mapped IsValidCommand IsValidItem asks (command_of word args) (can_command word args) (λ c is. is))
 
-says_item : (o : Option Item) → OfSort IsSayableItem o → CanSay (item_or_wrong o)
+says_item : (o : Option Item) → OfSort IsValidItem o → CanSay (item_or_wrong o)
 says_item None is = tt
 says_item (Some i) is = is.each i refl
 
-says : (b : Bool) (x y : Saying) → CanSay x → CanSay y → CanSay (cond b x y)
+says : (b : Bool) (x y : LineMeaning) → CanSay x → CanSay y → CanSay (cond b x y)
 says true x y first second = first
 says false x y first second = second
 
@@ -308,20 +308,20 @@ can_line : (line : List ℕ) → CanSay (line_says line)
 can_line line = says (is_too_long line) wrong (tokens_say (tokens (without_return line))) tt (can_tokens (tokens (without_return line)))
 
 -- an item and those after it
-can_follow : (stage : Stage) (saying : Saying) (n : ℕ) (after : Stage → List Item) → CanSay saying → ((next : Stage) → AreSayable (after next))
-    → AreSayable (items_by (verdict stage saying) n stage after)
+can_follow : (stage : Stage) (saying : LineMeaning) (n : ℕ) (after : Stage → List Item) → CanSay saying → ((next : Stage) → AreValidItems (after next))
+    → AreValidItems (items_by (verdict stage saying) n stage after)
 can_follow stage nothing n after can rest = rest stage
 can_follow stage wrong n after can rest = (tt, tt)
 can_follow stage (item i) n after can rest = go (stage_after stage i)
   where
-    go : (o : Option Stage) → AreSayable (items_by (gives_or_breaks i o) n stage after)
+    go : (o : Option Stage) → AreValidItems (items_by (gives_or_breaks i o) n stage after)
     go None = (tt, tt)
     go (Some next) = (can, rest next)
 
-lines_sayable : (all : List (List ℕ)) (n : ℕ) (stage : Stage) → AreSayable (items_at all n stage)
+lines_sayable : (all : List (List ℕ)) (n : ℕ) (stage : Stage) → AreValidItems (items_at all n stage)
 lines_sayable [] n stage = tt
 lines_sayable (line ∷ rest) n stage = can_follow stage (line_says line) n (items_at rest (n + 1)) (can_line line) (λ next. lines_sayable rest (n + 1) next)
 
 -- every item of a script is valid
-pub items_sayable : (g : List ℕ) (ended : Bool) → AreSayable (items g ended)
+pub items_sayable : (g : List ℕ) (ended : Bool) → AreValidItems (items g ended)
 items_sayable g ended = lines_sayable (lines g ended) 0 Opening

@@ -18,10 +18,10 @@ use Rattle.page_model.specs.Held.{Held, Placed, objects}
 use Rattle.page_model.specs.Order.{IsOrderOf, Order}
 use Rattle.page_model.specs.Paging.{Paging, class_for}
 use Rattle.page_model.proofs.CallerLemmas.{length-written, order_bounded, order_in_place, sound_empty, sound_exchanged, written_are_bytes}
-use Rattle.cf_model.specs.Answers.{bound_put}
+use Rattle.cf_model.specs.Answers.{with_bound}
 use Rattle.cf_model.specs.Rules.{IsPaged, KeepsPages, KeepsRules, KeepsRulesOf, KeepsTable}
 use Rattle.cf_model.specs.State.{HeapState, paging_in}
-use Rattle.cf_model.specs.Steps.{Part, StaysOutside}
+use Rattle.cf_model.specs.Steps.{Position, StaysOutside}
 use Rattle.run_model.specs.Steps.{class_to_bound}
 use Rattle.run_model.proofs.CallerLemmas.{bytes_held}
 use Rattle.run_laws.proofs.Answered.{AreFew, HasWrite, few_changed}
@@ -68,19 +68,19 @@ module _ (old : HeapState) (rules : KeepsRules old) (paged : IsPaged old.kind) w
       (few_changed old.profile.proxies (objects old.held) few_old h x.bytes y.bytes (bytes_held old.held h x there) bytes)
 
   -- every write into a live object has a result
-  pub write_done : (part : Part) (bytes : List ℕ) (x : Placed) → AreBytes bytes → get old.held part.number ≡ Some x → HasWrite old part bytes
-  write_done part bytes x are there = elim (cases_lt (length x.bytes) (part.from + length bytes)) [
+  pub write_done : (position : Position) (bytes : List ℕ) (x : Placed) → AreBytes bytes → get old.held position.number ≡ Some x → HasWrite old position bytes
+  write_done position bytes x are there = elim (cases_lt (length x.bytes) (position.from + length bytes)) [
     | inl past ↦ record { answer = Err access.Range; heap = old; step = (record { object = x; found = there; past = past }, refl); kept = rules }
     | inr within ↦ (
-        let v = written x.bytes part.from bytes in
-        let sound = sound_written part.number x v there (length-written x.bytes part.from bytes within) in
-        let few = few_replaced part.number x (record x { bytes = v }) there
-        (written_are_bytes x.bytes part.from bytes within (rules.numbers.bytes part.number x there) are) in
-        let ordered = order_written part.number x v there (length-written x.bytes part.from bytes within) old.order pages.order in
-        let next = page_rules.becomes old rules paged (insert old.held part.number (record x { bytes = v })) old.frames old.order old.cost sound few table_old ordered in
+        let v = written x.bytes position.from bytes in
+        let sound = sound_written position.number x v there (length-written x.bytes position.from bytes within) in
+        let few = few_replaced position.number x (record x { bytes = v }) there
+        (written_are_bytes x.bytes position.from bytes within (rules.numbers.bytes position.number x there) are) in
+        let ordered = order_written position.number x v there (length-written x.bytes position.from bytes within) old.order pages.order in
+        let next = page_rules.becomes old rules paged (insert old.held position.number (record x { bytes = v })) old.frames old.order old.cost sound few table_old ordered in
         record {
           answer = Ok tt;
-          heap = record old { held = insert old.held part.number (record x { bytes = v }); words = next.words };
+          heap = record old { held = insert old.held position.number (record x { bytes = v }); words = next.words };
           step = record {
             object = x;
             found = there;
@@ -137,12 +137,12 @@ module _ (old : HeapState) (rules : KeepsRules old) (paged : IsPaged old.kind) w
     }
 
   -- after command `k` the rules hold, whether a class got the bound or none did
-  pub bound_done : (slot_words k : ℕ) → 1 ≤ k → k ≤ 64 → KeepsRules (bound_put old (class_to_bound old slot_words) k)
+  pub bound_done : (slot_words k : ℕ) → 1 ≤ k → k ≤ 64 → KeepsRules (with_bound old (class_to_bound old slot_words) k)
   bound_done slot_words k some low = elim (cases_eq (len old.held) 0) [
     | inl none ↦ go none (class_to_bound old slot_words)
     | inr ne ↦ (let e = eq_no (len old.held) 0 ne in rw e rules)
   ]
     where
-      go : len old.held ≡ 0 → (o : Option ℕ) → KeepsRules (bound_put old o k)
+      go : len old.held ≡ 0 → (o : Option ℕ) → KeepsRules (with_bound old o k)
       go none None = rules
       go none (Some c) = rules_bounded none c k some low

@@ -8,13 +8,13 @@ use Rattle.page_model.specs.Held.{Held, Placed, objects}
 use Rattle.page_model.specs.Image.{slot_for}
 use Rattle.page_model.specs.Order.{FreeFollows, IsOrderOf, Order}
 use Rattle.page_model.specs.Paging.{Paging}
-use Rattle.page_model.specs.Steps.{Leaves, Moves, RemovesObject, without}
+use Rattle.page_model.specs.Steps.{CallResult, Moves, RemovesObject, without}
 use Rattle.page_model.proofs.CallerLemmas.{can_free, free_frames, free_objects, some_move, sound_free}
 use Rattle.cf_model.specs.ExactCosts.{free_cost}
 use Rattle.cf_model.specs.Ordered.{FreeByOrder, IsOrderedFree}
 use Rattle.cf_model.specs.Rules.{IsPaged, KeepsRules, KeepsTable}
 use Rattle.cf_model.specs.State.{HeapState, paging_in}
-use Rattle.cf_model.specs.Steps.{MovesIn, frames_left, leaves_of, number_of, slot_in, tiling_left}
+use Rattle.cf_model.specs.Steps.{MovesIn, frames_left, call_result, number_of, slot_in, tiling_left}
 use Rattle.run_model.proofs.CallerLemmas.{bytes_held}
 use Rattle.run_laws.proofs.Answered.{AreFew, HasFree, few_left, follows_none, follows_some}
 use Rattle.run_laws.proofs.ByKind.{handle_of, number_of_handle, table_stepped}
@@ -35,7 +35,7 @@ module _ (old : HeapState) (rules : KeepsRules old) (paged : IsPaged old.kind) (
   next moved words order cost = record old {
     held = left moved;
     words = words;
-    frames = frames_left old.kind old (leaves_of old h x (number_of moved));
+    frames = frames_left old.kind old (call_result old h x (number_of moved));
     order = order;
     cost = cost;
   }
@@ -48,7 +48,7 @@ module _ (old : HeapState) (rules : KeepsRules old) (paged : IsPaged old.kind) (
       → cost ≤ 96 + 2 * slot_in old.kind old x → HasFree old h
   freed_with moved moves order cost is ordered le =
       let ps = pages old rules paged in
-      let after : Leaves = leaves_of old h x (number_of moved) in
+      let after : CallResult = call_result old h x (number_of moved) in
       let step : RemovesObject p old.held h after = record { freed = x; found = there; moves = moves; left = refl } in
       let gone = free_objects p ps.paging old.held ps.sound h x there (number_of moved) moves in
       let frames = frames_left old.kind old after in

@@ -16,7 +16,7 @@ use Rattle.page_model.specs.Held.{Held, Placed, objects}
 use Rattle.page_model.specs.Image.{slot_for}
 use Rattle.page_model.specs.Order.{IsOrderOf, Order, ResizeFollows, word_steps}
 use Rattle.page_model.specs.Paging.{IsPaging, Paging, class_for}
-use Rattle.page_model.specs.Steps.{IsFreePlace, Leaves, Moves, RefitsObject, Request, resized, resized_at, without}
+use Rattle.page_model.specs.Steps.{IsFreePlace, CallResult, Moves, RefitsObject, Request, resized, resized_at, without}
 use Rattle.page_model.proofs.CallerLemmas.{can_resize, change_is, changes_class, class_fits, class_holds, free_objects, resize_frames, resized_are_bytes}
 use Rattle.page_model.proofs.CallerLemmas.{some_move, sound_resize}
 use Rattle.cf_model.specs.Costs.{resize_bound}
@@ -24,7 +24,7 @@ use Rattle.cf_model.specs.ExactCosts.{resize_cost}
 use Rattle.cf_model.specs.Ordered.{IsOrderedResize, ResizeByOrder}
 use Rattle.cf_model.specs.Rules.{IsPaged, KeepsRules, KeepsTable}
 use Rattle.cf_model.specs.State.{HeapState, paging_in}
-use Rattle.cf_model.specs.Steps.{IsResizeFault, IsUnmoved, frames_left, number_of}
+use Rattle.cf_model.specs.Steps.{IsResizeFault, IsLeftByRefusal, frames_left, number_of}
 use Rattle.run_model.proofs.CallerLemmas.{bytes_held}
 use Rattle.run_laws.proofs.Answered.{AreFew, HasResize, few_changed, follows_none, follows_same, follows_some}
 use Rattle.run_laws.proofs.ByKind.{handle_of, number_of_handle, table_stepped}
@@ -34,7 +34,7 @@ use Rattle.run_laws.proofs.Room.{has_room, room_or_not}
 
 -- a resize changes the bytes of its object alone
 objects_refitted : (p : Paging) → IsPaging p → (m : Held) → IsSound p m → (asked : Request) (x : Placed) → get m asked.number ≡ Some x
-    → (after : Leaves) → RefitsObject p m asked after → objects after.held ≡ insert (objects m) asked.number (resized x.bytes asked.length)
+    → (after : CallResult) → RefitsObject p m asked after → objects after.held ≡ insert (objects m) asked.number (resized x.bytes asked.length)
 objects_refitted p ok m s asked x there after (inl r) =
     let one : Some r.object ≡ Some x = sym r.found ∙ there in
     let same : r.object ≡ x = cc in
@@ -59,7 +59,7 @@ module _ (old : HeapState) (rules : KeepsRules old) (paged : IsPaged old.kind) (
   refused e cause cost is le = record {
     answer = Err e;
     heap = record old { cost = cost };
-    step = (cause, rw (paged, IsUnmoved) refl);
+    step = (cause, rw (paged, IsLeftByRefusal) refl);
     ordered = follows_same (ResizeByOrder old asked (Err e) (record old { cost = cost })) old.order (λ was. rw (paged, ResizeByOrder) (record { choice = tt; cost = is was }));
     kept = rules_still old rules paged cost;
     cost = costs old rules paged cost 160 le;
@@ -67,7 +67,7 @@ module _ (old : HeapState) (rules : KeepsRules old) (paged : IsPaged old.kind) (
 
   -- the results of a resize to this arrangement
   module _ (fits : need asked.length ≤ old.profile.page_words) (m : Held) (moved : Option Handle) where
-    abbrev after : Leaves
+    abbrev after : CallResult
     after = record { held = m; moved = number_of moved }
 
     abbrev done : Resized

@@ -14,14 +14,14 @@ use Rattle.cf_base.specs.declared.kind.Kind.{Kind}
 use Rattle.cf_lemmas.proofs.MapValues.{get-map_values, map_values-insert}
 use Rattle.page_model.specs.Held.{Placed, objects}
 use Rattle.page_model.proofs.CallerLemmas.{malloc_objects}
-use Rattle.cf_model.specs.Answers.{bound_put}
+use Rattle.cf_model.specs.Answers.{with_bound}
 use Rattle.cf_model.specs.State.{HeapState}
 use Rattle.cf_model.specs.Steps.{IsMallocStep, IsResizeStep, IsWriteStep}
 use Rattle.script_reader.specs.Items.{Item}
 use Rattle.script_reader.specs.declared.command.Command.{Command}
 use Rattle.script_reader.specs.declared.command.Command.TheVariants.{Malloc, Free, Write, Read, Bound, Resize}
 use Rattle.run_model.specs.Replies.{malloc_text, object_of, read_text, resize_text, write_text}
-use Rattle.run_model.specs.Runs.{BeginsOne, Run, Turn}
+use Rattle.run_model.specs.Runs.{BeginsOne, Run, IsCommandStep}
 use Rattle.run_model.specs.Sessions.{IsGoing, RunState, SessionState}
 use Rattle.run_model.specs.Steps.{Step, class_to_bound, ids_given}
 use Rattle.run_model.proofs.CallerLemmas.{FreesAt, MallocsAt, ResizesAt, WritesAt}
@@ -128,7 +128,7 @@ module _ (old new : RunState) where
   resize_at (Some h) id n reply some step = resize_turn id h n step.answer reply some step.step
       (ap (λ (s : SessionState). s.ids) step.session ∙ resized_ids _ step.answer) step.reply_is
 
-  bound_held : (c : Option ℕ) (k : ℕ) → new.heap ≡ bound_put old.heap c k → new.heap.held ≡ old.heap.held
+  bound_held : (c : Option ℕ) (k : ℕ) → new.heap ≡ with_bound old.heap c k → new.heap.held ≡ old.heap.held
   bound_held None k is = ap (λ (s : HeapState). s.held) is
   bound_held (Some c) k is = ap (λ (s : HeapState). s.held) is
 
@@ -156,7 +156,7 @@ module _ (old new : RunState) where
   turn_named c reply step = same_named named step.1
 
 -- the rules of a run on one manager, seen as ids and objects
-pub kind_names : (kind : Kind) → NamesObjects (BeginsOne kind) Turn
+pub kind_names : (kind : Kind) → NamesObjects (BeginsOne kind) IsCommandStep
 kind_names kind = record {
   is_going = IsGoing;
   named = named;
@@ -170,4 +170,4 @@ kind_names kind = record {
 -- over a run, reads print the bytes that follow from the lines and their replies
 pub reads_are_shown : (kind : Kind) (items : List Item) (replies : List Reply) (new : Option RunState) → Run kind None items replies new
     → AreReadsOf None items replies
-reads_are_shown kind = any_reads_are_shown (BeginsOne kind) Turn (kind_names kind)
+reads_are_shown kind = any_reads_are_shown (BeginsOne kind) IsCommandStep (kind_names kind)

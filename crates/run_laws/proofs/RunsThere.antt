@@ -4,7 +4,7 @@ use Rattle.std.specs.Prelude.{⊤, Bool}
 use Rattle.cf_base.specs.Settings.{Profile}
 use Rattle.cf_model.specs.Rules.{AreInRange}
 use Rattle.run_laws.proofs.Items.{items_sayable}
-use Rattle.run_laws.specs.Sayable.{AreSayable, IsSayable, IsSayableItem}
+use Rattle.run_laws.specs.ValidItems.{AreValidItems, IsValidCommand, IsValidItem}
 use Rattle.run_model.proofs.CallerLemmas.{run_joined}
 use Rattle.run_model.specs.Plays.{PlayRun, PlayStep}
 use Rattle.run_model.specs.Texts.{Reply, bad_line, said}
@@ -15,16 +15,16 @@ use Rattle.script_reader.specs.declared.command.Command.{Command}
 pub record CanGoOn {S : Type 0} (begins : Profile → Reply → S → Type 0) (turns : S → Command → Reply → S → Type 0) : Type 1 where
   pub is_going : S → Type 0
   pub begins_going : (p : Profile) (reply : Reply) (s : S) → begins p reply s → is_going s
-  pub still_going : (old : S) (c : Command) (reply : Reply) (new : S) → is_going old → IsSayable c → turns old c reply new → is_going new
+  pub still_going : (old : S) (c : Command) (reply : Reply) (new : S) → is_going old → IsValidCommand c → turns old c reply new → is_going new
   pub begins_there : (p : Profile) → AreInRange p → (reply : Reply) × (s : S) × begins p reply s
-  pub turn_there : (old : S) (c : Command) → is_going old → IsSayable c → (reply : Reply) × (new : S) × turns old c reply new
+  pub turn_there : (old : S) (c : Command) → is_going old → IsValidCommand c → (reply : Reply) × (new : S) × turns old c reply new
 
 -- the first items of a list of valid ones are valid
-pub sayable_before : (done after : List Item) → AreSayable (done ++ after) → AreSayable done
+pub sayable_before : (done after : List Item) → AreValidItems (done ++ after) → AreValidItems done
 sayable_before [] after can = tt
 sayable_before (item ∷ rest) after can = (can.0, sayable_before rest after can.1)
 
-pub sayable_behind : (done after : List Item) → AreSayable (done ++ after) → AreSayable after
+pub sayable_behind : (done after : List Item) → AreValidItems (done ++ after) → AreValidItems after
 sayable_behind [] after can = can
 sayable_behind (item ∷ rest) after can = sayable_behind rest after can.1
 
@@ -33,26 +33,26 @@ module _ {S : Type 0} (begins : Profile → Reply → S → Type 0) (turns : S �
   IsOn None = ⊤
   IsOn (Some s) = rules.is_going s
 
-  pub step_on : (old : Option S) (item : Item) (reply : Reply) (new : Option S) → IsOn old → IsSayableItem item
+  pub step_on : (old : Option S) (item : Item) (reply : Reply) (new : Option S) → IsOn old → IsValidItem item
       → PlayStep begins turns old item reply new → IsOn new
   step_on old (starts p) reply new on can step = subst IsOn (sym step.2) (rules.begins_going p reply step.0 step.1)
   step_on None (asks c) reply new on can step = subst IsOn (sym step.1) tt
   step_on (Some old) (asks c) reply new on can step = subst IsOn (sym step.2) (rules.still_going old c reply step.0 on can step.1)
   step_on old (bad n) reply new on can step = subst IsOn (sym step.1) on
 
-  pub run_on : (old : Option S) (items : List Item) (replies : List Reply) (new : Option S) → IsOn old → AreSayable items
+  pub run_on : (old : Option S) (items : List Item) (replies : List Reply) (new : Option S) → IsOn old → AreValidItems items
       → PlayRun begins turns old items replies new → IsOn new
   run_on old [] replies new on can run = subst IsOn (sym run.1) on
   run_on old (item ∷ rest) replies new on can run = run_on run.0 rest run.2 new (step_on old item run.1 run.0 on can.0 run.3) can.1 run.5
 
-  pub item_there : (old : Option S) (item : Item) → IsOn old → IsSayableItem item
+  pub item_there : (old : Option S) (item : Item) → IsOn old → IsValidItem item
       → (reply : Reply) × (new : Option S) × PlayStep begins turns old item reply new
   item_there old (starts p) on can = let b = rules.begins_there p can in (b.0, Some b.1, (b.1, b.2, refl))
   item_there None (asks c) on can = ([], None, (refl, refl))
   item_there (Some old) (asks c) on can = let t = rules.turn_there old c on can in (t.0, Some t.1, (t.1, t.2, refl))
   item_there old (bad n) on can = (said (bad_line n), old, (refl, refl))
 
-  pub run_there : (old : Option S) (items : List Item) → IsOn old → AreSayable items
+  pub run_there : (old : Option S) (items : List Item) → IsOn old → AreValidItems items
       → (replies : List Reply) × (new : Option S) × PlayRun begins turns old items replies new
   run_there old [] on can = ([], old, (refl, refl))
   run_there old (item ∷ rest) on can =
@@ -61,11 +61,11 @@ module _ {S : Type 0} (begins : Profile → Reply → S → Type 0) (turns : S �
       (first.0 ∷ more.0, more.1, (first.1, first.0, more.0, first.2, refl, more.2))
 
   -- a run over a prefix of valid items can be continued over all of them
-  pub run_goes_on : (all done after : List Item) (replies : List Reply) (mid : Option S) → AreSayable all → all ≡ done ++ after
+  pub run_goes_on : (all done after : List Item) (replies : List Reply) (mid : Option S) → AreValidItems all → all ≡ done ++ after
       → PlayRun begins turns None done replies mid
       → (more : List Reply) × (new : Option S) × PlayRun begins turns None all (replies ++ more) new
   run_goes_on all done after replies mid can parts run =
-      let both = subst AreSayable parts can in
+      let both = subst AreValidItems parts can in
       let rest = run_there mid after (run_on None done replies mid tt (sayable_before done after both) run) (sayable_behind done after both) in (
         rest.0,
         rest.1,

@@ -6,8 +6,8 @@
 mod reads;
 mod runs;
 
-pub use reads::{bytes_are_told_one_by_one, reads_give_what_was_written};
+pub use reads::{commands_change_only_these_bytes, reads_give_what_was_written};
 pub use runs::{
-    a_command_is_always_answered, a_run_can_always_go_on, a_run_stays_under_way, items_can_be_said,
-    runs_are_joined, what_was_written_is_a_front,
+    a_command_is_always_answered, a_run_can_always_go_on, a_run_stays_under_way, items_are_valid,
+    runs_are_joined, what_was_written_is_a_prefix,
 };

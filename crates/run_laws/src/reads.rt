@@ -21,7 +21,7 @@ pub fn reads_give_what_was_written()
 /// What `done_by`, which computes the bytes of each id, does for a command with the reply `ok`. `m` is the
 /// map from each live id to its bytes. After a malloc all bytes are 0; after a free there are none. A write
 /// changes those in its range; a resize cuts bytes or adds zeros. The bytes of every other id stay.
-pub fn bytes_are_told_one_by_one()
+pub fn commands_change_only_these_bytes()
     ensures malloc { (m : IdBytes) (id n : ℕ) → get (done_by (Malloc id n) m) id ≡ Some (replicate n 0) }
     ensures free { (m : IdBytes) (id : ℕ) → get (done_by (Free id) m) id ≡ None }
     ensures write { (m : IdBytes) (id at : ℕ) (bytes old : List ℕ) → get m id ≡ Some old

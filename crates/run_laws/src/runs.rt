@@ -6,24 +6,24 @@ ghost use Rattle.cf_base.specs.declared.kind.Kind.{Kind};
 ghost use Rattle.cf_model.specs.Rules.{AreInRange};
 ghost use Rattle.script_reader.specs.Items.{Item, items};
 ghost use Rattle.script_reader.specs.declared.command.Command.{Command};
-ghost use Rattle.run_model.specs.Runs.{Begins, Run, Turn};
+ghost use Rattle.run_model.specs.Runs.{Begins, Run, IsCommandStep};
 ghost use Rattle.run_model.specs.Sessions.{IsGoing, RunState};
 ghost use Rattle.run_model.specs.Texts.{Reply, text_of};
-ghost use Rattle.run_laws.specs.Sayable.{AreSayable, IsSayable, IsUnderWay};
+ghost use Rattle.run_laws.specs.ValidItems.{AreValidItems, IsValidCommand, IsUnderWay};
 
 /// For any settings in range there is a state in which a run begins. In each state of a run in progress, for
-/// every valid command, there are a reply and a next state that make a `Turn`.
+/// every valid command, there are a reply and a next state that make a `IsCommandStep`.
 pub fn a_command_is_always_answered()
     ensures begins { (kind : Kind) (p : Profile) → AreInRange p
         → (new : RunState) × Begins kind p new }
     ensures answered { (old : RunState) (command : Command) → IsGoing old
-        → IsSayable command → (reply : Reply) × (new : RunState) × Turn old command reply new }
+        → IsValidCommand command → (reply : Reply) × (new : RunState) × IsCommandStep old command reply new }
 {}
 
 /// The grammar lets through valid items only: those of any input have settings and numbers in range, and
 /// writes of bytes. `ended`: no more input follows.
-pub fn items_can_be_said()
-    ensures { (given : List ℕ) (ended : Bool) → AreSayable (items given ended) }
+pub fn items_are_valid()
+    ensures { (given : List ℕ) (ended : Bool) → AreValidItems (items given ended) }
 {}
 
 /// A run keeps its kind and stays in progress over any items.
@@ -57,7 +57,7 @@ pub fn a_run_can_always_go_on()
 /// What was written before a sink failed is a prefix of the output of a run over the whole script. `front`:
 /// if `written` is a prefix of the text of a run over `done`, the first items, then also of the text of some
 /// run over all items. `joined`: the text of two lists of replies in turn is their texts in turn.
-pub fn what_was_written_is_a_front()
+pub fn what_was_written_is_a_prefix()
     ensures joined { (lead : List ℕ) (replies more : List Reply)
         → text_of lead (replies ++ more) ≡ text_of lead replies ++ text_of lead more }
     ensures front { (kind : Kind) (given : List ℕ) (ended : Bool) (done after : List Item)

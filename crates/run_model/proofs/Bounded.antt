@@ -1,4 +1,4 @@
--- Every step of a run in progress meets `MeetsBounds`: the bound on pages, and when a malloc is refused. So each `Step` is a `Turn`.
+-- Every step of a run in progress meets `MeetsBounds`: the bound on pages, and when a malloc is refused. So each `Step` is a `IsCommandStep`.
 use Rattle.std.proofs.Common.{◌≡◌, ℕ, ◌<◌, ◌≤◌, Option, Some, None, Result, Ok, Err, arith, sym, ◌∙◌, subst, inl, inr, refl}
 use Rattle.std.specs.Prelude.{◌↔◌, codes}
 use Rattle.std.specs.FinMap.{get}
@@ -9,7 +9,7 @@ use Rattle.cf_base.specs.declared.answers.Refusal.TheVariants as refusal
 use Rattle.cf_base.specs.declared.kind.Kind.{Kind}
 use Rattle.page_model.specs.Arrangement.{LacksRoom, pages_needed_with}
 use Rattle.page_model.specs.Held.{objects}
-use Rattle.page_model.specs.Paging.{AreOne, class_for}
+use Rattle.page_model.specs.Paging.{EveryBoundIsOne, class_for}
 use Rattle.page_model.specs.Steps.{IsFreePlace, Request}
 use Rattle.page_model.proofs.CallerLemmas.{class_fits, lacks_room_at_one, place_is_room, sound_few}
 use Rattle.cf_model.specs.Families as family
@@ -20,7 +20,7 @@ use Rattle.cf_model.specs.Steps.{IsMallocStep, IsPlacedBy, LacksRoomIn}
 use Rattle.cf_model.proofs.CallerLemmas.{pages_kept}
 use Rattle.script_reader.specs.declared.command.Command.{Command}
 use Rattle.script_reader.specs.declared.command.Command.TheVariants.{Malloc}
-use Rattle.run_model.specs.Bounds.{HasFewPages, IsWanting, MeetsBounds, Refuses, RefusesByNeed, RefusesForWant}
+use Rattle.run_model.specs.Bounds.{HasFewPages, LacksProxyOrPages, MeetsBounds, Refuses, RefusesByNeed, RefusesForProxyOrSpace}
 use Rattle.run_model.specs.Replies.{malloc_text}
 use Rattle.run_model.specs.Sessions.{IsGoing, RunState}
 use Rattle.run_model.specs.Steps.{Step}
@@ -33,7 +33,7 @@ pub few_pages : (s : HeapState) → IsPaged s.kind → KeepsRules s → HasFewPa
 few_pages s paged rules = (let k = pages_kept s.kind s paged rules.of_kind in λ c lt. sound_few (paging_in s) k.paging c lt s.held k.sound)
 
 -- The premises: a heap `s` with pages whose kind is `k`, every bound 1, and a malloc of `bytes` bytes that fit a page.
-module _ (k : Kind) (paged : IsPaged k) (s : HeapState) (rules : KeepsRules s) (is : s.kind ≡ k) (bytes : ℕ) (ones : AreOne (paging_in s))
+module _ (k : Kind) (paged : IsPaged k) (s : HeapState) (rules : KeepsRules s) (is : s.kind ≡ k) (bytes : ℕ) (ones : EveryBoundIsOne (paging_in s))
     (fits : need bytes ≤ s.profile.page_words) where
   pages : KeepsPages s
   pages = pages_kept s.kind s (subst IsPaged (sym is) paged) rules.of_kind
@@ -50,7 +50,7 @@ module _ (k : Kind) (paged : IsPaged k) (s : HeapState) (rules : KeepsRules s) (
   placed_in j asked place new p there = rw (p, IsPlacedBy) at there
 
   refused_exactly : (answer : Result Handle Refusal) (new : HeapState) (reply : Reply) → IsMallocStep s bytes answer new → reply ≡ said (malloc_text answer)
-      → RefusesForWant reply ↔ IsWanting s bytes
+      → RefusesForProxyOrSpace reply ↔ LacksProxyOrPages s bytes
   refused_exactly (Ok h) new reply step shown = (
     (λ refused. absurd (elim refused [
       | inl e ↦ (let z : said (codes "ok") ≡ said (codes "refused proxy") = sym shown ∙ e in cc)
@@ -75,7 +75,7 @@ refuses_at k (Some h) old asked reply new paged rules is step = tt
 refuses_at k None old asked reply new paged rules is step = λ ones fits. refused_exactly k paged old.heap rules is asked.length ones fits step.answer new.heap
     reply step.step step.reply_is
 
--- if every bound is 1, a malloc is refused if and only if `IsWanting` holds
+-- if every bound is 1, a malloc is refused if and only if `LacksProxyOrPages` holds
 pub step_refuses : (old new : RunState) (c : Command) (reply : Reply) → IsPaged old.heap.kind → KeepsRules old.heap → Step old c reply new → Refuses old c reply
 step_refuses old new (Malloc id bytes) reply paged rules step =
     refuses_at old.heap.kind (get old.session.ids id) old (record { number = id; length = bytes }) reply new paged rules refl step

@@ -10,11 +10,11 @@ use Rattle.cf_base.specs.declared.answers.ResizeFault.{ResizeFault}
 use Rattle.cf_base.specs.declared.kind.Kind.{Kind}
 use Rattle.id_table.proofs.CallerLemmas.{none_tied}
 use Rattle.page_model.specs.Steps.{Request}
-use Rattle.cf_model.specs.Answers.{bound_put}
+use Rattle.cf_model.specs.Answers.{with_bound}
 use Rattle.cf_model.specs.Families.{Family, paged, tiled, family_of}
 use Rattle.cf_model.specs.Rules.{KeepsRules}
 use Rattle.cf_model.specs.State.{HeapState}
-use Rattle.cf_model.specs.Steps.{IsMallocStep, IsResizeStep, IsUnmoved, IsWriteStep, Part}
+use Rattle.cf_model.specs.Steps.{IsMallocStep, IsResizeStep, IsLeftByRefusal, IsWriteStep, Position}
 use Rattle.script_reader.specs.declared.command.Command.{Command}
 use Rattle.script_reader.specs.declared.command.Command.TheVariants.{Malloc, Free, Write, Bound, Resize}
 use Rattle.run_model.specs.Runs.{Begins}
@@ -39,18 +39,18 @@ module _ (old new : HeapState) where
   malloc_same n (Ok h) step = same_as old new _ step.whole (record { kind = refl; opened = refl; profile = refl })
   malloc_same n (Err e) step = same_as old new _ step.1 (record { kind = refl; opened = refl; profile = refl })
 
-  write_same : (part : Part) (bytes : List ℕ) (answer : Result Unit AccessFault) → IsWriteStep old part bytes answer new → IsSame old new
-  write_same part bytes (Ok u) step = same_as old new _ step.whole (record { kind = refl; opened = refl; profile = refl })
-  write_same part bytes (Err e) step = same_as old new _ step.1 (record { kind = refl; opened = refl; profile = refl })
+  write_same : (position : Position) (bytes : List ℕ) (answer : Result Unit AccessFault) → IsWriteStep old position bytes answer new → IsSame old new
+  write_same position bytes (Ok u) step = same_as old new _ step.whole (record { kind = refl; opened = refl; profile = refl })
+  write_same position bytes (Err e) step = same_as old new _ step.1 (record { kind = refl; opened = refl; profile = refl })
 
-  unmoved_same : (k : Kind) → IsUnmoved k old new → IsSame old new
+  unmoved_same : (k : Kind) → IsLeftByRefusal k old new → IsSame old new
   unmoved_same k is = same_as old new _ (unmoved_changes_cost k old new is) (record { kind = refl; opened = refl; profile = refl })
 
   resize_same : (asked : Request) (answer : Result Resized ResizeFault) → IsResizeStep old asked answer new → IsSame old new
   resize_same asked (Ok done) step = same_as old new _ step.whole (record { kind = refl; opened = refl; profile = refl })
   resize_same asked (Err e) step = unmoved_same old.kind step.1
 
-  bound_same : (c : Option ℕ) (k : ℕ) → new ≡ bound_put old c k → IsSame old new
+  bound_same : (c : Option ℕ) (k : ℕ) → new ≡ with_bound old c k → IsSame old new
   bound_same None k is = same_as old new _ is (record { kind = refl; opened = refl; profile = refl })
   bound_same (Some c) k is = same_as old new _ is (record { kind = refl; opened = refl; profile = refl })
 

@@ -14,10 +14,10 @@ use Rattle.cf_lemmas.proofs.MapValues.{get-map_values}
 use Rattle.page_model.specs.Held.{Held, Placed, objects}
 use Rattle.page_model.specs.Steps.{Request}
 use Rattle.page_model.proofs.CallerLemmas.{bytes_held}
-use Rattle.cf_model.specs.Answers.{bound_put}
+use Rattle.cf_model.specs.Answers.{with_bound}
 use Rattle.cf_model.specs.Families.{Family, paged, tiled, family_of}
 use Rattle.cf_model.specs.State.{HeapState}
-use Rattle.cf_model.specs.Steps.{ChangesCost, IsMallocStep, IsResizeStep, IsUnmoved, IsWriteStep, Part}
+use Rattle.cf_model.specs.Steps.{ChangesCost, IsMallocStep, IsResizeStep, IsLeftByRefusal, IsWriteStep, Position}
 use Rattle.script_reader.specs.declared.command.Command.{Command}
 use Rattle.script_reader.specs.declared.command.Command.TheVariants.{Malloc, Free, Write, Bound, Resize}
 use Rattle.run_model.specs.Sessions.{AreTied, CostsAtMost, CostsByKind, Ids, RunState, SessionState, counted}
@@ -67,15 +67,15 @@ resized_bound s (Ok done) = counted_bound s done.moved done.old_slot_words
 resized_bound s (Err e) = refl
 
 -- a refused resize changes at most the cost
-pub unmoved_changes_cost : (k : Kind) (old new : HeapState) → IsUnmoved k old new → ChangesCost old new
+pub unmoved_changes_cost : (k : Kind) (old new : HeapState) → IsLeftByRefusal k old new → ChangesCost old new
 unmoved_changes_cost k old new is = by_family (family_of k) refl
   where
     by_family : (f : Family) → family_of k ≡ f → ChangesCost old new
-    by_family paged e = rw (e, IsUnmoved) at is
-    by_family tiled e = (let same : new ≡ old = rw (e, IsUnmoved) at is in rw same refl)
+    by_family paged e = rw (e, IsLeftByRefusal) at is
+    by_family tiled e = (let same : new ≡ old = rw (e, IsLeftByRefusal) at is in rw same refl)
 
 -- a refused resize keeps the objects
-pub unmoved_held : (k : Kind) (old new : HeapState) → IsUnmoved k old new → new.held ≡ old.held
+pub unmoved_held : (k : Kind) (old new : HeapState) → IsLeftByRefusal k old new → new.held ≡ old.held
 unmoved_held k old new is = ap (λ (s : HeapState). s.held) (unmoved_changes_cost k old new is)
 
 -- a cost within the bound of its kind is within the bound with pages, if the kind has pages
@@ -117,14 +117,14 @@ module _ (old new : RunState) (tied : AreTied old.session old.heap) where
       tied_with _ _ _ _ step.session (counted_ids _ step.freed.moved _) (counted_bound _ step.freed.moved _) refl left
       (costs_with_pages new.heap.kind new.heap.cost _ _ step.cost)
 
-  write_tied : (part : Part) (bytes : List ℕ) (answer : Result Unit AccessFault) → new.session ≡ old.session → IsWriteStep old.heap part bytes answer new.heap
+  write_tied : (position : Position) (bytes : List ℕ) (answer : Result Unit AccessFault) → new.session ≡ old.session → IsWriteStep old.heap position bytes answer new.heap
       → AreTied new.session new.heap
-  write_tied part bytes (Ok u) e step =
-      let kept = tied_same old.session.ids old.heap.held names part.number step.object _ step.found in
+  write_tied position bytes (Ok u) e step =
+      let kept = tied_same old.session.ids old.heap.held names position.number step.object _ step.found in
       let whole = step.whole in
       tied_with _ _ _ _ e refl refl (ap (λ (s : HeapState). s.held) whole) kept
       (subst (λ (s : HeapState). CostsAtMost s.kind s.cost old.session.bound) (sym whole) tied.cost)
-  write_tied part bytes (Err f) e step = subst (λ (s : SessionState). AreTied s new.heap) (sym e)
+  write_tied position bytes (Err f) e step = subst (λ (s : SessionState). AreTied s new.heap) (sym e)
       (subst (λ (s : HeapState). AreTied old.session s) (sym step.1) tied)
 
   resize_names : (asked : Request) (answer : Result Resized ResizeFault) → IsResizeStep old.heap asked answer new.heap → AreTiedTo old.session.ids new.heap.held
@@ -139,7 +139,7 @@ module _ (old new : RunState) (tied : AreTied old.session old.heap) where
   resize_tied asked reply step = tied_with _ _ _ _ step.session (resized_ids _ step.answer) (resized_bound _ step.answer) refl
       (resize_names asked step.answer step.step) step.cost
 
-  bound_tied : (c : Option ℕ) (k : ℕ) → new.session ≡ old.session → new.heap ≡ bound_put old.heap c k → AreTied new.session new.heap
+  bound_tied : (c : Option ℕ) (k : ℕ) → new.session ≡ old.session → new.heap ≡ with_bound old.heap c k → AreTied new.session new.heap
   bound_tied None k e is = subst (λ (s : SessionState). AreTied s new.heap) (sym e) (subst (λ (s : HeapState). AreTied old.session s) (sym is) tied)
   bound_tied (Some c) k e is = tied_with _ _ _ _ e refl refl (ap (λ (s : HeapState). s.held) is) names
       (subst (λ (s : HeapState). CostsAtMost s.kind s.cost old.session.bound) (sym is) tied.cost)

@@ -2,7 +2,7 @@
 use Rattle.std.specs.Prelude.{◌≡◌, ℕ, List, ◌++◌, Option}
 use Rattle.cf_io.specs.Feeds.{appended}
 use Rattle.script_reader.specs.declared.command.Command.{Command}
-use Rattle.run_model.specs.Runs.{Turn}
+use Rattle.run_model.specs.Runs.{IsCommandStep}
 use Rattle.run_model.specs.Sessions.{RunState}
 use Rattle.run_model.specs.Texts.{Reply, led}
 
@@ -19,7 +19,7 @@ pub record Moment : Type 0 where
 -- between the moments `old` and `new`, the command of `asked` took effect, and its whole reply was written
 pub record IsAnswered (old : Moment) (asked : Asked) (new : Moment) : Type 0 where
   pub reply : Reply
-  pub turn : Turn old.run asked.command reply new.run
+  pub turn : IsCommandStep old.run asked.command reply new.run
   pub written : new.written ≡ appended old.written (led asked.lead reply)
 
 -- between the moments `old` and `new`, the command of `asked` took effect, but the sink got only `front` of its reply, a prefix; `lost` is the rest
@@ -27,6 +27,6 @@ pub record IsCutShort (old : Moment) (asked : Asked) (new : Moment) : Type 0 whe
   pub reply : Reply
   pub front : List ℕ
   pub lost : List ℕ
-  pub turn : Turn old.run asked.command reply new.run
+  pub turn : IsCommandStep old.run asked.command reply new.run
   pub cut : led asked.lead reply ≡ front ++ lost
   pub written : new.written ≡ appended old.written front

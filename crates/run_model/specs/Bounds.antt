@@ -3,9 +3,9 @@ use Rattle.std.specs.Prelude.{◌≡◌, ℕ, ⊤, ◌⊎◌, ◌↔◌, ◌+◌
 use Rattle.std.specs.FinMap.{get, len}
 use Rattle.cf_base.specs.Classes.{need}
 use Rattle.cf_base.specs.declared.kind.Kind.{Kind}
-use Rattle.page_model.specs.Arrangement.{home_pages, live, pages_needed_with}
+use Rattle.page_model.specs.Arrangement.{pages_of_class, live, pages_needed_with}
 use Rattle.page_model.specs.Held.{objects}
-use Rattle.page_model.specs.Paging.{AreOne, bound_of, classes, slots_of}
+use Rattle.page_model.specs.Paging.{EveryBoundIsOne, bound_of, classes, slots_of}
 use Rattle.cf_model.specs.Families.{paged, tiled, family_of}
 use Rattle.cf_model.specs.State.{HeapState, paging_in}
 use Rattle.script_reader.specs.declared.command.Command.{Command}
@@ -15,22 +15,22 @@ use Rattle.run_model.specs.Texts.{Reply, said}
 
 -- in heap `s`, each class `c` has at most ⌊n/m⌋ + k pages: `n` is its live objects, `m` the slots of a page, `k` its bound
 abbrev pub HasFewPages : HeapState → Type 0
-HasFewPages s = (c : ℕ) → c < classes (paging_in s) → home_pages (paging_in s) s.held c ≤ live (paging_in s) (objects s.held) c / slots_of
+HasFewPages s = (c : ℕ) → c < classes (paging_in s) → pages_of_class (paging_in s) s.held c ≤ live (paging_in s) (objects s.held) c / slots_of
     (paging_in s) c + bound_of (paging_in s) c
 
 -- in heap `s` all proxies are in use, or its objects and one more of `bytes` bytes need more pages than the region has
-abbrev pub IsWanting : HeapState → ℕ → Type 0
-IsWanting s bytes = (len s.held ≡ s.profile.proxies) ⊎ (s.profile.pages < pages_needed_with (paging_in s) (objects s.held) bytes)
+abbrev pub LacksProxyOrPages : HeapState → ℕ → Type 0
+LacksProxyOrPages s bytes = (len s.held ≡ s.profile.proxies) ⊎ (s.profile.pages < pages_needed_with (paging_in s) (objects s.held) bytes)
 
 -- the reply is `refused proxy` or `refused space`, so not `refused size`
-abbrev pub RefusesForWant : Reply → Type 0
-RefusesForWant reply = (reply ≡ said (codes "refused proxy")) ⊎ (reply ≡ said (codes "refused space"))
+abbrev pub RefusesForProxyOrSpace : Reply → Type 0
+RefusesForProxyOrSpace reply = (reply ≡ said (codes "refused proxy")) ⊎ (reply ≡ said (codes "refused space"))
 
 -- The first argument is the handle of the malloc's id, `None` if the id isn't live. If it isn't live, every bound is 1 and an object of `bytes` bytes fits a
--- page, then the reply is `refused proxy` or `refused space` if and only if `IsWanting` holds before the malloc.
+-- page, then the reply is `refused proxy` or `refused space` if and only if `LacksProxyOrPages` holds before the malloc.
 abbrev pub RefusesByNeed : Option ℕ → HeapState → ℕ → Reply → Type 0
 RefusesByNeed (Some h) s bytes reply = ⊤
-RefusesByNeed None s bytes reply = AreOne (paging_in s) → need bytes ≤ s.profile.page_words → RefusesForWant reply ↔ IsWanting s bytes
+RefusesByNeed None s bytes reply = EveryBoundIsOne (paging_in s) → need bytes ≤ s.profile.page_words → RefusesForProxyOrSpace reply ↔ LacksProxyOrPages s bytes
 
 -- the claim `RefusesByNeed` on the reply to a malloc in state `old`; of other commands nothing is claimed
 abbrev pub Refuses : RunState → Command → Reply → Type 0

@@ -21,7 +21,7 @@ pub record Begins (kind : Kind) (p : Profile) (new : RunState) : Type 0 where
   pub rules : KeepsRules new.heap
 
 -- in state `old` the command may get this reply and lead to state `new`: it is a `Step`, and it meets the two claims of `MeetsBounds`
-pub record Turn (old : RunState) (command : Command) (reply : Reply) (new : RunState) : Type 0 where
+pub record IsCommandStep (old : RunState) (command : Command) (reply : Reply) (new : RunState) : Type 0 where
   pub step : Step old command reply new
   pub bounds : MeetsBounds old.heap.kind old command reply new
 
@@ -32,8 +32,8 @@ BeginsOne kind p reply new = Begins kind p new × (reply ≡ said (codes "ok"))
 -- In the given state, `None` before the `heap` line, the item may get this reply and lead to the second state. A `heap` line begins a new run. A command before
 -- it does nothing. No script has such a command, or a second `heap` line.
 abbrev pub ItemStep : Kind → Option RunState → Item → Reply → Option RunState → Type 0
-ItemStep kind = PlayStep (BeginsOne kind) Turn
+ItemStep kind = PlayStep (BeginsOne kind) IsCommandStep
 
 -- from the first state the items, in turn, may get these replies, one each, and lead to the second state; `None` is the state before the `heap` line
 abbrev pub Run : Kind → Option RunState → List Item → List Reply → Option RunState → Type 0
-Run kind = PlayRun (BeginsOne kind) Turn
+Run kind = PlayRun (BeginsOne kind) IsCommandStep

@@ -10,12 +10,12 @@ use Rattle.cf_base.specs.declared.answers.Refusal.{Refusal}
 use Rattle.cf_base.specs.declared.answers.Resized.{Resized}
 use Rattle.cf_base.specs.declared.answers.ResizeFault.{ResizeFault}
 use Rattle.page_model.specs.Steps.{Request}
-use Rattle.cf_model.specs.Answers.{bound_put, class_with}
+use Rattle.cf_model.specs.Answers.{with_bound, class_with}
 use Rattle.cf_model.specs.Costs.{resize_bound}
 use Rattle.cf_model.specs.Ordered.{IsOrderedFree, IsOrderedMalloc, IsOrderedResize}
 use Rattle.cf_model.specs.Rules.{KeepsRules}
 use Rattle.cf_model.specs.State.{HeapState}
-use Rattle.cf_model.specs.Steps.{FreesObject, IsMallocStep, IsResizeStep, IsWriteStep, Part}
+use Rattle.cf_model.specs.Steps.{FreesObject, IsMallocStep, IsResizeStep, IsWriteStep, Position}
 use Rattle.script_reader.specs.declared.command.Command.{Command}
 use Rattle.script_reader.specs.declared.command.Command.TheVariants.{Malloc, Free, Write, Bound, Resize}
 use Rattle.run_model.specs.Replies.{malloc_text, resize_text, shown, write_text}
@@ -57,10 +57,10 @@ pub record Frees (old : RunState) (named : Named) (reply : Reply) (new : RunStat
       freed.slot_words
   pub reply_is : reply ≡ said (codes "ok")
 
--- a write of `bytes` into the live object with the handle `part.number`, from byte `part.from` on
-pub record Writes (old : RunState) (part : Part) (bytes : List ℕ) (reply : Reply) (new : RunState) : Type 0 where
+-- a write of `bytes` into the live object with the handle `position.number`, from byte `position.from` on
+pub record Writes (old : RunState) (position : Position) (bytes : List ℕ) (reply : Reply) (new : RunState) : Type 0 where
   pub answer : Result Unit AccessFault
-  pub step : IsWriteStep old.heap part bytes answer new.heap
+  pub step : IsWriteStep old.heap position bytes answer new.heap
   pub rules : KeepsRules new.heap
   pub session : new.session ≡ old.session
   pub reply_is : reply ≡ said (write_text answer)
@@ -91,7 +91,7 @@ bound_text (Some c) = codes "ok"
 
 -- the step of command `k`: the class with slots of `slot_words` words, if there is one, gets the bound `k`: how many of its pages may be partly full
 pub record Bounds (old : RunState) (slot_words k : ℕ) (reply : Reply) (new : RunState) : Type 0 where
-  pub heap : new.heap ≡ bound_put old.heap (class_to_bound old.heap slot_words) k
+  pub heap : new.heap ≡ with_bound old.heap (class_to_bound old.heap slot_words) k
   pub rules : KeepsRules new.heap
   pub session : new.session ≡ old.session
   pub reply_is : reply ≡ said (bound_text (class_to_bound old.heap slot_words))

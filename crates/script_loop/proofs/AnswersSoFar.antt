@@ -1,4 +1,4 @@
--- For the loops in `answer_kept` and `answer_chunk`: what was answered so far (`Answered`, `CutOff`), continued by one more item or by more bytes.
+-- For the loops in `answer_pending_items` and `answer_chunk`: what was answered so far (`Answered`, `CutOff`), continued by one more item or by more bytes.
 use Rattle.std.proofs.Common.{◌≡◌, ◌++◌, ◌∙◌, ◌+◌, Bool, true, false, List, [], ◌∷◌, ℕ, Option, Some, None, refl, ap, ap₂, sym, subst}
 use Rattle.std.proofs.Common.{append_assoc, append-nil, take, drop, take-append-drop}
 use Rattle.std.proofs.Math.Seq.{take-add}
@@ -16,12 +16,12 @@ use Rattle.script_reader.specs.declared.stage.Stage.TheVariants.{Opening, Boundi
 use Rattle.run_model.proofs.CallerLemmas.{one_run, run_joined, text_joined}
 use Rattle.run_model.specs.Plays.{PlayRun, PlayPart}
 use Rattle.run_model.specs.Texts.{Reply, bad_line, led, said, text_of}
-use Rattle.script_loop.specs.AnswersSoFar.{Answered, CutOff, Goes, IsWaiting, NamesBad}
+use Rattle.script_loop.specs.AnswersSoFar.{Answered, CutOff, MeetsChunkOutcome, IsWaiting, PrintsBadLine}
 use Rattle.script_loop.specs.Progress.{IsReadyAt, Playing, Progress, progress, run_in, run_of}
 use Rattle.script_loop.specs.ScriptOutcome.{has_bad}
 use Rattle.script_loop.specs.Semantics.{IsOpened, IsOpenedInPart, PartBy, RunBy, Semantics, StepBy}
-use Rattle.script_loop.specs.declared.answering.Ready.{Ready}
-use Rattle.script_loop.specs.declared.answering.Ready.TheVariants.{GoesOn, Stopped, Cut, LacksMemory}
+use Rattle.script_loop.specs.declared.answering.ChunkOutcome.{ChunkOutcome}
+use Rattle.script_loop.specs.declared.answering.ChunkOutcome.TheVariants.{GoesOn, Stopped, Cut, LacksMemory}
 use Rattle.script_loop.proofs.Feeding.{appended_after}
 use Rattle.script_loop.proofs.Stages.{going_after, never_opening, run_before, run_after}
 
@@ -291,9 +291,9 @@ module _ {S P : Type 0} (m : Semantics S P) where
   }
 
   -- a bad line is named
-  pub named : (old : Progress S) (r r' : Reading) (s : S) (w w' : Option (List ℕ)) (line : ℕ) (text : List ℕ) (ready : Ready)
+  pub named : (old : Progress S) (r r' : Reading) (s : S) (w w' : Option (List ℕ)) (line : ℕ) (text : List ℕ) (ready : ChunkOutcome)
       → Answered m old.playing [] (record { reading = r; state = s }) text false → w ≡ appended old.written text → IsBadAt r line r'
-      → NamesBad w line ready w' → Goes m old [] ready (progress (record { reading = r'; state = s }) w')
+      → PrintsBadLine w line ready w' → MeetsChunkOutcome m old [] ready (progress (record { reading = r'; state = s }) w')
   named old r r' s w w' line text Stopped a wrote h names = record {
     text = text ++ led [] (said (bad_line line));
     answered = answered_then a (answered_bad r r' s line h);

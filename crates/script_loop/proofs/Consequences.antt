@@ -7,8 +7,8 @@ use Rattle.cf_io.specs.Feeds.{appended}
 use Rattle.script_reader.specs.Items.{Item}
 use Rattle.script_reader.specs.declared.command.Command.{Command}
 use Rattle.run_laws.proofs.CallerLemmas.{items_sayable, kind_goes_on, reads_are_shown}
-use Rattle.run_laws.specs.Sayable.{IsSayable}
-use Rattle.run_model.specs.Runs.{Turn}
+use Rattle.run_laws.specs.ValidItems.{IsValidCommand}
+use Rattle.run_model.specs.Runs.{IsCommandStep}
 use Rattle.run_model.specs.Sessions.{RunState}
 use Rattle.run_model.specs.Texts.{Reply, led, text_of}
 use Rattle.std.specs.Prelude.{nat_le, take}
@@ -16,14 +16,14 @@ use Rattle.script_loop.proofs.Prefix.{part_is_prefix}
 use Rattle.script_loop.specs.Consequences.{AnswersAll, ArePlain, IsPrefixOfRun, PrintsReads, PrintsTranscript}
 use Rattle.script_loop.specs.OneManager.{TurnInPart, one_manager}
 use Rattle.script_loop.specs.Semantics.{Semantics}
-use Rattle.script_loop.specs.ScriptOutcome.{Effects, IsRow, MOST_BYTES, MeetsOutcome, Wrote, WroteInPart, has_bad, items_within}
+use Rattle.script_loop.specs.ScriptOutcome.{Effects, IsStatusRow, MOST_BYTES, MeetsOutcome, Wrote, WroteInPart, has_bad, items_within}
 use Rattle.script_loop.proofs.Rows.{observed_row}
 use Rattle.headline_laws.proofs.CallerLemmas.{one_shown}
 use Rattle.transcript_laws.specs.Transcripts.{transcript}
 
 -- if all items were answered, a run over all of them led to the end
 module _ {S P : Type 0} (m : Semantics S P) (from to : S) where
-  row_wrote : (all left : List ℕ) (call : Effects) (st : Status) → IsRow m st from all left call to → AnswersAll st
+  row_wrote : (all left : List ℕ) (call : Effects) (st : Status) → IsStatusRow m st from all left call to → AnswersAll st
       → Wrote m from (items_within all) call to
   row_wrote all left call Done row is = row.3
   row_wrote all left call BadScript row is = row.1
@@ -47,9 +47,9 @@ prints_reads from to wanted call w = record { replies = w.replies; reads = reads
 
 -- ---- the output of one manager, and a prefix of it
 
-cut_whole : (kind : Kind) (old : RunState) (c : Command) (out : List ℕ) (new : RunState) → (kind_goes_on kind).is_going old → IsSayable c
+cut_whole : (kind : Kind) (old : RunState) (c : Command) (out : List ℕ) (new : RunState) → (kind_goes_on kind).is_going old → IsValidCommand c
     → TurnInPart old c out new
-    → (reply : Reply) × (mid : RunState) × (lost : List ℕ) × Turn old c reply mid × (led [] reply ≡ out ++ lost)
+    → (reply : Reply) × (mid : RunState) × (lost : List ℕ) × IsCommandStep old c reply mid × (led [] reply ≡ out ++ lost)
 cut_whole kind old c out new on can part = (part.reply, new, part.lost, part.turn, part.cut)
 
 pub cut_is_prefix : (from to : RunState) (call : Effects) (all : List ℕ)
@@ -88,7 +88,7 @@ BytesSay BadScript all = has_bad (items_within all) ≡ true
 BytesSay TooLong all = (MOST_BYTES < length all) × (has_bad (items_within all) ≡ false)
 BytesSay status all = ⊥
 
-row_says : (from to : RunState) (all left : List ℕ) (call : Effects) (st : Status) → IsRow one_manager st from all left call to → AnswersAll st
+row_says : (from to : RunState) (all left : List ℕ) (call : Effects) (st : Status) → IsStatusRow one_manager st from all left call to → AnswersAll st
     → BytesSay st all
 row_says from to all left call Done row is = (row.0, row.2)
 row_says from to all left call BadScript row is = row.0

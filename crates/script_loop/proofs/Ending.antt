@@ -15,7 +15,7 @@ use Rattle.run_model.specs.Plays.{PlayPart, PlayRun}
 use Rattle.run_model.specs.Texts.{text_of}
 use Rattle.script_loop.specs.AnswersSoFar.{Answered, CutOff, IsWaiting, LackedMemory}
 use Rattle.script_loop.specs.Progress.{Playing, progress, run_of}
-use Rattle.script_loop.specs.ScriptOutcome.{Effects, Lacks, MOST_BYTES, MOST_CHUNK, TakesAtMostAChunk, Wrote, WroteInPart, has_bad, items_within}
+use Rattle.script_loop.specs.ScriptOutcome.{Effects, RanOutOfMemory, MOST_BYTES, MOST_CHUNK, TakesAtMostAChunk, Wrote, WroteInPart, has_bad, items_within}
 use Rattle.script_loop.specs.Semantics.{RunBy, Semantics}
 use Rattle.script_loop.proofs.Feeding.{appended_none}
 use Rattle.script_loop.proofs.AnswersSoFar.{bad_then, nothing_left}
@@ -210,7 +210,7 @@ module _ {S P : Type 0} (m : Semantics S P) where
       went.wrote ∙ put ∙ ap (appended w0) (a.silent refl went.stage) ∙ sym (appended_none w0)
 
   pub wants_memory : {s : S} {mid new : Playing S} {t text : List ℕ} {w : Option (List ℕ)} (call : Effects) → Answered m (starting s) t mid text false
-      → LackedMemory m (progress mid w) (progress new call.after) → w ≡ appended call.before text → Lacks m s call new.state
+      → LackedMemory m (progress mid w) (progress new call.after) → w ≡ appended call.before text → RanOutOfMemory m s call new.state
   wants_memory {s} {mid} {new} {t} {text} {w} call a went put = record {
     lacks = subst (λ (z : S). m.lacks z new.state) (a.untouched went.stage).1 went.lacks;
     unwritten = silent_before a went put;
@@ -223,7 +223,7 @@ module _ {S P : Type 0} (m : Semantics S P) where
       went.wrote ∙ put ∙ ap (appended w0) (a.silent refl went.stage) ∙ sym (appended_none w0)
 
   pub wants_at_end : {s : S} {mid new : Playing S} {t text : List ℕ} {w : Option (List ℕ)} (call : Effects) → Answered m (starting s) t mid text false
-      → LackedMemory m (progress (ending mid) w) (progress new call.after) → w ≡ appended call.before text → Lacks m s call new.state
+      → LackedMemory m (progress (ending mid) w) (progress new call.after) → w ≡ appended call.before text → RanOutOfMemory m s call new.state
   wants_at_end {s} {mid} {new} {t} {text} {w} call a went put = record {
     lacks = subst (λ (z : S). m.lacks z new.state) (a.untouched went.stage).1 went.lacks;
     unwritten = silent_at_end a went put;

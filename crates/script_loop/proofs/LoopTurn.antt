@@ -10,9 +10,9 @@ use Rattle.script_reader.specs.Items.{items}
 use Rattle.script_reader.specs.Reading.{Reading, fresh}
 use Rattle.script_loop.specs.AnswersSoFar.{Answered, HasStopped, WasCut, LackedMemory, WentOn}
 use Rattle.script_loop.specs.Progress.{Progress, playing, progress}
-use Rattle.script_loop.specs.ScriptOutcome.{Effects, IsRow, MOST_BYTES, MOST_CHUNK, MeetsOutcome, Plays, SinkState, SourceState, effects, items_within}
+use Rattle.script_loop.specs.ScriptOutcome.{Effects, IsStatusRow, MOST_BYTES, MOST_CHUNK, MeetsOutcome, Plays, SinkState, SourceState, effects, items_within}
 use Rattle.script_loop.specs.Semantics.{Semantics}
-use Rattle.script_loop.specs.LoopTurn.{AnswersChunk, AwaitsChunk, Between, Chunk, StopsBy, TakesNothing, between, left_in, reading_in}
+use Rattle.script_loop.specs.LoopTurn.{AnswersChunk, AwaitsChunk, BetweenTurns, Chunk, StopsBy, TakesNothing, between, left_in, reading_in}
 use Rattle.script_loop.specs.declared.running.Script.{Script}
 use Rattle.script_loop.proofs.Ending.{bad_end_items, bad_items, bads, bads_then, cut_at_end, cut_items, ending, full_items, longer, quiet_items, silent_at_end}
 use Rattle.script_loop.proofs.Ending.{silent_before, starting, takes_a_chunk, wants_at_end, wants_memory, whole_items, wrote, wrote_in_part, wrote_then}
@@ -21,7 +21,7 @@ use Rattle.script_loop.proofs.AnswersSoFar.{answered_none, answered_then, both_d
 
 -- ---- the chunk of a call: its first k bytes are within the limit
 
-abbrev pub chunk_of : {S : Type 0} (old new : Between S) (buf : List ℕ) (k n : ℕ) → k ≤ n → k ≤ old.left → n ≤ length buf → length buf ≤ MOST_CHUNK
+abbrev pub chunk_of : {S : Type 0} (old new : BetweenTurns S) (buf : List ℕ) (k n : ℕ) → k ≤ n → k ≤ old.left → n ≤ length buf → length buf ≤ MOST_CHUNK
     → old.rest ≡ preceded (take n buf) new.rest → new.given ≡ min (old.given + n) last_count → Chunk old new
 chunk_of old new buf k n below left fits few took counted =
     let parts : take k buf ++ drop k (take n buf) ≡ take n buf =
@@ -38,7 +38,7 @@ chunk_of old new buf k n below left fits few took counted =
     }
 
 -- it lies within it as a whole
-abbrev pub whole_chunk : {S : Type 0} (old new : Between S) (buf : List ℕ) (n : ℕ) → n ≤ old.left → n ≤ length buf → length buf ≤ MOST_CHUNK
+abbrev pub whole_chunk : {S : Type 0} (old new : BetweenTurns S) (buf : List ℕ) (n : ℕ) → n ≤ old.left → n ≤ length buf → length buf ≤ MOST_CHUNK
     → old.rest ≡ preceded (take n buf) new.rest → new.given ≡ min (old.given + n) last_count → Chunk old new
 whole_chunk old new buf n left fits few took counted =
     let parts : take n buf ++ [] ≡ take n buf = append-nil (take n buf) in
@@ -94,7 +94,7 @@ EndsAs m status old new = ⊥
 -- ---- from the start of a script
 
 -- what the turns answered since a state, and what the source had and gave and the sink held then
-pub record SoFar {S P : Type 0} (m : Semantics S P) (from : S) (had : Option (List ℕ)) (given : ℕ) (before : Option (List ℕ)) (b : Between S) : Type 0 where
+pub record SoFar {S P : Type 0} (m : Semantics S P) (from : S) (had : Option (List ℕ)) (given : ℕ) (before : Option (List ℕ)) (b : BetweenTurns S) : Type 0 where
   pub taken : List ℕ
   pub text : List ℕ
   pub answered : Answered m (starting from) taken b.progress.playing text false
@@ -125,8 +125,8 @@ none_so_far m script from had before given new full is_fresh =
       wrote = appended_none before;
     })
 
-module _ {S P : Type 0} (m : Semantics S P) {from : S} {had before : Option (List ℕ)} {given : ℕ} {b : Between S} (f : SoFar m from had given before b) where
-  module _ {b' : Between S} (c : Chunk b b') where
+module _ {S P : Type 0} (m : Semantics S P) {from : S} {had before : Option (List ℕ)} {given : ℕ} {b : BetweenTurns S} (f : SoFar m from had given before b) where
+  module _ {b' : BetweenTurns S} (c : Chunk b b') where
     abbrev all_taken : List ℕ
     all_taken = f.taken ++ (c.within ++ c.past)
 
@@ -153,7 +153,7 @@ module _ {S P : Type 0} (m : Semantics S P) {from : S} {had before : Option (Lis
       status = st;
     }
 
-    by_chunk : (st : Status) → ((more : List ℕ) → IsRow m st from (all_taken ++ more) more (call_to st) b'.progress.playing.state)
+    by_chunk : (st : Status) → ((more : List ℕ) → IsStatusRow m st from (all_taken ++ more) more (call_to st) b'.progress.playing.state)
         → MeetsOutcome m from (call_to st) b'.progress.playing.state
     by_chunk st row = record { taken = all_taken; ended = false; took = took_all; counted = gave_all; row = λ more follows. row more }
 
@@ -224,7 +224,7 @@ module _ {S P : Type 0} (m : Semantics S P) {from : S} {had before : Option (Lis
         gave_past n over (inr last) most = inr (omega (arith, last, most))
 
   -- all that a chunk completes was answered: so the next turn begins
-  module _ {b' : Between S} (a : AnswersChunk m b b') where
+  module _ {b' : BetweenTurns S} (a : AnswersChunk m b b') where
     whole : f.taken ++ (a.chunk.within ++ a.chunk.past) ≡ f.taken ++ a.chunk.within
     whole = ap (λ (l : List ℕ). f.taken ++ l) (ap (λ (l : List ℕ). a.chunk.within ++ l) a.whole ∙ append-nil a.chunk.within)
 
@@ -249,7 +249,7 @@ module _ {S P : Type 0} (m : Semantics S P) {from : S} {had before : Option (Lis
         }
 
   -- nothing was taken
-  pub same_so_far : {b' : Between S} → TakesNothing b b' → SoFar m from had given before b'
+  pub same_so_far : {b' : BetweenTurns S} → TakesNothing b b' → SoFar m from had given before b'
   same_so_far {b'} none = record {
     taken = f.taken;
     text = f.text;
@@ -310,7 +310,7 @@ module _ {S P : Type 0} (m : Semantics S P) {from : S} {had before : Option (Lis
       status = st;
     }
 
-    by_end : (st : Status) → ((all : List ℕ) → all ≡ f.taken → length f.taken ≤ MOST_BYTES → IsRow m st from all [] (call_by st) p.playing.state)
+    by_end : (st : Status) → ((all : List ℕ) → all ≡ f.taken → length f.taken ≤ MOST_BYTES → IsStatusRow m st from all [] (call_by st) p.playing.state)
         → MeetsOutcome m from (call_by st) p.playing.state
     by_end st row = record {
       taken = f.taken;
@@ -319,7 +319,7 @@ module _ {S P : Type 0} (m : Semantics S P) {from : S} {had before : Option (Lis
       counted = f.counted;
       row = λ more follows.
           let none = nothing_follows b.rest more spent follows in
-          subst (λ (l : List ℕ). IsRow m st from (f.taken ++ more) l (call_by st) p.playing.state) (sym none)
+          subst (λ (l : List ℕ). IsStatusRow m st from (f.taken ++ more) l (call_by st) p.playing.state) (sym none)
           (row (f.taken ++ more) (ap (λ (l : List ℕ). f.taken ++ l) none ∙ append-nil f.taken) (omega (arith, f.count)));
     }
 
@@ -368,8 +368,8 @@ module _ {S P : Type 0} (m : Semantics S P) {from : S} {had before : Option (Lis
     has_ended BadImage went = absurd went
 
 -- a turn ended the script
-pub has_stopped : {S P : Type 0} (m : Semantics S P) {from : S} {had before : Option (List ℕ)} {given : ℕ} {b : Between S}
-    (f : SoFar m from had given before b) (b' : Between S) (st : Status) → StopsBy m st b b'
+pub has_stopped : {S P : Type 0} (m : Semantics S P) {from : S} {had before : Option (List ℕ)} {given : ℕ} {b : BetweenTurns S}
+    (f : SoFar m from had given before b) (b' : BetweenTurns S) (st : Status) → StopsBy m st b b'
     → HasEnded m from (record { had = had; left = b'.rest; given_before = given; given_after = b'.given; before = before; after = b'.progress.written; status = st })
     b'.progress.playing.state
 has_stopped m f b' ReadFault none = read_failed m (same_so_far m f none)
@@ -382,8 +382,8 @@ has_stopped m f b' Words never = absurd never
 has_stopped m f b' BadImage never = absurd never
 
 -- the source ended, and what that completes was answered
-pub at_end : {S P : Type 0} (m : Semantics S P) {from : S} {had before : Option (List ℕ)} {given : ℕ} {b : Between S}
-    (f : SoFar m from had given before b) (b' : Between S) → TakesNothing b b' × IsSpent b.rest → (p : Progress S) (st : Status)
+pub at_end : {S P : Type 0} (m : Semantics S P) {from : S} {had before : Option (List ℕ)} {given : ℕ} {b : BetweenTurns S}
+    (f : SoFar m from had given before b) (b' : BetweenTurns S) → TakesNothing b b' × IsSpent b.rest → (p : Progress S) (st : Status)
     → EndsAs m st (progress (ending b'.progress.playing) b'.progress.written) p
     → HasEnded m from (record { had = had; left = b'.rest; given_before = given; given_after = b'.given; before = before; after = p.written; status = st })
     p.playing.state

@@ -1,4 +1,4 @@
--- For the `Player` implementation of `Session`: a `heap` line begins a run, and no item changes the plan.
+-- For the `ModeHandler` implementation of `Session`: a `heap` line begins a run, and no item changes the plan.
 use Rattle.std.proofs.Common.{◌≡◌}
 use Rattle.cf_base.specs.Settings.{profile_of}
 use Rattle.cf_base.specs.declared.settings.Settings.{Settings}

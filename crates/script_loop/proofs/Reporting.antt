@@ -8,7 +8,7 @@ use Rattle.cf_session.specs.Apply.{IsEnded, outcome_in, outcome_of}
 use Rattle.cf_session.specs.declared.outcome.Outcome.{Outcome}
 use Rattle.script_loop.specs.Semantics.{Semantics, snapshot}
 use Rattle.script_reader.specs.declared.command.Command.{Command}
-use Rattle.script_loop.specs.Applying.{Applies, Speaks, TurnsInPart}
+use Rattle.script_loop.specs.Applying.{Applies, BuildsReply, TurnsInPart}
 
 -- for a semantics in which each turn with a cut reply is a turn in part
 module _ {S P : Type 0} (m : Semantics S P)
@@ -29,7 +29,7 @@ module _ {S P : Type 0} (m : Semantics S P)
 
   -- a reply of one line
   pub shown_line : (old new : S) (c : Command) (line : List ℕ) (w y : Option (List ℕ)) (r : Result Unit Failed) (outcome : Outcome)
-      (answer : Result Outcome Failed) → Speaks m.turns old c new line → outcome ≡ outcome_in line → Puts w (line ++ 10 ∷ []) r y
+      (answer : Result Outcome Failed) → BuildsReply m.turns old c new line → outcome ≡ outcome_in line → Puts w (line ++ 10 ∷ []) r y
       → IsEnded r outcome answer → Applies m (snapshot old w) c answer (snapshot new y)
   shown_line old new c line w y r outcome answer speaks shown put is =
       reported old new c (said line) w y r outcome answer speaks.turn shown (puts_line w y [] line line r refl put) is

@@ -1,4 +1,4 @@
--- From `MeetsOutcome` to `IsRow`: for the bytes of an observable source, and for some bytes over any source.
+-- From `MeetsOutcome` to `IsStatusRow`: for the bytes of an observable source, and for some bytes over any source.
 use Rattle.std.proofs.Common.{◌≡◌, ◌++◌, ◌∙◌, ◌≤◌, Bool, true, false, ℕ, List, [], Option, Some, None, length, refl, ap, sym, subst}
 use Rattle.std.proofs.lemmas.Bool.{le-leb}
 use Rattle.std.proofs.lemmas.List.{take_all}
@@ -7,7 +7,7 @@ use Rattle.cf_base.specs.declared.status.Status.{Status}
 use Rattle.cf_base.specs.declared.status.Status.TheVariants.{Done}
 use Rattle.cf_io.specs.Feeds.{preceded}
 use Rattle.script_reader.specs.Items.{Item, items}
-use Rattle.script_loop.specs.ScriptOutcome.{Effects, IsRow, MOST_BYTES, MayFollow, MeetsOutcome, Wrote, items_within}
+use Rattle.script_loop.specs.ScriptOutcome.{Effects, IsStatusRow, MOST_BYTES, MayFollow, MeetsOutcome, Wrote, items_within}
 use Rattle.script_loop.specs.Semantics.{Semantics}
 
 pub nothing_may_follow : (ended : Bool) → MayFollow None ended []
@@ -21,10 +21,10 @@ within_all all fits = ap (λ (l : List ℕ). items l (nat_le (length all) MOST_B
 
 module _ {S P : Type 0} (m : Semantics S P) (from to : S) (call : Effects) where
   -- over the bytes that the source had
-  pub observed_row : (all : List ℕ) → call.had ≡ Some all → MeetsOutcome m from call to → (left : List ℕ) × IsRow m call.status from all left call to
+  pub observed_row : (all : List ℕ) → call.had ≡ Some all → MeetsOutcome m from call to → (left : List ℕ) × IsStatusRow m call.status from all left call to
   observed_row all shown met = go call.left refl
     where
-      go : (left : Option (List ℕ)) → left ≡ call.left → (rest : List ℕ) × IsRow m call.status from all rest call to
+      go : (left : Option (List ℕ)) → left ≡ call.left → (rest : List ℕ) × IsStatusRow m call.status from all rest call to
       go None is =
           let e : Some all ≡ None = sym shown ∙ met.took ∙ ap (preceded met.taken) (sym is) in
           absurd cc
@@ -32,15 +32,15 @@ module _ {S P : Type 0} (m : Semantics S P) (from to : S) (call : Effects) where
           let e : Some all ≡ Some (met.taken ++ left) = sym shown ∙ met.took ∙ ap (preceded met.taken) (sym is) in
           let same : met.taken ++ left ≡ all = cc in (
             left,
-            subst (λ (l : List ℕ). IsRow m call.status from l left call to) same
+            subst (λ (l : List ℕ). IsStatusRow m call.status from l left call to) same
                 (met.row left (subst (λ (o : Option (List ℕ)). MayFollow o met.ended left) is refl)),
           )
 
   -- the row of the status, over the bytes taken and some bytes that may follow them
-  pub some_row : MeetsOutcome m from call to → (all : List ℕ) × (left : List ℕ) × IsRow m call.status from all left call to
+  pub some_row : MeetsOutcome m from call to → (all : List ℕ) × (left : List ℕ) × IsStatusRow m call.status from all left call to
   some_row met = go call.left refl
     where
-      go : (left : Option (List ℕ)) → left ≡ call.left → (all : List ℕ) × (left : List ℕ) × IsRow m call.status from all left call to
+      go : (left : Option (List ℕ)) → left ≡ call.left → (all : List ℕ) × (left : List ℕ) × IsStatusRow m call.status from all left call to
       go None is = (met.taken ++ [], [], met.row [] (subst (λ (o : Option (List ℕ)). MayFollow o met.ended []) is (nothing_may_follow met.ended)))
       go (Some left) is = (met.taken ++ left, left, met.row left (subst (λ (o : Option (List ℕ)). MayFollow o met.ended left) is refl))
 
@@ -48,5 +48,5 @@ module _ {S P : Type 0} (m : Semantics S P) (from to : S) (call : Effects) where
   pub whole_run : MeetsOutcome m from call to → call.status ≡ Done → (wanted : List Item) × Wrote m from wanted call to
   whole_run met done =
       let row = some_row met in
-      let whole = subst (λ (st : Status). IsRow m st from row.0 row.1 call to) done row.2 in
+      let whole = subst (λ (st : Status). IsStatusRow m st from row.0 row.1 call to) done row.2 in
       (items_within row.0, whole.3)

@@ -11,8 +11,8 @@ use Rattle.script_loop.specs.OneManager.{one_manager}
 use Rattle.script_loop.specs.ScriptOutcome.{Effects, EndsAt, Wrote}
 use Rattle.script_loop.specs.Semantics.{AnswersBy, OpensBy, RunBy, Semantics, StepBy, snapshot}
 use Rattle.script_loop.specs.WithSettings.{GoesWith, Settled, settled, with_settings}
-use Rattle.script_loop.specs.declared.player.OpenFault.{OpenFault}
-use Rattle.script_loop.specs.declared.player.OpenFault.TheVariants as fault
+use Rattle.script_loop.specs.declared.mode_handler.OpenFault.{OpenFault}
+use Rattle.script_loop.specs.declared.mode_handler.OpenFault.TheVariants as fault
 use Rattle.cf_base.specs.declared.answers.Failed.{Failed}
 use Rattle.script_reader.specs.declared.command.Command.{Command}
 use Rattle.script_reader.specs.Items.{Item, asks, bad, starts}

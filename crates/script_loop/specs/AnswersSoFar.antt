@@ -1,4 +1,4 @@
--- What it has done to feed some bytes to the reader and to answer the items that they complete, for each of the four ways in which this ends (`Goes`). `m` is
+-- What it has done to feed some bytes to the reader and to answer the items that they complete, for each of the four ways in which this ends (`MeetsChunkOutcome`). `m` is
 -- the semantics of the mode handler.
 use Rattle.std.specs.Prelude.{◌≡◌, ◌≤◌, ◌+◌, ◌++◌, ℕ, Bool, true, false, List, [], ◌∷◌, length, Option, Some, None}
 use Rattle.cf_io.specs.Feeds.{appended}
@@ -10,8 +10,8 @@ use Rattle.run_model.specs.Texts.{Reply, bad_line, led, said, text_of}
 use Rattle.script_loop.specs.Progress.{IsReady, Playing, Progress, run_of}
 use Rattle.script_loop.specs.ScriptOutcome.{has_bad}
 use Rattle.script_loop.specs.Semantics.{PartBy, RunBy, Semantics}
-use Rattle.script_loop.specs.declared.answering.Ready.{Ready}
-use Rattle.script_loop.specs.declared.answering.Ready.TheVariants.{GoesOn, Stopped, Cut, LacksMemory}
+use Rattle.script_loop.specs.declared.answering.ChunkOutcome.{ChunkOutcome}
+use Rattle.script_loop.specs.declared.answering.ChunkOutcome.TheVariants.{GoesOn, Stopped, Cut, LacksMemory}
 
 -- The bytes `chunk` were fed. The items `done` that they complete were answered, `text` is their replies, and `stopped` is whether a bad line is one of them.
 -- `left`: whatever bytes `more` follow, the items of `chunk` and `more` are `done` and then those that are still to be answered.
@@ -78,22 +78,22 @@ pub record LackedMemory {S P : Type 0} (m : Semantics S P) (old new : Progress S
   pub wrote : new.written ≡ old.written
 
 -- from the progress `old` the bytes `chunk` led to the progress `new`, by the result of `answer_chunk`
-abbrev pub Goes : {S P : Type 0} → Semantics S P → Progress S → List ℕ → Ready → Progress S → Type 0
-Goes m old chunk GoesOn new = WentOn m old chunk new
-Goes m old chunk Stopped new = HasStopped m old chunk new
-Goes m old chunk Cut new = WasCut m old chunk new
-Goes m old chunk LacksMemory new = LackedMemory m old new
+abbrev pub MeetsChunkOutcome : {S P : Type 0} → Semantics S P → Progress S → List ℕ → ChunkOutcome → Progress S → Type 0
+MeetsChunkOutcome m old chunk GoesOn new = WentOn m old chunk new
+MeetsChunkOutcome m old chunk Stopped new = HasStopped m old chunk new
+MeetsChunkOutcome m old chunk Cut new = WasCut m old chunk new
+MeetsChunkOutcome m old chunk LacksMemory new = LackedMemory m old new
 
 -- `front`, a prefix of `text`, was written
-pub record WroteFront (old : Option (List ℕ)) (text : List ℕ) (new : Option (List ℕ)) : Type 0 where
+pub record WrotePrefix (old : Option (List ℕ)) (text : List ℕ) (new : Option (List ℕ)) : Type 0 where
   pub front : List ℕ
   pub lost : List ℕ
   pub cut : text ≡ front ++ lost
   pub wrote : new ≡ appended old front
 
 -- the number of a bad line was written, or if the sink failed, a prefix of that reply
-abbrev pub NamesBad : Option (List ℕ) → ℕ → Ready → Option (List ℕ) → Type 0
-NamesBad old line Stopped new = new ≡ appended old (led [] (said (bad_line line)))
-NamesBad old line Cut new = WroteFront old (led [] (said (bad_line line))) new
-NamesBad old line GoesOn new = ⊥
-NamesBad old line LacksMemory new = ⊥
+abbrev pub PrintsBadLine : Option (List ℕ) → ℕ → ChunkOutcome → Option (List ℕ) → Type 0
+PrintsBadLine old line Stopped new = new ≡ appended old (led [] (said (bad_line line)))
+PrintsBadLine old line Cut new = WrotePrefix old (led [] (said (bad_line line))) new
+PrintsBadLine old line GoesOn new = ⊥
+PrintsBadLine old line LacksMemory new = ⊥

@@ -25,6 +25,6 @@ Applies m old command (Ok outcome) new = (a : HasTurn m old command new) × (out
 Applies m old command (Err failed) new = HasTurnInPart m old command new
 
 -- by the rule `turns` the command may lead from `old` to `new` with the reply that `line` holds, which has room for the line feed
-pub record Speaks {S : Type 0} (turns : Turns S) (old : S) (command : Command) (new : S) (line : List ℕ) : Type 0 where
+pub record BuildsReply {S : Type 0} (turns : Turns S) (old : S) (command : Command) (new : S) (line : List ℕ) : Type 0 where
   pub turn : turns old command (said line) new
   pub room : length line < line_room

@@ -24,26 +24,26 @@ left_in script = script.left
 
 -- A script between two turns: its progress; the bytes `rest` left in its source, if it is observable; `given`, how many bytes the source has returned; and
 -- `left`, how many the script may still take.
-pub record Between (S : Type 0) : Type 0 where
+pub record BetweenTurns (S : Type 0) : Type 0 where
   pub progress : Progress S
   pub rest : Option (List ℕ)
   pub given : ℕ
   pub left : ℕ
 
--- the record `Between` of a script, the state of its run, the bytes written to its sink, those left in its source, and how many the source has returned
-abbrev pub between : {S : Type 0} → Script → S → Option (List ℕ) → Option (List ℕ) → ℕ → Between S
+-- the record `BetweenTurns` of a script, the state of its run, the bytes written to its sink, those left in its source, and how many the source has returned
+abbrev pub between : {S : Type 0} → Script → S → Option (List ℕ) → Option (List ℕ) → ℕ → BetweenTurns S
 between script state written rest given =
     record { progress = progress (playing (reading_in script) state) written; rest = rest; given = given; left = left_in script }
 
 -- a turn may begin in `b`: every whole line taken so far is answered, and the bytes fed and those that may still be taken add up to the limit
-pub record AwaitsChunk {S P : Type 0} (m : Semantics S P) (b : Between S) : Type 0 where
+pub record AwaitsChunk {S P : Type 0} (m : Semantics S P) (b : BetweenTurns S) : Type 0 where
   pub waiting : IsWaiting b.progress.playing.reading
   pub ready : IsReady m b.progress.playing
   pub going : b.progress.playing.reading.ended ≡ false
   pub few : b.progress.playing.reading.fed + b.left ≡ MOST_BYTES
 
 -- a chunk was taken: `within` is its bytes up to the limit, `past` those beyond it
-pub record Chunk {S : Type 0} (old new : Between S) : Type 0 where
+pub record Chunk {S : Type 0} (old new : BetweenTurns S) : Type 0 where
   pub within : List ℕ
   pub past : List ℕ
   pub took : old.rest ≡ preceded (within ++ past) new.rest
@@ -52,7 +52,7 @@ pub record Chunk {S : Type 0} (old new : Between S) : Type 0 where
   pub short : length (within ++ past) ≤ MOST_CHUNK
 
 -- a chunk was taken that is within the limit, and the items that it completes were answered
-pub record AnswersChunk {S P : Type 0} (m : Semantics S P) (old new : Between S) : Type 0 where
+pub record AnswersChunk {S P : Type 0} (m : Semantics S P) (old new : BetweenTurns S) : Type 0 where
   pub chunk : Chunk old new
   pub whole : chunk.past ≡ []
   pub some : 0 < length chunk.within
@@ -60,21 +60,21 @@ pub record AnswersChunk {S P : Type 0} (m : Semantics S P) (old new : Between S)
   pub went : WentOn m old.progress chunk.within new.progress
 
 -- a chunk was taken that passes the limit, and the items that its bytes within the limit complete were answered
-pub record PassesLimit {S P : Type 0} (m : Semantics S P) (old new : Between S) : Type 0 where
+pub record PassesLimit {S P : Type 0} (m : Semantics S P) (old new : BetweenTurns S) : Type 0 where
   pub chunk : Chunk old new
   pub some : 0 < length chunk.past
   pub full : length chunk.within ≡ old.left
   pub went : WentOn m old.progress chunk.within new.progress
 
 -- nothing was taken, and nothing was answered
-pub record TakesNothing {S : Type 0} (old new : Between S) : Type 0 where
+pub record TakesNothing {S : Type 0} (old new : BetweenTurns S) : Type 0 where
   pub progress : new.progress ≡ old.progress
   pub rest : new.rest ≡ old.rest
   pub counted : HasGiven old.given 0 new.given
   pub left : new.left ≡ old.left
 
 -- what the last turn did, from `old` to `new`, if the script ends with this status
-abbrev pub StopsBy : {S P : Type 0} → Semantics S P → Status → Between S → Between S → Type 0
+abbrev pub StopsBy : {S P : Type 0} → Semantics S P → Status → BetweenTurns S → BetweenTurns S → Type 0
 StopsBy m ReadFault old new = TakesNothing old new
 StopsBy m BadScript old new = (c : Chunk old new) × HasStopped m old.progress c.within new.progress
 StopsBy m WriteFault old new = (c : Chunk old new) × WasCut m old.progress c.within new.progress
@@ -83,7 +83,7 @@ StopsBy m TooLong old new = PassesLimit m old new
 StopsBy m status old new = ⊥
 
 -- what a turn did, from `old` to `new`, by how it ended (`TurnEnd`)
-abbrev pub TakesTurn : {S P : Type 0} → Semantics S P → Between S → TurnEnd → Between S → Type 0
+abbrev pub TakesTurn : {S P : Type 0} → Semantics S P → BetweenTurns S → TurnEnd → BetweenTurns S → Type 0
 TakesTurn m old Answered new = AnswersChunk m old new
 TakesTurn m old Ended new = TakesNothing old new × IsSpent old.rest
 TakesTurn m old (Stopped status) new = StopsBy m status old new

@@ -3,7 +3,7 @@ use Rattle.std.specs.Prelude.{◌≡◌, ◌++◌, ℕ, Bool, List, [], is_some}
 use Rattle.cf_base.specs.declared.kind.Kind.{Kind}
 use Rattle.cf_model.specs.Steps.{IsClosed}
 use Rattle.script_reader.specs.declared.command.Command.{Command}
-use Rattle.run_model.specs.Runs.{BeginsOne, Turn}
+use Rattle.run_model.specs.Runs.{BeginsOne, IsCommandStep}
 use Rattle.run_model.specs.Sessions.{IsGoing, RunState, fresh_session}
 use Rattle.run_model.specs.Texts.{Reply, led}
 use Rattle.script_loop.specs.Semantics.{Semantics}
@@ -12,7 +12,7 @@ use Rattle.script_loop.specs.Semantics.{Semantics}
 pub record TurnInPart (old : RunState) (command : Command) (out : List ℕ) (new : RunState) : Type 0 where
   pub reply : Reply
   pub lost : List ℕ
-  pub turn : Turn old command reply new
+  pub turn : IsCommandStep old command reply new
   pub cut : led [] reply ≡ out ++ lost
 
 -- an allocation failed at the `heap` line: the manager is closed, and the session is unchanged
@@ -27,7 +27,7 @@ one_manager = record {
   is_fresh = λ s. s.session ≡ fresh_session;
   is_going = IsGoing;
   begins = λ plan. BeginsOne plan.0;
-  turns = Turn;
+  turns = IsCommandStep;
   turns_in_part = TurnInPart;
   lacks = LacksOne;
 }

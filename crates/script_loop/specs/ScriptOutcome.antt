@@ -114,23 +114,23 @@ pub record TakesAtMostAChunk (before : List Item) (all left : List ℕ) : Type 0
   pub answered : AreFirstOf (items earlier false) before
 
 -- an allocation failed at the `heap` line, nothing was written, and the semantics allow the state `to` after that
-pub record Lacks {S P : Type 0} (m : Semantics S P) (from : S) (call : Effects) (to : S) : Type 0 where
+pub record RanOutOfMemory {S P : Type 0} (m : Semantics S P) (from : S) (call : Effects) (to : S) : Type 0 where
   pub lacks : m.lacks from to
   pub unwritten : call.after ≡ call.before
 
 -- What is true for each status, if the source had the bytes `all` before the call and has `left` after it. If the source failed, each item whose line is
 -- complete in the bytes taken was answered, and no other. If the sink failed, each item whose line is complete before the last bytes taken, at most 4,096, was
 -- answered whole. No script ends by `Words` or `BadImage`.
-abbrev pub IsRow : {S P : Type 0} → Semantics S P → Status → S → List ℕ → List ℕ → Effects → S → Type 0
-IsRow m Done from all left call to = (length all ≤ MOST_BYTES) × (left ≡ []) × (has_bad (items_within all) ≡ false) × Wrote m from (items_within all) call to
-IsRow m BadScript from all left call to = (has_bad (items_within all) ≡ true) × Wrote m from (items_within all) call to
-IsRow m TooLong from all left call to = (MOST_BYTES < length all) × (has_bad (items_within all) ≡ false) × Wrote m from (items_within all) call to
-IsRow m ReadFault from all left call to = (taken : List ℕ) × (all ≡ taken ++ left) × (length taken ≤ MOST_BYTES)
+abbrev pub IsStatusRow : {S P : Type 0} → Semantics S P → Status → S → List ℕ → List ℕ → Effects → S → Type 0
+IsStatusRow m Done from all left call to = (length all ≤ MOST_BYTES) × (left ≡ []) × (has_bad (items_within all) ≡ false) × Wrote m from (items_within all) call to
+IsStatusRow m BadScript from all left call to = (has_bad (items_within all) ≡ true) × Wrote m from (items_within all) call to
+IsStatusRow m TooLong from all left call to = (MOST_BYTES < length all) × (has_bad (items_within all) ≡ false) × Wrote m from (items_within all) call to
+IsStatusRow m ReadFault from all left call to = (taken : List ℕ) × (all ≡ taken ++ left) × (length taken ≤ MOST_BYTES)
     × (has_bad (items taken false) ≡ false) × Wrote m from (items taken false) call to
-IsRow m WriteFault from all left call to = (w : WroteInPart m from (items_within all) call to) × TakesAtMostAChunk w.before all left
-IsRow m OutOfMemory from all left call to = Lacks m from call to
-IsRow m Words from all left call to = ⊥
-IsRow m BadImage from all left call to = ⊥
+IsStatusRow m WriteFault from all left call to = (w : WroteInPart m from (items_within all) call to) × TakesAtMostAChunk w.before all left
+IsStatusRow m OutOfMemory from all left call to = RanOutOfMemory m from call to
+IsStatusRow m Words from all left call to = ⊥
+IsStatusRow m BadImage from all left call to = ⊥
 
 -- `more` are bytes that the source may still have: exactly `left`, if it is observable; else none if it has ended, or any
 abbrev pub MayFollow : Option (List ℕ) → Bool → List ℕ → Type 0
@@ -139,13 +139,13 @@ MayFollow None true more = more ≡ []
 MayFollow None false more = ⊤
 
 -- The outcome of a script over every source, observable or not: the call took the bytes `taken` (and met the end if `ended`), and whatever bytes `more` may
--- follow them, the source had `taken` and `more`, and `IsRow` holds of its status. `from` and `to` are the states of the run before and after the call.
+-- follow them, the source had `taken` and `more`, and `IsStatusRow` holds of its status. `from` and `to` are the states of the run before and after the call.
 pub record MeetsOutcome {S P : Type 0} (m : Semantics S P) (from : S) (call : Effects) (to : S) : Type 0 where
   pub taken : List ℕ
   pub ended : Bool
   pub took : call.had ≡ preceded taken call.left
   pub counted : HasGiven call.given_before (length taken) call.given_after
-  pub row : (more : List ℕ) → MayFollow call.left ended more → IsRow m call.status from (taken ++ more) more call to
+  pub row : (more : List ℕ) → MayFollow call.left ended more → IsStatusRow m call.status from (taken ++ more) more call to
 
 -- The cause of each status, over every source and sink; `source'` and `sink'` are their states after the call. `ReadFault` means that the last call of the
 -- source failed, `WriteFault` the same of the sink; with any other status neither failed. With `OutOfMemory` nothing was written. `TooLong` means that the

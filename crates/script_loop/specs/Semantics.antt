@@ -8,8 +8,8 @@ use Rattle.script_reader.specs.Items.{Item}
 use Rattle.script_reader.specs.declared.command.Command.{Command}
 use Rattle.run_model.specs.Plays.{PlayPart, PlayRun, PlayStep}
 use Rattle.run_model.specs.Texts.{Reply, led}
-use Rattle.script_loop.specs.declared.player.OpenFault.{OpenFault}
-use Rattle.script_loop.specs.declared.player.OpenFault.TheVariants as fault
+use Rattle.script_loop.specs.declared.mode_handler.OpenFault.{OpenFault}
+use Rattle.script_loop.specs.declared.mode_handler.OpenFault.TheVariants as fault
 
 -- `S` is the type of the states of a run, `P` that of their plan, which no item changes. `is_fresh`: a `heap` line may come. `is_going`: a command may come.
 -- `begins plan settings reply new`: the `heap` line may get this reply and lead to `new`. `turns old command reply new`: so may the command. `turns_in_part old

@@ -1,11 +1,11 @@
 //! The loop of every mode that reads a script: takes chunks from a source, passes each item to the mode handler
-//! (trait `Player`), which writes the reply to a sink, and stops at the end or at the first fault.
+//! (trait `ModeHandler`), which writes the reply to a sink, and stops at the end or at the first fault.
 #![tactic(auto)]
 
 mod answering;
 mod laws;
 mod one_manager;
-mod player;
+mod mode_handler;
 mod running;
 mod with_settings;
 
@@ -14,6 +14,6 @@ pub use laws::{
     settings_are_kept, what_was_cut_is_a_prefix,
 };
 pub use one_manager::run_script;
-pub use player::{OpenFault, Player};
+pub use mode_handler::{OpenFault, ModeHandler};
 pub use running::{LIMIT, Script, TurnEnd, play_script};
 pub use with_settings::WithSettings;

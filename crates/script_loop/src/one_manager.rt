@@ -6,7 +6,7 @@ ghost use Rattle.run_model.specs.Sessions.{RunState, fresh_session};
 ghost use Rattle.script_loop.specs.OneManager.{one_manager};
 ghost use Rattle.script_loop.specs.ScriptOutcome.{Plays, sink_at, source_at};
 
-use crate::player::{OpenFault, Player};
+use crate::mode_handler::{OpenFault, ModeHandler};
 use crate::running::play_script;
 use cf_base::{Failed, Settings, Status};
 use cf_io::{Sink, Source, put_all};
@@ -14,7 +14,7 @@ use cf_model::Manager;
 use cf_session::Session;
 use script_reader::CommandRef;
 
-impl<H: Manager> Player<H> for Session {
+impl<H: Manager> ModeHandler<H> for Session {
     ghost State = { RunState };
 
     ghost Plan = { Kind × Bool };

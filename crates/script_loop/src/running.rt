@@ -6,8 +6,8 @@ ghost use Rattle.script_reader.specs.Reading.{fresh};
 ghost use Rattle.script_loop.specs.ScriptOutcome.{MOST_BYTES, Plays, sink_at, source_at};
 ghost use Rattle.script_loop.specs.LoopTurn.{AwaitsChunk, TakesTurn, between, left_in, reading_in};
 
-use crate::answering::{Ready, answer_chunk, answer_kept};
-use crate::player::Player;
+use crate::answering::{ChunkOutcome, answer_chunk, answer_pending_items};
+use crate::mode_handler::ModeHandler;
 use cf_base::Status;
 use cf_io::{Sink, Source};
 use script_reader::{PayloadBuffer, Reader};
@@ -51,22 +51,22 @@ impl Script {
         }
     }
 
-    /// One turn of the loop: takes one chunk, and lets `player` answer each item whose line is complete. It ends
+    /// One turn of the loop: takes one chunk, and lets `mode_handler` answer each item whose line is complete. It ends
     /// the script at a bad line, if the source or the sink fails, if an allocation fails at the `heap` line, and
     /// if the chunk passes the limit.
-    pub fn turn<H, A: Player<H>, S: Source, K: Sink>(
+    pub fn turn<H, A: ModeHandler<H>, S: Source, K: Sink>(
         &mut self,
-        player: &mut A,
+        mode_handler: &mut A,
         heap: &mut H,
         source: &mut S,
         sink: &mut K,
     ) -> TurnEnd
-        requires { AwaitsChunk A.semantics (between self.old (A.state player.old heap.old) (K.written sink.old) (S.rest source.old) (S.given source.old)) }
+        requires { AwaitsChunk A.semantics (between self.old (A.state mode_handler.old heap.old) (K.written sink.old) (S.rest source.old) (S.given source.old)) }
         ensures once { S.calls source.new ≡ one_more (S.calls source.old) }
         ensures few { S.given source.new ≤ S.given source.old + 4096 }
         ensures turn { TakesTurn A.semantics
-            (between self.old (A.state player.old heap.old) (K.written sink.old) (S.rest source.old) (S.given source.old)) result
-            (between self.new (A.state player.new heap.new) (K.written sink.new) (S.rest source.new) (S.given source.new)) }
+            (between self.old (A.state mode_handler.old heap.old) (K.written sink.old) (S.rest source.old) (S.given source.old)) result
+            (between self.new (A.state mode_handler.new heap.new) (K.written sink.new) (S.rest source.new) (S.given source.new)) }
         ensures source_same { result ≢ TurnEnd.Stopped Status.ReadFault → S.faults source.new ≡ S.faults source.old }
         ensures read_fault { result ≡ TurnEnd.Stopped Status.ReadFault → FailsLast (S.faults source.old) (S.faults source.new) (S.last_failed source.new) }
         ensures sink_same { result ≢ TurnEnd.Stopped Status.WriteFault → K.faults sink.new ≡ K.faults sink.old }
@@ -83,16 +83,16 @@ impl Script {
         let within = n.min(self.left);
         match answer_chunk(
             &mut self.reader,
-            player,
+            mode_handler,
             heap,
             sink,
             &mut self.payload,
             &buffer[..within],
         ) {
-            Ready::GoesOn => {}
-            Ready::Stopped => return TurnEnd::Stopped(Status::BadScript),
-            Ready::Cut => return TurnEnd::Stopped(Status::WriteFault),
-            Ready::LacksMemory => return TurnEnd::Stopped(Status::OutOfMemory),
+            ChunkOutcome::GoesOn => {}
+            ChunkOutcome::Stopped => return TurnEnd::Stopped(Status::BadScript),
+            ChunkOutcome::Cut => return TurnEnd::Stopped(Status::WriteFault),
+            ChunkOutcome::LacksMemory => return TurnEnd::Stopped(Status::OutOfMemory),
         }
         if n > self.left {
             return TurnEnd::Stopped(Status::TooLong);
@@ -105,34 +105,34 @@ impl Script {
 /// Runs a script: takes chunks from the source, and lets the mode handler answer each whole line before the
 /// next chunk. It stops at a bad line, if the source or the sink fails, if an allocation fails at the `heap`
 /// line, and after 268,435,455 bytes. The status shows which.
-pub fn play_script<H, A: Player<H>, S: Source, K: Sink>(
-    player: &mut A,
+pub fn play_script<H, A: ModeHandler<H>, S: Source, K: Sink>(
+    mode_handler: &mut A,
     heap: &mut H,
     source: &mut S,
     sink: &mut K,
 ) -> Status
-    requires { A.semantics.is_fresh (A.state player.old heap.old) }
-    ensures { Plays A.semantics (A.state player.old heap.old)
+    requires { A.semantics.is_fresh (A.state mode_handler.old heap.old) }
+    ensures { Plays A.semantics (A.state mode_handler.old heap.old)
         (source_at (S.rest source.old) (S.given source.old) (S.faults source.old) (S.last_failed source.old))
         (sink_at (K.written sink.old) (K.faults sink.old) (K.last_failed sink.old))
         result
         (source_at (S.rest source.new) (S.given source.new) (S.faults source.new) (S.last_failed source.new))
         (sink_at (K.written sink.new) (K.faults sink.new) (K.last_failed sink.new))
-        (A.state player.new heap.new) }
+        (A.state mode_handler.new heap.new) }
 {
     let mut script = Script::new();
     'turns: loop {
-        match script.turn(player, heap, source, sink) {
+        match script.turn(mode_handler, heap, source, sink) {
             TurnEnd::Answered => {}
             TurnEnd::Ended => break,
             TurnEnd::Stopped(status) => return status,
         }
     }
     script.reader.finish();
-    match answer_kept(&mut script.reader, player, heap, sink, &mut script.payload) {
-        Ready::GoesOn => Status::Done,
-        Ready::Stopped => Status::BadScript,
-        Ready::Cut => Status::WriteFault,
-        Ready::LacksMemory => Status::OutOfMemory,
+    match answer_pending_items(&mut script.reader, mode_handler, heap, sink, &mut script.payload) {
+        ChunkOutcome::GoesOn => Status::Done,
+        ChunkOutcome::Stopped => Status::BadScript,
+        ChunkOutcome::Cut => Status::WriteFault,
+        ChunkOutcome::LacksMemory => Status::OutOfMemory,
     }
 }

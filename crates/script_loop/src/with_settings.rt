@@ -2,24 +2,24 @@
 //! the image.
 ghost use Rattle.script_loop.specs.WithSettings.{Settled, settled, with_settings};
 
-use crate::player::{OpenFault, Player};
+use crate::mode_handler::{OpenFault, ModeHandler};
 use cf_base::{Failed, Settings};
 use cf_io::Sink;
 use script_reader::CommandRef;
 
-/// The mode handler `player`, and the settings of the `heap` line that it answered; none before that line.
+/// The mode handler `mode_handler`, and the settings of the `heap` line that it answered; none before that line.
 #[derive(Drop)]
 pub struct WithSettings<A> {
-    pub player: A,
+    pub mode_handler: A,
     pub settings: Option<Settings>,
 }
 
-impl<H, A: Player<H>> Player<H> for WithSettings<A> {
+impl<H, A: ModeHandler<H>> ModeHandler<H> for WithSettings<A> {
     ghost State = { Settled A.State };
 
     ghost Plan = { A.Plan };
 
-    ghost state = { λ w heap. settled (A.state w.player heap) w.settings };
+    ghost state = { λ w heap. settled (A.state w.mode_handler heap) w.settings };
 
     ghost semantics = { with_settings A.semantics };
 
@@ -30,7 +30,7 @@ impl<H, A: Player<H>> Player<H> for WithSettings<A> {
         sink: &mut K,
     ) -> Result<(), OpenFault> {
         self.settings = Some(*settings);
-        self.player.open(heap, settings, sink)
+        self.mode_handler.open(heap, settings, sink)
     }
 
     fn answer<K: Sink>(
@@ -39,6 +39,6 @@ impl<H, A: Player<H>> Player<H> for WithSettings<A> {
         command: CommandRef,
         sink: &mut K,
     ) -> Result<(), Failed> {
-        self.player.answer(heap, command, sink)
+        self.mode_handler.answer(heap, command, sink)
     }
 }

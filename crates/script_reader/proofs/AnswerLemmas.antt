@@ -4,8 +4,8 @@ use Rattle.std.proofs.Common.{length-append, length-drop, subst, append-nil, app
 use Rattle.std.proofs.lemmas.Bool.{false≢true, ltb-false}
 use Rattle.std.proofs.lemmas.List.{drop_all}
 use Rattle.cf_base.specs.Settings.{profile_of}
-use Rattle.script_reader.specs.Answered.{IsInRange, IsNextLine, item_answered, line_passed, saying_if, says_nothing, stage_said}
-use Rattle.script_reader.specs.Items.{Item, Saying, asks, bad, breaks, gives_or_breaks, is_bound, item, item_or_wrong, line_says, nothing}
+use Rattle.script_reader.specs.Answered.{IsInRange, IsNextLine, item_answered, line_passed, saying_if, is_blank_or_comment, stage_said}
+use Rattle.script_reader.specs.Items.{Item, LineMeaning, asks, bad, breaks, gives_or_breaks, is_bound, item, item_or_wrong, line_says, nothing}
 use Rattle.script_reader.specs.Items.{stage_after, stage_after_command, stage_opened, starts, verdict, wrong}
 use Rattle.script_reader.specs.Lines.{is_last_line, lines}
 use Rattle.script_reader.specs.Reading.{Answers, AnswersBad, HasEnded, HasNoLine, IsFirstLine, NeedsMore, PassesOver, Reading, Reads, StopsAt, holds_line_feed}
@@ -126,14 +126,14 @@ opens_first Running new leads = absurd cc
 
 -- a first line that is blank or a comment is passed
 pub passes_line : (old : Reading) (len at : ℕ) → old.stopped ≡ None → IsFirstLine old.kept old.ended len at
-    → says_nothing (line_says (take len old.kept)) ≡ true → PassesOver old (line_passed old at)
+    → is_blank_or_comment (line_says (take len old.kept)) ≡ true → PassesOver old (line_passed old at)
 passes_line old len at going first silent = record {
   reads = one_line old len at going first old.stage old.stopped [] (line_is_passed (line_says (take len old.kept)) refl silent);
   still = going;
   same_stage = refl;
 }
   where
-    line_is_passed : (s : Saying) → line_says (take len old.kept) ≡ s → says_nothing s ≡ true
+    line_is_passed : (s : LineMeaning) → line_says (take len old.kept) ≡ s → is_blank_or_comment s ≡ true
         → (more : List ℕ) (e : Bool) → items_left old more e ≡ items_left (after_line old at old.stage) more e
     line_is_passed nothing is silent = line_passes old len at going first (ap (verdict old.stage) is)
     line_is_passed wrong is silent = absurd cc
@@ -191,7 +191,7 @@ module _ (old : Reading) (len at : ℕ) (formed : Bool) (n : Next) (going : old.
       } in
       subst (λ (o : Option ℕ). AnswersBad old o number new) (sym going) stops
     where
-      go : (s : Saying) → line_says (take len old.kept) ≡ s → None ≡ stage_said old.stage s → first_verdict old len ≡ breaks
+      go : (s : LineMeaning) → line_says (take len old.kept) ≡ s → None ≡ stage_said old.stage s → first_verdict old len ≡ breaks
       go nothing is place = absurd cc
       go wrong is place = ap (verdict old.stage) is
       go (item i) is place = ap (verdict old.stage) is ∙ ap (gives_or_breaks i) (sym place)

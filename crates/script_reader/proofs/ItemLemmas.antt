@@ -1,4 +1,4 @@
--- For `answer_line` and `next_line`: the items that are left are that of the first line and then those of the rest, whatever bytes are fed next.
+-- For `read_first_line` and `next_line`: the items that are left are that of the first line and then those of the rest, whatever bytes are fed next.
 use Rattle.std.proofs.Common.{◌≡◌, ◌∙◌, ◌+◌, ◌==◌, ◌||◌, ◌++◌, ◌⊎◌, inl, inr, ℕ, Bool, true, false, cond, List, [], ◌∷◌, None, length, take, drop, refl, sym}
 use Rattle.std.proofs.Common.{ap, arith, append_assoc, append-nil, length-append}
 use Rattle.std.proofs.lemmas.Bool.{false≢true, lt-ltb, ltb-true}

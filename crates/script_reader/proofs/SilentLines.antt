@@ -9,7 +9,7 @@ use Rattle.std.proofs.lemmas.List.Sums.{passes_at_first}
 use Rattle.std.specs.Prelude.{position, nat_lt}
 use Rattle.std.specs.List.{position_or_len}
 use Rattle.std.specs.Str.{bytes_eq}
-use Rattle.script_reader.specs.Answered.{saying_if, says_nothing, some_if}
+use Rattle.script_reader.specs.Answered.{saying_if, is_blank_or_comment, some_if}
 use Rattle.script_reader.specs.Commands.{letter_command, word_command}
 use Rattle.script_reader.specs.Items.{Item, asks, is_comment, item_in, item_or_wrong, nothing, tokens_say}
 use Rattle.script_reader.specs.Lines.{is_gap, tokens}
@@ -18,55 +18,55 @@ use Rattle.script_reader.specs.declared.next.Next.{Next}
 use Rattle.script_reader.specs.declared.next.Next.TheVariants as answer
 use Rattle.script_reader.proofs.Words.{gaps_in, past_gaps, run}
 
-item_speaks : (o : Option Item) → says_nothing (item_or_wrong o) ≡ false
+item_speaks : (o : Option Item) → is_blank_or_comment (item_or_wrong o) ≡ false
 item_speaks None = refl
 item_speaks (Some i) = refl
 
-comment_or_item : (b : Bool) (o : Option Item) → says_nothing (if b then nothing else item_or_wrong o) ≡ b
+comment_or_item : (b : Bool) (o : Option Item) → is_blank_or_comment (if b then nothing else item_or_wrong o) ≡ b
 comment_or_item true o = refl
 comment_or_item false o = item_speaks o
 
 -- from the first byte that is no gap it follows whether the line is a comment
-first_byte : (t : List ℕ) → gaps_in t < length t → (get_or t (gaps_in t) 0 == 35) ≡ says_nothing (tokens_say (tokens t))
+first_byte : (t : List ℕ) → gaps_in t < length t → (get_or t (gaps_in t) 0 == 35) ≡ is_blank_or_comment (tokens_say (tokens t))
 first_byte t below =
     let x = get_or t (gaps_in t) 0 in
     let r = drop (suc (gaps_in t)) t in
     let isnt : is_gap x ≡ false = not-true (is_gap x) (passes_at_first (λ b. not (is_gap b)) t 0 below) in
     let first : tokens t ≡ (x ∷ take (position_or_len is_gap r) r) ∷ tokens (drop (position_or_len is_gap r) r) =
     sym (past_gaps t) ∙ ap tokens (drop-cons t (gaps_in t) 0 below) ∙ run x r isnt in
-    sym (ap (λ (ts : List (List ℕ)). says_nothing (tokens_say ts)) first ∙ comment_or_item (x == 35) _)
+    sym (ap (λ (ts : List (List ℕ)). is_blank_or_comment (tokens_say ts)) first ∙ comment_or_item (x == 35) _)
 
-pub silent_at : (t : List ℕ) (at : ℕ) → Some at ≡ position (λ x. not (is_gap x)) t → (get_or t at 0 == 35) ≡ says_nothing (tokens_say (tokens t))
+pub silent_at : (t : List ℕ) (at : ℕ) → Some at ≡ position (λ x. not (is_gap x)) t → (get_or t at 0 == 35) ≡ is_blank_or_comment (tokens_say (tokens t))
 silent_at t at h = go (nat_lt (gaps_in t) (length t)) refl h
   where
     go : (b : Bool) → nat_lt (gaps_in t) (length t) ≡ b → Some at ≡ cond b (Some (gaps_in t)) None
-        → (get_or t at 0 == 35) ≡ says_nothing (tokens_say (tokens t))
+        → (get_or t at 0 == 35) ≡ is_blank_or_comment (tokens_say (tokens t))
     go false isnt h = absurd cc
     go true is h = let place : at ≡ gaps_in t = cc in rw place (first_byte t (ltb-true _ _ is))
 
 -- a text whose first byte is greater than `#` begins with an item: it is neither blank nor a comment
-pub item_at_once : (t : List ℕ) → 0 < length t → 35 < get_or t 0 0 → false ≡ says_nothing (tokens_say (tokens t))
+pub item_at_once : (t : List ℕ) → 0 < length t → 35 < get_or t 0 0 → false ≡ is_blank_or_comment (tokens_say (tokens t))
 item_at_once [] some past = absurd (omega arith)
 item_at_once (x ∷ r) some past =
     let isnt : is_gap x ≡ false = rw (ne_eqb x 32 (λ e. omega (arith, e, past)), ne_eqb x 9 (λ e. omega (arith, e, past))) refl in
-    sym (ap (λ (ts : List (List ℕ)). says_nothing (tokens_say ts)) (run x r isnt) ∙ comment_or_item (x == 35) _ ∙ ne_eqb x 35 (λ e. omega (arith, e, past)))
+    sym (ap (λ (ts : List (List ℕ)). is_blank_or_comment (tokens_say ts)) (run x r isnt) ∙ comment_or_item (x == 35) _ ∙ ne_eqb x 35 (λ e. omega (arith, e, past)))
 
-pub silent_gaps : (t : List ℕ) → None ≡ position (λ x. not (is_gap x)) t → true ≡ says_nothing (tokens_say (tokens t))
+pub silent_gaps : (t : List ℕ) → None ≡ position (λ x. not (is_gap x)) t → true ≡ is_blank_or_comment (tokens_say (tokens t))
 silent_gaps t h = go (nat_lt (gaps_in t) (length t)) refl h
   where
     go : (b : Bool) → nat_lt (gaps_in t) (length t) ≡ b → None ≡ cond b (Some (gaps_in t)) None
-        → true ≡ says_nothing (tokens_say (tokens t))
+        → true ≡ is_blank_or_comment (tokens_say (tokens t))
     go true is h = absurd cc
     go false isnt h =
         let none : tokens t ≡ [] = sym (past_gaps t) ∙ ap tokens (drop_all (gaps_in t) t (ltb-false _ _ isnt)) in
-        sym (ap (λ (ts : List (List ℕ)). says_nothing (tokens_say ts)) none)
+        sym (ap (λ (ts : List (List ℕ)). is_blank_or_comment (tokens_say ts)) none)
 
 -- a line that has a first token, and is no comment, means the item of its tokens, or isn't in the grammar
-pub speaks : (word : List ℕ) (args : List (List ℕ)) → says_nothing (tokens_say (word ∷ args)) ≡ false
+pub speaks : (word : List ℕ) (args : List (List ℕ)) → is_blank_or_comment (tokens_say (word ∷ args)) ≡ false
     → tokens_say (word ∷ args) ≡ item_or_wrong (item_in word args)
 speaks word args says = go (is_comment word) says
   where
-    go : (b : Bool) → says_nothing (if b then nothing else item_or_wrong (item_in word args)) ≡ false
+    go : (b : Bool) → is_blank_or_comment (if b then nothing else item_or_wrong (item_in word args)) ≡ false
         → (if b then nothing else item_or_wrong (item_in word args)) ≡ item_or_wrong (item_in word args)
     go true says = absurd cc
     go false says = refl

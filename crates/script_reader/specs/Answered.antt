@@ -1,8 +1,8 @@
--- What the reader returns for a line, by the line's meaning (`Saying`). No public clause cites this module.
+-- What the reader returns for a line, by the line's meaning (`LineMeaning`). No public clause cites this module.
 use Rattle.std.specs.Prelude.{◌≡◌, ◌+◌, ℕ, Bool, true, false, Option, Some, None, drop, take}
 use Rattle.cf_base.specs.Settings.{profile_of}
 use Rattle.script_reader.specs.Commands.{IsWellFormed}
-use Rattle.script_reader.specs.Items.{Item, Saying, asks, item, item_or_wrong, line_says, nothing, stage_after, starts, wrong}
+use Rattle.script_reader.specs.Items.{Item, LineMeaning, asks, item, item_or_wrong, line_says, nothing, stage_after, starts, wrong}
 use Rattle.script_reader.specs.Reading.{IsFirstLine, Reading}
 use Rattle.script_reader.specs.declared.next.Next.{Next}
 use Rattle.script_reader.specs.declared.next.Next.TheVariants as next
@@ -25,18 +25,18 @@ IsInRange (next.Command command) = IsWellFormed command
 IsInRange _ = Unit {0}
 
 -- the meaning of a line, from what the code found: whether the line is in the grammar, and then the result n with its item
-abbrev pub saying_if : Bool → Next → Saying
+abbrev pub saying_if : Bool → Next → LineMeaning
 saying_if true n = item_or_wrong (item_answered n)
 saying_if false n = wrong
 
 -- whether a line of this meaning is blank or a comment
-abbrev pub says_nothing : Saying → Bool
-says_nothing nothing = true
-says_nothing wrong = false
-says_nothing (item i) = false
+abbrev pub is_blank_or_comment : LineMeaning → Bool
+is_blank_or_comment nothing = true
+is_blank_or_comment wrong = false
+is_blank_or_comment (item i) = false
 
 -- the stage after a line of this meaning; none if the grammar doesn't allow such a line at this stage
-abbrev pub stage_said : Stage → Saying → Option Stage
+abbrev pub stage_said : Stage → LineMeaning → Option Stage
 stage_said stage nothing = Some stage
 stage_said stage wrong = None
 stage_said stage (item i) = stage_after stage i
@@ -48,4 +48,4 @@ line_passed old next = record old { kept = drop next old.kept; passed = old.pass
 -- the first line that r keeps is neither blank nor a comment; it has `len` bytes without its line feed, and the next line starts at byte `next`
 pub record IsNextLine (r : Reading) (len next : ℕ) : Type 0 where
   pub first : IsFirstLine r.kept r.ended len next
-  pub says : says_nothing (line_says (take len r.kept)) ≡ false
+  pub says : is_blank_or_comment (line_says (take len r.kept)) ≡ false

@@ -16,10 +16,10 @@ pub data Item : Type 0 where
   bad : ℕ → Item
 
 -- what a line means by itself: `nothing` if it is blank or a comment, `wrong` if it isn't in the grammar, else its item
-pub data Saying : Type 0 where
-  nothing : Saying
-  wrong : Saying
-  item : Item → Saying
+pub data LineMeaning : Type 0 where
+  nothing : LineMeaning
+  wrong : LineMeaning
+  item : Item → LineMeaning
 
 -- whether the token begins with `#`, as the first token of a comment does
 abbrev pub is_comment : List ℕ → Bool
@@ -31,17 +31,17 @@ abbrev pub item_in : List ℕ → List (List ℕ) → Option Item
 item_in word args = if bytes_eq word (codes "heap") then option_map starts (settings_in args) else option_map asks (command_of word args)
 
 -- the meaning of a line with this item, or with none: then the line isn't in the grammar
-abbrev pub item_or_wrong : Option Item → Saying
+abbrev pub item_or_wrong : Option Item → LineMeaning
 item_or_wrong None = wrong
 item_or_wrong (Some i) = item i
 
 -- the meaning of a line with these tokens
-abbrev pub tokens_say : List (List ℕ) → Saying
+abbrev pub tokens_say : List (List ℕ) → LineMeaning
 tokens_say [] = nothing
 tokens_say (word ∷ args) = if is_comment word then nothing else item_or_wrong (item_in word args)
 
 -- the meaning of a line, given without its line feed
-abbrev pub line_says : List ℕ → Saying
+abbrev pub line_says : List ℕ → LineMeaning
 line_says line = if is_too_long line then wrong else tokens_say (tokens (without_return line))
 
 -- whether the command is `k`
@@ -79,7 +79,7 @@ gives_or_breaks i None = breaks
 gives_or_breaks i (Some next) = gives i next
 
 -- the verdict on a line of this meaning, at this stage of the script
-abbrev pub verdict : Stage → Saying → Verdict
+abbrev pub verdict : Stage → LineMeaning → Verdict
 verdict stage nothing = passes
 verdict stage wrong = breaks
 verdict stage (item i) = gives_or_breaks i (stage_after stage i)

@@ -4,7 +4,7 @@
 ghost use Rattle.std.specs.Prelude.{◌≡◌, IsTrue, codes, false, option_map};
 ghost use Rattle.std.specs.Str.{bytes_eq};
 ghost use Rattle.cf_base.specs.Settings.{profile_of};
-ghost use Rattle.script_reader.specs.Answered.{IsInRange, saying_if, says_nothing, some_if};
+ghost use Rattle.script_reader.specs.Answered.{IsInRange, saying_if, is_blank_or_comment, some_if};
 ghost use Rattle.script_reader.specs.Commands as grammar;
 ghost use Rattle.script_reader.specs.declared.command.Command.{Command};
 ghost use Rattle.script_reader.specs.declared.next.Next.TheVariants as answer;
@@ -321,7 +321,7 @@ fn is_heap(word: &[u8]) -> bool
 
 /// Whether a line, without its line feed, is blank or a comment.
 pub fn is_silent(text: &[u8]) -> bool
-    ensures { result ≡ says_nothing (line_says text.now) }
+    ensures { result ≡ is_blank_or_comment (line_says text.now) }
 {
     !is_too_long(text) && has_no_item(without_return(text))
 }
@@ -329,7 +329,7 @@ pub fn is_silent(text: &[u8]) -> bool
 /// Whether the text has no token, or its first token begins with `#`, as that of a comment does.
 #[tactic(auto, using(crate::proofs::SilentLines::item_at_once))]
 fn has_no_item(text: &[u8]) -> bool
-    ensures { result ≡ says_nothing (tokens_say (tokens text.now)) }
+    ensures { result ≡ is_blank_or_comment (tokens_say (tokens text.now)) }
 {
     // Most lines begin with a letter, and need no search.
     if text.len() > 0 && text[0] > b'#' {
@@ -345,7 +345,7 @@ fn has_no_item(text: &[u8]) -> bool
 /// settings of a `heap` line, into `next`, and the bytes of a write into `payload`. False if the line isn't
 /// in the grammar.
 pub fn read_line<'a>(text: &[u8], payload: &'a mut PayloadBuffer, next: &mut NextRef<'a>) -> bool
-    requires { says_nothing (line_says text.now) ≡ false }
+    requires { is_blank_or_comment (line_says text.now) ≡ false }
     ensures value { saying_if result (owned_next next.new) ≡ line_says text.now }
     ensures fits { IsTrue result → IsInRange (owned_next next.new) }
 {

@@ -1,6 +1,6 @@
 //! `Reader`: takes the bytes of a script in chunks, and returns one command after the other.
 ghost use Rattle.std.specs.Prelude.{◌≡◌, ◌≤◌, ◌+◌, ◌==◌, true, false, length, take, drop, position, MatchOption, None};
-ghost use Rattle.script_reader.specs.Answered.{IsNextLine, line_passed, says_nothing};
+ghost use Rattle.script_reader.specs.Answered.{IsNextLine, line_passed, is_blank_or_comment};
 ghost use Rattle.script_reader.specs.Items.{line_says};
 ghost use Rattle.script_reader.specs.Lines.{is_last_line};
 ghost use Rattle.script_reader.specs.Owned.{owned_next};
@@ -131,7 +131,7 @@ impl Reader {
             return;
         }
         match self.next_line() {
-            Some(cut) => self.answer_line(cut, payload, next),
+            Some(cut) => self.read_first_line(cut, payload, next),
             None => *next = self.without_line(),
         }
     }
@@ -183,7 +183,7 @@ impl Reader {
     /// Whether the first line of the kept bytes, which ends at `cut`, is blank or a comment.
     fn is_silent(&self, cut: Cut) -> bool
         requires { cut.len ≤ length self.now.kept }
-        ensures { result ≡ says_nothing (line_says (take cut.len self.now.kept)) }
+        ensures { result ≡ is_blank_or_comment (line_says (take cut.len self.now.kept)) }
     {
         let kept = &self.buffer.as_slice()[self.start..];
         is_silent(&kept[..cut.len])
@@ -204,7 +204,7 @@ impl Reader {
     /// Reads the first line of the kept bytes, which ends at `cut` and is neither blank nor a comment, passes
     /// it, and puts what a call returns for it into `next`. The bytes of a write are put into `payload`. If
     /// the line is bad, that is `Bad` with the line's number, and the reader stops.
-    fn answer_line<'a>(&mut self, cut: Cut, payload: &'a mut PayloadBuffer, next: &mut NextRef<'a>)
+    fn read_first_line<'a>(&mut self, cut: Cut, payload: &'a mut PayloadBuffer, next: &mut NextRef<'a>)
         requires going { self.old.stopped ≡ None }
         requires line { IsNextLine self.old cut.len cut.next }
         ensures { Answers self.old (owned_next next.new) self.new }

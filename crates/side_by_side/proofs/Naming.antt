@@ -6,7 +6,7 @@ use Rattle.side_by_side.specs.SideBySide.{lead_of}
 use Rattle.script_reader.specs.declared.command.Command.{Command}
 use Rattle.run_model.proofs.CallerLemmas.{step_same}
 use Rattle.run_model.specs.Answering.{IsAnswered, IsCutShort, Moment}
-use Rattle.run_model.specs.Runs.{Turn}
+use Rattle.run_model.specs.Runs.{IsCommandStep}
 use Rattle.run_model.specs.Sessions.{IsGoing, RunState}
 use Rattle.cf_base.specs.declared.kind.Kind.{Kind}
 use Rattle.side_by_side.specs.Progress.{TurnNamed, TurnNamedInPart}
@@ -43,5 +43,5 @@ named_cut old c lead new is a = (
 )
 
 -- a command leaves the kind of the manager as it is
-pub turn_kind : (old new : RunState) (c : Command) (reply : Reply) → IsGoing old → Turn old c reply new → new.heap.kind ≡ old.heap.kind
+pub turn_kind : (old new : RunState) (c : Command) (reply : Reply) → IsGoing old → IsCommandStep old c reply new → new.heap.kind ≡ old.heap.kind
 turn_kind old new c reply going turn = (step_same old new c reply going.rules turn.step).kind

@@ -6,7 +6,7 @@ use Rattle.std.proofs.lemmas.List.Elements.{All-cons, All-head, All-nil, All-tai
 use Rattle.cf_base.specs.Settings.{Profile}
 use Rattle.cf_base.specs.declared.kind.Kind.{Kind}
 use Rattle.cf_model.specs.Rules.{AreInRange}
-use Rattle.run_laws.specs.Sayable.{IsSayable}
+use Rattle.run_laws.specs.ValidItems.{IsValidCommand}
 use Rattle.run_laws.proofs.CallerLemmas.{CanGoOn, begins_there, turn_there}
 use Rattle.cf_io.proofs.CallerLemmas.{led-append}
 use Rattle.run_model.proofs.CallerLemmas.{step_going}
@@ -32,7 +32,7 @@ each_begins (kind ∷ kinds) p can =
     let rest = each_begins kinds p can in
     (named_lines kind (said (codes "ok")) ++ rest.0, b.0 ∷ rest.1, (said (codes "ok"), rest.0, b.0, rest.1, (b.1, refl), rest.2, refl, refl))
 
-pub each_turns : (olds : List RunState) (c : Command) → All IsGoing olds → IsSayable c → (reply : Reply) × (news : List RunState) × EachTurn olds c reply news
+pub each_turns : (olds : List RunState) (c : Command) → All IsGoing olds → IsValidCommand c → (reply : Reply) × (news : List RunState) × EachTurn olds c reply news
 each_turns [] c on can = ([], [], (refl, refl))
 each_turns (old ∷ olds) c on can =
     let t = turn_there old c (All-head IsGoing old olds on) can in
@@ -46,7 +46,7 @@ each_goes_on (old ∷ olds) c reply news on (first, more, new, rest, turn, turns
     (each_goes_on olds c more rest (All-tail IsGoing old olds on) turns))
 
 -- what was written of a cut reply is a prefix of a whole reply of all managers
-each_whole : (olds : List RunState) (c : Command) (out : List ℕ) (news : List RunState) → All IsGoing olds → IsSayable c → EachInPart olds c out news
+each_whole : (olds : List RunState) (c : Command) (out : List ℕ) (news : List RunState) → All IsGoing olds → IsValidCommand c → EachInPart olds c out news
     → (reply : Reply) × (mids : List RunState) × (lost : List ℕ) × EachTurn olds c reply mids × (led [] reply ≡ out ++ lost)
 each_whole [] c out news on can part = absurd part
 each_whole (old ∷ olds) c out news on can (inl cut) =
@@ -81,7 +81,7 @@ many_go_on from = record {
   turn_there = λ old c on can. (let t = each_turns (runs_of old) c on can in (t.0, side_by_side_of t.1, subst (EachTurn (runs_of old) c t.0) (sym (runs_are t.1)) t.2));
 }
 
-pub each_is_whole : (old : SideBySide) (c : Command) (out : List ℕ) (new : SideBySide) → AllGo old → IsSayable c → many_managers.turns_in_part old c out new
+pub each_is_whole : (old : SideBySide) (c : Command) (out : List ℕ) (new : SideBySide) → AllGo old → IsValidCommand c → many_managers.turns_in_part old c out new
     → (reply : Reply) × (mid : SideBySide) × (lost : List ℕ) × many_managers.turns old c reply mid × (led [] reply ≡ out ++ lost)
 each_is_whole old c out new on can part =
     let w = each_whole (runs_of old) c out (runs_of new) on can part in

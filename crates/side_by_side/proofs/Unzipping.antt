@@ -9,7 +9,7 @@ use Rattle.script_reader.specs.declared.command.Command.{Command}
 use Rattle.run_model.specs.Plays.{PlayPart, PlayRun, PlayStep}
 use Rattle.run_model.specs.Texts.{Reply, bad_line, led, said}
 use Rattle.cf_base.specs.declared.kind.Kind.{Kind}
-use Rattle.run_model.specs.Runs.{BeginsOne, Run, Turn}
+use Rattle.run_model.specs.Runs.{BeginsOne, Run, IsCommandStep}
 use Rattle.run_model.specs.Sessions.{RunState}
 use Rattle.side_by_side.specs.SideBySide.{EachBegins, EachInPart, EachTurn, named_lines}
 use Rattle.side_by_side.specs.OwnRuns.{JoinStates, HasNoManagers, OwnRuns, OwnRunsInPart, OwnRunsUpTo, bare_reply, interleaved_replies, interleaved_reply}
@@ -26,7 +26,7 @@ pub record Parted (kind : Kind) (kinds : List Kind) (own : Option RunState) (old
   pub more : Reply
   pub own_mid : Option RunState
   pub mids : Option (List RunState)
-  pub step : PlayStep (BeginsOne kind) Turn own item first own_mid
+  pub step : PlayStep (BeginsOne kind) IsCommandStep own item first own_mid
   pub steps : PlayStep (EachBegins kinds) EachTurn olds item more mids
   pub reply_is : reply ≡ interleaved_reply kind item first more
   pub together : JoinStates own_mid mids mid
@@ -152,10 +152,10 @@ own_runs (kind ∷ kinds) items replies end run =
 
 -- one manager's own run, continued by one command
 own_run_more : (kind : Kind) (before : List Item) (c : Command) (owns : List Reply) (own : Reply) (old new : RunState) → Run kind None before owns (Some old)
-    → Turn old c own new → Run kind None (before ++ asks c ∷ []) (owns ++ own ∷ []) (Some new)
+    → IsCommandStep old c own new → Run kind None (before ++ asks c ∷ []) (owns ++ own ∷ []) (Some new)
 own_run_more kind before c owns own old new run turn =
-    run_joined (BeginsOne kind) Turn None before (asks c ∷ []) owns (own ∷ []) (Some old) (Some new) run
-    (one_run (BeginsOne kind) Turn (Some old) (Some new) (asks c) own (new, turn, refl))
+    run_joined (BeginsOne kind) IsCommandStep None before (asks c ∷ []) owns (own ∷ []) (Some old) (Some new) run
+    (one_run (BeginsOne kind) IsCommandStep (Some old) (Some new) (asks c) own (new, turn, refl))
 
 -- the runs of the first manager and of the others, up to the manager whose reply was cut
 up_to_at : (kind : Kind) (kinds : List Kind) (before : List Item) (c : Command) (replies owns others : List Reply) (old : RunState) (olds : List RunState)

@@ -4,20 +4,20 @@ use Rattle.cf_io.specs.Feeds.{appended}
 use Rattle.run_model.specs.Texts.{Reply, led}
 use Rattle.script_reader.specs.declared.command.Command.{Command}
 use Rattle.run_model.specs.Sessions.{RunState}
-use Rattle.run_model.specs.Runs.{Turn}
+use Rattle.run_model.specs.Runs.{IsCommandStep}
 use Rattle.side_by_side.specs.SideBySide.{EachTurn, named_lines}
 
 -- one manager does a command with its own reply, and `reply` has the name of its kind before each line of that
 pub record TurnNamed (old : RunState) (c : Command) (reply : Reply) (new : RunState) : Type 0 where
   pub own : Reply
-  pub turn : Turn old c own new
+  pub turn : IsCommandStep old c own new
   pub reply_is : reply ≡ named_lines old.heap.kind own
 
 -- one manager does a command with its own reply; of that reply, with the name of its kind before each line, the prefix `out` was written
 pub record TurnNamedInPart (old : RunState) (c : Command) (out : List ℕ) (new : RunState) : Type 0 where
   pub own : Reply
   pub lost : List ℕ
-  pub turn : Turn old c own new
+  pub turn : IsCommandStep old c own new
   pub cut : led [] (named_lines old.heap.kind own) ≡ out ++ lost
 
 -- The command c led from the state `old` to `new`, and the sink, which held the bytes `before`, holds `after`. `Ok`: by the relation `turns`, and its reply

@@ -11,7 +11,7 @@ use Rattle.cf_model.specs.Steps.{IsClosed}
 use Rattle.cf_base.specs.declared.settings.Settings.{Settings}
 use Rattle.cf_session.specs.Apply.{run_at}
 use Rattle.script_reader.specs.declared.command.Command.{Command}
-use Rattle.run_model.specs.Runs.{BeginsOne, Turn}
+use Rattle.run_model.specs.Runs.{BeginsOne, IsCommandStep}
 use Rattle.script_loop.specs.Semantics.{Semantics}
 use Rattle.run_model.specs.Sessions.{IsGoing, RunState, SessionState, fresh_session}
 
@@ -84,7 +84,7 @@ EachBegins (kind ∷ kinds) p reply news = (first : Reply) × (more : Reply) × 
 abbrev pub EachTurn : List RunState → Command → Reply → List RunState → Type 0
 EachTurn [] c reply news = (reply ≡ []) × (news ≡ [])
 EachTurn (old ∷ olds) c reply news = (first : Reply) × (more : Reply) × (new : RunState) × (rest : List RunState)
-    × Turn old c first new × EachTurn olds c more rest × (reply ≡ named_lines old.heap.kind first ++ more) × (news ≡ new ∷ rest)
+    × IsCommandStep old c first new × EachTurn olds c more rest × (reply ≡ named_lines old.heap.kind first ++ more) × (news ≡ new ∷ rest)
 
 -- The command c took effect on the manager of the run `old`, and only the prefix `out` of its reply was written; the managers after it, `olds`, are unchanged.
 -- `news` are all runs after that.
@@ -92,7 +92,7 @@ pub record IsCutHere (old : RunState) (olds : List RunState) (c : Command) (out 
   pub reply : Reply
   pub lost : List ℕ
   pub new : RunState
-  pub turn : Turn old c reply new
+  pub turn : IsCommandStep old c reply new
   pub cut : led [] (named_lines old.heap.kind reply) ≡ out ++ lost
   pub are : news ≡ new ∷ olds
 
@@ -103,7 +103,7 @@ EachInPart [] c out news = ⊥
 EachInPart (old ∷ olds) c out news =
     IsCutHere old olds c out news
     ⊎ ((first : Reply) × (more : List ℕ) × (new : RunState) × (rest : List RunState)
-    × Turn old c first new × EachInPart olds c more rest × (out ≡ led [] (named_lines old.heap.kind first) ++ more) × (news ≡ new ∷ rest))
+    × IsCommandStep old c first new × EachInPart olds c more rest × (out ≡ led [] (named_lines old.heap.kind first) ++ more) × (news ≡ new ∷ rest))
 
 -- An allocation failed at the `heap` line: the managers before the one that failed are open and empty, that one is closed, and the later ones are unchanged;
 -- so are all sessions.

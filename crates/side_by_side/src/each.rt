@@ -9,7 +9,7 @@ use cf_base::{Failed, OutOfMemory, Settings};
 use cf_io::Sink;
 use cf_model::{Manager, open_all};
 use cf_session::Session;
-use script_loop::{OpenFault, Player};
+use script_loop::{OpenFault, ModeHandler};
 use script_reader::CommandRef;
 use std::alloc::Global;
 
@@ -37,7 +37,7 @@ impl Sessions {
     }
 }
 
-impl<H: Manager> Player<Vec<H>> for Sessions {
+impl<H: Manager> ModeHandler<Vec<H>> for Sessions {
     ghost State = { SideBySide };
 
     ghost Plan = { List TheKind × List Bool };

@@ -1,4 +1,4 @@
--- For `who_waits_and_how_long`: slices alone end the pending job and the one that may follow; then a malloc that was refused with `busy` isn't refused.
+-- For `who_is_busy_and_how_long`: slices alone end the pending job and the one that may follow; then a malloc that was refused with `busy` isn't refused.
 use Rattle.std.proofs.Common.{◌≡◌, ℕ, zero, suc, true, false, cond, ◌+◌, ◌*◌, ◌<◌, ◌≤◌, Bool, Option, Some, None, arith, sym, ◌∙◌, ap, refl, subst, inl, inr}
 use Rattle.std.specs.Prelude.{◌&&◌, nat_eq, nat_lt, not}
 use Rattle.std.proofs.lemmas.Bool.{cases_lt}

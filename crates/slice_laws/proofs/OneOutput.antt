@@ -11,7 +11,7 @@ use Rattle.script_reader.specs.Items.{Item, asks, bad, starts}
 use Rattle.script_reader.specs.declared.command.Command.{Command}
 use Rattle.script_reader.specs.declared.command.Command.TheVariants as command
 use Rattle.slice_model.specs.State.{Plan, left_of}
-use Rattle.slice_model.specs.Runs.{Working}
+use Rattle.slice_model.specs.Runs.{HeapWithWords}
 use Rattle.slice_model.proofs.CallerLemmas.{one_free, one_malloc, one_slice, one_write}
 use Rattle.sliced_heap.specs.Shown.{SlicedState, StaysOpen, plan_in, working_in}
 use Rattle.slice_session.specs.Playing.{BeginsSliced, BeginsSlices, RunsSliced, SlicePlay, run_of_play, slices}
@@ -25,9 +25,9 @@ same_heap old a b x y w order = λ i. record {
   is_open = (y.is_open ∙ sym x.is_open) i;
   profile = (y.profile ∙ sym x.profile) i;
   quantum = (y.quantum ∙ sym x.quantum) i;
-  held = (ap (λ (v : Working). v.state.held) (sym w)) i;
-  job = (ap (λ (v : Working). v.state.job) (sym w)) i;
-  words = (ap (λ (v : Working). v.words) (sym w)) i;
+  held = (ap (λ (v : HeapWithWords). v.state.held) (sym w)) i;
+  job = (ap (λ (v : HeapWithWords). v.state.job) (sym w)) i;
+  words = (ap (λ (v : HeapWithWords). v.words) (sym w)) i;
   order = (sym order) i;
 }
 

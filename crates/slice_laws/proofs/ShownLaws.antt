@@ -1,4 +1,4 @@
--- For `who_waits_and_how_long`: when a free or a malloc prints `busy`, and how slices lower the words that are left.
+-- For `who_is_busy_and_how_long`: when a free or a malloc prints `busy`, and how slices lower the words that are left.
 use Rattle.std.proofs.Common.{◌≡◌, ◌≢◌, ℕ, zero, suc, true, false, cond, ◌+◌, ◌-◌, ◌*◌, ◌<◌, ◌≤◌, Bool, List, Option, Some, None, length, get_or, arith, sym, ◌∙◌, ap, refl, subst, inl, inr}
 use Rattle.std.specs.Prelude.{◌&&◌, ◌||◌, ◌↔◌, codes, if◌then◌else◌, nat_eq, nat_lt, not}
 use Rattle.std.proofs.lemmas.Bool.{cases_lt}
@@ -19,8 +19,8 @@ use Rattle.slice_laws.specs.ShownSlices.{ShownJob, ShownSlices, after_slice, are
 use Rattle.slice_laws.specs.SliceHeadline.{after, after_free, after_slices, job_begun, line_of, slice_fault, slice_refusal, with_objects}
 
 -- a free
-pub free_waits : (t : ShownSlices) (id : ℕ) (v : List ℕ) → get t.heap.objects id ≡ Some v → (line_of t (Free id) ≡ codes "busy") ↔ (t.job ≢ None)
-free_waits t id v there = go t.job (ap (λ o. slice_free_text (slice_fault o t.job)) there)
+pub free_is_busy : (t : ShownSlices) (id : ℕ) (v : List ℕ) → get t.heap.objects id ≡ Some v → (line_of t (Free id) ≡ codes "busy") ↔ (t.job ≢ None)
+free_is_busy t id v there = go t.job (ap (λ o. slice_free_text (slice_fault o t.job)) there)
   where
     go : (j : Option ShownJob) → line_of t (Free id) ≡ slice_free_text (slice_fault (Some v) j) → (line_of t (Free id) ≡ codes "busy") ↔ (j ≢ None)
     go None e = (

@@ -12,7 +12,7 @@ use Rattle.page_model.specs.Paging.{Paging, first_bounds, paging_of, slot_words,
 use Rattle.page_model.specs.Steps.{Moves, Request, zeros_at}
 use Rattle.slice_model.specs.declared.job_slot.JobSlot.{JobSlot}
 use Rattle.slice_model.specs.State.{Idle, IsKept, IsPlan, Plan, Sliced, job_slot, left_of_slot}
-use Rattle.slice_model.specs.Steps.{GivesObject, GoesOn, IsDone, IsSlice, SliceOf, Vacates, done_after, fresh_slot}
+use Rattle.slice_model.specs.Steps.{AddsObject, GoesOn, IsDone, IsSlice, SliceOf, LeavesJob, done_after, fresh_slot}
 use Rattle.slice_model.proofs.CallerLemmas.{begun_fresh, begun_once, followed_once, kept_begun, kept_malloc, kept_slice, objects_sliced, slot_advanced}
 use Rattle.transcript_laws.specs.ById.{ById, begun}
 use Rattle.slice_laws.specs.ShownSlices.{ShownJob, ShownSlices, after_slice, are_full, job_noted, job_sliced, noted, words_of_job}
@@ -58,7 +58,7 @@ module _ (s : Profile) (quantum : ℕ) (ok : IsPlan (plan_by s quantum)) where
   full_shown o m counted k done filled = λ i. nat_eq ((counted k.class i + cond (eq_yes k.class k.class refl i) 1 0) % slots_of p k.class) 0
 
   -- a malloc
-  pub malloc_noted : (o : Objects) (old new : Sliced) → IsKept (plan_by s quantum) old → (asked : Request) → GivesObject (plan_by s quantum) old asked new
+  pub malloc_noted : (o : Objects) (old new : Sliced) → IsKept (plan_by s quantum) old → (asked : Request) → AddsObject (plan_by s quantum) old asked new
       → AreCounted o new.held
       → noted (record { heap = heap_with s o; quantum = quantum; job = job_shown (plan_by s quantum).paging old.held (job_slot old.job) })
       ≡ state_shown s quantum o new
@@ -81,7 +81,7 @@ module _ (s : Profile) (quantum : ℕ) (ok : IsPlan (plan_by s quantum)) where
   -- a free, before its slice
   pub free_noted : (o : Objects) (m : Held) → IsKept (plan_by s quantum) (record { held = m; job = Idle }) → (h : ℕ) (x : Placed) → get m h ≡ Some x
       → (moved : Option ℕ) → Moves (plan_by s quantum).paging m x moved → (after : Sliced)
-      → Vacates (remove m h) x.place (class_at (plan_by s quantum).paging x) moved after → AreCounted o after.held
+      → LeavesJob (remove m h) x.place (class_at (plan_by s quantum).paging x) moved after → AreCounted o after.held
       → noted (record {
         heap = heap_with s o;
         quantum = quantum;

@@ -32,7 +32,7 @@ use Rattle.slice_model.specs.declared.answers.SliceRefusal.TheVariants as refusa
 use Rattle.slice_model.specs.declared.job_slot.JobSlot.{JobSlot}
 use Rattle.slice_model.specs.Runs.{Event, Free, Malloc, Step, Write}
 use Rattle.slice_model.specs.State.{Clear, Idle, IsKept, Job, Move, Sliced, job_slot, left_of, with_slot}
-use Rattle.slice_model.specs.Steps.{GivesObject, IsRefusedBy}
+use Rattle.slice_model.specs.Steps.{AddsObject, IsRefusedBy}
 use Rattle.slice_model.proofs.CallerLemmas.{given_or_refused, kept_begun, lacking_is_no_place, no_place_is_lacking, objects_sliced}
 use Rattle.sliced_heap.specs.Shown.{SlicedState, plan_in, working_in}
 use Rattle.slice_session.specs.SliceRun.{Does, FreesSliced, IsGoingSliced, MallocsSliced, SliceRun, SliceStep, StaysSliced, StepsSliced, WritesSliced}
@@ -139,7 +139,7 @@ module _ (s : SliceRun) (going : IsGoingSliced s) where
         let yes = lt_yes s.heap.profile.pages (needed_beside (shown s) n) (omega arith) in
         λ i. refusal_by (fits_so why.fits i) (few_so why.few i) (within_so why.within i) (yes i)
 
-    given_shown : (h : ℕ) (new : Sliced) → GivesObject (plan_in s.heap) state (record { number = h; length = n }) new → slice_refusal (shown s) n ≡ None
+    given_shown : (h : ℕ) (new : Sliced) → AddsObject (plan_in s.heap) state (record { number = h; length = n }) new → slice_refusal (shown s) n ≡ None
     given_shown h new g =
         let kept = going.rules.consistent.kept in
         let plan = going.rules.plan in

@@ -56,7 +56,7 @@ pub fn one_sliced_output()
 /// suppose a malloc prints `busy`, `a` slices are enough for the rest of the job, and `b` slices for a whole
 /// slot. Then the malloc isn't refused after `a + b` slices without another command: at most one more job
 /// follows.
-pub fn who_waits_and_how_long()
+pub fn who_is_busy_and_how_long()
     ensures free { (t : ShownSlices) (id : ℕ) (v : List ℕ) → get t.heap.objects id ≡ Some v
         → (line_of t (Free id) ≡ codes "busy") ↔ (t.job ≢ None) }
     ensures malloc { (t : ShownSlices) (n : ℕ) → IsPaging (paging_shown t)

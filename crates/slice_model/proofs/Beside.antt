@@ -5,11 +5,11 @@ use Rattle.cf_lemmas.proofs.Maps.{get_inserted, get_insert_other}
 use Rattle.page_model.specs.Arrangement.{IsSound}
 use Rattle.page_model.specs.Held.{Placed}
 use Rattle.page_model.proofs.CallerLemmas.{not_full-same}
-use Rattle.slice_model.specs.State.{Plan, IsPlan, JobSlot, Sliced, IsKept, LieBeside, job_slot, placeholder, with_slot}
+use Rattle.slice_model.specs.State.{Plan, IsPlan, JobSlot, Sliced, IsKept, AreSoundBesideJob, job_slot, placeholder, with_slot}
 use Rattle.slice_model.proofs.Occupied.{job_class, no_placeholder, placeholder_class}
 use Rattle.slice_model.proofs.KeptSteps.{at_most_two, other_than, same_class, two_is_last}
 
-pub stand_beside : (plan : Plan) → IsPlan plan → (s : Sliced) → IsKept plan s → (k : JobSlot) → job_slot s.job ≡ Some k → LieBeside plan.paging s.held k
+pub stand_beside : (plan : Plan) → IsPlan plan → (s : Sliced) → IsKept plan s → (k : JobSlot) → job_slot s.job ≡ Some k → AreSoundBesideJob plan.paging s.held k
 stand_beside plan ok s kept k is =
     let none = no_placeholder plan s.held kept.numbers in
     let class = (job_class plan.paging s.held s.job kept.job k is).class in

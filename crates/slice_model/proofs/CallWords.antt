@@ -19,7 +19,7 @@ use Rattle.page_model.specs.Steps.{Moves, Request, zeros_at}
 use Rattle.page_model.proofs.CallerLemmas.{fresh_word, within_or, disjoint_outside, byte_of_object, class_holds, mover_is_other}
 use Rattle.page_model.proofs.CallerLemmas.{length-written, written_before, written_behind}
 use Rattle.slice_model.specs.State.{Plan, IsPlan, JobSlot, Job, Sliced, IsKept, IsJobOf, advanced, job_slot, Idle, Clear, Move}
-use Rattle.slice_model.specs.Steps.{Ends, GivesObject, GoesOn, IsDone, SliceOf, Vacates, done_after}
+use Rattle.slice_model.specs.Steps.{EndsJob, AddsObject, GoesOn, IsDone, SliceOf, LeavesJob, done_after}
 use Rattle.slice_model.specs.Words.{HasWords, DoesWords, RewritesObject, byte_read, word_at}
 use Rattle.slice_model.specs.Runs.{words_of_slice}
 use Rattle.slice_model.proofs.KeptSteps.{job_stays, kept_malloc}
@@ -95,7 +95,7 @@ module _ (plan : Plan) (ok : IsPlan plan) (words words' : List ℕ) where
             ends m k new done.ends over)
       ]
     where
-      ends : (m : Held) (k : JobSlot) (new : Sliced) → Ends plan.paging m k new → HasWords plan.paging (record { held = m; job = Idle }) words'
+      ends : (m : Held) (k : JobSlot) (new : Sliced) → EndsJob plan.paging m k new → HasWords plan.paging (record { held = m; job = Idle }) words'
           → HasWords plan.paging new words'
       ends m k new (inl (_, whole)) over = rw whole over
       ends m k new (inr chains) over =
@@ -118,7 +118,7 @@ module _ (plan : Plan) (ok : IsPlan plan) (words words' : List ℕ) where
 -- a free
 pub words_begun : (plan : Plan) → IsPlan plan → (words : List ℕ) (m : Held) → IsKept plan (record { held = m; job = Idle })
     → HasWords plan.paging (record { held = m; job = Idle }) words → (h : ℕ) (x : Placed) → get m h ≡ Some x → (moved : Option ℕ)
-    → Moves plan.paging m x moved → (new : Sliced) → Vacates (remove m h) x.place (class_at plan.paging x) moved new → HasWords plan.paging new words
+    → Moves plan.paging m x moved → (new : Sliced) → LeavesJob (remove m h) x.place (class_at plan.paging x) moved new → HasWords plan.paging new words
 words_begun plan ok words m kept has h x there None never new is = rw is (words_to_clear plan.paging m words has h x there)
 words_begun plan ok words m kept has h x there (Some q) (must, (y, there', may)) new is =
     let ne = mover_is_other plan.paging ok.paging m kept.sound h x there q y there' must may in
@@ -227,7 +227,7 @@ module _ (p : Paging) (m : Held) (j : Job) (is_job : IsJobOf p m j) (words words
 
 -- a malloc
 pub words_given : (plan : Plan) → IsPlan plan → (old : Sliced) → IsKept plan old → (words words' : List ℕ) → HasWords plan.paging old words
-    → (asked : Request) (new : Sliced) → (g : GivesObject plan old asked new)
+    → (asked : Request) (new : Sliced) → (g : AddsObject plan old asked new)
     → Rewrites words words' (record { from = g.place; count = 1 }) (λ _. header_word asked.number asked.length) → HasWords plan.paging new words'
 words_given plan ok old kept words words' has asked new g re =
     let kept' : IsKept plan (record old { held = insert old.held asked.number (zeros_at g.place asked.length) }) =

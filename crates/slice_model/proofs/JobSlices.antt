@@ -13,8 +13,8 @@ use Rattle.page_model.specs.Held.{Held, Placed}
 use Rattle.page_model.specs.Paging.{page_of, slot_words, slots_of}
 use Rattle.page_model.proofs.CallerLemmas.{objects_on-elsewhere, objects_on-left}
 use Rattle.slice_model.specs.State.{Plan, IsPlan, JobSlot, Job, Sliced, IsKept, advanced, job_slot, Idle, Clear, Move}
-use Rattle.slice_model.specs.Steps.{AreSlices, Carries, Ends, GoesOn, IsBeside, IsDone, IsOver, IsSlice, SliceOf, done_after, fresh_slot}
-use Rattle.slice_model.specs.Runs.{Event, Happens, Runs, Turn, Working, is_step, steps_in, Malloc, Free, Step, Write, Read}
+use Rattle.slice_model.specs.Steps.{AreSlices, BeginsMove, EndsJob, GoesOn, IsBeside, IsDone, IsOver, IsSlice, SliceOf, done_after, fresh_slot}
+use Rattle.slice_model.specs.Runs.{Event, Happens, Runs, TaskCall, HeapWithWords, is_step, steps_in, Malloc, Free, Step, Write, Read}
 use Rattle.slice_model.proofs.Occupied.{job_class, no_placeholder}
 use Rattle.slice_model.proofs.KeptSteps.{kept_slice, two_is_last}
 
@@ -65,14 +65,14 @@ module _ (plan : Plan) where
 
   -- a slice ends the job if at most a quantum is left
   slice_ends : (old new : Sliced) (k : JobSlot) → job_slot old.job ≡ Some k → slot_words plan.paging k.class ≤ k.done + plan.quantum → IsSlice plan old new
-      → Ends plan.paging old.held k new
+      → EndsJob plan.paging old.held k new
   slice_ends old new k e few slice = go (rw e at slice)
     where
-      go : GoesOn plan old k new ⊎ IsDone plan old k new → Ends plan.paging old.held k new
+      go : GoesOn plan old k new ⊎ IsDone plan old k new → EndsJob plan.paging old.held k new
       go (inl on) = absurd (let l = on.left in omega arith)
       go (inr done) = done.ends
 
-  ends_over : (m : Held) (k : JobSlot) (new : Sliced) → Ends plan.paging m k new → IsOver k new.job
+  ends_over : (m : Held) (k : JobSlot) (new : Sliced) → EndsJob plan.paging m k new → IsOver k new.job
   ends_over m k new (inl (_, whole)) = inl (rw whole refl)
   ends_over m k new (inr chains) = inr (
     chains.object,
@@ -108,7 +108,7 @@ module _ (plan : Plan) where
 
   -- a job's slices end it
   slices_end : (old new : Sliced) (k : JobSlot) → 1 ≤ plan.quantum → job_slot old.job ≡ Some k → k.done < slot_words plan.paging k.class
-      → AreSlices plan (ceil_div (slot_words plan.paging k.class - k.done) plan.quantum) old new → Ends plan.paging old.held k new
+      → AreSlices plan (ceil_div (slot_words plan.paging k.class - k.done) plan.quantum) old new → EndsJob plan.paging old.held k new
   slices_end old new k one e under s =
       let c = ceil_bounds (slot_words plan.paging k.class - k.done) plan.quantum (omega arith) one in
       let low = c.2 in
@@ -122,10 +122,10 @@ module _ (plan : Plan) where
       let last = parts.2 in
       let end = slice_ends parts.0 last.0 (record k { done = k.done + c.0 * plan.quantum }) e' (omega arith) last.1 in
       let new_is : new ≡ last.0 = last.2 in
-      let end' : Ends plan.paging old.held (record k { done = k.done + c.0 * plan.quantum }) new = rw new_is (rw held at end) in
+      let end' : EndsJob plan.paging old.held (record k { done = k.done + c.0 * plan.quantum }) new = rw new_is (rw held at end) in
       same_ends old.held k (k.done + c.0 * plan.quantum) new end'
     where
-      same_ends : (m : Held) (k : JobSlot) (d : ℕ) (new : Sliced) → Ends plan.paging m (record k { done = d }) new → Ends plan.paging m k new
+      same_ends : (m : Held) (k : JobSlot) (d : ℕ) (new : Sliced) → EndsJob plan.paging m (record k { done = d }) new → EndsJob plan.paging m k new
       same_ends m k d new (inl x) = inl x
       same_ends m k d new (inr c) = inr (record { two = c.two; object = c.object; beside = c.beside; carries = c.carries })
 
@@ -138,7 +138,7 @@ module _ (plan : Plan) where
 
   -- after a job that another one followed the class has no second partly full page
   module _ (ok : IsPlan plan) where
-    pub followed_once : (m : Held) (a e q : ℕ) (new : Sliced) → IsBeside plan.paging m a e q → Carries m q a e new → IsKept plan new
+    pub followed_once : (m : Held) (a e q : ℕ) (new : Sliced) → IsBeside plan.paging m a e q → BeginsMove m q a e new → IsKept plan new
         → not_full_pages plan.paging new.held e ≢ 2
     followed_once m a e q new beside carries kept two =
         let y : Placed = carries.object in
@@ -188,7 +188,7 @@ module _ (plan : Plan) where
         let kept' = kept_slices (ceil_div (slot_words plan.paging k.class - k.done) plan.quantum) old parts.0 kept parts.1 in
         then parts.0 end kept' parts.2
       where
-        then : (mid : Sliced) → Ends plan.paging old.held k mid → IsKept plan mid
+        then : (mid : Sliced) → EndsJob plan.paging old.held k mid → IsKept plan mid
             → AreSlices plan (ceil_div (slot_words plan.paging k.class) plan.quantum) mid new
             → new.job ≡ Idle
         then mid (inl (_, whole)) kept' rest = slices_idle (ceil_div (slot_words plan.paging k.class) plan.quantum) mid new (rw whole refl) rest
@@ -203,12 +203,12 @@ module _ (plan : Plan) where
             let end = slices_end mid new (fresh_slot c.carries.object.place k.class) ok.quantum e' (omega arith) rest' in
             done (fresh_slot c.carries.object.place k.class) end once
           where
-            done : (g : JobSlot) → Ends plan.paging mid.held g new → not_full_pages plan.paging mid.held g.class ≢ 2 → new.job ≡ Idle
+            done : (g : JobSlot) → EndsJob plan.paging mid.held g new → not_full_pages plan.paging mid.held g.class ≢ 2 → new.job ≡ Idle
             done g (inl (_, whole)) once = rw whole refl
             done g (inr c) once = absurd (once c.two)
 
 -- a call that isn't a slice doesn't change a pending job
-stays_pending : (plan : Plan) (old : Working) (event : Event) (new : Working) → Happens plan old event new → old.state.job ≢ Idle
+stays_pending : (plan : Plan) (old : HeapWithWords) (event : Event) (new : HeapWithWords) → Happens plan old event new → old.state.job ≢ Idle
     → ((is_step event ≡ 0) × (new.state.job ≡ old.state.job)) ⊎ ((is_step event ≡ 1) × IsSlice plan old.state new.state)
 stays_pending plan old (Malloc n (Ok h)) new is pending = inl (refl, (let w = is.gives.placed in rw w refl))
 stays_pending plan old (Malloc n (Err e)) new is pending = inl (refl, (let same = is.1 in rw same refl))
@@ -224,7 +224,7 @@ not_idle : (j : Job) (k : JobSlot) → job_slot j ≡ Some k → j ≢ Idle
 not_idle j k e idle = (let e' : None ≡ Some k = sym (ap job_slot idle) ∙ e in cc)
 
 -- a list of calls before the end of the pending job does a quantum for each slice in it
-pub runs_go_on : (plan : Plan) (turns : List Turn) (old new : Working) (k : JobSlot) → job_slot old.state.job ≡ Some k
+pub runs_go_on : (plan : Plan) (turns : List TaskCall) (old new : HeapWithWords) (k : JobSlot) → job_slot old.state.job ≡ Some k
     → k.done + steps_in turns * plan.quantum < slot_words plan.paging k.class → Runs plan old turns new
     → new.state.job ≡ advanced old.state.job (k.done + steps_in turns * plan.quantum)
 runs_go_on plan [] old new k e more same =
@@ -252,7 +252,7 @@ runs_go_on plan (turn ∷ rest) old new k e more (mid, is, then) = elim (stays_p
 ]
 
 -- the slice that does the last words
-pub runs_end : (plan : Plan) → IsPlan plan → (turns : List Turn) (old mid new : Working) (k : JobSlot) → job_slot old.state.job ≡ Some k
+pub runs_end : (plan : Plan) → IsPlan plan → (turns : List TaskCall) (old mid new : HeapWithWords) (k : JobSlot) → job_slot old.state.job ≡ Some k
     → k.done < slot_words plan.paging k.class → Runs plan old turns mid
     → steps_in turns + 1 ≡ ceil_div (slot_words plan.paging k.class - k.done) plan.quantum → Happens plan mid Step new → IsOver k new.state.job
 runs_end plan ok turns old mid new k e under runs count step =

@@ -14,7 +14,7 @@ use Rattle.page_model.specs.Steps.{Moves, MustMove, Request, zeros_at}
 use Rattle.page_model.proofs.CallerLemmas.{mover_is_other, objects_on-exchanged, objects_on-inserted, objects_on-elsewhere, part_full, part_yes}
 use Rattle.page_model.proofs.CallerLemmas.{sound_exchanged, sound_placed, sound_without, on_yes, one_le, part_empty, part_over}
 use Rattle.slice_model.specs.State.{Plan, IsPlan, JobSlot, Job, Sliced, IsJobOf, IsKept, advanced, job_slot, occupied, placeholder, with_slot, Idle, Clear, Move}
-use Rattle.slice_model.specs.Steps.{Ends, GivesObject, IsSlice, RemovesObject, SliceOf, Vacates, done_after, fresh_slot}
+use Rattle.slice_model.specs.Steps.{EndsJob, AddsObject, IsSlice, RemovesObject, SliceOf, LeavesJob, done_after, fresh_slot}
 use Rattle.slice_model.proofs.Occupied.{get_beside, inserted_beside, job_class, no_placeholder, place_is_free, placeholder_class}
 
 -- n is sound, and has as many objects of each class on each page as m
@@ -171,7 +171,7 @@ full_shown n s some is = elim (cases_lt n s) [
 
 module _ (plan : Plan) (ok : IsPlan plan) where
   -- a malloc
-  pub kept_malloc : (old : Sliced) → IsKept plan old → (asked : Request) (new : Sliced) → GivesObject plan old asked new → IsKept plan new
+  pub kept_malloc : (old : Sliced) → IsKept plan old → (asked : Request) (new : Sliced) → AddsObject plan old asked new → IsKept plan new
   kept_malloc old kept asked new g =
       let len : length (replicate asked.length 0) ≡ asked.length = length-replicate {A = ℕ} asked.length 0 in
       let free = place_is_free plan ok old kept asked.length g.place g.free in
@@ -218,7 +218,7 @@ module _ (plan : Plan) (ok : IsPlan plan) where
 
   -- an object is removed: its slot is to be cleared, or that of the object that moves there
   pub kept_begun : (m : Held) → IsKept plan (record { held = m; job = Idle }) → (h : ℕ) (x : Placed) → get m h ≡ Some x → (moved : Option ℕ)
-      → Moves plan.paging m x moved → (new : Sliced) → Vacates (remove m h) x.place (class_at plan.paging x) moved new → IsKept plan new
+      → Moves plan.paging m x moved → (new : Sliced) → LeavesJob (remove m h) x.place (class_at plan.paging x) moved new → IsKept plan new
   kept_begun m kept h x there None never new is =
       let none = no_placeholder plan m kept.numbers in
       let c : ℕ = class_at plan.paging x in
@@ -358,7 +358,7 @@ module _ (plan : Plan) (ok : IsPlan plan) where
         subst (IsSound plan.paging) (remove_fresh m plan.proxies (placeholder plan.paging k) none) s'
 
   ended : (m : Held) (j : Job) (k : JobSlot) → job_slot j ≡ Some k → IsKept plan (record { held = m; job = j }) → (new : Sliced)
-      → Ends plan.paging m k new → IsKept plan new
+      → EndsJob plan.paging m k new → IsKept plan new
   ended m j k is kept new (inl (ne, whole)) =
       let none = no_placeholder plan m kept.numbers in
       let class = (job_class plan.paging m j kept.job k is).class in

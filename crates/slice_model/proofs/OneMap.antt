@@ -13,8 +13,8 @@ use Rattle.page_model.specs.Bytes.{AreBytes, written}
 use Rattle.page_model.specs.Held.{Held, Objects, Placed, objects}
 use Rattle.page_model.proofs.CallerLemmas.{bytes_held, bytes_missing, inserted_there, malloc_objects, length-written, written_are_bytes, zeros_are_bytes}
 use Rattle.slice_model.specs.State.{Plan, IsPlan, JobSlot, Sliced, IsKept, job_slot, Idle}
-use Rattle.slice_model.specs.Steps.{Carries, Ends, IsSlice, SliceOf, Vacates}
-use Rattle.slice_model.specs.Runs.{Event, Frees, Happens, HappensOnMap, IsConsistent, Mallocs, Part, Runs, RunsOnMap, Slices, Turn, Working, Writes, Malloc}
+use Rattle.slice_model.specs.Steps.{BeginsMove, EndsJob, IsSlice, SliceOf, LeavesJob}
+use Rattle.slice_model.specs.Runs.{Event, Frees, Happens, HappensOnMap, IsConsistent, Mallocs, Position, Runs, RunsOnMap, Slices, TaskCall, HeapWithWords, Writes, Malloc}
 use Rattle.slice_model.specs.Runs.{Free, Step, Write, Read}
 use Rattle.slice_model.specs.declared.answers.SliceFault.TheVariants as fault
 use Rattle.slice_model.specs.Words.{HasWords}
@@ -22,13 +22,13 @@ use Rattle.slice_model.proofs.KeptSteps.{kept_begun, kept_malloc, kept_slice, ke
 use Rattle.slice_model.proofs.CallWords.{byte_there, words_begun, words_given, words_sliced, words_written}
 
 -- an object that gets a new address keeps its bytes
-objects_carried : (m : Held) (q a c : ℕ) (new : Sliced) → Carries m q a c new → objects new.held ≡ objects m
+objects_carried : (m : Held) (q a c : ℕ) (new : Sliced) → BeginsMove m q a c new → objects new.held ≡ objects m
 objects_carried m q a c new is =
     let w = is.whole in
     let e = map_values-insert (λ (x : Placed). x.bytes) m q (record { place = a; bytes = is.object.bytes }) in
     rw w (e ∙ inserted_there (objects m) q is.object.bytes (bytes_held m q is.object is.found))
 
-objects_ended : (plan : Plan) (m : Held) (k : JobSlot) (new : Sliced) → Ends plan.paging m k new → objects new.held ≡ objects m
+objects_ended : (plan : Plan) (m : Held) (k : JobSlot) (new : Sliced) → EndsJob plan.paging m k new → objects new.held ≡ objects m
 objects_ended plan m k new (inl (_, whole)) = rw whole refl
 objects_ended plan m k new (inr chains) = objects_carried m chains.object k.address k.class new chains.carries
 
@@ -40,7 +40,7 @@ objects_sliced plan old new slice = go (job_slot old.job) slice
     go (Some k) (inl on) = (let w = on.whole in rw w refl)
     go (Some k) (inr done) = objects_ended plan old.held k new done.ends
 
-objects_begun : (m : Held) (h a c : ℕ) (moved : Option ℕ) (new : Sliced) → Vacates (remove m h) a c moved new → objects new.held ≡ remove (objects m) h
+objects_begun : (m : Held) (h a c : ℕ) (moved : Option ℕ) (new : Sliced) → LeavesJob (remove m h) a c moved new → objects new.held ≡ remove (objects m) h
 objects_begun m h a c None new is = rw is (map_values-remove (λ (x : Placed). x.bytes) m h)
 objects_begun m h a c (Some q) new is = objects_carried (remove m h) q a c new is ∙ map_values-remove (λ (x : Placed). x.bytes) m h
 
@@ -68,10 +68,10 @@ bytes_removed o h all q u there = all q u (some_removed o h q u there).1
 
 module _ (plan : Plan) (ok : IsPlan plan) where
   -- the same heap at work gives the same results to the same calls
-  same_heap : (old new : Working) → IsConsistent plan old → new ≡ old → (objects new.state.held ≡ objects old.state.held) × IsConsistent plan new
-  same_heap old new good same = (ap (λ (w : Working). objects w.state.held) same, subst (IsConsistent plan) (sym same) good)
+  same_heap : (old new : HeapWithWords) → IsConsistent plan old → new ≡ old → (objects new.state.held ≡ objects old.state.held) × IsConsistent plan new
+  same_heap old new good same = (ap (λ (w : HeapWithWords). objects w.state.held) same, subst (IsConsistent plan) (sym same) good)
 
-  malloc_on_map : (old : Working) (bytes : ℕ) (h : Handle) (new : Working) → IsConsistent plan old
+  malloc_on_map : (old : HeapWithWords) (bytes : ℕ) (h : Handle) (new : HeapWithWords) → IsConsistent plan old
       → Mallocs plan old (record { number = h.0; length = bytes }) new
       → HappensOnMap (objects old.state.held) (Malloc bytes (Ok h)) (objects new.state.held) × IsConsistent plan new
   malloc_on_map old bytes h new good is =
@@ -86,7 +86,7 @@ module _ (plan : Plan) (ok : IsPlan plan) where
         },
       )
 
-  free_on_map : (old : Working) (h : ℕ) (new : Working) → IsConsistent plan old → Frees plan old h new
+  free_on_map : (old : HeapWithWords) (h : ℕ) (new : HeapWithWords) → IsConsistent plan old → Frees plan old h new
       → HappensOnMap (objects old.state.held) (Free h None) (objects new.state.held) × IsConsistent plan new
   free_on_map old h new good is =
       let r = is.removes in
@@ -107,7 +107,7 @@ module _ (plan : Plan) (ok : IsPlan plan) where
         },
       )
 
-  step_on_map : (old new : Working) → IsConsistent plan old → Slices plan old new → (objects new.state.held ≡ objects old.state.held) × IsConsistent plan new
+  step_on_map : (old new : HeapWithWords) → IsConsistent plan old → Slices plan old new → (objects new.state.held ≡ objects old.state.held) × IsConsistent plan new
   step_on_map old new good is =
       let o = objects_sliced plan old.state new.state is.slice in (
         o,
@@ -118,29 +118,29 @@ module _ (plan : Plan) (ok : IsPlan plan) where
         },
       )
 
-  write_on_map : (old : Working) (part : Part) (bytes : List ℕ) (new : Working) → IsConsistent plan old → Writes old part bytes new
-      → HappensOnMap (objects old.state.held) (Write part bytes None) (objects new.state.held) × IsConsistent plan new
-  write_on_map old part bytes new good is =
+  write_on_map : (old : HeapWithWords) (position : Position) (bytes : List ℕ) (new : HeapWithWords) → IsConsistent plan old → Writes old position bytes new
+      → HappensOnMap (objects old.state.held) (Write position bytes None) (objects new.state.held) × IsConsistent plan new
+  write_on_map old position bytes new good is =
       let x : Placed = is.object in
-      let v : List ℕ = written is.object.bytes part.from bytes in
-      let o : objects new.state.held ≡ insert (objects old.state.held) part.number (written is.object.bytes part.from bytes) =
+      let v : List ℕ = written is.object.bytes position.from bytes in
+      let o : objects new.state.held ≡ insert (objects old.state.held) position.number (written is.object.bytes position.from bytes) =
       ap (λ (s : Sliced). objects s.held) is.state
-      ∙ map_values-insert (λ (x : Placed). x.bytes) old.state.held part.number
-      (record { place = is.object.place; bytes = written is.object.bytes part.from bytes }) in
-      let there = bytes_held old.state.held part.number is.object is.found in (
+      ∙ map_values-insert (λ (x : Placed). x.bytes) old.state.held position.number
+      (record { place = is.object.place; bytes = written is.object.bytes position.from bytes }) in
+      let there = bytes_held old.state.held position.number is.object is.found in (
         (is.object.bytes, there, is.fits, o),
         record {
-          kept = subst (IsKept plan) (sym is.state) (kept_write plan ok old.state good.kept part.number is.object is.found
-              (written is.object.bytes part.from bytes) (length-written is.object.bytes part.from bytes is.fits));
+          kept = subst (IsKept plan) (sym is.state) (kept_write plan ok old.state good.kept position.number is.object is.found
+              (written is.object.bytes position.from bytes) (length-written is.object.bytes position.from bytes is.fits));
           words = subst (λ s. HasWords plan.paging s new.words) (sym is.state) (words_written plan ok old.state good.kept old.words new.words good.words
-              part.number is.object is.found part.from bytes is.fits is.words);
-          bytes = rw o (bytes_inserted (objects old.state.held) part.number (written is.object.bytes part.from bytes) good.bytes
-              (written_are_bytes is.object.bytes part.from bytes is.fits (good.bytes part.number is.object.bytes there) is.are_bytes));
+              position.number is.object is.found position.from bytes is.fits is.words);
+          bytes = rw o (bytes_inserted (objects old.state.held) position.number (written is.object.bytes position.from bytes) good.bytes
+              (written_are_bytes is.object.bytes position.from bytes is.fits (good.bytes position.number is.object.bytes there) is.are_bytes));
         },
       )
 
   -- one call does to the map of objects what `HappensOnMap` says
-  pub call_on_map : (old : Working) (event : Event) (new : Working) → IsConsistent plan old → Happens plan old event new
+  pub call_on_map : (old : HeapWithWords) (event : Event) (new : HeapWithWords) → IsConsistent plan old → Happens plan old event new
       → HappensOnMap (objects old.state.held) event (objects new.state.held) × IsConsistent plan new
   call_on_map old (Malloc bytes (Ok h)) new good is = malloc_on_map old bytes h new good is
   call_on_map old (Malloc bytes (Err e)) new good is = same_heap old new good is.1
@@ -149,21 +149,21 @@ module _ (plan : Plan) (ok : IsPlan plan) where
   call_on_map old (Free h (Some fault.Busy)) new good is = (let s = same_heap old new good is.1 in
       (((is.0.object.bytes, bytes_held old.state.held h is.0.object is.0.found), s.0), s.1))
   call_on_map old Step new good is = step_on_map old new good is
-  call_on_map old (Write part bytes None) new good is = write_on_map old part bytes new good is
-  call_on_map old (Write part bytes (Some e)) new good is = (let s = same_heap old new good is.1 in ((is.0, s.0), s.1))
-  call_on_map old (Read part count (Ok out)) new good is =
+  call_on_map old (Write position bytes None) new good is = write_on_map old position bytes new good is
+  call_on_map old (Write position bytes (Some e)) new good is = (let s = same_heap old new good is.1 in ((is.0, s.0), s.1))
+  call_on_map old (Read position count (Ok out)) new good is =
       let s = same_heap old new good is.1 in
       let r = is.0 in
-      let there = bytes_held old.state.held part.number r.object r.found in
+      let there = bytes_held old.state.held position.number r.object r.found in
       let fits = r.fits in
-      let out_is = part_is r.object.bytes out part.from count r.fits r.size (λ k lt. r.bytes k lt
-      ∙ byte_there plan ok old.state good.kept old.words good.words part.number r.object r.found (good.bytes part.number r.object.bytes there)
-      (part.from + k) (omega arith)) in
+      let out_is = part_is r.object.bytes out position.from count r.fits r.size (λ k lt. r.bytes k lt
+      ∙ byte_there plan ok old.state good.kept old.words good.words position.number r.object r.found (good.bytes position.number r.object.bytes there)
+      (position.from + k) (omega arith)) in
       ((r.object.bytes, there, r.fits, out_is, s.0), s.1)
-  call_on_map old (Read part count (Err e)) new good is = (let s = same_heap old new good is.1 in ((is.0, s.0), s.1))
+  call_on_map old (Read position count (Err e)) new good is = (let s = same_heap old new good is.1 in ((is.0, s.0), s.1))
 
   -- the calls of a run
-  pub run_on_map : (turns : List Turn) (old new : Working) → IsConsistent plan old → Runs plan old turns new
+  pub run_on_map : (turns : List TaskCall) (old new : HeapWithWords) → IsConsistent plan old → Runs plan old turns new
       → RunsOnMap (objects old.state.held) turns (objects new.state.held) × IsConsistent plan new
   run_on_map [] old new good same = same_heap old new good same
   run_on_map (turn ∷ rest) old new good (mid, is, then) =

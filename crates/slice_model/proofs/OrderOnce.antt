@@ -15,8 +15,8 @@ use Rattle.page_model.specs.Paging.{Paging}
 use Rattle.page_model.specs.Steps.{Moves, zeros_at}
 use Rattle.page_model.proofs.CallerLemmas.{malloc_once, mover_once}
 use Rattle.slice_model.specs.State.{Plan, IsPlan, JobSlot, Sliced, IsKept, Idle, Move, job_slot, occupied, placeholder, with_slot}
-use Rattle.slice_model.specs.Steps.{Carries, Ends, IsSlice, RemovesObject, SliceOf, Vacates, fresh_slot}
-use Rattle.slice_model.specs.Runs.{Event, Happens, HappensOnMap, IsConsistent, IsOutOfReach, Part, Working, Writes, Malloc, Free, Step, Write, Read, words_of_slice}
+use Rattle.slice_model.specs.Steps.{BeginsMove, EndsJob, IsSlice, RemovesObject, SliceOf, LeavesJob, fresh_slot}
+use Rattle.slice_model.specs.Runs.{Event, Happens, HappensOnMap, IsConsistent, IsOutOfReach, Position, HeapWithWords, Writes, Malloc, Free, Step, Write, Read, words_of_slice}
 use Rattle.slice_model.specs.Words.{RewritesObject}
 use Rattle.slice_model.specs.Ordered.{CarriesNext, EndFollows, FreesInOrder, HappensInOrder, MallocsInOrder, MovesNext, SliceFollows}
 use Rattle.slice_model.specs.Ordered.{SlicesInOrder}
@@ -30,25 +30,25 @@ use Rattle.slice_model.proofs.Results.{freed_or_faulty, one_fault}
 use Rattle.slice_model.proofs.RoomBeside.{given_or_refused, one_cause}
 
 -- a call that follows an order does what a call does (`Happens`)
-pub order_happens : (plan : Plan) (old : Working) (event : Event) (new : Working) (was now : Order) → HappensInOrder plan old event new was now
+pub order_happens : (plan : Plan) (old : HeapWithWords) (event : Event) (new : HeapWithWords) (was now : Order) → HappensInOrder plan old event new was now
     → Happens plan old event new
 order_happens plan old (Malloc bytes (Ok h)) new was now is = is.mallocs
 order_happens plan old (Malloc bytes (Err e)) new was now is = is.0
 order_happens plan old (Free h None) new was now is = is.frees
 order_happens plan old (Free h (Some e)) new was now is = is.0
 order_happens plan old Step new was now is = is.slices
-order_happens plan old (Write part bytes answer) new was now is = is.0
-order_happens plan old (Read part count answer) new was now is = is.0
+order_happens plan old (Write position bytes answer) new was now is = is.0
+order_happens plan old (Read position count answer) new was now is = is.0
 
 -- two moves of the same object to the same slot begin with the same state
-carries_once : (m : Held) (q r a c : ℕ) (s t : Sliced) → q ≡ r → Carries m q a c s → Carries m r a c t → s ≡ t
+carries_once : (m : Held) (q r a c : ℕ) (s t : Sliced) → q ≡ r → BeginsMove m q a c s → BeginsMove m r a c t → s ≡ t
 carries_once m q r a c s t same x y =
     let one : x.object ≡ y.object = found_once m r x.object y.object (subst (λ n. get m n ≡ Some x.object) same x.found) y.found in
     x.whole ∙ ap (λ n. record { held = insert m n (record { place = a; bytes = x.object.bytes }); job = Move n (fresh_slot x.object.place c) }) same
     ∙ ap (λ (z : Placed). record { held = insert m r (record { place = a; bytes = z.bytes }); job = Move r (fresh_slot z.place c) }) one
     ∙ sym y.whole
 
-vacated_once : (m : Held) (a c : ℕ) (moved : Option ℕ) (s t : Sliced) → Vacates m a c moved s → Vacates m a c moved t → s ≡ t
+vacated_once : (m : Held) (a c : ℕ) (moved : Option ℕ) (s t : Sliced) → LeavesJob m a c moved s → LeavesJob m a c moved t → s ≡ t
 vacated_once m a c None s t x y = x ∙ sym y
 vacated_once m a c (Some q) s t x y = carries_once m q q a c s t refl x y
 
@@ -72,47 +72,47 @@ removed_once plan s h a b o kept r u first second =
     let next : MovesNext plan.paging s.held o (class_at plan.paging r.freed) u.moved =
     subst (λ z. MovesNext plan.paging s.held o (class_at plan.paging z) u.moved) object second in
     let moved : u.moved ≡ r.moved = sym (moved_once plan.paging s.held idle.sound r.freed o r.moved u.moved r.moves moves first next) in
-    let begins : Vacates (remove s.held h) r.freed.place (class_at plan.paging r.freed) r.moved u.begun =
-    subst (λ q. Vacates (remove s.held h) r.freed.place (class_at plan.paging r.freed) q u.begun) moved
-    (subst (λ (z : Placed). Vacates (remove s.held h) z.place (class_at plan.paging z) u.moved u.begun) object u.begins) in
+    let begins : LeavesJob (remove s.held h) r.freed.place (class_at plan.paging r.freed) r.moved u.begun =
+    subst (λ q. LeavesJob (remove s.held h) r.freed.place (class_at plan.paging r.freed) q u.begun) moved
+    (subst (λ (z : Placed). LeavesJob (remove s.held h) z.place (class_at plan.paging z) u.moved u.begun) object u.begins) in
     sym (vacated_once (remove s.held h) r.freed.place (class_at plan.paging r.freed) r.moved u.begun r.begun begins r.begins)
 
-same_working : (a b : Working) → a.state ≡ b.state → a.words ≡ b.words → a ≡ b
+same_working : (a b : HeapWithWords) → a.state ≡ b.state → a.words ≡ b.words → a ≡ b
 same_working a b state words = λ i. record { state = state i; words = words i }
 
--- object `part.number` has n bytes from byte `part.from` on; below, else a read or a write has exactly one fault
-abbrev IsWithin : Objects → Part → ℕ → Type 0
-IsWithin o part n = (v : List ℕ) × (get o part.number ≡ Some v) × (part.from + n ≤ length v)
+-- object `position.number` has n bytes from byte `position.from` on; below, else a read or a write has exactly one fault
+abbrev IsWithin : Objects → Position → ℕ → Type 0
+IsWithin o position n = (v : List ℕ) × (get o position.number ≡ Some v) × (position.from + n ≤ length v)
 
-not_both : (o : Objects) (part : Part) (n : ℕ) → IsWithin o part n → (e : AccessFault) → IsOutOfReach o part n e → ⊥
-not_both o part n (v, there, fits) access.Unknown none = (let e : Some v ≡ None = sym there ∙ none in cc)
-not_both o part n (v, there, fits) access.Range (u, here, past) =
-    let same = ap length (found_once o part.number v u there here) in
+not_both : (o : Objects) (position : Position) (n : ℕ) → IsWithin o position n → (e : AccessFault) → IsOutOfReach o position n e → ⊥
+not_both o position n (v, there, fits) access.Unknown none = (let e : Some v ≡ None = sym there ∙ none in cc)
+not_both o position n (v, there, fits) access.Range (u, here, past) =
+    let same = ap length (found_once o position.number v u there here) in
     omega arith
 
-one_reach : (o : Objects) (part : Part) (n : ℕ) (e f : AccessFault) → IsOutOfReach o part n e → IsOutOfReach o part n f → e ≡ f
-one_reach o part n access.Unknown access.Unknown x y = refl
-one_reach o part n access.Unknown access.Range x (u, here, past) = absurd (let e : Some u ≡ None = sym here ∙ x in cc)
-one_reach o part n access.Range access.Unknown (u, here, past) y = absurd (let e : Some u ≡ None = sym here ∙ y in cc)
-one_reach o part n access.Range access.Range x y = refl
+one_reach : (o : Objects) (position : Position) (n : ℕ) (e f : AccessFault) → IsOutOfReach o position n e → IsOutOfReach o position n f → e ≡ f
+one_reach o position n access.Unknown access.Unknown x y = refl
+one_reach o position n access.Unknown access.Range x (u, here, past) = absurd (let e : Some u ≡ None = sym here ∙ x in cc)
+one_reach o position n access.Range access.Unknown (u, here, past) y = absurd (let e : Some u ≡ None = sym here ∙ y in cc)
+one_reach o position n access.Range access.Range x y = refl
 
-within : (o : Objects) (part : Part) (bytes : List ℕ) (new : Objects) → HappensOnMap o (Write part bytes None) new → IsWithin o part (length bytes)
-within o part bytes new (v, there, fits, is) = (v, there, fits)
+within : (o : Objects) (position : Position) (bytes : List ℕ) (new : Objects) → HappensOnMap o (Write position bytes None) new → IsWithin o position (length bytes)
+within o position bytes new (v, there, fits, is) = (v, there, fits)
 
-write_answers : (o : Objects) (part : Part) (bytes : List ℕ) (r s : Option AccessFault) (new other : Objects) → HappensOnMap o (Write part bytes r) new
-    → HappensOnMap o (Write part bytes s) other → r ≡ s
-write_answers o part bytes None None new other x y = refl
-write_answers o part bytes None (Some f) new other x y = absurd (not_both o part (length bytes) (within o part bytes new x) f y.0)
-write_answers o part bytes (Some e) None new other x y = absurd (not_both o part (length bytes) (within o part bytes other y) e x.0)
-write_answers o part bytes (Some e) (Some f) new other x y = ap Some (one_reach o part (length bytes) e f x.0 y.0)
+write_answers : (o : Objects) (position : Position) (bytes : List ℕ) (r s : Option AccessFault) (new other : Objects) → HappensOnMap o (Write position bytes r) new
+    → HappensOnMap o (Write position bytes s) other → r ≡ s
+write_answers o position bytes None None new other x y = refl
+write_answers o position bytes None (Some f) new other x y = absurd (not_both o position (length bytes) (within o position bytes new x) f y.0)
+write_answers o position bytes (Some e) None new other x y = absurd (not_both o position (length bytes) (within o position bytes other y) e x.0)
+write_answers o position bytes (Some e) (Some f) new other x y = ap Some (one_reach o position (length bytes) e f x.0 y.0)
 
-read_answers : (o : Objects) (part : Part) (n : ℕ) (r s : Result (List ℕ) AccessFault) (new other : Objects) → HappensOnMap o (Read part n r) new
-    → HappensOnMap o (Read part n s) other → r ≡ s
-read_answers o part n (Ok out) (Ok text) new other (v, there, fits, is, _) (u, here, fit, are, _) =
-    ap Ok (is ∙ ap (λ w. take n (drop part.from w)) (found_once o part.number v u there here) ∙ sym are)
-read_answers o part n (Ok out) (Err f) new other (v, there, fits, is, _) y = absurd (not_both o part n (v, there, fits) f y.0)
-read_answers o part n (Err e) (Ok text) new other x (v, there, fits, is, _) = absurd (not_both o part n (v, there, fits) e x.0)
-read_answers o part n (Err e) (Err f) new other x y = ap Err (one_reach o part n e f x.0 y.0)
+read_answers : (o : Objects) (position : Position) (n : ℕ) (r s : Result (List ℕ) AccessFault) (new other : Objects) → HappensOnMap o (Read position n r) new
+    → HappensOnMap o (Read position n s) other → r ≡ s
+read_answers o position n (Ok out) (Ok text) new other (v, there, fits, is, _) (u, here, fit, are, _) =
+    ap Ok (is ∙ ap (λ w. take n (drop position.from w)) (found_once o position.number v u there here) ∙ sym are)
+read_answers o position n (Ok out) (Err f) new other (v, there, fits, is, _) y = absurd (not_both o position n (v, there, fits) f y.0)
+read_answers o position n (Err e) (Ok text) new other x (v, there, fits, is, _) = absurd (not_both o position n (v, there, fits) e x.0)
+read_answers o position n (Err e) (Err f) new other x y = ap Err (one_reach o position n e f x.0 y.0)
 
 module _ (plan : Plan) (ok : IsPlan plan) where
   -- the end of a job
@@ -127,7 +127,7 @@ module _ (plan : Plan) (ok : IsPlan plan) where
       x.same ∙ sym y.same,
     )
 
-    end_once : (a b : Sliced) (now next : Order) → Ends plan.paging m k a → EndFollows plan m k a.job was now → Ends plan.paging m k b
+    end_once : (a b : Sliced) (now next : Order) → EndsJob plan.paging m k a → EndFollows plan m k a.job was now → EndsJob plan.paging m k b
         → EndFollows plan m k b.job was next → (a ≡ b) × (now ≡ next)
     end_once a b now next (inl (few, is)) f (inl (less, same)) g =
         let x : EndFollows plan m k Idle was now = subst (λ (s : Sliced). EndFollows plan m k s.job was now) is f in
@@ -158,7 +158,7 @@ module _ (plan : Plan) (ok : IsPlan plan) where
     slice_once x f y g = slice_of (job_slot s.job) refl x f y g
 
   -- a slice with its words
-  slid_once : (old a b : Working) (was now next : Order) → IsKept plan old.state → SlicesInOrder plan old a was now → SlicesInOrder plan old b was next
+  slid_once : (old a b : HeapWithWords) (was now next : Order) → IsKept plan old.state → SlicesInOrder plan old a was now → SlicesInOrder plan old b was next
       → length a.words ≡ length b.words → (a ≡ b) × (now ≡ next)
   slid_once old a b was now next kept x y long =
       let (state, order) = slice_once old.state kept a.state b.state was now next x.slices.slice x.follows y.slices.slice y.follows in
@@ -166,7 +166,7 @@ module _ (plan : Plan) (ok : IsPlan plan) where
       y.slices.words long in
       (same_working a b state words, order)
 
-  malloc_in_order : (old : Working) (bytes : ℕ) (h q : Handle) (a b : Working) (was now next : Order)
+  malloc_in_order : (old : HeapWithWords) (bytes : ℕ) (h q : Handle) (a b : HeapWithWords) (was now next : Order)
       → MallocsInOrder plan old (record { number = h.0; length = bytes }) a was now
       → MallocsInOrder plan old (record { number = q.0; length = bytes }) b was next → length a.words ≡ length b.words
       → (h ≡ q) × (a ≡ b) × (now ≡ next)
@@ -184,14 +184,14 @@ module _ (plan : Plan) (ok : IsPlan plan) where
       ((λ i. record { 0 = number i }), same_working a b state words, order)
 
   -- the slice of a free
-  freed_slices : (old : Working) (h : ℕ) (new : Working) (was now : Order) → (x : FreesInOrder plan old h new was now)
+  freed_slices : (old : HeapWithWords) (h : ℕ) (new : HeapWithWords) (was now : Order) → (x : FreesInOrder plan old h new was now)
       → SlicesInOrder plan (record { state = x.frees.removes.begun; words = old.words }) new (record was { spare = h ∷ was.spare }) now
   freed_slices old h new was now x = record {
     slices = record { slice = x.frees.removes.slice; words = x.frees.words };
     follows = x.follows;
   }
 
-  free_in_order : (old : Working) (h : ℕ) (a b : Working) (was now next : Order) → IsKept plan old.state → FreesInOrder plan old h a was now
+  free_in_order : (old : HeapWithWords) (h : ℕ) (a b : HeapWithWords) (was now next : Order) → IsKept plan old.state → FreesInOrder plan old h a was now
       → FreesInOrder plan old h b was next → length a.words ≡ length b.words → (a ≡ b) × (now ≡ next)
   free_in_order old h a b was now next kept x y long =
       let r = x.frees.removes in
@@ -204,20 +204,20 @@ module _ (plan : Plan) (ok : IsPlan plan) where
       (subst (λ z. SlicesInOrder plan (record { state = z; words = old.words }) b (record was { spare = h ∷ was.spare }) next) begun
       (freed_slices old h b was next y)) long
 
-  write_once : (old : Working) (part : Part) (bytes : List ℕ) (a b : Working) → Writes old part bytes a → Writes old part bytes b
+  write_once : (old : HeapWithWords) (position : Position) (bytes : List ℕ) (a b : HeapWithWords) → Writes old position bytes a → Writes old position bytes b
       → length a.words ≡ length b.words → a ≡ b
-  write_once old part bytes a b x y long =
-      let object : y.object ≡ x.object = found_once old.state.held part.number y.object x.object y.found x.found in
+  write_once old position bytes a b x y long =
+      let object : y.object ≡ x.object = found_once old.state.held position.number y.object x.object y.found x.found in
       let state : a.state ≡ b.state = x.state ∙ ap (λ (z : Placed). record old.state {
-        held = insert old.state.held part.number (record { place = z.place; bytes = written z.bytes part.from bytes });
+        held = insert old.state.held position.number (record { place = z.place; bytes = written z.bytes position.from bytes });
       }) (sym object) ∙ sym y.state in
-      let again = subst (λ (z : Placed). RewritesObject old.state.job part.number z (written z.bytes part.from bytes)
-      (record { from = 1 + part.from / 8; count = (part.from % 8 + length bytes + 7) / 8 }) old.words b.words) object y.words in
-      let words = rewritten_once old.state.job part.number x.object (written x.object.bytes part.from bytes)
-      (record { from = 1 + part.from / 8; count = (part.from % 8 + length bytes + 7) / 8 }) old.words a.words b.words x.words again long in
+      let again = subst (λ (z : Placed). RewritesObject old.state.job position.number z (written z.bytes position.from bytes)
+      (record { from = 1 + position.from / 8; count = (position.from % 8 + length bytes + 7) / 8 }) old.words b.words) object y.words in
+      let words = rewritten_once old.state.job position.number x.object (written x.object.bytes position.from bytes)
+      (record { from = 1 + position.from / 8; count = (position.from % 8 + length bytes + 7) / 8 }) old.words a.words b.words x.words again long in
       same_working a b state words
 
-  module _ (old new other : Working) (was now next : Order) (good : IsConsistent plan old) (long : length new.words ≡ length other.words) where
+  module _ (old new other : HeapWithWords) (was now next : Order) (good : IsConsistent plan old) (long : length new.words ≡ length other.words) where
     -- two calls that change nothing
     both_stay : new ≡ old → now ≡ was → other ≡ old → next ≡ was → (new ≡ other) × (now ≡ next)
     both_stay a b c d = (a ∙ sym c, b ∙ sym d)
@@ -242,38 +242,38 @@ module _ (plan : Plan) (ok : IsPlan plan) where
     pub one_slice : HappensInOrder plan old Step new was now → HappensInOrder plan old Step other was next → (new ≡ other) × (now ≡ next)
     one_slice x y = slid_once old new other was now next good.kept x y long
 
-    pub one_write : (part : Part) (bytes : List ℕ) (r s : Option AccessFault) → HappensInOrder plan old (Write part bytes r) new was now
-        → HappensInOrder plan old (Write part bytes s) other was next → (r ≡ s) × (new ≡ other) × (now ≡ next)
-    one_write part bytes r s x y =
-        let z = writes part bytes r s x y in (
-          write_answers (objects old.state.held) part bytes r s (objects new.state.held) (objects other.state.held)
-              (call_on_map plan ok old (Write part bytes r) new good x.0).0 (call_on_map plan ok old (Write part bytes s) other good y.0).0,
+    pub one_write : (position : Position) (bytes : List ℕ) (r s : Option AccessFault) → HappensInOrder plan old (Write position bytes r) new was now
+        → HappensInOrder plan old (Write position bytes s) other was next → (r ≡ s) × (new ≡ other) × (now ≡ next)
+    one_write position bytes r s x y =
+        let z = writes position bytes r s x y in (
+          write_answers (objects old.state.held) position bytes r s (objects new.state.held) (objects other.state.held)
+              (call_on_map plan ok old (Write position bytes r) new good x.0).0 (call_on_map plan ok old (Write position bytes s) other good y.0).0,
           z.0,
           z.1,
         )
       where
-        writes : (part : Part) (bytes : List ℕ) (r s : Option AccessFault) → HappensInOrder plan old (Write part bytes r) new was now
-            → HappensInOrder plan old (Write part bytes s) other was next → (new ≡ other) × (now ≡ next)
-        writes part bytes None None x y = (write_once old part bytes new other x.0 y.0 long, x.1 ∙ sym y.1)
-        writes part bytes None (Some f) x y = absurd (not_both (objects old.state.held) part (length bytes)
-            (within (objects old.state.held) part bytes (objects new.state.held) (call_on_map plan ok old (Write part bytes None) new good x.0).0) f y.0.0)
-        writes part bytes (Some e) None x y = absurd (not_both (objects old.state.held) part (length bytes)
-            (within (objects old.state.held) part bytes (objects other.state.held) (call_on_map plan ok old (Write part bytes None) other good y.0).0) e x.0.0)
-        writes part bytes (Some e) (Some f) x y = both_stay x.0.1 x.1 y.0.1 y.1
+        writes : (position : Position) (bytes : List ℕ) (r s : Option AccessFault) → HappensInOrder plan old (Write position bytes r) new was now
+            → HappensInOrder plan old (Write position bytes s) other was next → (new ≡ other) × (now ≡ next)
+        writes position bytes None None x y = (write_once old position bytes new other x.0 y.0 long, x.1 ∙ sym y.1)
+        writes position bytes None (Some f) x y = absurd (not_both (objects old.state.held) position (length bytes)
+            (within (objects old.state.held) position bytes (objects new.state.held) (call_on_map plan ok old (Write position bytes None) new good x.0).0) f y.0.0)
+        writes position bytes (Some e) None x y = absurd (not_both (objects old.state.held) position (length bytes)
+            (within (objects old.state.held) position bytes (objects other.state.held) (call_on_map plan ok old (Write position bytes None) other good y.0).0) e x.0.0)
+        writes position bytes (Some e) (Some f) x y = both_stay x.0.1 x.1 y.0.1 y.1
 
-    pub one_read : (part : Part) (n : ℕ) (r s : Result (List ℕ) AccessFault) → HappensInOrder plan old (Read part n r) new was now
-        → HappensInOrder plan old (Read part n s) other was next → (r ≡ s) × (new ≡ other) × (now ≡ next)
-    one_read part n r s x y =
-        let z = reads part n r s x y in (
-          read_answers (objects old.state.held) part n r s (objects new.state.held) (objects other.state.held)
-              (call_on_map plan ok old (Read part n r) new good x.0).0 (call_on_map plan ok old (Read part n s) other good y.0).0,
+    pub one_read : (position : Position) (n : ℕ) (r s : Result (List ℕ) AccessFault) → HappensInOrder plan old (Read position n r) new was now
+        → HappensInOrder plan old (Read position n s) other was next → (r ≡ s) × (new ≡ other) × (now ≡ next)
+    one_read position n r s x y =
+        let z = reads position n r s x y in (
+          read_answers (objects old.state.held) position n r s (objects new.state.held) (objects other.state.held)
+              (call_on_map plan ok old (Read position n r) new good x.0).0 (call_on_map plan ok old (Read position n s) other good y.0).0,
           z.0,
           z.1,
         )
       where
-        reads : (part : Part) (n : ℕ) (r s : Result (List ℕ) AccessFault) → HappensInOrder plan old (Read part n r) new was now
-            → HappensInOrder plan old (Read part n s) other was next → (new ≡ other) × (now ≡ next)
-        reads part n (Ok out) (Ok text) x y = both_stay x.0.1 x.1 y.0.1 y.1
-        reads part n (Ok out) (Err f) x y = both_stay x.0.1 x.1 y.0.1 y.1
-        reads part n (Err e) (Ok text) x y = both_stay x.0.1 x.1 y.0.1 y.1
-        reads part n (Err e) (Err f) x y = both_stay x.0.1 x.1 y.0.1 y.1
+        reads : (position : Position) (n : ℕ) (r s : Result (List ℕ) AccessFault) → HappensInOrder plan old (Read position n r) new was now
+            → HappensInOrder plan old (Read position n s) other was next → (new ≡ other) × (now ≡ next)
+        reads position n (Ok out) (Ok text) x y = both_stay x.0.1 x.1 y.0.1 y.1
+        reads position n (Ok out) (Err f) x y = both_stay x.0.1 x.1 y.0.1 y.1
+        reads position n (Err e) (Ok text) x y = both_stay x.0.1 x.1 y.0.1 y.1
+        reads position n (Err e) (Err f) x y = both_stay x.0.1 x.1 y.0.1 y.1

@@ -17,8 +17,8 @@ use Rattle.page_model.specs.Steps.{Moves, Request, without, zeros_at}
 use Rattle.page_model.proofs.CallerLemmas.{can_free, can_malloc, class_fits, length-written, malloc_once, mover_is_other, objects_on-exchanged, order_in_place}
 use Rattle.page_model.proofs.CallerLemmas.{numbers_spare, order_is, pages_listed, renumbered, spare_same, still_listed}
 use Rattle.slice_model.specs.State.{Plan, IsPlan, IsPlaceFor, JobSlot, Job, Sliced, IsKept, Idle, Clear, Move, advanced, job_slot, occupied, placeholder, with_slot}
-use Rattle.slice_model.specs.Steps.{Ends, GivesObject, IsRefusedBy, IsSlice, RemovesObject, SliceOf, Vacates, done_after, fresh_slot}
-use Rattle.slice_model.specs.Runs.{Event, Part, Working, Writes, Malloc, Free, Step, Write, Read}
+use Rattle.slice_model.specs.Steps.{EndsJob, AddsObject, IsRefusedBy, IsSlice, RemovesObject, SliceOf, LeavesJob, done_after, fresh_slot}
+use Rattle.slice_model.specs.Runs.{Event, Position, HeapWithWords, Writes, Malloc, Free, Step, Write, Read}
 use Rattle.slice_model.specs.Ordered.{EndFollows, FreesInOrder, HappensInOrder, IsOrderBeside, MallocsInOrder, MovesNext, SliceFollows, numbers_beside}
 use Rattle.slice_model.specs.declared.answers.SliceRefusal.{SliceRefusal}
 use Rattle.slice_model.proofs.KeptSteps.{changed_places, kept_begun, moved_away, must_is_two, other_than, same_elsewhere, slot_stays, two_is_must}
@@ -95,7 +95,7 @@ pub record CanGive (plan : Plan) (s : Sliced) (n : ℕ) (o : Order) : Type 0 whe
   pub number : ℕ
   pub after : Sliced
   pub new : Order
-  pub gives : GivesObject plan s (record { number = number; length = n }) after
+  pub gives : AddsObject plan s (record { number = number; length = n }) after
   pub follows : MallocFollows plan.paging (occupied plan s) (record { number = number; length = n }) gives.place o new
   pub is_order : IsOrderBeside plan after new
 
@@ -103,7 +103,7 @@ pub record CanGive (plan : Plan) (s : Sliced) (n : ℕ) (o : Order) : Type 0 whe
 record CanEnd (plan : Plan) (m : Held) (k : JobSlot) (o : Order) : Type 0 where
   new : Sliced
   now : Order
-  ends : Ends plan.paging m k new
+  ends : EndsJob plan.paging m k new
   follows : EndFollows plan m k new.job o now
   is_order : IsOrderBeside plan new now
 
@@ -351,7 +351,7 @@ module _ (plan : Plan) (ok : IsPlan plan) where
     class_in = (kept_idle.sound.slots h x found).class
 
     -- what is behind when the job begins
-    removed : (moved : Option ℕ) (begun : Sliced) → Moves plan.paging m x moved → Vacates (remove m h) x.place c moved begun
+    removed : (moved : Option ℕ) (begun : Sliced) → Moves plan.paging m x moved → LeavesJob (remove m h) x.place c moved begun
         → MovesNext plan.paging m o c moved → IsOrderBeside plan begun (record o { spare = h ∷ o.spare }) → CanRemove plan s h o
     removed moved begun moves begins next order =
         let slice = can_slice plan ok begun (kept_begun plan ok m kept_idle h x found moved moves begun begins) (record o { spare = h ∷ o.spare }) order in
@@ -443,7 +443,7 @@ module _ (plan : Plan) (ok : IsPlan plan) where
 
 -- a call in order leaves an order of the new state
 module _ (plan : Plan) (ok : IsPlan plan) where
-  malloc_keeps : (old : Working) (asked : Request) (new : Working) (was now : Order) → IsKept plan old.state → IsOrderBeside plan old.state was
+  malloc_keeps : (old : HeapWithWords) (asked : Request) (new : HeapWithWords) (was now : Order) → IsKept plan old.state → IsOrderBeside plan old.state was
       → MallocsInOrder plan old asked new was now → IsOrderBeside plan new.state now
   malloc_keeps old asked new was now kept is x =
       let g = x.mallocs.gives in
@@ -463,7 +463,7 @@ module _ (plan : Plan) (ok : IsPlan plan) where
       let (state, order) = slice_once plan ok s kept can.new after was can.now now can.slice can.follows slice follows in
       subst (λ o. IsOrderBeside plan after o) order (subst (λ t. IsOrderBeside plan t can.now) state can.is_order)
 
-  free_keeps : (old : Working) (h : ℕ) (new : Working) (was now : Order) → IsKept plan old.state → IsOrderBeside plan old.state was
+  free_keeps : (old : HeapWithWords) (h : ℕ) (new : HeapWithWords) (was now : Order) → IsKept plan old.state → IsOrderBeside plan old.state was
       → FreesInOrder plan old h new was now → IsOrderBeside plan new.state now
   free_keeps old h new was now kept is x =
       let r = x.frees.removes in
@@ -479,32 +479,32 @@ module _ (plan : Plan) (ok : IsPlan plan) where
       subst (λ o. IsOrderBeside plan new.state o) order (subst (λ t. IsOrderBeside plan t can.now) state can.is_order)
 
   -- a state with the same slots
-  same_keeps : (old new : Working) (was now : Order) → IsOrderBeside plan old.state was → new ≡ old → now ≡ was → IsOrderBeside plan new.state now
+  same_keeps : (old new : HeapWithWords) (was now : Order) → IsOrderBeside plan old.state was → new ≡ old → now ≡ was → IsOrderBeside plan new.state now
   same_keeps old new was now is state order =
-      subst (λ o. IsOrderBeside plan new.state o) (sym order) (subst (λ (w : Working). IsOrderBeside plan w.state was) (sym state) is)
+      subst (λ o. IsOrderBeside plan new.state o) (sym order) (subst (λ (w : HeapWithWords). IsOrderBeside plan w.state was) (sym state) is)
 
-  write_keeps : (old : Working) (part : Part) (bytes : List ℕ) (new : Working) (was now : Order) → IsKept plan old.state → IsOrderBeside plan old.state was
-      → Writes old part bytes new → now ≡ was → IsOrderBeside plan new.state now
-  write_keeps old part bytes new was now kept is w order =
-      let lt = kept.numbers part.number w.object w.found in
-      let v : List ℕ = written w.object.bytes part.from bytes in
-      let there : get (occupied plan old.state) part.number ≡ Some w.object = get_beside plan old.state.held (job_slot old.state.job) part.number lt ∙ w.found in
-      let long = length-written w.object.bytes part.from bytes w.fits in
+  write_keeps : (old : HeapWithWords) (position : Position) (bytes : List ℕ) (new : HeapWithWords) (was now : Order) → IsKept plan old.state → IsOrderBeside plan old.state was
+      → Writes old position bytes new → now ≡ was → IsOrderBeside plan new.state now
+  write_keeps old position bytes new was now kept is w order =
+      let lt = kept.numbers position.number w.object w.found in
+      let v : List ℕ = written w.object.bytes position.from bytes in
+      let there : get (occupied plan old.state) position.number ≡ Some w.object = get_beside plan old.state.held (job_slot old.state.job) position.number lt ∙ w.found in
+      let long = length-written w.object.bytes position.from bytes w.fits in
       let rewritten = order_in_place plan.paging ok.paging (occupied plan old.state) kept.sound (numbers_beside plan (job_slot old.state.job)) was is
-      part.number (length w.object.bytes) w.object there refl (written w.object.bytes part.from bytes) long in
+      position.number (length w.object.bytes) w.object there refl (written w.object.bytes position.from bytes) long in
       let beside = subst (λ m. IsOrderOf plan.paging m (numbers_beside plan (job_slot old.state.job)) was)
-      (inserted_beside plan old.state.held (job_slot old.state.job) part.number (record { place = w.object.place; bytes = written w.object.bytes part.from bytes }) lt)
+      (inserted_beside plan old.state.held (job_slot old.state.job) position.number (record { place = w.object.place; bytes = written w.object.bytes position.from bytes }) lt)
       rewritten in
       subst (λ o. IsOrderBeside plan new.state o) (sym order) (subst (λ s. IsOrderBeside plan s was) (sym w.state) beside)
 
-  pub order_kept : (old : Working) (event : Event) (new : Working) (was now : Order) → IsKept plan old.state → IsOrderBeside plan old.state was
+  pub order_kept : (old : HeapWithWords) (event : Event) (new : HeapWithWords) (was now : Order) → IsKept plan old.state → IsOrderBeside plan old.state was
       → HappensInOrder plan old event new was now → IsOrderBeside plan new.state now
   order_kept old (Malloc bytes (Ok h)) new was now kept is x = malloc_keeps old (record { number = h.0; length = bytes }) new was now kept is x
   order_kept old (Malloc bytes (Err e)) new was now kept is x = same_keeps old new was now is x.0.1 x.1
   order_kept old (Free h None) new was now kept is x = free_keeps old h new was now kept is x
   order_kept old (Free h (Some e)) new was now kept is x = same_keeps old new was now is x.0.1 x.1
   order_kept old Step new was now kept is x = slice_keeps old.state new.state was now kept is x.slices.slice x.follows
-  order_kept old (Write part bytes None) new was now kept is x = write_keeps old part bytes new was now kept is x.0 x.1
-  order_kept old (Write part bytes (Some e)) new was now kept is x = same_keeps old new was now is x.0.1 x.1
-  order_kept old (Read part n (Ok out)) new was now kept is x = same_keeps old new was now is x.0.1 x.1
-  order_kept old (Read part n (Err e)) new was now kept is x = same_keeps old new was now is x.0.1 x.1
+  order_kept old (Write position bytes None) new was now kept is x = write_keeps old position bytes new was now kept is x.0 x.1
+  order_kept old (Write position bytes (Some e)) new was now kept is x = same_keeps old new was now is x.0.1 x.1
+  order_kept old (Read position n (Ok out)) new was now kept is x = same_keeps old new was now is x.0.1 x.1
+  order_kept old (Read position n (Err e)) new was now kept is x = same_keeps old new was now is x.0.1 x.1

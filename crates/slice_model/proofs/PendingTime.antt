@@ -15,8 +15,8 @@ use Rattle.page_model.specs.Paging.{class_for, page_of, slot_words, slots_of}
 use Rattle.page_model.specs.Steps.{Moves, zeros_at}
 use Rattle.page_model.proofs.CallerLemmas.{length-written, mover_is_other, not_full-same, objects_on-away, objects_on-elsewhere, objects_on-exchanged}
 use Rattle.slice_model.specs.State.{Plan, IsPlan, JobSlot, Sliced, IsKept, job_slot, placeholder, Idle, Clear}
-use Rattle.slice_model.specs.Steps.{GivesObject, GoesOn, IsBeside, IsDone, IsSlice, SliceOf, Vacates, done_after, fresh_slot}
-use Rattle.slice_model.specs.Runs.{Event, Happens, IsConsistent, Runs, Turn, Working, frees_in, is_done_free, is_malloc_of, is_step, mallocs_in, steps_in}
+use Rattle.slice_model.specs.Steps.{AddsObject, GoesOn, IsBeside, IsDone, IsSlice, SliceOf, LeavesJob, done_after, fresh_slot}
+use Rattle.slice_model.specs.Runs.{Event, Happens, IsConsistent, Runs, TaskCall, HeapWithWords, frees_in, is_done_free, is_malloc_of, is_step, mallocs_in, steps_in}
 use Rattle.slice_model.specs.Runs.{Malloc, Free, Step, Write, Read}
 use Rattle.slice_model.proofs.JobSlices.{ceil_bounds, followed_once, slot_advanced}
 use Rattle.slice_model.proofs.KeptSteps.{kept_begun, kept_slice, other_than, two_is_must}
@@ -116,7 +116,7 @@ module _ (plan : Plan) (ok : IsPlan plan) where
       inr (record { k = b.k; slot = ap job_slot same ∙ b.slot; class = b.class; bound = omega arith })
 
   -- a malloc
-  malloc_within : (c done most bytes q : ℕ) (old new : Sliced) → GivesObject plan old (record { number = q; length = bytes }) new → InTime c done most old
+  malloc_within : (c done most bytes q : ℕ) (old new : Sliced) → AddsObject plan old (record { number = q; length = bytes }) new → InTime c done most old
       → InTime c done (most + (if nat_eq (class_for plan.paging bytes) c then 1 else 0) * whole c) new
   malloc_within c done most bytes q old new g time = elim (cases_eq (class_for plan.paging bytes) c) [
     | inl is ↦ (
@@ -154,14 +154,14 @@ module _ (plan : Plan) (ok : IsPlan plan) where
       same_job c done most 0 old new (ap (λ (s : Sliced). s.job) is) (omega arith) time
 
   -- a call that changes nothing
-  still_within : (c done most : ℕ) (old new : Working) → new ≡ old → InTime c done most old.state → InTime c (done + 0) (most + 0 * whole c) new.state
+  still_within : (c done most : ℕ) (old new : HeapWithWords) → new ≡ old → InTime c done most old.state → InTime c (done + 0) (most + 0 * whole c) new.state
   still_within c done most old new same time =
       let d : done + 0 ≡ done = omega arith in
       let m : most + 0 * whole c ≡ most = omega arith in
-      rw (d, m) (subst (λ (w : Working). InTime c done most w.state) (sym same) time)
+      rw (d, m) (subst (λ (w : HeapWithWords). InTime c done most w.state) (sym same) time)
 
   -- a call other than a successful free
-  call_within : (c done most : ℕ) (old : Working) (event : Event) (new : Working) → IsConsistent plan old → Happens plan old event new
+  call_within : (c done most : ℕ) (old : HeapWithWords) (event : Event) (new : HeapWithWords) → IsConsistent plan old → Happens plan old event new
       → is_done_free event ≡ 0 → InTime c done most old.state
       → InTime c (done + is_step event) (most + is_malloc_of plan c event * whole c) new.state
   call_within c done most old (Malloc bytes (Ok h)) new good is none time =
@@ -183,7 +183,7 @@ module _ (plan : Plan) (ok : IsPlan plan) where
   call_within c done most old (Read part count (Err e)) new good is none time = still_within c done most old new is.1 time
 
   -- a run without a free that is done
-  run_within : (c done most : ℕ) (turns : List Turn) (old new : Working) → IsConsistent plan old → Runs plan old turns new → frees_in turns ≡ 0
+  run_within : (c done most : ℕ) (turns : List TaskCall) (old new : HeapWithWords) → IsConsistent plan old → Runs plan old turns new → frees_in turns ≡ 0
       → InTime c done most old.state → InTime c (done + steps_in turns) (most + mallocs_in plan c turns * whole c) new.state
   run_within c done most [] old new good same none time = still_within c done most old new same time
   run_within c done most (turn ∷ rest) old new good (mid, is, on) none time =
@@ -205,7 +205,7 @@ module _ (plan : Plan) (ok : IsPlan plan) where
 
   -- when a free begins a job, the class has no second partly full page
   pub begun_once : (m : Held) → IsKept plan (record { held = m; job = Idle }) → (h : ℕ) (x : Placed) → get m h ≡ Some x → (moved : Option ℕ)
-      → Moves plan.paging m x moved → (begun : Sliced) → Vacates (remove m h) x.place (class_at plan.paging x) moved begun
+      → Moves plan.paging m x moved → (begun : Sliced) → LeavesJob (remove m h) x.place (class_at plan.paging x) moved begun
       → not_full_pages plan.paging begun.held (class_at plan.paging x) ≢ 2
   begun_once m kept h x there None never begun is two =
       let lt = (kept.sound.slots h x there).class in
@@ -251,14 +251,14 @@ module _ (plan : Plan) (ok : IsPlan plan) where
       followed_once plan ok (remove m h) x.place (class_at plan.paging x) q begun beside is kept' two
 
   -- the job that a free begins is of the freed object's class, and nothing of it is done
-  pub begun_fresh : (m : Held) (a c : ℕ) (moved : Option ℕ) (begun : Sliced) → Vacates m a c moved begun
+  pub begun_fresh : (m : Held) (a c : ℕ) (moved : Option ℕ) (begun : Sliced) → LeavesJob m a c moved begun
       → (b : ℕ) × (job_slot begun.job ≡ Some (fresh_slot b c))
   begun_fresh m a c None begun is = (a, ap (λ (s : Sliced). job_slot s.job) is)
   begun_fresh m a c (Some q) begun is = (is.object.place, ap (λ (s : Sliced). job_slot s.job) is.whole)
 
   -- the job of a free, right after it begins, takes at most the slices of a whole slot; no other job follows
   begun_within : (m : Held) → IsKept plan (record { held = m; job = Idle }) → (h : ℕ) (x : Placed) → get m h ≡ Some x → (moved : Option ℕ)
-      → Moves plan.paging m x moved → (begun : Sliced) → Vacates (remove m h) x.place (class_at plan.paging x) moved begun
+      → Moves plan.paging m x moved → (begun : Sliced) → LeavesJob (remove m h) x.place (class_at plan.paging x) moved begun
       → InTime (class_at plan.paging x) 0 (whole (class_at plan.paging x)) begun
   begun_within m kept h x there moved moves begun is =
       let fresh = begun_fresh (remove m h) x.place (class_at plan.paging x) moved begun is in
@@ -266,7 +266,7 @@ module _ (plan : Plan) (ok : IsPlan plan) where
       (next_none begun.held (class_at plan.paging x) (begun_once m kept h x there moved moves begun is)))
 
   -- after a free, its own slice is one of them
-  pub freed_idle : (old freed new : Working) (h : ℕ) (x : Placed) (turns : List Turn) → IsConsistent plan old → get old.state.held h ≡ Some x
+  pub freed_idle : (old freed new : HeapWithWords) (h : ℕ) (x : Placed) (turns : List TaskCall) → IsConsistent plan old → get old.state.held h ≡ Some x
       → Happens plan old (Free h None) freed → Runs plan freed turns new → frees_in turns ≡ 0
       → (1 + mallocs_in plan (class_at plan.paging x) turns) * ceil_div (slot_words plan.paging (class_at plan.paging x)) plan.quantum ≤ 1 + steps_in turns
       → new.state.job ≡ Idle

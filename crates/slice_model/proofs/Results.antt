@@ -10,7 +10,7 @@ use Rattle.page_model.specs.Paging.{page_of, slot_words}
 use Rattle.page_model.specs.Steps.{Moves}
 use Rattle.page_model.proofs.CallerLemmas.{mover_is_other, on_page}
 use Rattle.slice_model.specs.State.{Plan, IsPlan, JobSlot, Job, Sliced, IsKept, advanced, job_slot, placeholder, with_slot, Idle, Clear, Move}
-use Rattle.slice_model.specs.Steps.{Ends, IsFaultOf, IsSlice, RemovesObject, SliceOf, Vacates, done_after, fresh_slot}
+use Rattle.slice_model.specs.Steps.{EndsJob, IsFaultOf, IsSlice, RemovesObject, SliceOf, LeavesJob, done_after, fresh_slot}
 use Rattle.slice_model.specs.declared.answers.SliceFault.{SliceFault}
 use Rattle.slice_model.specs.declared.answers.SliceFault.TheVariants as fault
 use Rattle.slice_model.proofs.KeptSteps.{kept_begun, one_more, same_elsewhere, two_is_last}
@@ -20,7 +20,7 @@ use Rattle.page_model.proofs.CallerLemmas.{open_page, some_move}
 
 module _ (plan : Plan) (ok : IsPlan plan) where
   -- a job that is done ends, or another one follows
-  end_there : (m : Held) (j : Job) (k : JobSlot) → job_slot j ≡ Some k → IsKept plan (record { held = m; job = j }) → (new : Sliced) × Ends plan.paging m k new
+  end_there : (m : Held) (j : Job) (k : JobSlot) → job_slot j ≡ Some k → IsKept plan (record { held = m; job = j }) → (new : Sliced) × EndsJob plan.paging m k new
   end_there m j k is kept = elim (cases_eq (not_full_pages plan.paging m k.class) 2) [
     | inr ne ↦ (record { held = m; job = Idle }, inl (ne, refl))
     | inl two ↦ (
@@ -75,7 +75,7 @@ module _ (plan : Plan) (ok : IsPlan plan) where
   slice_there s kept = slice_of s.held s.job kept (job_slot s.job) refl
 
   begun_there : (m : Held) → IsSound plan.paging m → (h : ℕ) (x : Placed) → get m h ≡ Some x → (moved : Option ℕ) → Moves plan.paging m x moved
-      → (begun : Sliced) × Vacates (remove m h) x.place (class_at plan.paging x) moved begun
+      → (begun : Sliced) × LeavesJob (remove m h) x.place (class_at plan.paging x) moved begun
   begun_there m s h x there None never = (record { held = remove m h; job = Clear (fresh_slot x.place (class_at plan.paging x)) }, refl)
   begun_there m s h x there (Some q) (must, (y, there', may)) =
       let ne = mover_is_other plan.paging ok.paging m s h x there q y there' must may in (

@@ -15,7 +15,7 @@ use Rattle.page_model.specs.Steps.{Request, zeros_at}
 use Rattle.page_model.proofs.CallerLemmas.{bytes_missing, ceil_mono, class_fits, lacks_room_at_one, live_added}
 use Rattle.slice_model.specs.State.{Plan, IsPlan, JobSlot, Sliced, IsKept, IsFreePage, IsPlaceFor, IsUsable, NoPlace}
 use Rattle.slice_model.specs.State.{job_slot, occupied, placeholder, with_slot, Idle}
-use Rattle.slice_model.specs.Steps.{GivesObject, IsRefusedBy}
+use Rattle.slice_model.specs.Steps.{AddsObject, IsRefusedBy}
 use Rattle.slice_model.specs.declared.answers.SliceRefusal.{SliceRefusal}
 use Rattle.slice_model.specs.declared.answers.SliceRefusal.TheVariants as refusal
 use Rattle.slice_model.proofs.Occupied.{lacking_is_no_place, no_place_is_lacking, no_placeholder, place_or_none}
@@ -99,7 +99,7 @@ one_cause plan s n refusal.Busy refusal.Space x y = absurd (let f = y.over in le
 one_cause plan s n refusal.Busy refusal.Busy x y = refl
 
 -- a malloc that is done has no cause of a refusal
-pub given_or_refused : (plan : Plan) → IsPlan plan → (s : Sliced) → IsKept plan s → (asked : Request) (new : Sliced) → GivesObject plan s asked new
+pub given_or_refused : (plan : Plan) → IsPlan plan → (s : Sliced) → IsKept plan s → (asked : Request) (new : Sliced) → AddsObject plan s asked new
     → (e : SliceRefusal) → ¬ IsRefusedBy plan s asked.length e
 given_or_refused plan ok s kept asked new g refusal.Size x = (let f = g.fits in omega arith)
 given_or_refused plan ok s kept asked new g refusal.Proxy x = (let f = g.few in let a = x.all in omega arith)
@@ -112,7 +112,7 @@ given_or_refused plan ok s kept asked new g refusal.Busy x = elim g.free.choice 
 
 -- a malloc is done or refused
 pub answered : (plan : Plan) → IsPlan plan → (s : Sliced) → IsKept plan s → (n : ℕ)
-    → ((e : SliceRefusal) × IsRefusedBy plan s n e) ⊎ ((h : ℕ) × (new : Sliced) × GivesObject plan s (record { number = h; length = n }) new)
+    → ((e : SliceRefusal) × IsRefusedBy plan s n e) ⊎ ((h : ℕ) × (new : Sliced) × AddsObject plan s (record { number = h; length = n }) new)
 answered plan ok s kept n = elim (cases_lt plan.paging.page_words (need n)) [
   | inl large ↦ inl (refusal.Size, large)
   | inr fits ↦ elim (cases_lt (len s.held) plan.proxies) [

@@ -1,4 +1,4 @@
--- For `a_spare_page_never_waits`: one more object needs at most one more page, so with a spare page no malloc is refused as `Busy`.
+-- For `no_malloc_is_busy_with_a_spare_page`: one more object needs at most one more page, so with a spare page no malloc is refused as `Busy`.
 use Rattle.std.proofs.Common.{◌≡◌, ℕ, zero, suc, ◌+◌, ◌-◌, ◌*◌, ◌/◌, ◌%◌, ◌<◌, ◌≤◌, Option, Some, None, length, arith, ◌∙◌, ap, subst, inl, inr}
 use Rattle.std.specs.Prelude.{nat_eq, sum_by}
 use Rattle.std.specs.List.{range_with_len}

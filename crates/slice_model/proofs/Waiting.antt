@@ -1,11 +1,11 @@
--- For `a_waiting_malloc_is_served_after_the_slices`: a malloc that was refused as `Busy` is done once no job is pending.
+-- For `a_busy_malloc_succeeds_after_the_slices`: a malloc that was refused as `Busy` is done once no job is pending.
 use Rattle.std.proofs.Common.{◌≡◌, ℕ, zero, suc, arith, sym, ◌∙◌, ap, refl, inl, inr}
 use Rattle.std.specs.FinMap.{len}
 use Rattle.page_model.specs.Arrangement.{pages_needed_with}
 use Rattle.page_model.specs.Held.{objects}
 use Rattle.page_model.proofs.CallerLemmas.{len-objects}
 use Rattle.slice_model.specs.State.{Plan, IsPlan, Sliced, IsKept, Idle}
-use Rattle.slice_model.specs.Steps.{AreSlices, GivesObject, IsRefusedBy, WantsSlot}
+use Rattle.slice_model.specs.Steps.{AreSlices, AddsObject, IsRefusedBy, LacksSlot}
 use Rattle.slice_model.specs.declared.answers.SliceRefusal.{SliceRefusal}
 use Rattle.slice_model.specs.declared.answers.SliceRefusal.TheVariants as refusal
 use Rattle.slice_model.proofs.KeptSteps.{kept_slice}
@@ -19,7 +19,7 @@ module _ (plan : Plan) (ok : IsPlan plan) where
       let r = slices_keep n mid new (kept_slice plan ok old mid kept slice) rest in (r.0, r.1 ∙ objects_sliced plan old mid slice)
 
   module _ (old new : Sliced) (bytes : ℕ) (kept : IsKept plan new) (same : objects new.held ≡ objects old.held) (idle : new.job ≡ Idle)
-      (wants : WantsSlot plan old bytes) where
+      (wants : LacksSlot plan old bytes) where
     no : (e : SliceRefusal) → IsRefusedBy plan new bytes e → ⊥
     no refusal.Size why = (let f = wants.fits in omega arith)
     no refusal.Proxy why =
@@ -38,7 +38,7 @@ module _ (plan : Plan) (ok : IsPlan plan) where
         let within = why.within in
         omega arith
 
-    pub done_then : (h : ℕ) × (after : Sliced) × GivesObject plan new (record { number = h; length = bytes }) after
+    pub done_then : (h : ℕ) × (after : Sliced) × AddsObject plan new (record { number = h; length = bytes }) after
     done_then = elim (answered plan ok new kept bytes) [
       | inr given ↦ given
       | inl (e, why) ↦ absurd (no e why)

@@ -9,7 +9,7 @@ use Rattle.page_model.specs.Paging.{Paging, page_of, slot_words}
 use Rattle.page_model.specs.Steps.{Request}
 use Rattle.slice_model.specs.State.{Plan, JobSlot, Job, Sliced, Idle, Clear, Move, job_slot, occupied, with_slot}
 use Rattle.slice_model.specs.Steps.{done_after}
-use Rattle.slice_model.specs.Runs.{Event, Frees, Happens, Mallocs, Slices, Working, Malloc, Free, Step, Write, Read}
+use Rattle.slice_model.specs.Runs.{Event, Frees, Happens, Mallocs, Slices, HeapWithWords, Malloc, Free, Step, Write, Read}
 
 -- the limit of the numbers: the number of proxies, plus one for the placeholder if a job holds a slot
 abbrev pub numbers_beside : Plan → Option JobSlot → ℕ
@@ -21,7 +21,7 @@ abbrev pub IsOrderBeside : Plan → Sliced → Order → Type 0
 IsOrderBeside plan s o = IsOrderOf plan.paging (occupied plan s) (numbers_beside plan (job_slot s.job)) o
 
 -- a malloc that follows the order: it uses the number and the slot that the order `was` lists next
-pub record MallocsInOrder (plan : Plan) (old : Working) (asked : Request) (new : Working) (was now : Order) : Type 0 where
+pub record MallocsInOrder (plan : Plan) (old : HeapWithWords) (asked : Request) (new : HeapWithWords) (was now : Order) : Type 0 where
   pub mallocs : Mallocs plan old asked new
   pub follows : MallocFollows plan.paging (occupied plan old.state) asked mallocs.gives.place was now
 
@@ -55,19 +55,19 @@ SliceFollows plan m None after was now = now ≡ was
 SliceFollows plan m (Some k) after was now = JobFollows plan m k after was now
 
 -- a slice that follows the order: it turns the heap `old` into `new`, and the order `was` into `now`
-pub record SlicesInOrder (plan : Plan) (old new : Working) (was now : Order) : Type 0 where
+pub record SlicesInOrder (plan : Plan) (old new : HeapWithWords) (was now : Order) : Type 0 where
   pub slices : Slices plan old new
   pub follows : SliceFollows plan old.state.held (job_slot old.state.job) new.state.job was now
 
 -- a free of object h that follows the order: the object that it moves, if any, is the next one to move, and the next malloc uses the number h. A slot
 -- becomes free only when the job ends.
-pub record FreesInOrder (plan : Plan) (old : Working) (h : ℕ) (new : Working) (was now : Order) : Type 0 where
+pub record FreesInOrder (plan : Plan) (old : HeapWithWords) (h : ℕ) (new : HeapWithWords) (was now : Order) : Type 0 where
   pub frees : Frees plan old h new
   pub next : MovesNext plan.paging old.state.held was (class_at plan.paging frees.removes.freed) frees.removes.moved
   pub follows : SliceFollows plan frees.removes.begun.held (job_slot frees.removes.begun.job) new.state.job (record was { spare = h ∷ was.spare }) now
 
 -- a call that follows the order `was` and leaves the order `now`; a refused call, a write and a read leave the order unchanged
-abbrev pub HappensInOrder : Plan → Working → Event → Working → Order → Order → Type 0
+abbrev pub HappensInOrder : Plan → HeapWithWords → Event → HeapWithWords → Order → Order → Type 0
 HappensInOrder plan old (Malloc bytes (Ok h)) new was now = MallocsInOrder plan old (record { number = h.0; length = bytes }) new was now
 HappensInOrder plan old (Malloc bytes (Err e)) new was now = Happens plan old (Malloc bytes (Err e)) new × (now ≡ was)
 HappensInOrder plan old (Free h None) new was now = FreesInOrder plan old h new was now

@@ -11,14 +11,14 @@ use Rattle.page_model.specs.Image.{Rewrites, header_word}
 use Rattle.page_model.specs.Bytes.{AreBytes, written}
 use Rattle.page_model.specs.Steps.{Request}
 use Rattle.slice_model.specs.State.{Plan, JobSlot, Sliced, IsKept, job_slot}
-use Rattle.slice_model.specs.Steps.{GivesObject, IsRefusedBy, RemovesObject, IsFaultOf, IsSlice}
+use Rattle.slice_model.specs.Steps.{AddsObject, IsRefusedBy, RemovesObject, IsFaultOf, IsSlice}
 use Rattle.slice_model.specs.Words.{HasWords, DoesWords, RewritesObject, byte_read}
 use Rattle.slice_model.specs.declared.answers.SliceRefusal.{SliceRefusal}
 use Rattle.slice_model.specs.declared.answers.SliceFault.{SliceFault}
 use Rattle.slice_model.specs.declared.answers.SliceFault.TheVariants as fault
 
 -- where a read or a write begins: the object's number, and the first byte that is read or written, counted from 0
-pub record Part : Type 0 where
+pub record Position : Type 0 where
   pub number : ℕ
   pub from : ℕ
 
@@ -28,16 +28,16 @@ pub data Event : Type 0 where
   Malloc : ℕ → Result Handle SliceRefusal → Event
   Free : ℕ → Option SliceFault → Event
   Step : Event
-  Write : Part → List ℕ → Option AccessFault → Event
-  Read : Part → ℕ → Result (List ℕ) AccessFault → Event
+  Write : Position → List ℕ → Option AccessFault → Event
+  Read : Position → ℕ → Result (List ℕ) AccessFault → Event
 
 -- a call, with its result, and the number of the task that makes it
-pub record Turn : Type 0 where
+pub record TaskCall : Type 0 where
   pub task : ℕ
   pub event : Event
 
 -- a sliced heap with its memory: its state, and the words of its region
-pub record Working : Type 0 where
+pub record HeapWithWords : Type 0 where
   pub state : Sliced
   pub words : List ℕ
 
@@ -47,72 +47,72 @@ words_of_slice plan None = 0
 words_of_slice plan (Some k) = min plan.quantum (slot_words plan.paging k.class - k.done)
 
 -- a malloc that is done: the object `asked` is added to the state, and its header is written at its address; no other word changes
-pub record Mallocs (plan : Plan) (old : Working) (asked : Request) (new : Working) : Type 0 where
-  pub gives : GivesObject plan old.state asked new.state
+pub record Mallocs (plan : Plan) (old : HeapWithWords) (asked : Request) (new : HeapWithWords) : Type 0 where
+  pub gives : AddsObject plan old.state asked new.state
   pub words : Rewrites old.words new.words (record { from = gives.place; count = 1 }) (λ _. header_word asked.number asked.length)
 
 -- a free of object h that is done: the object is removed from the state, and the first slice of its job clears or moves words
-pub record Frees (plan : Plan) (old : Working) (h : ℕ) (new : Working) : Type 0 where
+pub record Frees (plan : Plan) (old : HeapWithWords) (h : ℕ) (new : HeapWithWords) : Type 0 where
   pub removes : RemovesObject plan old.state h new.state
   pub words : DoesWords removes.begun.held removes.begun.job (words_of_slice plan (job_slot removes.begun.job)) old.words new.words
 
 -- a slice: the state becomes the next one, and the job's next words are cleared or moved
-pub record Slices (plan : Plan) (old new : Working) : Type 0 where
+pub record Slices (plan : Plan) (old new : HeapWithWords) : Type 0 where
   pub slice : IsSlice plan old.state new.state
   pub words : DoesWords old.state.held old.state.job (words_of_slice plan (job_slot old.state.job)) old.words new.words
 
--- a write that is done: the object gets the bytes from byte `part.from` on, and each word that holds one of them is rewritten at its present address
-pub record Writes (old : Working) (part : Part) (bytes : List ℕ) (new : Working) : Type 0 where
+-- a write that is done: the object gets the bytes from byte `position.from` on, and each word that holds one of them is rewritten at its present address
+pub record Writes (old : HeapWithWords) (position : Position) (bytes : List ℕ) (new : HeapWithWords) : Type 0 where
   pub object : Placed
-  pub found : get old.state.held part.number ≡ Some object
-  pub fits : part.from + length bytes ≤ length object.bytes
+  pub found : get old.state.held position.number ≡ Some object
+  pub fits : position.from + length bytes ≤ length object.bytes
   pub are_bytes : AreBytes bytes
   pub state : new.state ≡ record old.state {
-    held = insert old.state.held part.number (record { place = object.place; bytes = written object.bytes part.from bytes });
+    held = insert old.state.held position.number (record { place = object.place; bytes = written object.bytes position.from bytes });
   }
-  pub words : RewritesObject old.state.job part.number object (written object.bytes part.from bytes)
-      (record { from = 1 + part.from / 8; count = (part.from % 8 + length bytes + 7) / 8 }) old.words new.words
+  pub words : RewritesObject old.state.job position.number object (written object.bytes position.from bytes)
+      (record { from = 1 + position.from / 8; count = (position.from % 8 + length bytes + 7) / 8 }) old.words new.words
 
 -- a read of `count` bytes that is done: each byte of the result `out` is read from the word that holds it, at its present address
-pub record Reads (old : Working) (part : Part) (count : ℕ) (out : List ℕ) : Type 0 where
+pub record Reads (old : HeapWithWords) (position : Position) (count : ℕ) (out : List ℕ) : Type 0 where
   pub object : Placed
-  pub found : get old.state.held part.number ≡ Some object
-  pub fits : part.from + count ≤ length object.bytes
+  pub found : get old.state.held position.number ≡ Some object
+  pub fits : position.from + count ≤ length object.bytes
   pub size : length out ≡ count
-  pub bytes : (k : ℕ) → k < count → slice_index out k ≡ byte_read old.state.job old.words part.number object (part.from + k)
+  pub bytes : (k : ℕ) → k < count → slice_index out k ≡ byte_read old.state.job old.words position.number object (position.from + k)
 
 -- what holds of the objects o if a read or a write of `count` bytes is refused with this reply: the object isn't live, or the bytes pass its end
-abbrev pub IsOutOfReach : Objects → Part → ℕ → AccessFault → Type 0
-IsOutOfReach o part count access.Unknown = get o part.number ≡ None
-IsOutOfReach o part count access.Range = (v : List ℕ) × (get o part.number ≡ Some v) × (length v < part.from + count)
+abbrev pub IsOutOfReach : Objects → Position → ℕ → AccessFault → Type 0
+IsOutOfReach o position count access.Unknown = get o position.number ≡ None
+IsOutOfReach o position count access.Range = (v : List ℕ) × (get o position.number ≡ Some v) × (length v < position.from + count)
 
 -- what a call with this result does to the state and the words: the heap `old` becomes `new`
-abbrev pub Happens : Plan → Working → Event → Working → Type 0
+abbrev pub Happens : Plan → HeapWithWords → Event → HeapWithWords → Type 0
 Happens plan old (Malloc bytes (Ok h)) new = Mallocs plan old (record { number = h.0; length = bytes }) new
 Happens plan old (Malloc bytes (Err e)) new = IsRefusedBy plan old.state bytes e × (new ≡ old)
 Happens plan old (Free h None) new = Frees plan old h new
 Happens plan old (Free h (Some e)) new = IsFaultOf old.state h e × (new ≡ old)
 Happens plan old Step new = Slices plan old new
-Happens plan old (Write part bytes None) new = Writes old part bytes new
-Happens plan old (Write part bytes (Some e)) new = IsOutOfReach (objects old.state.held) part (length bytes) e × (new ≡ old)
-Happens plan old (Read part count (Ok out)) new = Reads old part count out × (new ≡ old)
-Happens plan old (Read part count (Err e)) new = IsOutOfReach (objects old.state.held) part count e × (new ≡ old)
+Happens plan old (Write position bytes None) new = Writes old position bytes new
+Happens plan old (Write position bytes (Some e)) new = IsOutOfReach (objects old.state.held) position (length bytes) e × (new ≡ old)
+Happens plan old (Read position count (Ok out)) new = Reads old position count out × (new ≡ old)
+Happens plan old (Read position count (Err e)) new = IsOutOfReach (objects old.state.held) position count e × (new ≡ old)
 
 -- the calls of all tasks, made one after the other, turn the heap `old` into `new`
-abbrev pub Runs : Plan → Working → List Turn → Working → Type 0
+abbrev pub Runs : Plan → HeapWithWords → List TaskCall → HeapWithWords → Type 0
 Runs plan old [] new = new ≡ old
-Runs plan old (turn ∷ rest) new = (mid : Working) × Happens plan old turn.event mid × Runs plan mid rest new
+Runs plan old (turn ∷ rest) new = (mid : HeapWithWords) × Happens plan old turn.event mid × Runs plan mid rest new
 
 -- 1 for a slice, 0 for every other call
 abbrev pub is_step : Event → ℕ
 is_step (Malloc bytes answer) = 0
 is_step (Free h answer) = 0
 is_step Step = 1
-is_step (Write part bytes answer) = 0
-is_step (Read part count answer) = 0
+is_step (Write position bytes answer) = 0
+is_step (Read position count answer) = 0
 
 -- the number of slices in a list of calls
-abbrev pub steps_in : List Turn → ℕ
+abbrev pub steps_in : List TaskCall → ℕ
 steps_in [] = 0
 steps_in (turn ∷ rest) = is_step turn.event + steps_in rest
 
@@ -122,11 +122,11 @@ is_done_free (Malloc bytes answer) = 0
 is_done_free (Free h None) = 1
 is_done_free (Free h (Some e)) = 0
 is_done_free Step = 0
-is_done_free (Write part bytes answer) = 0
-is_done_free (Read part count answer) = 0
+is_done_free (Write position bytes answer) = 0
+is_done_free (Read position count answer) = 0
 
 -- the number of frees in a list of calls that were not refused
-abbrev pub frees_in : List Turn → ℕ
+abbrev pub frees_in : List TaskCall → ℕ
 frees_in [] = 0
 frees_in (turn ∷ rest) = is_done_free turn.event + frees_in rest
 
@@ -136,11 +136,11 @@ is_malloc_of plan c (Malloc bytes (Ok h)) = if nat_eq (class_for plan.paging byt
 is_malloc_of plan c (Malloc bytes (Err e)) = 0
 is_malloc_of plan c (Free h answer) = 0
 is_malloc_of plan c Step = 0
-is_malloc_of plan c (Write part bytes answer) = 0
-is_malloc_of plan c (Read part count answer) = 0
+is_malloc_of plan c (Write position bytes answer) = 0
+is_malloc_of plan c (Read position count answer) = 0
 
 -- the number of mallocs of class c in a list of calls that were not refused
-abbrev pub mallocs_in : Plan → ℕ → List Turn → ℕ
+abbrev pub mallocs_in : Plan → ℕ → List TaskCall → ℕ
 mallocs_in plan c [] = 0
 mallocs_in plan c (turn ∷ rest) = is_malloc_of plan c turn.event + mallocs_in plan c rest
 
@@ -157,20 +157,20 @@ HappensOnMap old (Free h None) new = IsLive old h × (new ≡ remove old h)
 HappensOnMap old (Free h (Some fault.Unknown)) new = (get old h ≡ None) × (new ≡ old)
 HappensOnMap old (Free h (Some fault.Busy)) new = IsLive old h × (new ≡ old)
 HappensOnMap old Step new = new ≡ old
-HappensOnMap old (Write part bytes None) new = (v : List ℕ) × (get old part.number ≡ Some v) × (part.from + length bytes ≤ length v)
-    × (new ≡ insert old part.number (written v part.from bytes))
-HappensOnMap old (Write part bytes (Some e)) new = IsOutOfReach old part (length bytes) e × (new ≡ old)
-HappensOnMap old (Read part count (Ok out)) new = (v : List ℕ) × (get old part.number ≡ Some v) × (part.from + count ≤ length v)
-    × (out ≡ take count (drop part.from v)) × (new ≡ old)
-HappensOnMap old (Read part count (Err e)) new = IsOutOfReach old part count e × (new ≡ old)
+HappensOnMap old (Write position bytes None) new = (v : List ℕ) × (get old position.number ≡ Some v) × (position.from + length bytes ≤ length v)
+    × (new ≡ insert old position.number (written v position.from bytes))
+HappensOnMap old (Write position bytes (Some e)) new = IsOutOfReach old position (length bytes) e × (new ≡ old)
+HappensOnMap old (Read position count (Ok out)) new = (v : List ℕ) × (get old position.number ≡ Some v) × (position.from + count ≤ length v)
+    × (out ≡ take count (drop position.from v)) × (new ≡ old)
+HappensOnMap old (Read position count (Err e)) new = IsOutOfReach old position count e × (new ≡ old)
 
 -- the calls, made one after the other, turn the map `old` into `new`
-abbrev pub RunsOnMap : Objects → List Turn → Objects → Type 0
+abbrev pub RunsOnMap : Objects → List TaskCall → Objects → Type 0
 RunsOnMap old [] new = new ≡ old
 RunsOnMap old (turn ∷ rest) new = (mid : Objects) × HappensOnMap old turn.event mid × RunsOnMap mid rest new
 
 -- The invariant between two calls: the state satisfies the rules (`IsKept`), the words are those of the state (`HasWords`), and each object holds bytes.
-pub record IsConsistent (plan : Plan) (w : Working) : Type 0 where
+pub record IsConsistent (plan : Plan) (w : HeapWithWords) : Type 0 where
   pub kept : IsKept plan w.state
   pub words : HasWords plan.paging w.state w.words
   pub bytes : (h : ℕ) (v : List ℕ) → get (objects w.state.held) h ≡ Some v → AreBytes v

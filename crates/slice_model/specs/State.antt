@@ -3,7 +3,7 @@ use Rattle.std.specs.Prelude.{◌≡◌, ◌≢◌, ℕ, ◌+◌, ◌-◌, ◌*�
 use Rattle.std.specs.FinMap.{get, insert}
 pub use Rattle.slice_model.specs.declared.job_slot.JobSlot.{JobSlot}
 use Rattle.page_model.specs.Held.{Held, Placed}
-use Rattle.page_model.specs.Paging.{Paging, IsPaging, AreOne, classes, slot_words, slots_of, page_of}
+use Rattle.page_model.specs.Paging.{Paging, IsPaging, EveryBoundIsOne, classes, slot_words, slots_of, page_of}
 use Rattle.page_model.specs.Arrangement.{IsSound, IsSlotAt, class_at, objects_on, count_on, not_full_pages}
 
 -- the settings of a sliced heap: its pages and classes, the number of its proxies, and the quantum, the most words that one slice of a job does
@@ -15,7 +15,7 @@ pub record Plan : Type 0 where
 -- the settings are valid: the sizes of the classes rise to the page, each class has bound 1, and the quantum is at least one word
 pub record IsPlan (plan : Plan) : Type 0 where
   pub paging : IsPaging plan.paging
-  pub ones : AreOne plan.paging
+  pub ones : EveryBoundIsOne plan.paging
   pub quantum : 1 ≤ plan.quantum
 
 -- The pending job: none (`Idle`), to clear a slot (`Clear`), or to move the object with this number from a slot to the object's address (`Move`).
@@ -115,7 +115,7 @@ pub record IsPlaceFor (p : Paging) (s : Sliced) (c a : ℕ) : Type 0 where
 
 -- The rules for the objects m without the placeholder, while a job holds slot k. No object is in that slot, and those on its page are of its class. Each
 -- other class has at most one partly full page, and the slot's class at most two; if it has two, the slot is the only free one on its page.
-pub record LieBeside (p : Paging) (m : Held) (k : JobSlot) : Type 0 where
+pub record AreSoundBesideJob (p : Paging) (m : Held) (k : JobSlot) : Type 0 where
   pub address : (h : ℕ) (x : Placed) → get m h ≡ Some x → x.place ≢ k.address
   pub class : (h : ℕ) (x : Placed) → get m h ≡ Some x → page_of p x.place ≡ page_of p k.address → class_at p x ≡ k.class
   pub others : (c : ℕ) → c < classes p → c ≢ k.class → not_full_pages p m c ≤ 1

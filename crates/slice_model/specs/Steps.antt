@@ -15,7 +15,7 @@ use Rattle.slice_model.specs.declared.answers.SliceFault.TheVariants as fault
 
 -- A malloc is done: the object `asked` fits a page, a proxy is free, and the object is added, all zeros, in a slot that it may use, under a number that
 -- wasn't in use. The job is unchanged.
-pub record GivesObject (plan : Plan) (old : Sliced) (asked : Request) (new : Sliced) : Type 0 where
+pub record AddsObject (plan : Plan) (old : Sliced) (asked : Request) (new : Sliced) : Type 0 where
   pub fits : need asked.length ≤ plan.paging.page_words
   pub few : len old.held < plan.proxies
   pub in_range : asked.number < plan.proxies
@@ -25,20 +25,20 @@ pub record GivesObject (plan : Plan) (old : Sliced) (asked : Request) (new : Sli
   pub placed : new ≡ record old { held = insert old.held asked.number (zeros_at place asked.length) }
 
 -- the cause of `Proxy` for a malloc of `bytes` bytes: the object would fit a page, but all proxies are in use
-pub record WantsProxy (plan : Plan) (s : Sliced) (bytes : ℕ) : Type 0 where
+pub record LacksProxy (plan : Plan) (s : Sliced) (bytes : ℕ) : Type 0 where
   pub fits : need bytes ≤ plan.paging.page_words
   pub all : len s.held ≡ plan.proxies
 
 -- the cause of `Space` for a malloc of `bytes` bytes: the object fits a page and a proxy is free, but the objects and the new one need more pages than the
 -- heap has
-pub record WantsSpace (plan : Plan) (s : Sliced) (bytes : ℕ) : Type 0 where
+pub record LacksSpace (plan : Plan) (s : Sliced) (bytes : ℕ) : Type 0 where
   pub fits : need bytes ≤ plan.paging.page_words
   pub few : len s.held < plan.proxies
   pub over : plan.paging.pages < pages_needed_with plan.paging (objects s.held) bytes
 
 -- the cause of `Busy` for a malloc of `bytes` bytes: the object fits a page, a proxy is free and the pages are enough, but no slot of the class is usable
 -- and no page is free
-pub record WantsSlot (plan : Plan) (s : Sliced) (bytes : ℕ) : Type 0 where
+pub record LacksSlot (plan : Plan) (s : Sliced) (bytes : ℕ) : Type 0 where
   pub fits : need bytes ≤ plan.paging.page_words
   pub few : len s.held < plan.proxies
   pub within : pages_needed_with plan.paging (objects s.held) bytes ≤ plan.paging.pages
@@ -47,13 +47,13 @@ pub record WantsSlot (plan : Plan) (s : Sliced) (bytes : ℕ) : Type 0 where
 -- what holds of state s if a malloc of `bytes` bytes is refused with this reply
 abbrev pub IsRefusedBy : Plan → Sliced → ℕ → SliceRefusal → Type 0
 IsRefusedBy plan s bytes refusal.Size = plan.paging.page_words < need bytes
-IsRefusedBy plan s bytes refusal.Proxy = WantsProxy plan s bytes
-IsRefusedBy plan s bytes refusal.Space = WantsSpace plan s bytes
-IsRefusedBy plan s bytes refusal.Busy = WantsSlot plan s bytes
+IsRefusedBy plan s bytes refusal.Proxy = LacksProxy plan s bytes
+IsRefusedBy plan s bytes refusal.Space = LacksSpace plan s bytes
+IsRefusedBy plan s bytes refusal.Busy = LacksSlot plan s bytes
 
 -- what a malloc of `bytes` bytes with this result does to state `old`: it adds an object under the number returned, or is refused and changes nothing
 abbrev pub IsMalloc : Plan → Sliced → ℕ → Result Handle SliceRefusal → Sliced → Type 0
-IsMalloc plan old bytes (Ok h) new = GivesObject plan old (record { number = h.0; length = bytes }) new
+IsMalloc plan old bytes (Ok h) new = AddsObject plan old (record { number = h.0; length = bytes }) new
 IsMalloc plan old bytes (Err e) new = IsRefusedBy plan old bytes e × (new ≡ old)
 
 -- the slot of class c at address a when a job on it begins: none of its words is done
@@ -61,16 +61,16 @@ abbrev pub fresh_slot : ℕ → ℕ → JobSlot
 fresh_slot a c = record { address = a; class = c; done = 0 }
 
 -- A job begins that moves object q of m: the object gets the address a at once, and the job has to move its words there from its old slot, of class c.
-pub record Carries (m : Held) (q a c : ℕ) (new : Sliced) : Type 0 where
+pub record BeginsMove (m : Held) (q a c : ℕ) (new : Sliced) : Type 0 where
   pub object : Placed
   pub found : get m q ≡ Some object
   pub whole : new ≡ record { held = insert m q (record { place = a; bytes = object.bytes }); job = Move q (fresh_slot object.place c) }
 
 -- A job begins after an object was removed from the slot of class c at address a, and the objects m are left: the job moves object q into that slot, or, if
 -- no object is to move, clears the slot.
-abbrev pub Vacates : Held → ℕ → ℕ → Option ℕ → Sliced → Type 0
-Vacates m a c None new = new ≡ record { held = m; job = Clear (fresh_slot a c) }
-Vacates m a c (Some q) new = Carries m q a c new
+abbrev pub LeavesJob : Held → ℕ → ℕ → Option ℕ → Sliced → Type 0
+LeavesJob m a c None new = new ≡ record { held = m; job = Clear (fresh_slot a c) }
+LeavesJob m a c (Some q) new = BeginsMove m q a c new
 
 -- object q is of class c, and on a partly full page other than that of address a
 pub record IsBeside (p : Paging) (m : Held) (a c q : ℕ) : Type 0 where
@@ -82,15 +82,15 @@ pub record IsBeside (p : Paging) (m : Held) (a c q : ℕ) : Type 0 where
 
 -- The job of slot k has done its last word, and another follows, since two pages of the class are partly full: it moves an object of the other page into
 -- slot k.
-pub record Chains (p : Paging) (m : Held) (k : JobSlot) (new : Sliced) : Type 0 where
+pub record BeginsNextMove (p : Paging) (m : Held) (k : JobSlot) (new : Sliced) : Type 0 where
   pub two : not_full_pages p m k.class ≡ 2
   pub object : ℕ
   pub beside : IsBeside p m k.address k.class object
-  pub carries : Carries m object k.address k.class new
+  pub carries : BeginsMove m object k.address k.class new
 
 -- The state `new` after the job of slot k has done its last word: no job is pending, or, if two pages of the class are partly full, the next job begins.
-abbrev pub Ends : Paging → Held → JobSlot → Sliced → Type 0
-Ends p m k new = ((not_full_pages p m k.class ≢ 2) × (new ≡ record { held = m; job = Idle })) ⊎ Chains p m k new
+abbrev pub EndsJob : Paging → Held → JobSlot → Sliced → Type 0
+EndsJob p m k new = ((not_full_pages p m k.class ≢ 2) × (new ≡ record { held = m; job = Idle })) ⊎ BeginsNextMove p m k new
 
 -- how many words of slot k are done after one more slice: a quantum more, but at most all
 abbrev pub done_after : Plan → JobSlot → ℕ
@@ -104,7 +104,7 @@ pub record GoesOn (plan : Plan) (old : Sliced) (k : JobSlot) (new : Sliced) : Ty
 -- a slice that ends the job of slot k: all its words are done
 pub record IsDone (plan : Plan) (old : Sliced) (k : JobSlot) (new : Sliced) : Type 0 where
   pub all : done_after plan k ≡ slot_words plan.paging k.class
-  pub ends : Ends plan.paging old.held k new
+  pub ends : EndsJob plan.paging old.held k new
 
 -- what a slice does to state `old` if its job holds this slot: the job goes on or ends; nothing changes if no job is pending
 abbrev pub SliceOf : Plan → Sliced → Option JobSlot → Sliced → Type 0
@@ -133,7 +133,7 @@ pub record RemovesObject (plan : Plan) (old : Sliced) (h : ℕ) (new : Sliced) :
   pub moved : Option ℕ
   pub moves : Moves plan.paging old.held freed moved
   pub begun : Sliced
-  pub begins : Vacates (remove old.held h) freed.place (class_at plan.paging freed) moved begun
+  pub begins : LeavesJob (remove old.held h) freed.place (class_at plan.paging freed) moved begun
   pub slice : IsSlice plan begun new
 
 -- the cause of `Busy` for a free of object h: it is live, and a job is pending

@@ -6,8 +6,8 @@ ghost use Rattle.page_model.specs.Arrangement.{IsSlotAt, IsSound, class_at};
 ghost use Rattle.page_model.specs.Held.{Placed};
 ghost use Rattle.page_model.specs.Paging.{page_of};
 ghost use Rattle.page_model.specs.Steps.{Request};
-ghost use Rattle.slice_model.specs.State.{Idle, IsKept, IsPlan, JobSlot, Plan, Sliced, LieBeside, job_slot};
-ghost use Rattle.slice_model.specs.Steps.{GivesObject, IsSlice, RemovesObject};
+ghost use Rattle.slice_model.specs.State.{Idle, IsKept, IsPlan, JobSlot, Plan, Sliced, AreSoundBesideJob, job_slot};
+ghost use Rattle.slice_model.specs.Steps.{AddsObject, IsSlice, RemovesObject};
 
 /// A heap without objects and without a pending job satisfies the rules (`IsKept`).
 pub fn nothing_keeps_the_rules()
@@ -17,7 +17,7 @@ pub fn nothing_keeps_the_rules()
 /// If the state `old` satisfies the rules, so does the state `new` that a successful malloc leaves.
 pub fn a_malloc_keeps_the_rules()
     ensures { (plan : Plan) (old : Sliced) (asked : Request) (new : Sliced) → IsPlan plan → IsKept plan old
-        → GivesObject plan old asked new → IsKept plan new }
+        → AddsObject plan old asked new → IsKept plan new }
 {}
 
 /// If the state `old` satisfies the rules, so does the state `new` that a successful free of object
@@ -56,5 +56,5 @@ pub fn what_the_rules_say_of_pages()
         → class_at plan.paging x ≡ class_at plan.paging y }
     ensures idle { (plan : Plan) (s : Sliced) → IsKept plan s → s.job ≡ Idle → IsSound plan.paging s.held }
     ensures pending { (plan : Plan) (s : Sliced) (k : JobSlot) → IsPlan plan → IsKept plan s
-        → job_slot s.job ≡ Some k → LieBeside plan.paging s.held k }
+        → job_slot s.job ≡ Some k → AreSoundBesideJob plan.paging s.held k }
 {}

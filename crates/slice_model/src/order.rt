@@ -9,9 +9,9 @@ ghost use Rattle.page_model.specs.Arrangement.{class_at};
 ghost use Rattle.page_model.specs.Held.{Placed};
 ghost use Rattle.page_model.specs.Order.{MallocFollows, Order, first_order};
 ghost use Rattle.slice_model.specs.Ordered.{HappensInOrder, IsOrderBeside, MovesNext, SliceFollows};
-ghost use Rattle.slice_model.specs.Runs.{Event, Free, IsConsistent, Malloc, Part, Read, Step, Working, Write};
+ghost use Rattle.slice_model.specs.Runs.{Event, Free, IsConsistent, Malloc, Position, Read, Step, HeapWithWords, Write};
 ghost use Rattle.slice_model.specs.State.{Idle, IsKept, IsPlan, Plan, Sliced, job_slot, occupied};
-ghost use Rattle.slice_model.specs.Steps.{GivesObject, IsRefusedBy, IsSlice, RemovesObject};
+ghost use Rattle.slice_model.specs.Steps.{AddsObject, IsRefusedBy, IsSlice, RemovesObject};
 ghost use Rattle.slice_model.specs.declared.answers.SliceFault.{SliceFault};
 ghost use Rattle.slice_model.specs.declared.answers.SliceRefusal.{SliceRefusal};
 
@@ -19,25 +19,25 @@ ghost use Rattle.slice_model.specs.declared.answers.SliceRefusal.{SliceRefusal};
 /// follows the order `was` both times, it has the same result, and leaves the same objects, job,
 /// words (also those of a job that is half done) and order.
 pub fn an_order_leaves_no_choice_beside_a_job()
-    ensures malloc { (plan : Plan) (old : Working) (bytes : ℕ) (a b : Result Handle SliceRefusal) (new other : Working) (was now next : Order)
+    ensures malloc { (plan : Plan) (old : HeapWithWords) (bytes : ℕ) (a b : Result Handle SliceRefusal) (new other : HeapWithWords) (was now next : Order)
         → IsPlan plan → IsConsistent plan old → length new.words ≡ length other.words
         → HappensInOrder plan old (Malloc bytes a) new was now → HappensInOrder plan old (Malloc bytes b) other was next
         → (a ≡ b) × (new ≡ other) × (now ≡ next) }
-    ensures free { (plan : Plan) (old : Working) (h : ℕ) (a b : Option SliceFault) (new other : Working) (was now next : Order)
+    ensures free { (plan : Plan) (old : HeapWithWords) (h : ℕ) (a b : Option SliceFault) (new other : HeapWithWords) (was now next : Order)
         → IsPlan plan → IsConsistent plan old → length new.words ≡ length other.words
         → HappensInOrder plan old (Free h a) new was now → HappensInOrder plan old (Free h b) other was next
         → (a ≡ b) × (new ≡ other) × (now ≡ next) }
-    ensures slice { (plan : Plan) (old : Working) (new other : Working) (was now next : Order)
+    ensures slice { (plan : Plan) (old : HeapWithWords) (new other : HeapWithWords) (was now next : Order)
         → IsPlan plan → IsConsistent plan old → length new.words ≡ length other.words
         → HappensInOrder plan old Step new was now → HappensInOrder plan old Step other was next
         → (new ≡ other) × (now ≡ next) }
-    ensures write { (plan : Plan) (old : Working) (part : Part) (bytes : List ℕ) (a b : Option AccessFault) (new other : Working) (was now next : Order)
+    ensures write { (plan : Plan) (old : HeapWithWords) (position : Position) (bytes : List ℕ) (a b : Option AccessFault) (new other : HeapWithWords) (was now next : Order)
         → IsPlan plan → IsConsistent plan old → length new.words ≡ length other.words
-        → HappensInOrder plan old (Write part bytes a) new was now → HappensInOrder plan old (Write part bytes b) other was next
+        → HappensInOrder plan old (Write position bytes a) new was now → HappensInOrder plan old (Write position bytes b) other was next
         → (a ≡ b) × (new ≡ other) × (now ≡ next) }
-    ensures read { (plan : Plan) (old : Working) (part : Part) (n : ℕ) (a b : Result (List ℕ) AccessFault) (new other : Working) (was now next : Order)
+    ensures read { (plan : Plan) (old : HeapWithWords) (position : Position) (n : ℕ) (a b : Result (List ℕ) AccessFault) (new other : HeapWithWords) (was now next : Order)
         → IsPlan plan → IsConsistent plan old → length new.words ≡ length other.words
-        → HappensInOrder plan old (Read part n a) new was now → HappensInOrder plan old (Read part n b) other was next
+        → HappensInOrder plan old (Read position n a) new was now → HappensInOrder plan old (Read position n b) other was next
         → (a ≡ b) × (new ≡ other) × (now ≡ next) }
 {}
 
@@ -46,7 +46,7 @@ pub fn an_order_leaves_no_choice_beside_a_job()
 pub fn a_malloc_can_follow_an_order_beside_a_job()
     ensures { (plan : Plan) (s : Sliced) (bytes : ℕ) (o : Order) → IsPlan plan → IsKept plan s → IsOrderBeside plan s o
         → ((e : SliceRefusal) → ¬ IsRefusedBy plan s bytes e)
-        → (h : ℕ) × (after : Sliced) × (new : Order) × (gives : GivesObject plan s (record { number = h; length = bytes }) after)
+        → (h : ℕ) × (after : Sliced) × (new : Order) × (gives : AddsObject plan s (record { number = h; length = bytes }) after)
         × MallocFollows plan.paging (occupied plan s) (record { number = h; length = bytes }) gives.place o new
         × IsOrderBeside plan after new }
 {}
@@ -73,7 +73,7 @@ pub fn a_free_can_follow_an_order_beside_a_job()
 
 /// A call that follows an order of the old state leaves an order of the new state.
 pub fn a_call_keeps_an_order()
-    ensures { (plan : Plan) (old : Working) (event : Event) (new : Working) (was now : Order) → IsPlan plan → IsKept plan old.state
+    ensures { (plan : Plan) (old : HeapWithWords) (event : Event) (new : HeapWithWords) (was now : Order) → IsPlan plan → IsKept plan old.state
         → IsOrderBeside plan old.state was → HappensInOrder plan old event new was now → IsOrderBeside plan new.state now }
 {}
 

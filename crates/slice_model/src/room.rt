@@ -9,13 +9,13 @@ ghost use Rattle.page_model.specs.Held.{objects};
 ghost use Rattle.page_model.specs.Paging.{class_for};
 ghost use Rattle.page_model.specs.Steps.{Request};
 ghost use Rattle.slice_model.specs.State.{Idle, IsFreePage, IsKept, IsPlaceFor, IsPlan, IsUsable, NoPlace, Plan, Sliced, occupied};
-ghost use Rattle.slice_model.specs.Steps.{GivesObject, IsFaultOf, IsRefusedBy, IsSlice, RemovesObject, WantsSlot};
+ghost use Rattle.slice_model.specs.Steps.{AddsObject, IsFaultOf, IsRefusedBy, IsSlice, RemovesObject, LacksSlot};
 ghost use Rattle.slice_model.specs.declared.answers.SliceFault.{SliceFault};
 ghost use Rattle.slice_model.specs.declared.answers.SliceRefusal.{SliceRefusal};
 
 /// A malloc is refused as `Busy` only if a job is pending.
-pub fn a_malloc_waits_for_a_job_alone()
-    ensures { (plan : Plan) (s : Sliced) (bytes : ℕ) → IsPlan plan → IsKept plan s → WantsSlot plan s bytes → s.job ≢ Idle }
+pub fn a_malloc_is_busy_only_with_a_job()
+    ensures { (plan : Plan) (s : Sliced) (bytes : ℕ) → IsPlan plan → IsKept plan s → LacksSlot plan s bytes → s.job ≢ Idle }
 {}
 
 /// If the class of a malloc has a usable slot, or a page is free, the malloc is not refused as
@@ -31,7 +31,7 @@ pub fn a_place_is_within_the_sum()
 
 /// No slot is left for an object of `bytes` bytes if and only if the objects, the job's placeholder
 /// and the new object together need more pages than the heap has.
-pub fn a_malloc_waits_exactly_by_arithmetic()
+pub fn when_a_malloc_is_busy()
     ensures { (plan : Plan) (s : Sliced) (bytes : ℕ) → IsPlan plan → IsKept plan s → need bytes ≤ plan.paging.page_words
         → NoPlace plan.paging s (class_for plan.paging bytes)
         ↔ (plan.paging.pages < pages_needed_with plan.paging (objects (occupied plan s)) bytes) }
@@ -39,9 +39,9 @@ pub fn a_malloc_waits_exactly_by_arithmetic()
 
 /// If the objects and the new one need fewer pages than the heap has, the malloc is not refused as
 /// `Busy`. So one spare page is enough that no malloc waits for a job.
-pub fn a_spare_page_never_waits()
+pub fn no_malloc_is_busy_with_a_spare_page()
     ensures { (plan : Plan) (s : Sliced) (bytes : ℕ) → IsPlan plan → IsKept plan s
-        → pages_needed_with plan.paging (objects s.held) bytes < plan.paging.pages → ¬ WantsSlot plan s bytes }
+        → pages_needed_with plan.paging (objects s.held) bytes < plan.paging.pages → ¬ LacksSlot plan s bytes }
 {}
 
 /// In a state that satisfies the rules (`IsKept`), each malloc is either done or refused, and
@@ -49,10 +49,10 @@ pub fn a_spare_page_never_waits()
 pub fn a_malloc_has_one_answer()
     ensures some { (plan : Plan) (s : Sliced) (bytes : ℕ) → IsPlan plan → IsKept plan s
         → ((e : SliceRefusal) × IsRefusedBy plan s bytes e)
-        ⊎ ((h : ℕ) × (new : Sliced) × GivesObject plan s (record { number = h; length = bytes }) new) }
+        ⊎ ((h : ℕ) × (new : Sliced) × AddsObject plan s (record { number = h; length = bytes }) new) }
     ensures one { (plan : Plan) (s : Sliced) (bytes : ℕ) (a b : SliceRefusal) → IsRefusedBy plan s bytes a → IsRefusedBy plan s bytes b → a ≡ b }
     ensures done { (plan : Plan) (s : Sliced) (asked : Request) (new : Sliced) (e : SliceRefusal) → IsPlan plan → IsKept plan s
-        → GivesObject plan s asked new → ¬ IsRefusedBy plan s asked.length e }
+        → AddsObject plan s asked new → ¬ IsRefusedBy plan s asked.length e }
 {}
 
 /// In a state that satisfies the rules (`IsKept`), each free is either done or refused, and refused

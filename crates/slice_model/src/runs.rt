@@ -2,7 +2,7 @@
 ghost use Rattle.std.specs.Prelude.{ℕ, ◌≡◌, List, replicate};
 ghost use Rattle.std.specs.FinMap.{empty};
 ghost use Rattle.page_model.specs.Held.{objects};
-ghost use Rattle.slice_model.specs.Runs.{Event, Happens, HappensOnMap, IsConsistent, Runs, RunsOnMap, Turn, Working};
+ghost use Rattle.slice_model.specs.Runs.{Event, Happens, HappensOnMap, IsConsistent, Runs, RunsOnMap, TaskCall, HeapWithWords};
 ghost use Rattle.slice_model.specs.State.{Idle, IsPlan, Plan};
 
 /// In every list of calls of several tasks, with slices anywhere in between, the mallocs, frees,
@@ -10,7 +10,7 @@ ghost use Rattle.slice_model.specs.State.{Idle, IsPlan, Plan};
 /// bytes last written, also of an object in motion. The heap and its words stay consistent
 /// (`IsConsistent`).
 pub fn calls_of_all_tasks_are_those_of_one_map()
-    ensures { (plan : Plan) (old : Working) (turns : List Turn) (new : Working) → IsPlan plan → IsConsistent plan old
+    ensures { (plan : Plan) (old : HeapWithWords) (turns : List TaskCall) (new : HeapWithWords) → IsPlan plan → IsConsistent plan old
         → Runs plan old turns new
         → RunsOnMap (objects old.state.held) turns (objects new.state.held) × IsConsistent plan new }
 {}

@@ -8,7 +8,7 @@ ghost use Rattle.page_model.specs.Paging.{Paging};
 ghost use Rattle.page_model.specs.Steps.{Request};
 ghost use Rattle.slice_model.specs.Runs.{words_of_slice};
 ghost use Rattle.slice_model.specs.State.{Idle, IsKept, IsPlan, JobSlot, Move, Plan, Sliced, job_slot};
-ghost use Rattle.slice_model.specs.Steps.{GivesObject, IsSlice, RemovesObject};
+ghost use Rattle.slice_model.specs.Steps.{AddsObject, IsSlice, RemovesObject};
 ghost use Rattle.slice_model.specs.Words.{DoesWords, HasWords, IsClosed, RewritesObject, byte_read};
 
 /// Compares the words of a heap with `clean`, the image of its objects without any job. If no job
@@ -33,7 +33,7 @@ pub fn words_are_the_image_but_for_the_job()
 /// bytes.
 pub fn words_after_each_call()
     ensures malloc { (plan : Plan) (old : Sliced) (words after : List ℕ) (asked : Request) (new : Sliced) → IsPlan plan → IsKept plan old
-        → HasWords plan.paging old words → (g : GivesObject plan old asked new)
+        → HasWords plan.paging old words → (g : AddsObject plan old asked new)
         → Rewrites words after (record { from = g.place; count = 1 }) (λ _. header_word asked.number asked.length)
         → HasWords plan.paging new after }
     ensures free { (plan : Plan) (old : Sliced) (words after : List ℕ) (h : ℕ) (new : Sliced) → IsPlan plan → IsKept plan old

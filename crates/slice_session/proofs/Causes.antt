@@ -7,7 +7,7 @@ use Rattle.cf_base.specs.declared.answers.Handle.{Handle}
 use Rattle.cf_io.specs.Texts.{Reply, said}
 use Rattle.script_reader.specs.declared.command.Command.TheVariants as command
 use Rattle.page_model.specs.Order.{Order}
-use Rattle.slice_model.specs.Runs.{Working, Malloc, Free}
+use Rattle.slice_model.specs.Runs.{HeapWithWords, Malloc, Free}
 use Rattle.slice_model.specs.State.{Idle, Sliced}
 use Rattle.slice_model.specs.Steps.{IsFaultOf, IsRefusedBy}
 use Rattle.slice_model.specs.declared.answers.SliceFault.{SliceFault}
@@ -22,12 +22,12 @@ use Rattle.cf_base.specs.Settings.{Profile}
 use Rattle.std.specs.Prelude.{Bool}
 use Rattle.std.proofs.Common.{ap₂}
 use Rattle.slice_model.specs.State.{IsKept, IsPlan, Plan}
-use Rattle.slice_model.specs.Steps.{WantsSlot}
+use Rattle.slice_model.specs.Steps.{LacksSlot}
 use Rattle.sliced_heap.specs.Shown.{StaysOpen}
 use Rattle.slice_session.specs.SliceRun.{slice_run}
 
 -- a heap from its fields
-abbrev heap_by : Bool → Profile → ℕ → Working → Order → SlicedState
+abbrev heap_by : Bool → Profile → ℕ → HeapWithWords → Order → SlicedState
 heap_by b p q w o = record { is_open = b; profile = p; quantum = q; held = w.state.held; job = w.state.job; words = w.words; order = o }
 
 heap_same : (old new : SlicedState) → StaysOpen old new → working_in new ≡ working_in old → new.order ≡ old.order → new ≡ old
@@ -125,9 +125,9 @@ module _ (old new : SliceRun) (id : ℕ) where
           (one_cause (plan_in old.heap) (working_in old.heap).state n f e d.happens.0 cause)
 
   -- who has to wait, by the law of the model that a malloc waits for a job alone
-  pub malloc_waits : ((plan : Plan) (s : Sliced) (n : ℕ) → IsPlan plan → IsKept plan s → WantsSlot plan s n → s.job ≢ Idle)
+  pub busy_malloc_cause : ((plan : Plan) (s : Sliced) (n : ℕ) → IsPlan plan → IsKept plan s → LacksSlot plan s n → s.job ≢ Idle)
       → (n : ℕ) → IsGoingSliced old → SliceStep old (command.Malloc id n) (said (codes "busy")) new → old.heap.job ≢ Idle
-  malloc_waits law n going step = go (get old.ids id) refl step
+  busy_malloc_cause law n going step = go (get old.ids id) refl step
     where
       go : (o : Option ℕ) → get old.ids id ≡ o
           → MatchOption o (MallocsSliced old id n (said (codes "busy")) new) (λ h. StaysSliced old (codes "live") (said (codes "busy")) new)
@@ -136,8 +136,8 @@ module _ (old new : SliceRun) (id : ℕ) where
           (malloc_cause n refusal.Busy none step).0
       go (Some h) live s = absurd (let z : ◌≡◌ {A = Option SliceRefusal} (Some refusal.Busy) None = ap (first refusal_in) s.0 in cc)
 
-  pub free_waits : SliceStep old (command.Free id) (said (codes "busy")) new → old.heap.job ≢ Idle
-  free_waits step = go (get old.ids id) refl step
+  pub busy_free_cause : SliceStep old (command.Free id) (said (codes "busy")) new → old.heap.job ≢ Idle
+  busy_free_cause step = go (get old.ids id) refl step
     where
       go : (o : Option ℕ) → get old.ids id ≡ o
           → MatchOption o (StaysSliced old (codes "unknown") (said (codes "busy")) new) (λ h. FreesSliced old id h (said (codes "busy")) new)

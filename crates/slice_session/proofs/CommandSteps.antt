@@ -7,14 +7,14 @@ use Rattle.cf_base.specs.Settings.{Profile}
 use Rattle.cf_io.specs.Texts.{Reply, said, with_number}
 use Rattle.cf_model.specs.Rules.{AreInRange}
 use Rattle.run_laws.proofs.CallerLemmas.{CanGoOn}
-use Rattle.run_laws.specs.Sayable.{IsSayable}
+use Rattle.run_laws.specs.ValidItems.{IsValidCommand}
 use Rattle.script_reader.specs.declared.command.Command.{Command}
 use Rattle.script_reader.specs.declared.command.Command.TheVariants as command
 use Rattle.slice_model.specs.State.{left_of}
 use Rattle.sliced_heap.specs.Shown.{plan_in, working_in}
 use Rattle.slice_session.specs.Playing.{BeginsSliced, BeginsSlices, IsQuantum, first_heap}
 use Rattle.slice_session.specs.SliceRun.{FreesSliced, IsGoingSliced, MallocsSliced, SliceRun, SliceStep, StaysSliced, WritesSliced}
-use Rattle.slice_session.specs.SliceRun.{ids_with, ids_without, slice_free_text, slice_malloc_text, slice_look, slice_write_text}
+use Rattle.slice_session.specs.SliceRun.{ids_with, ids_without, slice_free_text, slice_malloc_text, sliced_shown, slice_write_text}
 use Rattle.slice_session.proofs.CallsThere.{free_there, malloc_there, step_there, write_there}
 use Rattle.slice_session.proofs.RunInvariant.{still_going}
 use Rattle.slice_session.proofs.OpenLemmas.{EmptyLaw, begins_going, first_rules}
@@ -48,7 +48,7 @@ module _ (old : SliceRun) (going : IsGoingSliced old) where
         done = record { answer = f.0; does = f.2; ids = refl; reply_is = refl };
       }
 
-  write_at : (o : Option ℕ) (id from : ℕ) (bytes : List ℕ) → IsSayable (command.Write id from bytes)
+  write_at : (o : Option ℕ) (id from : ℕ) (bytes : List ℕ) → IsValidCommand (command.Write id from bytes)
       → HasAnswer (λ reply new. MatchOption o (StaysSliced old (codes "unknown") reply new) (λ h. WritesSliced old h from bytes reply new))
   write_at None id from bytes can = record { reply = said (codes "unknown"); new = old; done = (refl, refl) }
   write_at (Some h) id from bytes can =
@@ -68,15 +68,15 @@ module _ (old : SliceRun) (going : IsGoingSliced old) where
         done = record { does = s.1; ids = refl; reply_is = refl };
       }
 
-  answer_there : (c : Command) → IsSayable c → HasAnswer (SliceStep old c)
+  answer_there : (c : Command) → IsValidCommand c → HasAnswer (SliceStep old c)
   answer_there (command.Malloc id n) can = malloc_at (get old.ids id) id n
   answer_there (command.Free id) can = free_at (get old.ids id) id
   answer_there command.Slice can = step_at
   answer_there (command.Write id from bytes) can = write_at (get old.ids id) id from bytes can
-  answer_there c can = record { reply = slice_look old c; new = old; done = (refl, refl) }
+  answer_there c can = record { reply = sliced_shown old c; new = old; done = (refl, refl) }
 
 -- every command of the grammar has a reply
-pub turn_there : (old : SliceRun) (c : Command) → IsGoingSliced old → IsSayable c → (reply : Reply) × (new : SliceRun) × SliceStep old c reply new
+pub turn_there : (old : SliceRun) (c : Command) → IsGoingSliced old → IsValidCommand c → (reply : Reply) × (new : SliceRun) × SliceStep old c reply new
 turn_there old c going can = (let s = answer_there old going c can in (s.reply, s.new, s.done))
 
 -- a run begins under any settings in their ranges

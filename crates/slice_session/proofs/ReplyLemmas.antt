@@ -21,7 +21,7 @@ use Rattle.run_model.specs.Replies.{read_text, write_text}
 use Rattle.script_loop.specs.Semantics.{snapshot}
 use Rattle.script_reader.specs.declared.command.Command.{Command}
 use Rattle.script_reader.specs.declared.command.Command.TheVariants as command
-use Rattle.script_loop.specs.Applying.{Applies, Speaks}
+use Rattle.script_loop.specs.Applying.{Applies, BuildsReply}
 use Rattle.slice_model.specs.Runs.{Happens, IsOutOfReach, Read, Step}
 use Rattle.slice_model.specs.State.{left_of}
 use Rattle.slice_model.proofs.CallerLemmas.{call_on_map}
@@ -53,7 +53,7 @@ malloc_step old new id n reply none m =
 -- a slice
 pub speaks_left : (ids : Ids) (old new : SlicedState) (line : List ℕ) → Does old Step new
     → line ≡ with_number (codes "left ") (left_of (plan_in new) (working_in new).state) → length line < line_room
-    → Speaks SliceStep (slice_run ids old) command.Slice (slice_run ids new) line
+    → BuildsReply SliceStep (slice_run ids old) command.Slice (slice_run ids new) line
 speaks_left ids old new line does is room = record { turn = record { does = does; ids = refl; reply_is = ap said is }; room = room }
 
 -- the object of a handle, if any

@@ -113,10 +113,10 @@ pub record WritesSliced (old : SliceRun) (h from : ℕ) (bytes : List ℕ) (repl
   pub reply_is : reply ≡ said (slice_write_text answer)
 
 -- the reply to a command that changes nothing: to `r` the bytes of the object, also while it is in motion; to `p` a word of the region; else `none`
-abbrev pub slice_look : SliceRun → Command → Reply
-slice_look s (command.Read id from count) = said (read_text (sliced_object_of s id) from count)
-slice_look s (command.Peek word) = said (peek_text (slice_get s.heap.words word))
-slice_look s other = said (codes "none")
+abbrev pub sliced_shown : SliceRun → Command → Reply
+sliced_shown s (command.Read id from count) = said (read_text (sliced_object_of s id) from count)
+sliced_shown s (command.Peek word) = said (peek_text (slice_get s.heap.words word))
+sliced_shown s other = said (codes "none")
 
 -- One command: the run before it, its reply, and the run after it.
 abbrev pub SliceStep : SliceRun → Command → Reply → SliceRun → Type 0
@@ -126,7 +126,7 @@ SliceStep old (command.Free id) reply new = MatchOption (get old.ids id) (StaysS
 SliceStep old command.Slice reply new = StepsSliced old reply new
 SliceStep old (command.Write id from bytes) reply new =
     MatchOption (get old.ids id) (StaysSliced old (codes "unknown") reply new) (λ h. WritesSliced old h from bytes reply new)
-SliceStep old other reply new = (reply ≡ slice_look old other) × (new ≡ old)
+SliceStep old other reply new = (reply ≡ sliced_shown old other) × (new ≡ old)
 
 -- The most steps of a command, with slices of at most `quantum` words. Only the heap's call takes steps.
 abbrev pub most_steps : ℕ → Command → ℕ

@@ -8,7 +8,7 @@ ghost use Rattle.cf_session.specs.Short.{short_text};
 ghost use Rattle.cf_model.specs.Costs.{words_touched};
 ghost use Rattle.run_model.specs.Replies.{peek_text, read_text};
 ghost use Rattle.script_reader.specs.declared.command.Command.TheVariants.{Malloc, Free, Slice, Write};
-ghost use Rattle.script_loop.specs.Applying.{Speaks};
+ghost use Rattle.script_loop.specs.Applying.{BuildsReply};
 ghost use Rattle.sliced_heap.specs.Shown.{KeepsRules};
 ghost use Rattle.step_ledger.specs.Counting.{RoseAtMost};
 ghost use Rattle.slice_session.specs.SliceRun.{SliceStep, slice_free_text, slice_malloc_text, slice_run, sliced_object_of};
@@ -150,7 +150,7 @@ pub(crate) fn step(
 ) -> Outcome
     requires open { IsTrue heap.old.is_open }
     requires empty { line.old ≡ [] }
-    ensures speaks { Speaks SliceStep (slice_run ids.now heap.old) Slice (slice_run ids.now heap.new) line.new }
+    ensures speaks { BuildsReply SliceStep (slice_run ids.now heap.old) Slice (slice_run ids.now heap.new) line.new }
     ensures outcome { result ≡ outcome_in line.new }
     ensures bound { RoseAtMost steps.old steps.new (15 + heap.old.quantum) }
 {

@@ -5,7 +5,7 @@ ghost use Rattle.std.specs.FinMap.{get};
 ghost use Rattle.cf_base.specs.Settings.{Profile};
 ghost use Rattle.cf_io.specs.Texts.{Reply, said, text_of};
 ghost use Rattle.cf_model.specs.Rules.{AreInRange};
-ghost use Rattle.run_laws.specs.Sayable.{IsSayable};
+ghost use Rattle.run_laws.specs.ValidItems.{IsValidCommand};
 ghost use Rattle.run_laws.specs.IdBytes.{AreReadsOf};
 ghost use Rattle.script_loop.specs.Consequences.{IsPrefixBy};
 ghost use Rattle.script_loop.specs.ScriptOutcome.{Effects, WroteInPart, items_within};
@@ -21,7 +21,7 @@ ghost use Rattle.sliced_heap.specs.Shown.{plan_in, working_in};
 ghost use Rattle.slice_session.specs.Playing.{BeginsSliced, IsQuantum, RunsSliced, SlicePlay, run_of_play, slices};
 ghost use Rattle.slice_session.specs.SliceRun.{IsGoingSliced, SliceRun, SliceStep, slice_free_text, slice_malloc_text};
 
-use slice_model::{a_malloc_waits_for_a_job_alone, an_empty_heap_is_consistent};
+use slice_model::{a_malloc_is_busy_only_with_a_job, an_empty_heap_is_consistent};
 
 /// In every list of commands, with slices of the jobs anywhere between them, each read returns the bytes last
 /// written through its id, also those of an object in motion. These bytes follow from the lines and their
@@ -54,7 +54,7 @@ pub fn replies_show_their_causes()
     ensures busy_free { (old new : SliceRun) (id : ℕ)
         → SliceStep old (Free id) (said (codes "busy")) new → old.heap.job ≢ Idle }
 {
-    a_malloc_waits_for_a_job_alone();
+    a_malloc_is_busy_only_with_a_job();
 }
 
 /// A run can begin with any settings in their ranges and slices of any quantum, and then is in progress. In
@@ -64,7 +64,7 @@ pub fn each_command_has_its_turn()
     ensures begins { (quantum : ℕ) (p : Profile) → IsQuantum quantum → AreInRange p
         → (new : SliceRun) × BeginsSliced quantum p new }
     ensures begun { (quantum : ℕ) (p : Profile) (new : SliceRun) → BeginsSliced quantum p new → IsGoingSliced new }
-    ensures answered { (old : SliceRun) (command : Command) → IsGoingSliced old → IsSayable command
+    ensures answered { (old : SliceRun) (command : Command) → IsGoingSliced old → IsValidCommand command
         → (reply : Reply) × (new : SliceRun) × SliceStep old command reply new }
     ensures going { (old new : SliceRun) (command : Command) (reply : Reply) → IsGoingSliced old
         → SliceStep old command reply new → IsGoingSliced new }

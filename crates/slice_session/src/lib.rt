@@ -4,12 +4,12 @@
 
 mod commands;
 mod laws;
-mod player;
+mod mode_handler;
 mod session;
 
 pub use laws::{
     a_sliced_run_can_always_go_on, each_command_has_its_turn, plays_are_runs,
     reads_give_what_was_written, replies_show_their_causes, what_was_cut_is_a_prefix,
 };
-pub use player::{SlicePlayer, run_slices};
+pub use mode_handler::{SliceHandler, run_slices};
 pub use session::SliceSession;

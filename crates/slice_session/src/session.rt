@@ -9,7 +9,7 @@ ghost use Rattle.script_reader.specs.Commands.{IsWellFormed};
 ghost use Rattle.script_reader.specs.Owned.{owned_command};
 ghost use Rattle.script_loop.specs.Semantics.{snapshot};
 ghost use Rattle.step_ledger.specs.Counting.{RoseAtMost};
-ghost use Rattle.script_loop.specs.Applying.{Applies, Speaks};
+ghost use Rattle.script_loop.specs.Applying.{Applies, BuildsReply};
 ghost use Rattle.id_table.specs.Ties.{AreTiedTo};
 ghost use Rattle.slice_session.specs.SliceRun.{IsGoingSliced, SliceStep, most_steps, slice_run};
 ghost use Rattle.slice_session.specs.Playing.{sliced};
@@ -26,7 +26,7 @@ use std::marker::Model;
 use step_ledger::{Meter, Steps};
 
 /// The most bytes that one `r` reads.
-const MOST: usize = 4_096;
+const MOST_READ: usize = 4_096;
 
 /// The ids of a script with the handles that they name in one sliced heap, and the buffers for replies.
 #[derive(Drop)]
@@ -35,7 +35,7 @@ pub struct SliceSession {
     /// The line in which a reply is built.
     line: Line,
     /// The buffer for the bytes of a read.
-    buffer: [u8; MOST],
+    buffer: [u8; MOST_READ],
 }
 
 impl Model for SliceSession {
@@ -57,7 +57,7 @@ impl SliceSession {
         Ok(SliceSession {
             ids: IdTable::new(alloc)?,
             line: Line::new(),
-            buffer: [0; MOST],
+            buffer: [0; MOST_READ],
         })
     }
 
@@ -164,13 +164,13 @@ fn answer<K: Sink>(
     ensures same { OnOk result (K.faults out.new ≡ K.faults out.old) }
     ensures failed { OnErr result (FailsLast (K.faults out.old) (K.faults out.new) (K.last_failed out.new)) }
 {
-    let outcome = speak(ids, heap, c, buffer, line, steps);
+    let outcome = build_reply(ids, heap, c, buffer, line, steps);
     ended(put_line(line, out), outcome)
 }
 
 /// Does the command c on the heap and builds the text of its reply in `line`, but writes it to no sink. The
 /// reply to a command of another mode is `none`.
-fn speak(
+fn build_reply(
     ids: &mut IdTable,
     heap: &mut SlicedHeap,
     c: CommandRef,
@@ -181,7 +181,7 @@ fn speak(
     requires going { IsGoingSliced (slice_run ids.old heap.old) }
     requires formed { IsWellFormed (owned_command c) }
     requires buffer { length buffer.old ≡ 4096 }
-    ensures speaks { Speaks SliceStep (slice_run ids.old heap.old) (owned_command c.entry) (slice_run ids.new heap.new) line.new }
+    ensures speaks { BuildsReply SliceStep (slice_run ids.old heap.old) (owned_command c.entry) (slice_run ids.new heap.new) line.new }
     ensures outcome { result ≡ outcome_in line.new }
     ensures steps { RoseAtMost steps.old steps.new (most_steps heap.old.quantum (owned_command c.entry)) }
 {

@@ -10,7 +10,7 @@ use region::Region;
 use step_ledger::Steps;
 
 /// The number of bytes of a word.
-const CELL: usize = 8;
+const WORD_BYTES: usize = 8;
 
 /// Where the words of an object are, from its header, word 0, on. Word i is at `to + i` if i is below `done`,
 /// else at `from + i`. If no job moves the object, `to` and `from` are both its address, and `done` is 0.
@@ -41,7 +41,7 @@ pub fn read_word(region: &Region, s: Halves, i: u32, steps: &mut Steps) -> u64
 fn first_bytes(s: Halves, at: u32, count: usize) -> usize
     ensures { result ≡ first_bytes s at count }
 {
-    (CELL * (s.done as usize).saturating_sub(1))
+    (WORD_BYTES * (s.done as usize).saturating_sub(1))
         .saturating_sub(at as usize)
         .min(count)
 }

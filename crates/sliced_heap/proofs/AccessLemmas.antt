@@ -13,7 +13,7 @@ use Rattle.page_model.specs.Held.{Held, Placed, objects, places}
 use Rattle.page_model.specs.Image.{slot_for}
 use Rattle.page_model.specs.Paging.{Paging, class_for, slot_words}
 use Rattle.page_model.proofs.CallerLemmas.{bytes_held, inserted_there, length-written, written_are_bytes, live_rewritten}
-use Rattle.page_slots.specs.Occupying.{Occupies, Serve}
+use Rattle.page_slots.specs.Occupying.{Occupies, FitPages}
 use Rattle.page_slots.proofs.CallerLemmas.{rewritten_occupied}
 use Rattle.proxy_table.specs.Proxies.{AreBelowLimit}
 use Rattle.slice_model.specs.declared.job_slot.JobSlot.{JobSlot}
@@ -27,7 +27,7 @@ use Rattle.slice_words.specs.declared.halves.Halves.{Halves}
 use Rattle.slice_words.proofs.CallerLemmas.{byte_by_halves, object_rewritten, word_by_halves, word_high, word_low}
 use Rattle.sliced_heap.specs.Heap.{Heap}
 use Rattle.sliced_heap.specs.Layout.{IsValid, paging_at, plan_of, state_of, tables_in, working_of}
-use Rattle.sliced_heap.specs.Access.{Lies}
+use Rattle.sliced_heap.specs.Access.{HoldsBytesAt}
 use Rattle.sliced_heap.proofs.Facts.{has_place, held_bytes, no_place, plan_ok, places_are}
 use Rattle.sliced_heap.proofs.Headers.{bytes_few, head_length, holds, inside, number_low}
 use Rattle.sliced_heap.proofs.Counts.{needed_same}
@@ -145,7 +145,7 @@ module _ (h : Heap) (k : IsValid h) (q : ℕ) (x : Placed) (there : get (state_o
       addresses = ap (λ (y : Heap). y.proxies.places) rest ∙ places_are h k ∙ sym places_same;
       limit = ap (λ (y : Heap). y.proxies.limit) rest;
       handles = subst AreBelowLimit (sym (ap (λ (y : Heap). y.proxies) rest)) k.handles;
-      serve = subst (Serve (paging_at h)) (sym (ap tables_in rest)) k.serve;
+      serve = subst (FitPages (paging_at h)) (sym (ap tables_in rest)) k.serve;
       occupied = subst (Occupies (paging_at h) (occupied (plan_of h) t)) (sym (ap tables_in rest)) stands;
       live_long = ap (λ (y : Heap). length y.live) rest ∙ k.live_long;
       counted = λ c lt. ap (λ (y : Heap). get_or y.live c 0) rest ∙ k.counted c lt ∙ sym (live_same c);
@@ -201,11 +201,11 @@ module _ (h : Heap) (k : IsValid h) (q a : ℕ) (known : get h.proxies.places q 
     pub passes : (from count : ℕ) → size < from + count → IsOutOfReach (objects (state_of h).held) (record { number = q; from = from }) count access.Range
     passes from count more = (let e = size_is in out_of_reach h k q x found.1 from count (omega arith))
 
-    pub lies : (from count : ℕ) → from + count ≤ size → Lies h (record { number = q; from = from }) count s
+    pub lies : (from count : ℕ) → from + count ≤ size → HoldsBytesAt h (record { number = q; from = from }) count s
     lies from count fits = record { object = x; found = found.1; within = (let e = size_is in omega arith); halves = halves_are }
 
 -- `count` bytes from byte `at` on, which an object has: their words are in the region
-module _ (h : Heap) (k : IsValid h) (q at count : ℕ) (s : Halves) (l : Lies h (record { number = q; from = at }) count s) where
+module _ (h : Heap) (k : IsValid h) (q at count : ℕ) (s : Halves) (l : HoldsBytesAt h (record { number = q; from = at }) count s) where
   room : (1 + (at + count + 7) / 8 ≤ slot_for (paging_at h) (length l.object.bytes)) × (at + count ≤ 131072)
   room = (let o = holds h k q l.object l.found in let few = bytes_few h k q l.object l.found in let w = l.within in (omega arith, omega arith))
 
@@ -229,7 +229,7 @@ module _ (h : Heap) (k : IsValid h) (q at count : ℕ) (s : Halves) (l : Lies h 
       (λ i lt. each i lt ∙ ap (λ y. byte_in y h.words (at + i)) l.halves)
 
 module _ (h : Heap) (k : IsValid h) (q at : ℕ) (s : Halves) (bytes : List ℕ) (are : AreBytes bytes)
-    (l : Lies h (record { number = q; from = at }) (length bytes) s) (n : Heap)
+    (l : HoldsBytesAt h (record { number = q; from = at }) (length bytes) s) (n : Heap)
     (rest : n ≡ record h { words = n.words }) (long : length n.words ≡ length h.words) (w : WritesBytes h.words n.words (place_of_word s) at bytes) where
   written_there : WritesBytes h.words n.words (place_of_word (halves_of h.job q l.object.place)) at bytes
   written_there = subst (λ y. WritesBytes h.words n.words (place_of_word y) at bytes) l.halves w

@@ -16,7 +16,7 @@ use Rattle.size_classes.specs.Table.{ClassTable}
 use Rattle.slice_model.specs.declared.job_slot.JobSlot.{JobSlot}
 use Rattle.slice_model.specs.State.{Sliced, IsKept, occupied, placeholder, Idle, Clear}
 use Rattle.slice_model.specs.Ordered.{EndFollows}
-use Rattle.slice_model.specs.Steps.{Ends}
+use Rattle.slice_model.specs.Steps.{EndsJob}
 use Rattle.slice_model.specs.Words.{HasWords}
 use Rattle.slice_model.proofs.CallerLemmas.{kept_slice, two_is_must}
 use Rattle.sliced_heap.specs.Heap.{Heap}
@@ -29,7 +29,7 @@ use Rattle.sliced_heap.proofs.Preserved.{Becomes, becomes_plan, becomes_state, b
 use Rattle.cf_lemmas.proofs.Maps.{remove_fresh}
 
 -- if `fill` chose an object to move to the slot, the end of the job is followed by the next job, as the model says
-pub filled_ends : (h : Heap) (k : IsValid h) (g : JobSlot) → h.job ≡ Clear g → (n : Heap) → IsFilled h g n → Ends (paging_at h) (state_of h).held g (state_of n)
+pub filled_ends : (h : Heap) (k : IsValid h) (g : JobSlot) → h.job ≡ Clear g → (n : Heap) → IsFilled h g n → EndsJob (paging_at h) (state_of h).held g (state_of n)
 filled_ends h k g at n f =
     let must : MustMove (paging_at h) (insert (state_of h).held h.settings.proxies (placeholder (paging_at h) g)) (placeholder (paging_at h) g) =
     subst (λ o. MustMove (paging_at h) o (placeholder (paging_at h) g)) (all_are h k g at) f.must in
@@ -71,7 +71,7 @@ module _ (h : Heap) (k : IsValid h) (g : JobSlot) (at : h.job ≡ Clear g) where
     not_two e = stays (subst (λ o. MustMove (paging_at h) o (placeholder (paging_at h) g)) (sym (all_are h k g at))
         (two_is_must (plan_of h) (plan_ok h k) m g (none_there h k g at) (class_in h k g at) (sound_clear h k g at) e))
 
-    pub ends_idle : Ends (paging_at h) (state_of h).held g (record { held = (state_of h).held; job = Idle })
+    pub ends_idle : EndsJob (paging_at h) (state_of h).held g (record { held = (state_of h).held; job = Idle })
     ends_idle = inl (not_two, refl)
 
     kept : IsKept (plan_of h) s
@@ -139,8 +139,8 @@ module _ (h : Heap) (k : IsValid h) (g : JobSlot) (at : h.job ≡ Clear g) where
     pub idle_follows : EndFollows (plan_of h) (state_of h).held g n.job (order_in h) (order_in n)
     idle_follows = subst (λ j. EndFollows (plan_of h) m g j (order_in h) (order_in n)) (sym (ap (λ (z : Heap). z.job) rest)) freed
 
-    pub idle_ends : Ends (paging_at h) (state_of h).held g (state_of n)
-    idle_ends = subst (Ends (paging_at h) m g) (sym (becomes_state h n k s becomes)) ends_idle
+    pub idle_ends : EndsJob (paging_at h) (state_of h).held g (state_of n)
+    idle_ends = subst (EndsJob (paging_at h) m g) (sym (becomes_state h n k s becomes)) ends_idle
 
 -- the lemmas above together, for a heap t that equals h
 pub idle_at : (h : Heap) (k : IsValid h) (g : JobSlot) → h.job ≡ Clear g → ¬ MustMove (paging_at h) (occupied (plan_of h) (state_of h))
@@ -148,11 +148,11 @@ pub idle_at : (h : Heap) (k : IsValid h) (g : JobSlot) → h.job ≡ Clear g →
     → ((i : ℕ) → i < slot_words (paging_at h) g.class → get_or h.words (g.address + i) 0 ≡ 0) → (t n : Heap) → t ≡ h
     → n ≡ record t { maps = n.maps; lists = n.lists; pool = n.pool; job = Idle }
     → Vacates (tables_in t) g.class (page_at t.classes g.address) (slot_at t.classes g.class g.address) (tables_in n) → AreTables t.classes (tables_in n)
-    → IsValid n × Ends (paging_at h) (state_of h).held g (state_of n) × EndFollows (plan_of h) (state_of h).held g n.job (order_in h) (order_in n)
+    → IsValid n × EndsJob (paging_at h) (state_of h).held g (state_of n) × EndFollows (plan_of h) (state_of h).held g n.job (order_in h) (order_in n)
 idle_at h k g at stays zeros t n same =
     subst (λ (t : Heap). n ≡ record t { maps = n.maps; lists = n.lists; pool = n.pool; job = Idle }
     → Vacates (tables_in t) g.class (page_at t.classes g.address) (slot_at t.classes g.class g.address) (tables_in n) → AreTables t.classes (tables_in n)
-    → IsValid n × Ends (paging_at h) (state_of h).held g (state_of n) × EndFollows (plan_of h) (state_of h).held g n.job (order_in h) (order_in n)) (sym same)
+    → IsValid n × EndsJob (paging_at h) (state_of h).held g (state_of n) × EndFollows (plan_of h) (state_of h).held g n.job (order_in h) (order_in n)) (sym same)
     (λ rest v tables. (
       idle_valid h k g at stays zeros n rest v tables,
       idle_ends h k g at stays zeros n rest v tables,

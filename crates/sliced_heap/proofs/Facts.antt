@@ -7,7 +7,7 @@ use Rattle.cf_lemmas.proofs.MapValues.{get-map_values}
 use Rattle.cf_lemmas.proofs.Values.{len-map_values}
 use Rattle.page_model.specs.Bytes.{AreBytes, bytes_at}
 use Rattle.page_model.specs.Held.{Placed, places}
-use Rattle.page_model.specs.Paging.{IsPaging, AreOne, classes}
+use Rattle.page_model.specs.Paging.{IsPaging, EveryBoundIsOne, classes}
 use Rattle.page_model.proofs.CallerLemmas.{first_ones, first_paged, held_at_bytes, places-held_at}
 use Rattle.class_lists.specs.PageLists.{PageLists}
 use Rattle.page_slots.specs.declared.page_tables.PageTables.{PageTables}
@@ -23,7 +23,7 @@ module _ (h : Heap) (k : IsValid h) where
   pub paging_ok : IsPaging (paging_at h)
   paging_ok = first_paged (profile_at h.settings) Words h.settings.page_size (omega arith)
 
-  pub ones : AreOne (paging_at h)
+  pub ones : EveryBoundIsOne (paging_at h)
   ones = first_ones (profile_at h.settings) Words refl
 
   pub plan_ok : IsPlan (plan_of h)

@@ -14,7 +14,7 @@ use Rattle.page_model.specs.Order.{IsNextToMove}
 use Rattle.page_model.specs.Paging.{bound_of, classes, page_of, slot_words, slots_of}
 use Rattle.page_model.specs.Steps.{MustMove}
 use Rattle.page_slots.specs.Release.{IsFiller, MovesObject, steps_to_drop}
-use Rattle.page_slots.specs.Occupying.{Occupies, Serve, class_table}
+use Rattle.page_slots.specs.Occupying.{Occupies, FitPages, class_table}
 use Rattle.page_slots.specs.Orders.{order_of}
 use Rattle.page_slots.specs.Tables.{IsOf, page_at, slot_at, slots_on}
 use Rattle.page_slots.proofs.CallerLemmas.{drop_same, filler, filler_is, filler_next, filler_not_full, found_class, found_page, moves_is, moves_some}
@@ -28,7 +28,7 @@ use Rattle.slice_model.proofs.CallerLemmas.{changed_places, kept_slice, must_is_
 use Rattle.slice_model.proofs.CallerLemmas.{other_than, some_beside, placeholder_class, words_to_carry}
 use Rattle.sliced_heap.specs.Heap.{Heap}
 use Rattle.sliced_heap.specs.Layout.{IsValid, order_in, paging_at, plan_of, state_of, tables_in}
-use Rattle.sliced_heap.specs.Steps.{IsFilled, IsPartlyFull}
+use Rattle.sliced_heap.specs.Steps.{IsFilled, IsCheapToFree}
 use Rattle.sliced_heap.proofs.Facts.{held_bytes, ones, paging_ok, place_known, places_are, plan_ok, table_is}
 use Rattle.sliced_heap.proofs.Headers.{head_number, holds, inside}
 use Rattle.sliced_heap.proofs.Places.{changed_occupied}
@@ -264,7 +264,7 @@ module _ (h : Heap) (k : IsValid h) (g : JobSlot) (at : h.job ≡ Clear g) where
               ∙ sym (map_values-insert (λ (x : Placed). x.place) m q (record { place = g.address; bytes = y.bytes }));
           limit = ap (λ (z : Heap). z.proxies.limit) rest;
           handles = handles;
-          serve = subst (Serve (paging_at h)) (sym (ap tables_in rest)) k.serve;
+          serve = subst (FitPages (paging_at h)) (sym (ap tables_in rest)) k.serve;
           occupied = subst (Occupies (paging_at h) (occupied (plan_of h) s)) (sym (ap tables_in rest)) stands;
           live_long = ap (λ (z : Heap). length z.live) rest ∙ k.live_long;
           counted = λ c lt. ap (λ (z : Heap). get_or z.live c 0) rest ∙ k.counted c lt ∙ ap (λ o. live (paging_at h) o c) (sym objects_same);
@@ -297,10 +297,10 @@ module _ (h : Heap) (k : IsValid h) (g : JobSlot) (at : h.job ≡ Clear g) where
           order = order_same;
         }
 
-        pub filled_partly : (f : JobSlot) → job_slot n.job ≡ Some f → IsPartlyFull n f
+        pub filled_partly : (f : JobSlot) → job_slot n.job ≡ Some f → IsCheapToFree n f
         filled_partly f slot =
             let e : Some (fresh_slot a g.class) ≡ Some f = sym (ap (λ (z : Heap). job_slot z.job) whole) ∙ slot in
             let is : fresh_slot a g.class ≡ f = cc in
             let there : steps_to_drop (tables_in n) (page_at n.classes a) ≤ 10 =
             subst (λ (z : Heap). steps_to_drop (tables_in z) (page_at z.classes a) ≤ 10) (sym whole) page_partly in
-            subst (λ (z : JobSlot). IsPartlyFull n z) is there
+            subst (λ (z : JobSlot). IsCheapToFree n z) is there

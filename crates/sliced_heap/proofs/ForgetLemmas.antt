@@ -1,4 +1,4 @@
--- For `forget`: an object is removed, and clearing its slot is the job.
+-- For `start_clearing`: an object is removed, and clearing its slot is the job.
 use Rattle.std.proofs.Common.{◌≡◌, ℕ, ◌+◌, ◌-◌, ◌*◌, ◌<◌, ◌≤◌, length, get_or, set, replicate, Some, arith, refl, sym, ◌∙◌, ap, subst}
 use Rattle.std.specs.Prelude.{nat_eq}
 use Rattle.std.proofs.lemmas.List.{length-set}
@@ -13,7 +13,7 @@ use Rattle.page_model.specs.Arrangement.{class_at, live, pages_needed}
 use Rattle.page_model.specs.Held.{Held, Placed, objects}
 use Rattle.page_model.specs.Paging.{slot_words, slots_of}
 use Rattle.page_model.proofs.CallerLemmas.{bytes_held, live_taken, sound_exchanged}
-use Rattle.page_slots.specs.Occupying.{Occupies, Serve}
+use Rattle.page_slots.specs.Occupying.{Occupies, FitPages}
 use Rattle.proxy_table.specs.Proxies.{AreBelowLimit, without_place}
 use Rattle.size_classes.specs.Table.{ClassTable}
 use Rattle.slice_model.specs.State.{Plan, IsPlan, Sliced, IsKept, occupied, Idle, Clear}
@@ -22,7 +22,7 @@ use Rattle.slice_model.specs.Words.{HasWords}
 use Rattle.slice_model.proofs.CallerLemmas.{no_placeholder, other_than, placeholder_class, words_to_clear}
 use Rattle.sliced_heap.specs.Heap.{Heap}
 use Rattle.sliced_heap.specs.Layout.{IsValid, opens, order_in, paging_at, plan_of, state_of, tables_in}
-use Rattle.sliced_heap.specs.Steps.{Forgets}
+use Rattle.sliced_heap.specs.Steps.{StartsClearing}
 use Rattle.sliced_heap.proofs.Counts.{needed_more, needed_taken}
 use Rattle.sliced_heap.proofs.Facts.{few_classes, held_bytes, paging_ok, places_are, plan_ok}
 use Rattle.sliced_heap.proofs.Headers.{in_class}
@@ -127,7 +127,7 @@ module _ (h : Heap) (k : IsValid h) (idle : h.job ≡ Idle) (q : ℕ) (x : Place
       addresses = ap (λ (z : Heap). z.proxies.places) g.rest ∙ ap (λ n. remove n q) (places_are h k) ∙ sym (map_values-remove (λ (x : Placed). x.place) m q);
       limit = ap (λ (z : Heap). z.proxies.limit) g.rest;
       handles = g.handles;
-      serve = subst (Serve (paging_at h)) (sym (ap tables_in g.rest)) k.serve;
+      serve = subst (FitPages (paging_at h)) (sym (ap tables_in g.rest)) k.serve;
       occupied = subst (Occupies (paging_at h) (occupied (plan_of h) s)) (sym (ap tables_in g.rest))
           (stood_in (paging_at h) m (tables_in h) stands_idle q x there h.settings.proxies (no_placeholder (plan_of h) m k.kept.numbers)
           (replicate (8 * (slot_words (paging_at h) c - 1)) 0)
@@ -152,7 +152,7 @@ module _ (h : Heap) (k : IsValid h) (idle : h.job ≡ Idle) (q : ℕ) (x : Place
     pub forgotten_valid : IsValid n
     forgotten_valid = becomes_valid h n k s becomes
 
-    pub forgets : Forgets h q (fresh_slot x.place (class_at (paging_at h) x)) n
+    pub forgets : StartsClearing h q (fresh_slot x.place (class_at (paging_at h) x)) n
     forgets = record {
       object = x;
       found = there;
@@ -167,8 +167,8 @@ module _ (h : Heap) (k : IsValid h) (idle : h.job ≡ Idle) (q : ℕ) (x : Place
 
 -- the lemmas above together, for the address a and the class c as the code computes them
 pub forgets_at : (h : Heap) (k : IsValid h) → h.job ≡ Idle → (q : ℕ) (x : Placed) → get (state_of h).held q ≡ Some x → (a c : ℕ) → x.place ≡ a
-    → class_at (paging_at h) x ≡ c → (n : Heap) → IsFreed h n q a c → Forgets h q (fresh_slot a c) n × IsValid n
+    → class_at (paging_at h) x ≡ c → (n : Heap) → IsFreed h n q a c → StartsClearing h q (fresh_slot a c) n × IsValid n
 forgets_at h k idle q x there a c at is n =
-    subst (λ a. IsFreed h n q a c → Forgets h q (fresh_slot a c) n × IsValid n) at
-    (subst (λ c. IsFreed h n q x.place c → Forgets h q (fresh_slot x.place c) n × IsValid n) is
+    subst (λ a. IsFreed h n q a c → StartsClearing h q (fresh_slot a c) n × IsValid n) at
+    (subst (λ c. IsFreed h n q x.place c → StartsClearing h q (fresh_slot x.place c) n × IsValid n) is
     (λ g. (forgets h k idle q x there n g, forgotten_valid h k idle q x there n g)))

@@ -10,13 +10,13 @@ use Rattle.page_model.specs.Paging.{page_of, slot_words, slots_of}
 use Rattle.page_model.specs.Steps.{Moves, MustMove}
 use Rattle.page_model.proofs.CallerLemmas.{not_full-same, objects_on-exchanged}
 use Rattle.slice_model.specs.State.{Sliced, IsKept, occupied, placeholder, Clear, Idle}
-use Rattle.slice_model.specs.Steps.{Carries, fresh_slot}
+use Rattle.slice_model.specs.Steps.{BeginsMove, fresh_slot}
 use Rattle.slice_model.specs.Ordered.{FreesInOrder, SlicesInOrder}
 use Rattle.slice_model.proofs.CallerLemmas.{no_placeholder, other_than, same_elsewhere, placeholder_class}
 use Rattle.slice_model.specs.declared.job_slot.JobSlot.{JobSlot}
 use Rattle.sliced_heap.specs.Heap.{Heap}
 use Rattle.sliced_heap.specs.Layout.{IsValid, order_in, paging_at, plan_of, state_of, working_of}
-use Rattle.sliced_heap.specs.Steps.{Fills, Forgets, IsFilled, StaysVacant}
+use Rattle.sliced_heap.specs.Steps.{FillsSlot, StartsClearing, IsFilled, StaysVacant}
 use Rattle.sliced_heap.proofs.Facts.{paging_ok, plan_ok}
 use Rattle.sliced_heap.proofs.Headers.{in_class}
 
@@ -109,8 +109,8 @@ module _ (h : Heap) (k : IsValid h) (idle : h.job ≡ Idle) (q : ℕ) (x : Place
     address = n.address;
   }
 
-  -- heap a after `forget`, heap b after `fill`, heap n after the slice
-  module _ (a n : Heap) (f : Forgets h q g a) (ka : IsValid a) where
+  -- heap a after `start_clearing`, heap b after `fill`, heap n after the slice
+  module _ (a n : Heap) (f : StartsClearing h q g a) (ka : IsValid a) where
     occupied_is : occupied (plan_of a) (state_of a) ≡ all
     occupied_is = ap (λ p. occupied p (state_of a)) f.plan ∙ ap (occupied (plan_of h)) f.state
 
@@ -186,7 +186,7 @@ module _ (h : Heap) (k : IsValid h) (idle : h.job ≡ Idle) (q : ℕ) (x : Place
 
       filled_frees : IsFilled a g b → FreesInOrder (plan_of h) (working_of h) q (working_of n) (order_in h) (order_in n)
       filled_frees v =
-          let carries = subst (λ n. Carries n v.object x.place c (state_of b)) held_is v.carries in
+          let carries = subst (λ n. BeginsMove n v.object x.place c (state_of b)) held_is v.carries in
           let s' = slice_now (v.plan ∙ f.plan) (v.words ∙ f.words) (v.order ∙ f.order) in
           let y_left : get (remove m q) v.object ≡ Some v.beside.object = ap (λ n. get n v.object) (sym held_is) ∙ v.beside.found in
           record {
@@ -207,17 +207,17 @@ module _ (h : Heap) (k : IsValid h) (idle : h.job ≡ Idle) (q : ℕ) (x : Place
             follows = s'.follows;
           }
 
-      pub frees : (filled : Bool) → Fills a g filled b → FreesInOrder (plan_of h) (working_of h) q (working_of n) (order_in h) (order_in n)
+      pub frees : (filled : Bool) → FillsSlot a g filled b → FreesInOrder (plan_of h) (working_of h) q (working_of n) (order_in h) (order_in n)
       frees true v = filled_frees v
       frees false v = vacant_frees v
 
--- the whole free, from the clauses of `forget`, `fill` and `slice`
-pub frees_from : (h : Heap) (k : IsValid h) → h.job ≡ Idle → (q : ℕ) (g : JobSlot) (a b n : Heap) → Forgets h q g a → IsValid a → (filled : Bool)
-    → Fills a g filled b
+-- the whole free, from the clauses of `start_clearing`, `fill` and `slice`
+pub frees_from : (h : Heap) (k : IsValid h) → h.job ≡ Idle → (q : ℕ) (g : JobSlot) (a b n : Heap) → StartsClearing h q g a → IsValid a → (filled : Bool)
+    → FillsSlot a g filled b
     → SlicesInOrder (plan_of b) (working_of b) (working_of n) (order_in b) (order_in n)
     → FreesInOrder (plan_of h) (working_of h) q (working_of n) (order_in h) (order_in n)
 frees_from h k idle q g a b n f ka filled fills s =
     let same : g ≡ fresh_slot f.object.place (class_at (paging_at h) f.object) = f.slot in
-    let f' : Forgets h q (fresh_slot f.object.place (class_at (paging_at h) f.object)) a = subst (λ g. Forgets h q g a) same f in
-    let v' : Fills a (fresh_slot f.object.place (class_at (paging_at h) f.object)) filled b = subst (λ g. Fills a g filled b) same fills in
+    let f' : StartsClearing h q (fresh_slot f.object.place (class_at (paging_at h) f.object)) a = subst (λ g. StartsClearing h q g a) same f in
+    let v' : FillsSlot a (fresh_slot f.object.place (class_at (paging_at h) f.object)) filled b = subst (λ g. FillsSlot a g filled b) same fills in
     frees h k idle q f.object f.found a n f' ka b s filled v'

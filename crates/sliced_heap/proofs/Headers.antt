@@ -1,4 +1,4 @@
--- For `find`, `forget` and `malloc`: an object's header and its address, and the class of a length.
+-- For `find`, `start_clearing` and `malloc`: an object's header and its address, and the class of a length.
 use Rattle.std.proofs.Common.{◌≡◌, ℕ, ◌+◌, ◌*◌, ◌/◌, ◌%◌, ◌^◌, ◌<◌, ◌≤◌, length, get_or, Some, None, arith, ◌∙◌, ap, subst, inl, inr}
 use Rattle.std.proofs.lemmas.Bool.{cases_lt}
 use Rattle.std.specs.FinMap.{get}

@@ -20,13 +20,13 @@ use Rattle.page_model.proofs.CallerLemmas.{live_added, malloc_objects, malloc_pl
 use Rattle.page_model.proofs.CallerLemmas.{class_of_zeros}
 use Rattle.page_slots.specs.Tables.{AreTables, Tables}
 use Rattle.page_slots.specs.Take.{TakesAt, TakesSlot}
-use Rattle.page_slots.specs.Occupying.{Occupies, Serve, class_table}
+use Rattle.page_slots.specs.Occupying.{Occupies, FitPages, class_table}
 use Rattle.page_slots.specs.Orders.{order_of}
 use Rattle.page_slots.proofs.CallerLemmas.{refused_lacks_room, taken_is_free, taken_next, taken_occupied, taken_serve}
 use Rattle.proxy_table.specs.Proxies.{AreBelowLimit, with_place}
 use Rattle.size_classes.specs.Table.{ClassTable}
 use Rattle.slice_model.specs.State.{IsPlaceFor, Sliced, job_slot, occupied}
-use Rattle.slice_model.specs.Steps.{GivesObject, WantsProxy, WantsSlot, WantsSpace}
+use Rattle.slice_model.specs.Steps.{AddsObject, LacksProxy, LacksSlot, LacksSpace}
 use Rattle.slice_model.specs.Ordered.{MallocsInOrder}
 use Rattle.slice_model.proofs.CallerLemmas.{free_is_place, get_beside, inserted_beside, kept_malloc, lacking_is_no_place, words_given}
 use Rattle.sliced_heap.specs.Heap.{Heap}
@@ -79,20 +79,20 @@ module _ (h : Heap) (k : IsValid h) (bytes c : ℕ) (found : Some c ≡ class_of
       ∙ ap (λ n. n + opens (slots_of (paging_at h) c) (get_or h.live c 0)) (sym k.needed)
       ∙ ap (λ (t : ClassTable). h.needed + opens (slots t.page_words t.sizes c) (get_or h.live c 0)) (sym k.table)
 
-  pub wants_proxy : len h.proxies.places ≡ h.settings.proxies → WantsProxy (plan_of h) (state_of h) bytes
-  wants_proxy all = record { fits = is.0; all = held_len h k ∙ all }
+  pub lacks_proxy : len h.proxies.places ≡ h.settings.proxies → LacksProxy (plan_of h) (state_of h) bytes
+  lacks_proxy all = record { fits = is.0; all = held_len h k ∙ all }
 
   module _ (ne : len h.proxies.places ≢ h.settings.proxies) where
     pub few : len (state_of h).held < h.settings.proxies
     few = (let e = held_len h k in let f = k.handles.few in let n = k.numbers in omega arith)
 
-    pub wants_space : h.settings.pages < h.needed + opens (slots h.classes.page_words h.classes.sizes c) (get_or h.live c 0)
-        → WantsSpace (plan_of h) (state_of h) bytes
-    wants_space over = record { fits = is.0; few = few; over = (let e = needed_is in omega arith) }
+    pub lacks_space : h.settings.pages < h.needed + opens (slots h.classes.page_words h.classes.sizes c) (get_or h.live c 0)
+        → LacksSpace (plan_of h) (state_of h) bytes
+    lacks_space over = record { fits = is.0; few = few; over = (let e = needed_is in omega arith) }
 
     module _ (within : h.needed + opens (slots h.classes.page_words h.classes.sizes c) (get_or h.live c 0) ≤ h.settings.pages) where
-      pub wants_slot : (new : Tables) → TakesSlot h.classes (tables_in h) c None new → WantsSlot (plan_of h) (state_of h) bytes
-      wants_slot new none =
+      pub lacks_slot : (new : Tables) → TakesSlot h.classes (tables_in h) c None new → LacksSlot (plan_of h) (state_of h) bytes
+      lacks_slot new none =
           let t : TakesSlot (class_table (paging_at h)) (tables_in h) c None new =
           subst (λ t. TakesSlot t (tables_in h) c None new) (sym (table_is h k)) none in
           let lacks = refused_lacks_room (paging_ok h k) k.serve.part k.occupied k.serve.whole c new t in
@@ -150,7 +150,7 @@ module _ (h : Heap) (k : IsValid h) (bytes c : ℕ) (found : Some c ≡ class_of
           is_place : IsPlaceFor (paging_at h) (state_of h) (class_for (paging_at h) bytes) a
           is_place = free_is_place (plan_of h) (plan_ok h k) (state_of h) k.kept bytes a free
 
-          gives : GivesObject (plan_of h) (state_of h) (record { number = q; length = bytes }) s
+          gives : AddsObject (plan_of h) (state_of h) (record { number = q; length = bytes }) s
           gives = record {
             fits = is.0;
             few = few;
@@ -193,7 +193,7 @@ module _ (h : Heap) (k : IsValid h) (bytes c : ℕ) (found : Some c ≡ class_of
             addresses = ap (λ (z : Heap). z.proxies.places) rest ∙ ap (λ n. insert n q a) (places_are h k) ∙ sym (malloc_places m q a bytes);
             limit = ap (λ (z : Heap). z.proxies.limit) rest;
             handles = handles;
-            serve = subst (Serve (paging_at h)) (sym on) (taken_serve (paging_ok h k) k.serve.part k.occupied of_table is.2 at_table k.serve.whole);
+            serve = subst (FitPages (paging_at h)) (sym on) (taken_serve (paging_ok h k) k.serve.part k.occupied of_table is.2 at_table k.serve.whole);
             occupied = subst (Occupies (paging_at h) (occupied (plan_of h) s)) (sym on) stands;
             live_long = ap (λ (z : Heap). length z.live) rest ∙ length-set h.live c (get_or h.live c 0 + 1) ∙ k.live_long;
             counted = λ d lt. (

@@ -21,8 +21,8 @@ use Rattle.class_lists.specs.PageLists.{empty_lists}
 use Rattle.proxy_table.specs.Proxies.{Proxies, AreBelowLimit, no_proxies}
 use Rattle.page_slots.specs.Tables.{tables}
 use Rattle.page_pool.specs.Pool.{Pool}
-use Rattle.page_slots.specs.Occupying.{Occupies, Serve}
-use Rattle.page_slots.specs.Orders.{open_lists}
+use Rattle.page_slots.specs.Occupying.{Occupies, FitPages}
+use Rattle.page_slots.specs.Orders.{partly_full_lists}
 use Rattle.page_slots.proofs.CallerLemmas.{first_occupied, first_table, new_serve, open_empty}
 use Rattle.slice_model.specs.State.{Sliced, IsKept, Idle, occupied}
 use Rattle.slice_model.specs.Words.{HasWords}
@@ -68,7 +68,7 @@ module _ (s : Settings) (n : ℕ) (h : Heap) (f : IsFirst s n h) where
   few : classes (paging_at h) ≤ 67
   few = (are_sizes h.settings.page_words Words h.settings.page_size).few
 
-  serve : Serve (paging_at h) (tables_in h)
+  serve : FitPages (paging_at h) (tables_in h)
   serve =
       let small = h.settings.small_region in
       new_serve (paging_at h) (length h.classes.sizes) h.maps h.lists h.pool (first_table h.settings.page_words Words h.settings.page_size) (omega arith) many
@@ -121,8 +121,8 @@ module _ (s : Settings) (n : ℕ) (h : Heap) (f : IsFirst s n h) where
   -- the order lists pages and numbers in rising order
   order_first : order_in h ≡ first_order (paging_at h) h.settings.proxies
   order_first =
-      let lists : open_lists (classes (paging_at h)) h.lists ≡ replicate (classes (paging_at h)) [] =
-      ap (open_lists (classes (paging_at h))) f.lists ∙ open_empty (classes (paging_at h)) (length h.classes.sizes) h.settings.pages in
+      let lists : partly_full_lists (classes (paging_at h)) h.lists ≡ replicate (classes (paging_at h)) [] =
+      ap (partly_full_lists (classes (paging_at h))) f.lists ∙ open_empty (classes (paging_at h)) (length h.classes.sizes) h.settings.pages in
       let pool = ap (λ (q : Pool). q.free) f.pool in
       let spare = ap (λ (x : Proxies). x.free) f.proxies in
       λ i. record { pool = pool i; not_full = lists i; spare = spare i }

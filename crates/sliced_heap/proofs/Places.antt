@@ -1,4 +1,4 @@
--- For `fill`, `forget` and `end`: the tables stay right when an object and the placeholder exchange addresses or numbers.
+-- For `fill`, `start_clearing` and `end`: the tables stay right when an object and the placeholder exchange addresses or numbers.
 use Rattle.std.proofs.Common.{◌≡◌, ◌≢◌, ℕ, List, Some, None, sym, ◌∙◌, ap, subst, inl, inr}
 use Rattle.std.specs.Prelude.{◌⊎◌}
 use Rattle.std.proofs.lemmas.Bool.{cases_eq}

@@ -5,7 +5,7 @@ use Rattle.page_model.specs.Arrangement.{live, pages_needed}
 use Rattle.page_model.specs.Bytes.{AreBytes, AreStorable}
 use Rattle.page_model.specs.Held.{Placed, objects, places}
 use Rattle.page_model.specs.Paging.{classes}
-use Rattle.page_slots.specs.Occupying.{Occupies, Serve}
+use Rattle.page_slots.specs.Occupying.{Occupies, FitPages}
 use Rattle.proxy_table.specs.Proxies.{AreBelowLimit}
 use Rattle.slice_model.specs.State.{Sliced, IsKept, occupied}
 use Rattle.slice_model.specs.Words.{HasWords}
@@ -27,7 +27,7 @@ pub record Becomes (h n : Heap) (s : Sliced) : Type 0 where
   pub addresses : n.proxies.places ≡ places s.held
   pub limit : n.proxies.limit ≡ h.proxies.limit
   pub handles : AreBelowLimit n.proxies
-  pub serve : Serve (paging_at h) (tables_in n)
+  pub serve : FitPages (paging_at h) (tables_in n)
   pub occupied : Occupies (paging_at h) (occupied (plan_of h) s) (tables_in n)
   pub live_long : length n.live ≡ 128
   pub counted : (c : ℕ) → c < classes (paging_at h) → get_or n.live c 0 ≡ live (paging_at h) (objects s.held) c

@@ -5,15 +5,15 @@ use Rattle.page_model.specs.Arrangement.{IsSound}
 use Rattle.page_model.specs.Held.{Held}
 use Rattle.page_model.specs.Order.{Order}
 use Rattle.page_model.specs.Paging.{slot_words}
-use Rattle.page_slots.specs.Occupying.{Occupies, Serve}
+use Rattle.page_slots.specs.Occupying.{Occupies, FitPages}
 use Rattle.proxy_table.specs.Proxies.{AreBelowLimit}
 use Rattle.size_classes.specs.Table.{ClassTable}
 use Rattle.slice_model.specs.declared.job_slot.JobSlot.{JobSlot}
 use Rattle.slice_model.specs.State.{Plan, Job, Sliced, IsKept, IsJobOf, IsUnderWay, advanced, job_slot, occupied, with_slot, Idle, Clear, Move}
-use Rattle.slice_model.specs.Steps.{Ends, IsSlice, SliceOf, done_after}
+use Rattle.slice_model.specs.Steps.{EndsJob, IsSlice, SliceOf, done_after}
 use Rattle.slice_model.specs.Ordered.{EndFollows, SliceFollows, SlicesInOrder}
 use Rattle.slice_model.specs.Words.{DoesWords, HasWords}
-use Rattle.slice_model.specs.Runs.{Slices, Working, words_of_slice}
+use Rattle.slice_model.specs.Runs.{Slices, HeapWithWords, words_of_slice}
 use Rattle.slice_model.proofs.CallerLemmas.{job_class, kept_slice, slot_stays, words_sliced}
 use Rattle.sliced_heap.specs.Heap.{Heap}
 use Rattle.sliced_heap.specs.Layout.{IsValid, order_in, paging_at, plan_of, state_of, tables_in, working_of}
@@ -26,7 +26,7 @@ pub state_at : (h : Heap) (j : Job) → h.job ≡ j → state_of h ≡ record { 
 state_at h j at = ap (λ j. record { held = (state_of h).held; job = j }) at
 
 -- if j is the pending job, a slice of j is a slice as the model has it
-pub slices_at : (plan : Plan) (old : Working) (j : Job) → old.state.job ≡ j → (new : Working)
+pub slices_at : (plan : Plan) (old : HeapWithWords) (j : Job) → old.state.job ≡ j → (new : HeapWithWords)
     → IsSlice plan (record { held = old.state.held; job = j }) new.state
     → DoesWords old.state.held j (words_of_slice plan (job_slot j)) old.words new.words → Slices plan old new
 slices_at plan old j at new slice does =
@@ -65,7 +65,7 @@ module _ (h n : Heap) (k : IsValid h) (same : KeepsTables h n) (j : Job) (is : n
     addresses = ap (λ z. z.places) same.proxies ∙ places_are h k;
     limit = ap (λ z. z.limit) same.proxies;
     handles = subst AreBelowLimit (sym same.proxies) k.handles;
-    serve = subst (Serve (paging_at h)) (sym same.tables) k.serve;
+    serve = subst (FitPages (paging_at h)) (sym same.tables) k.serve;
     occupied = subst (λ o. Occupies (paging_at h) o (tables_in n)) (sym slot) (subst (Occupies (paging_at h) (occupied (plan_of h) (state_of h)))
         (sym same.tables) k.occupied);
     live_long = ap length same.live ∙ k.live_long;
@@ -133,13 +133,13 @@ module _ (h n : Heap) (k : IsValid h) (same : KeepsTables h n) (j : Job) (at : h
 
     -- all words of the job are done, and heap z is the one after `end`
     module _ (all : done_after (plan_of h) g ≡ slot_words (paging_at h) g.class) (z : Heap)
-        (ends : Ends (paging_at h) (state_of h).held (record g { done = 0 }) (state_of z)) (same_words : z.words ≡ n.words) where
+        (ends : EndsJob (paging_at h) (state_of h).held (record g { done = 0 }) (state_of z)) (same_words : z.words ≡ n.words) where
       pub end_slices : Slices (plan_of h) (working_of h) (working_of z)
       end_slices = slices_at (plan_of h) (working_of h) j at (working_of z)
           (subst (λ o. SliceOf (plan_of h) (record { held = m; job = j }) o (state_of z)) (sym slot) (inr (record { all = all; ends = from_fresh ends })))
           (subst (DoesWords m j (words_of_slice (plan_of h) (job_slot j)) h.words) (sym same_words) does_slice)
         where
-          from_fresh : Ends (paging_at h) m (record g { done = 0 }) (state_of z) → Ends (paging_at h) m g (state_of z)
+          from_fresh : EndsJob (paging_at h) m (record g { done = 0 }) (state_of z) → EndsJob (paging_at h) m g (state_of z)
           from_fresh (inl over) = inl over
           from_fresh (inr c) = inr (record { two = c.two; object = c.object; beside = c.beside; carries = c.carries })
 
@@ -253,19 +253,19 @@ module _ (h : Heap) (k : IsValid h) (j : Job) (at : h.job ≡ j) (g : JobSlot) (
     vacated_valid = vacant_valid h (record h { words = w; job = Clear (record g { done = 0 }) }) k (same_tables (Clear (record g { done = 0 }))) j at g slot
         (ended all) refl
 
-    pub goes_to_end : (z : Heap) → Ends (paging_at h) (state_of (record h { words = w; job = Clear (record g { done = 0 }) })).held (record g { done = 0 })
+    pub goes_to_end : (z : Heap) → EndsJob (paging_at h) (state_of (record h { words = w; job = Clear (record g { done = 0 }) })).held (record g { done = 0 })
         (state_of z)
         → z.words ≡ w → Slices (plan_of h) (working_of h) (working_of z)
     goes_to_end z ends same =
         end_slices h (record h { words = w; job = Clear (record g { done = 0 }) }) k (same_tables (Clear (record g { done = 0 }))) j at g slot does_so
         (sym done_is ∙ all) z
-        (subst (λ m. Ends (paging_at h) m (record g { done = 0 }) (state_of z))
+        (subst (λ m. EndsJob (paging_at h) m (record g { done = 0 }) (state_of z))
         (ap (λ (y : Sliced). y.held) (vacant_state h (record h { words = w; job = Clear (record g { done = 0 }) }) k
         (same_tables (Clear (record g { done = 0 }))) j at g slot
         (ended all) refl)) ends) same
 
     pub ends_in_order : (z : Heap)
-        → Ends (paging_at h) (state_of (record h { words = w; job = Clear (record g { done = 0 }) })).held (record g { done = 0 }) (state_of z)
+        → EndsJob (paging_at h) (state_of (record h { words = w; job = Clear (record g { done = 0 }) })).held (record g { done = 0 }) (state_of z)
         → EndFollows (plan_of h) (state_of (record h { words = w; job = Clear (record g { done = 0 }) })).held (record g { done = 0 }) z.job (order_in h) (order_in z)
         → z.words ≡ w → SlicesInOrder (plan_of h) (working_of h) (working_of z) (order_in h) (order_in z)
     ends_in_order z ends follows same =

@@ -13,7 +13,7 @@ use Rattle.step_ledger.specs.Counting.{RoseAtMost, RoseBy}
 use Rattle.sliced_heap.specs.Costs.{words_of, words_steps}
 use Rattle.sliced_heap.specs.Heap.{Heap}
 use Rattle.sliced_heap.specs.Layout.{paging_at, plan_of, state_of, tables_in}
-use Rattle.sliced_heap.specs.Steps.{Fills, Forgets, IsPartlyFull, end_most, job_most}
+use Rattle.sliced_heap.specs.Steps.{FillsSlot, StartsClearing, IsCheapToFree, end_most, job_most}
 
 -- freeing a slot takes 13 steps at most, and 10 if its page isn't full
 drop_most : (used n : ℕ) → drop_steps used n ≤ 13
@@ -50,22 +50,22 @@ end_within h k =
     let d = drop_most (used_in (slots_on (tables_in h) (page_at h.classes k.address))) (length (slots_on (tables_in h) (page_at h.classes k.address))) in
     omega arith
 
--- the words left of the job after `forget` are all those of the freed object's slot
-gone_words : (h a : Heap) (q : ℕ) (g : JobSlot) → Forgets h q g a → slot_words (paging_at h) g.class - 0 ≡ words_of (plan_of h) (state_of h) q
+-- the words left of the job after `start_clearing` are all those of the freed object's slot
+gone_words : (h a : Heap) (q : ℕ) (g : JobSlot) → StartsClearing h q g a → slot_words (paging_at h) g.class - 0 ≡ words_of (plan_of h) (state_of h) q
 gone_words h a q g f =
     let none : slot_words (paging_at h) g.class - 0 ≡ slot_words (paging_at h) g.class = omega arith in
     let there = f.found in
     none ∙ ap (λ (k : JobSlot). slot_words (paging_at h) k.class) f.slot ∙ sym (rw (words_of, there) refl)
 
--- The steps of a free: those of `forget`, of `fill` and of the first slice.
-pub free_takes : (h a b : Heap) (q : ℕ) (g : JobSlot) (filled : Bool) (w x y z : ℕ) → Forgets h q g a → Fills a g filled b
-    → (IsTrue filled → (k : JobSlot) → job_slot b.job ≡ Some k → IsPartlyFull b k)
+-- The steps of a free: those of `start_clearing`, of `fill` and of the first slice.
+pub free_takes : (h a b : Heap) (q : ℕ) (g : JobSlot) (filled : Bool) (w x y z : ℕ) → StartsClearing h q g a → FillsSlot a g filled b
+    → (IsTrue filled → (k : JobSlot) → job_slot b.job ≡ Some k → IsCheapToFree b k)
     → RoseBy w x 4 → RoseBy x y (if filled then 6 else 1) → RoseAtMost y z (job_most b b.job)
     → RoseAtMost w z (11 + words_steps h.quantum (words_of (plan_of h) (state_of h) q) 11)
 free_takes h a b q g true w x y z f v partly r s t =
     let k : JobSlot = fresh_slot v.carries.object.place g.class in
     let job : b.job ≡ Move v.object (fresh_slot v.carries.object.place g.class) = ap (λ (n : Sliced). n.job) v.carries.whole in
-    let few : IsPartlyFull b (fresh_slot v.carries.object.place g.class) = partly refl (fresh_slot v.carries.object.place g.class) (ap job_slot job) in
+    let few : IsCheapToFree b (fresh_slot v.carries.object.place g.class) = partly refl (fresh_slot v.carries.object.place g.class) (ap job_slot job) in
     let most : RoseAtMost y z (job_most b (Move v.object (fresh_slot v.carries.object.place g.class))) =
     subst (λ j. RoseAtMost y z (job_most b j)) job t in
     let quantum : b.quantum ≡ h.quantum = v.quantum ∙ f.quantum in

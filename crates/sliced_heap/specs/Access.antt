@@ -4,7 +4,7 @@ use Rattle.std.specs.FinMap.{get}
 use Rattle.cf_base.specs.declared.answers.AccessFault.{AccessFault}
 use Rattle.cf_base.specs.declared.answers.AccessFault.TheVariants as access
 use Rattle.page_model.specs.Held.{Placed, objects}
-use Rattle.slice_model.specs.Runs.{Part, IsOutOfReach}
+use Rattle.slice_model.specs.Runs.{Position, IsOutOfReach}
 use Rattle.slice_words.specs.Halves.{halves_of}
 use Rattle.slice_words.specs.declared.halves.Halves.{Halves}
 use Rattle.sliced_heap.specs.Heap.{Heap}
@@ -20,17 +20,17 @@ abbrev pub access_fault : {T : Type 0} → Result T AccessFault → Option Acces
 access_fault (Ok u) = None
 access_fault (Err e) = Some e
 
--- in heap h object `part.number` is live and has `count` bytes from byte `part.from` on, and its words lie in the halves s
-pub record Lies (h : Heap) (part : Part) (count : ℕ) (s : Halves) : Type 0 where
+-- in heap h object `position.number` is live and has `count` bytes from byte `position.from` on, and its words lie in the halves s
+pub record HoldsBytesAt (h : Heap) (position : Position) (count : ℕ) (s : Halves) : Type 0 where
   pub object : Placed
-  pub found : get (state_of h).held part.number ≡ Some object
-  pub within : part.from + count ≤ length object.bytes
-  pub halves : s ≡ halves_of h.job part.number object.place
+  pub found : get (state_of h).held position.number ≡ Some object
+  pub within : position.from + count ≤ length object.bytes
+  pub halves : s ≡ halves_of h.job position.number object.place
 
--- what `find` returns for object `part.number` and `count` bytes from byte `part.from` on: the halves in which its words lie, or a fault with its cause
-abbrev pub IsFound : Heap → Part → ℕ → Result Halves AccessFault → Type 0
-IsFound h part count (Ok s) = Lies h part count s
-IsFound h part count (Err e) = IsOutOfReach (objects (state_of h).held) part count e
+-- what `find` returns for object `position.number` and `count` bytes from byte `position.from` on: the halves in which its words lie, or a fault with its cause
+abbrev pub IsFound : Heap → Position → ℕ → Result Halves AccessFault → Type 0
+IsFound h position count (Ok s) = HoldsBytesAt h position count s
+IsFound h position count (Err e) = IsOutOfReach (objects (state_of h).held) position count e
 
 -- the steps of `find`: the proxy and, if the object is live, its header
 abbrev pub find_steps : Result Halves AccessFault → ℕ

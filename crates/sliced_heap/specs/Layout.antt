@@ -14,12 +14,12 @@ use Rattle.region.specs.Words.{cleared, moved}
 use Rattle.size_classes.specs.Table.{table_of}
 use Rattle.proxy_table.specs.Proxies.{AreBelowLimit}
 use Rattle.page_slots.specs.Tables.{Tables, tables}
-use Rattle.page_slots.specs.Occupying.{Occupies, Serve}
+use Rattle.page_slots.specs.Occupying.{Occupies, FitPages}
 use Rattle.page_slots.specs.Orders.{order_of}
 use Rattle.slice_model.specs.declared.job_slot.JobSlot.{JobSlot}
 use Rattle.slice_model.specs.State.{Plan, Job, Sliced, IsKept, occupied, Idle, Clear, Move}
 use Rattle.slice_model.specs.Words.{HasWords}
-use Rattle.slice_model.specs.Runs.{Working}
+use Rattle.slice_model.specs.Runs.{HeapWithWords}
 use Rattle.sliced_heap.specs.Heap.{Heap}
 
 -- the settings as the model has them, with bound 1 in place of their own
@@ -54,7 +54,7 @@ abbrev pub state_of : Heap → Sliced
 state_of h = record { held = held_at (completed (paging_at h) h.job h.proxies.places h.words) h.proxies.places; job = h.job }
 
 -- the model's state, and the words as they are now, with the job half done
-abbrev pub working_of : Heap → Working
+abbrev pub working_of : Heap → HeapWithWords
 working_of h = record { state = state_of h; words = h.words }
 
 -- the heap's tables of used slots, page lists and free pages
@@ -78,7 +78,7 @@ pub record IsValid (h : Heap) : Type 0 where
   pub words_long : length h.words ≡ h.settings.pages * h.settings.page_words
   pub kept : IsKept (plan_of h) (state_of h)
   pub words : HasWords (paging_at h) (state_of h) h.words
-  pub serve : Serve (paging_at h) (tables_in h)
+  pub serve : FitPages (paging_at h) (tables_in h)
   pub occupied : Occupies (paging_at h) (occupied (plan_of h) (state_of h)) (tables_in h)
   pub numbers : h.proxies.limit ≡ h.settings.proxies
   pub handles : AreBelowLimit h.proxies

@@ -11,7 +11,7 @@ use Rattle.page_model.specs.Order.{Order, first_order}
 use Rattle.page_model.specs.Paging.{first_bounds, paging_of}
 use Rattle.slice_model.specs.State.{Plan, Job, IsPlan, Idle, Clear, Move}
 use Rattle.slice_model.specs.Ordered.{IsOrderBeside}
-use Rattle.slice_model.specs.Runs.{IsConsistent, Working}
+use Rattle.slice_model.specs.Runs.{IsConsistent, HeapWithWords}
 use Rattle.slice_model.specs.declared.job_slot.JobSlot.{JobSlot}
 use Rattle.sliced_heap.specs.declared.open_heap.OpenHeap.{OpenHeap}
 use Rattle.sliced_heap.specs.Heap.{seen}
@@ -42,7 +42,7 @@ abbrev pub plan_in : SlicedState → Plan
 plan_in s = record { paging = paging_of s.profile Words (first_bounds s.profile Words); proxies = s.profile.proxies; quantum = s.quantum }
 
 -- the objects, the job and the words of the state s, as the model has them
-abbrev pub working_in : SlicedState → Working
+abbrev pub working_in : SlicedState → HeapWithWords
 working_in s = record { state = record { held = s.held; job = s.job }; words = s.words }
 
 -- the state of a heap that was just opened with these settings and this quantum: no object, no job, and all words 0

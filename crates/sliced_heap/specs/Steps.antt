@@ -1,4 +1,4 @@
--- What `forget`, `fill`, `move_to` and `end`, the parts of a free and of a slice, do and cost. Of this module, public clauses cite `fault_in` alone.
+-- What `start_clearing`, `fill`, `move_to` and `end`, the parts of a free and of a slice, do and cost. Of this module, public clauses cite `fault_in` alone.
 use Rattle.std.specs.Prelude.{◌≡◌, ℕ, ◌∷◌, ◌+◌, ◌-◌, ◌%◌, ◌^◌, ◌≤◌, Bool, true, false, Option, Some, None, Result, Ok, Err, slice_index}
 use Rattle.std.specs.FinMap.{get, remove}
 use Rattle.page_model.specs.Arrangement.{class_at}
@@ -11,7 +11,7 @@ use Rattle.page_slots.specs.Tables.{page_at}
 use Rattle.proxy_table.specs.Proxies.{AreBelowLimit, with_place}
 use Rattle.slice_model.specs.declared.job_slot.JobSlot.{JobSlot}
 use Rattle.slice_model.specs.State.{Job, occupied, placeholder, Idle, Clear, Move}
-use Rattle.slice_model.specs.Steps.{Carries, IsBeside, fresh_slot}
+use Rattle.slice_model.specs.Steps.{BeginsMove, IsBeside, fresh_slot}
 use Rattle.slice_model.specs.declared.answers.SliceFault.{SliceFault}
 use Rattle.sliced_heap.specs.Heap.{Heap}
 use Rattle.sliced_heap.specs.Layout.{order_in, paging_at, plan_of, state_of, tables_in}
@@ -22,8 +22,8 @@ abbrev pub fault_in : {T : Type 0} → Result T SliceFault → Option SliceFault
 fault_in (Ok u) = None
 fault_in (Err e) = Some e
 
--- what `forget` does: object q is removed, and its slot k is what the new job clears; no word of the region changes
-pub record Forgets (old : Heap) (q : ℕ) (k : JobSlot) (new : Heap) : Type 0 where
+-- what `start_clearing` does: object q is removed, and its slot k is what the new job clears; no word of the region changes
+pub record StartsClearing (old : Heap) (q : ℕ) (k : JobSlot) (new : Heap) : Type 0 where
   pub object : Placed
   pub found : get (state_of old).held q ≡ Some object
   pub slot : k ≡ fresh_slot object.place (class_at (paging_at old) object)
@@ -41,7 +41,7 @@ pub record IsFilled (old : Heap) (k : JobSlot) (new : Heap) : Type 0 where
   pub object : ℕ
   pub beside : IsBeside (paging_at old) (state_of old).held k.address k.class object
   pub next : IsNextToMove (paging_at old) (occupied (plan_of old) (state_of old)) (order_in old) k.class beside.object
-  pub carries : Carries (state_of old).held object k.address k.class (state_of new)
+  pub carries : BeginsMove (state_of old).held object k.address k.class (state_of new)
   pub words : new.words ≡ old.words
   pub plan : plan_of new ≡ plan_of old
   pub quantum : new.quantum ≡ old.quantum
@@ -53,9 +53,9 @@ pub record StaysVacant (old : Heap) (k : JobSlot) (new : Heap) : Type 0 where
   pub same : new ≡ old
 
 -- what `fill` does with slot k, by its result: true if it fills the slot
-abbrev pub Fills : Heap → JobSlot → Bool → Heap → Type 0
-Fills old k true new = IsFilled old k new
-Fills old k false new = StaysVacant old k new
+abbrev pub FillsSlot : Heap → JobSlot → Bool → Heap → Type 0
+FillsSlot old k true new = IsFilled old k new
+FillsSlot old k false new = StaysVacant old k new
 
 -- What `move_to` does: the filler is the object that fills slot k. The lower half of the word at its address `from` is its number. Its proxy gets the address
 -- of slot k, and the new job moves it there.
@@ -70,8 +70,8 @@ pub record StartsMove (old : Heap) (k : JobSlot) (new : Heap) : Type 0 where
   }
 
 -- the page of slot k isn't full; it is claimed as a cost: freeing a slot of the page costs at most 10 steps
-abbrev pub IsPartlyFull : Heap → JobSlot → Type 0
-IsPartlyFull h k = steps_to_drop (tables_in h) (page_at h.classes k.address) ≤ 10
+abbrev pub IsCheapToFree : Heap → JobSlot → Type 0
+IsCheapToFree h k = steps_to_drop (tables_in h) (page_at h.classes k.address) ≤ 10
 
 -- the most steps of `end` for a job with slot k: 1 to look up whether the class has a partly full page, and those of freeing the slot
 abbrev pub end_most : Heap → JobSlot → ℕ

@@ -4,7 +4,7 @@ ghost use Rattle.step_ledger.specs.Counting.{RoseAtMost};
 ghost use Rattle.page_model.specs.Paging.{slot_words};
 ghost use Rattle.slice_model.specs.State.{Clear};
 ghost use Rattle.slice_model.specs.Ordered.{EndFollows};
-ghost use Rattle.slice_model.specs.Steps.{Ends};
+ghost use Rattle.slice_model.specs.Steps.{EndsJob};
 ghost use Rattle.sliced_heap.specs.Heap.{job_of, seen};
 ghost use Rattle.sliced_heap.specs.Layout.{IsValid, order_in, paging_at, plan_of, state_of};
 ghost use Rattle.sliced_heap.specs.Steps.{end_most};
@@ -21,7 +21,7 @@ impl OpenHeap {
         requires job { job_of self.old.job ≡ Clear k }
         requires fresh { k.done ≡ 0 }
         requires zeros { (i : ℕ) → i < slot_words (paging_at (seen self.old)) k.class → slice_index self.old.region (k.address + i) ≡ 0 }
-        ensures ended { Ends (paging_at (seen self.old)) (state_of (seen self.old)).held k (state_of (seen self.new)) }
+        ensures ended { EndsJob (paging_at (seen self.old)) (state_of (seen self.old)).held k (state_of (seen self.new)) }
         ensures ordered { EndFollows (plan_of (seen self.old)) (state_of (seen self.old)).held k (job_of self.new.job)
             (order_in (seen self.old)) (order_in (seen self.new)) }
         ensures kept { IsValid (seen self.new) }

@@ -13,7 +13,7 @@ ghost use Rattle.slice_model.specs.declared.job_slot.JobSlot.{JobSlot};
 ghost use Rattle.slice_model.specs.State.{Clear, job_slot};
 ghost use Rattle.sliced_heap.specs.Heap.{job_of, seen};
 ghost use Rattle.sliced_heap.specs.Layout.{IsValid};
-ghost use Rattle.sliced_heap.specs.Steps.{Fills, IsPartlyFull, StartsMove};
+ghost use Rattle.sliced_heap.specs.Steps.{FillsSlot, IsCheapToFree, StartsMove};
 
 use crate::open_heap::{OpenHeap, Pending};
 use slice_model::JobSlot;
@@ -28,9 +28,9 @@ impl OpenHeap {
         requires kept { IsValid (seen self.old) }
         requires job { job_of self.old.job ≡ Clear k }
         requires fresh { k.done ≡ 0 }
-        ensures filled { Fills (seen self.old) k result (seen self.new) }
+        ensures filled { FillsSlot (seen self.old) k result (seen self.new) }
         ensures kept { IsValid (seen self.new) }
-        ensures partly { IsTrue result → (g : JobSlot) → job_slot (job_of self.new.job) ≡ Some g → IsPartlyFull (seen self.new) g }
+        ensures partly { IsTrue result → (g : JobSlot) → job_slot (job_of self.new.job) ≡ Some g → IsCheapToFree (seen self.new) g }
         ensures steps { RoseBy steps.old steps.new (if result then 6 else 1) }
     {
         if self

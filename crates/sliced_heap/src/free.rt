@@ -9,7 +9,7 @@ ghost use Rattle.slice_model.specs.State.{Idle};
 ghost use Rattle.sliced_heap.specs.Costs.{free_steps, words_of, words_steps};
 ghost use Rattle.sliced_heap.specs.Heap.{job_of, seen};
 ghost use Rattle.sliced_heap.specs.Layout.{IsValid, opens, order_in, plan_of, state_of, working_of};
-ghost use Rattle.sliced_heap.specs.Steps.{Forgets, fault_in};
+ghost use Rattle.sliced_heap.specs.Steps.{StartsClearing, fault_in};
 
 use crate::open_heap::{OpenHeap, Pending};
 use cf_base::Handle;
@@ -52,18 +52,18 @@ impl OpenHeap {
         ensures plan { plan_of (seen self.new) ≡ plan_of (seen self.old) }
         ensures steps { RoseAtMost steps.old steps.new (11 + words_steps self.old.quantum (words_of (plan_of (seen self.old)) (state_of (seen self.old)) h.0) 11) }
     {
-        let k = self.forget(h, place, steps);
+        let k = self.start_clearing(h, place, steps);
         let _filled = self.fill(k, steps);
         self.slice(steps);
     }
 
     /// Removes the live object `h`, whose address is `place`: releases its proxy, counts it no more, and
     /// makes it the job to clear its slot. Returns that slot. No word of the region changes yet.
-    fn forget(&mut self, h: Handle, place: u32, steps: &mut Steps) -> JobSlot
+    fn start_clearing(&mut self, h: Handle, place: u32, steps: &mut Steps) -> JobSlot
         requires kept { IsValid (seen self.old) }
         requires idle { job_of self.old.job ≡ Idle }
         requires known { map.get self.old.proxies.places h.0 ≡ Some place }
-        ensures gone { Forgets (seen self.old) h.0 result (seen self.new) }
+        ensures gone { StartsClearing (seen self.old) h.0 result (seen self.new) }
         ensures kept { IsValid (seen self.new) }
         ensures steps { RoseBy steps.old steps.new 4 }
     {

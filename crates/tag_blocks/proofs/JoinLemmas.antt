@@ -16,7 +16,7 @@ use Rattle.tag_blocks.specs.Links.{AreFreeLists, IsIn, without_block, lists_with
 use Rattle.tag_blocks.specs.Blocks.{Tagged, owner_of}
 use Rattle.tag_blocks.specs.Tags.{before_in, block_header_word, with_before}
 use Rattle.tag_blocks.specs.Layout.{Fields, IsBlock, free_block, used_block, IsDescribed, AreDescribed, IsValidWith, IsValid}
-use Rattle.tag_blocks.specs.Stages.{Detached, IsDetached, ArePair, HoldsBeforeFree, HoldsBehindFree, Turns, KeepsOwned, ends_free}
+use Rattle.tag_blocks.specs.Stages.{Detached, IsDetached, ArePair, HoldsBeforeFree, HoldsBehindFree, ReplacesBlock, KeepsOwned, ends_free}
 use Rattle.tag_blocks.specs.Stages.{pair_first, pair_second, pair_detached}
 use Rattle.tag_blocks.specs.Stages.{with_next, with_previous, past_free, free_first, up_to_free, free_last}
 use Rattle.tag_blocks.proofs.FillLemmas.{lies_in, in_first, in_second, in_either, merged_split, merged_join}
@@ -336,7 +336,7 @@ module _ (rule : FreeLists) (count : ℕ) (p : Fields) (v : Tagged) (kept : IsVa
     join_others w low =
         same_out rule p kept.lists x.before x.behind start first second h.next_free now left heads u long header refl refl is_before' blank w (inl low)
 
-    pub join_turns : Turns v x (seen parts') start (pair_detached x (first + second))
+    pub join_turns : ReplacesBlock v x (seen parts') start (pair_detached x (first + second))
     join_turns = record {
       detached = record {
         blocks = blocks_now rule parts' _ _ after;
@@ -374,7 +374,7 @@ module _ (v : Tagged) (at more : ℕ) (x : Detached) (h : HoldsBeforeFree v at m
   }
 
   pub next_turns : (size : ℕ) (new : Tagged) → size ≡ x.size
-      → Turns v behind_taken new at (pair_detached behind_taken (size + more)) → Turns v x new at (with_next x)
+      → ReplacesBlock v behind_taken new at (pair_detached behind_taken (size + more)) → ReplacesBlock v x new at (with_next x)
   next_turns size new is_size t = record {
     detached = subst (λ y. IsDetached new at y) detached_is t.detached;
     tags = t.tags;
@@ -425,8 +425,8 @@ module _ (v : Tagged) (at more : ℕ) (x : Detached) (h : HoldsBehindFree v at m
   }
 
   pub previous_turns : (size : ℕ) (new : Tagged) → size ≡ x.size
-      → Turns v before_taken new (at - more) (pair_detached before_taken (more + size))
-      → Turns v x new (at - more) (with_previous x)
+      → ReplacesBlock v before_taken new (at - more) (pair_detached before_taken (more + size))
+      → ReplacesBlock v x new (at - more) (with_previous x)
   previous_turns size new is_size t = record {
     detached = subst (λ y. IsDetached new (at - more) y) detached_is t.detached;
     tags = t.tags;

@@ -9,7 +9,7 @@ use Rattle.tag_blocks.specs.Links.{AreFreeLists, IsIn, PushesBlock, UnlinksBlock
 use Rattle.tag_blocks.specs.Blocks.{Tagged, owner_of}
 use Rattle.tag_blocks.specs.Tags.{size_in, before_in, block_header_word, with_before}
 use Rattle.tag_blocks.specs.Layout.{Fields, used_block, IsValid}
-use Rattle.tag_blocks.specs.Stages.{Detached, IsSplittable, Turns, cut_detached}
+use Rattle.tag_blocks.specs.Stages.{Detached, IsSplittable, ReplacesBlock, cut_detached}
 use Rattle.tag_blocks.proofs.CarveLemmas.{detached_size}
 use Rattle.tag_blocks.proofs.ClaimLemmas.{now as free_now, free_before, parts, claim_counts, claim_kept, claim_lists, claim_size, claim_turns, claim_within}
 use Rattle.tag_blocks.proofs.CutLemmas.{now as used_now, IsCuttable, cutting_linked, cutting_kept, cutting_lists, cutting_steps, cutting_turns}
@@ -34,7 +34,7 @@ module _ (rule : FreeLists) (count : ℕ) (p : Fields) (v : Tagged) (kept : IsVa
     abbrev used : Detached
     used = record { before = x.before; behind = x.behind; size = x.size; tag = tag }
 
-    turned : Turns v x (seen mid) at used
+    turned : ReplacesBlock v x (seen mid) at used
     turned = claim_turns rule count p v kept view at x h.between tag size before list left heads many long is_size is_before is_list unlinked
 
     cuttable : IsCuttable (seen mid) at need used
@@ -96,11 +96,11 @@ module _ (rule : FreeLists) (count : ℕ) (p : Fields) (v : Tagged) (kept : IsVa
           (cutting_kept rule count mid (seen mid) mid_kept refl at need some used cuttable size mid_size
           rest_list words' heads' many' long_cut is_rest pushed_cut)
 
-      cut : Turns (seen mid) used (seen after) at (cut_detached at need used)
+      cut : ReplacesBlock (seen mid) used (seen after) at (cut_detached at need used)
       cut = cutting_turns rule count mid (seen mid) mid_kept refl at need some used cuttable size mid_size
           rest_list words' heads' many' long_cut is_rest pushed_cut
 
-      pub split_turns : Turns v x (seen after) at (cut_detached at need used)
+      pub split_turns : ReplacesBlock v x (seen after) at (cut_detached at need used)
       split_turns = record {
         detached = cut.detached;
         tags = cut.tags;

@@ -5,9 +5,9 @@ use Rattle.cf_base.specs.declared.answers.Handle.{Handle}
 use Rattle.cf_base.specs.declared.answers.Refusal.{Refusal}
 use Rattle.cf_base.specs.declared.kind.Kind.{Kind}
 use Rattle.cf_base.specs.declared.kind.Kind.TheVariants.{Moving, NonMoving, Tlsf, HalfFit}
-use Rattle.page_model.specs.Steps.{Leaves}
+use Rattle.page_model.specs.Steps.{CallResult}
 use Rattle.block_model.specs.Buckets.{FreeLists}
-use Rattle.block_model.specs.FreeOrder.{AreListsOf, Listed}
+use Rattle.block_model.specs.FreeOrder.{AreListsOf, BlocksWithLists}
 use Rattle.cf_model.specs.Answers.{block_in}
 use Rattle.cf_model.specs.Families.{IsTiled, free_lists_of, list_count_of, paged, tiled}
 use Rattle.cf_model.specs.Ordered.{BlockMallocInOrder, IsOrderedMalloc}
@@ -29,7 +29,7 @@ module _ (k : Kind) (is : IsTiled k) where
   pub no_first_frames : (p : Profile) → opening_frames k p ≡ []
   no_first_frames p = of_tiled (λ k. opening_frames k p ≡ []) refl refl k is
 
-  pub frames_stay : (s : HeapState) (after : Leaves) → frames_left k s after ≡ s.frames
+  pub frames_stay : (s : HeapState) (after : CallResult) → frames_left k s after ≡ s.frames
   frames_stay s after = of_tiled (λ k. frames_left k s after ≡ s.frames) refl refl k is
 
   pub no_block : (s : HeapState) (h i : ℕ) → block_in k s h i ≡ None
@@ -46,7 +46,7 @@ module _ (k : Kind) (is : IsTiled k) where
       → IsOrderedMalloc (state_of j old) bytes answer (state_of j new)) (λ r. r) (λ r. r) k is
 
 -- lists by a rule are those of the kind that has the rule
-pub lists_of_kind : (k : Kind) (rule : FreeLists) (count : ℕ) (s : Listed) → rule ≡ free_lists_of k → count ≡ list_count_of k → AreListsOf rule count s
+pub lists_of_kind : (k : Kind) (rule : FreeLists) (count : ℕ) (s : BlocksWithLists) → rule ≡ free_lists_of k → count ≡ list_count_of k → AreListsOf rule count s
     → AreListsOf (free_lists_of k) (list_count_of k) s
 lists_of_kind k rule count s rule_is count_is of =
     subst (λ n. AreListsOf (free_lists_of k) n s) count_is (subst (λ r. AreListsOf r count s) rule_is of)

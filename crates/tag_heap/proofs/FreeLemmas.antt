@@ -18,7 +18,7 @@ use Rattle.tag_blocks.specs.Blocks.{Tagged, AreTags, Releases, listed}
 use Rattle.tag_blocks.proofs.CallerLemmas.{release_words}
 use Rattle.cf_model.specs.Families.{IsTiled, free_lists_of, list_count_of}
 use Rattle.cf_model.specs.Rules.{AreOwned, KeepsRules, content_word}
-use Rattle.cf_model.specs.Steps.{FreesObject, MovesIn, slot_in, tiling_left, leaves_of}
+use Rattle.cf_model.specs.Steps.{FreesObject, MovesIn, slot_in, tiling_left, call_result}
 use Rattle.cf_model.proofs.CallerLemmas.{owned_free}
 use Rattle.tag_heap.specs.Heap.{Heap, IsValid, held_in, order_of, state_of}
 use Rattle.tag_heap.proofs.ByKind.{frames_stay, of_tiled}
@@ -107,7 +107,7 @@ module _ {k : Kind} (h : Heap) (v : IsValid k h) (q a : ℕ) (some : get h.proxi
     moves = of_tiled (λ j. MovesIn j (state_of k h) old None) refl refl k is;
     held = held_is freed left becomes;
     left = ap objects (held_is freed left becomes) ∙ objects_left;
-    frames = sym (frames_stay k is (state_of k h) (leaves_of (state_of k h) q old None));
+    frames = sym (frames_stay k is (state_of k h) (call_result (state_of k h) q old None));
     tiling = r.blocks ∙ of_tiled (λ j. released h.tagged.blocks a ≡ tiling_left j (state_of k h) a) refl refl k is;
     rest = record { kind = refl; opened = refl; profile = refl; bounds = refl };
   }

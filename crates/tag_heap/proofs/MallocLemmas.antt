@@ -26,7 +26,7 @@ use Rattle.tag_blocks.proofs.CallerLemmas.{carve_words}
 use Rattle.cf_model.specs.Families.{IsTiled, free_lists_of, list_count_of}
 use Rattle.cf_model.specs.Ordered.{CarvesInOrder}
 use Rattle.cf_model.specs.Rules.{KeepsRules, content_word}
-use Rattle.cf_model.specs.Steps.{GivesObject, IsPlacedBy, IsRefusedBy, LacksRoomIn, WantsProxy, WantsSpace}
+use Rattle.cf_model.specs.Steps.{AddsObject, IsPlacedBy, IsRefusedBy, LacksRoomIn, LacksProxy, LacksSpace}
 use Rattle.cf_model.proofs.CallerLemmas.{fresh_word, no_one, owned_malloc}
 use Rattle.tag_heap.specs.Heap.{Heap, IsValid, held_in, order_of, state_of}
 use Rattle.tag_heap.specs.Room.{HasRoom}
@@ -143,7 +143,7 @@ module _ {k : Kind} (rule : FreeLists) (h : Heap) (v : IsValid k h) (q n a : ℕ
   pub given_rules : IsTiled k → KeepsRules (state_of k given)
   given_rules = becomes_rules given grown becomes
 
-  pub gives : IsTiled k → rule ≡ free_lists_of k → GivesObject (state_of k h) (record { number = q; length = n }) (state_of k given)
+  pub gives : IsTiled k → rule ≡ free_lists_of k → AddsObject (state_of k h) (record { number = q; length = n }) (state_of k given)
   gives is rule_is = record {
     fits = fits;
     few = (let m = held_many h v in let b = v.handles.few in let e = v.numbers in omega arith);
@@ -176,13 +176,13 @@ module _ {k : Kind} (rule : FreeLists) (h : Heap) (v : IsValid k h) (q n a : ℕ
 
 module _ (k : Kind) (is : IsTiled k) (h : Heap) (v : IsValid k h) (n : ℕ) (fits : need n ≤ h.settings.page_words) where
   -- no proxy is left
-  pub wants_proxy : len h.proxies.places ≡ h.proxies.limit → WantsProxy (state_of k h) n
-  wants_proxy all = record { fits = fits; all = held_many h v ∙ all ∙ v.numbers }
+  pub lacks_proxy : len h.proxies.places ≡ h.proxies.limit → LacksProxy (state_of k h) n
+  lacks_proxy all = record { fits = fits; all = held_many h v ∙ all ∙ v.numbers }
 
   -- no free block may serve the need
-  pub wants_space : (rule : FreeLists) → rule ≡ free_lists_of k → len h.proxies.places ≢ h.proxies.limit → (needed : ℕ) → needed ≡ need n
-      → LacksBlock rule h.tagged.blocks (needed + 1) → WantsSpace (state_of k h) n
-  wants_space rule lists some needed needed_is lacking = record {
+  pub lacks_space : (rule : FreeLists) → rule ≡ free_lists_of k → len h.proxies.places ≢ h.proxies.limit → (needed : ℕ) → needed ≡ need n
+      → LacksBlock rule h.tagged.blocks (needed + 1) → LacksSpace (state_of k h) n
+  lacks_space rule lists some needed needed_is lacking = record {
     fits = fits;
     few = (let m = held_many h v in let b = v.handles.few in let e = v.numbers in omega arith);
     lacking = of_tiled (λ j. LacksBlock (free_lists_of j) h.tagged.blocks (block_need n) → LacksRoomIn j (state_of k h) n) (λ x. x) (λ x. x) k is

@@ -11,14 +11,14 @@ use Rattle.page_model.specs.Bytes.{byte_of, bytes_at}
 use Rattle.block_model.specs.Tiling.{size_at}
 use Rattle.word_bytes.specs.Overwriting.{byte_from, words_with}
 use Rattle.cf_model.specs.Steps.{ReadsBytes}
-use Rattle.tag_heap.specs.Access.{Lies}
+use Rattle.tag_heap.specs.Access.{HoldsBytesAt}
 use Rattle.tag_heap.specs.Heap.{Heap, IsValid, held_in, state_of}
 use Rattle.tag_heap.proofs.Preserved.{places-read}
 use Rattle.tag_heap.proofs.ReadLemmas.{room}
 use Rattle.page_model.proofs.CallerLemmas.{byte_is}
 
 -- the words of a part are in the object's block
-module _ {k : Kind} (h : Heap) (v : IsValid k h) (q at count a : ℕ) (l : Lies h (record { number = q; from = at }) count a) where
+module _ {k : Kind} (h : Heap) (v : IsValid k h) (q at count a : ℕ) (l : HoldsBytesAt h (record { number = q; from = at }) count a) where
   pub lies_place : get h.proxies.places q ≡ Some a
   lies_place = ap (λ m. get m q) (sym (places-read h.tagged.words h.proxies.places)) ∙ get-map_values (λ (x : Placed). x.place) (held_in h) q
       ∙ ap (option_map (λ (x : Placed). x.place)) l.found

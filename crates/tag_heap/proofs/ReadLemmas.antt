@@ -11,7 +11,7 @@ use Rattle.block_model.specs.Tiling.{size_at, size_of}
 use Rattle.block_model.proofs.CallerLemmas.{lies}
 use Rattle.cf_model.specs.ReadObjects.{read_objects}
 use Rattle.cf_model.specs.Steps.{PassesEnd}
-use Rattle.tag_heap.specs.Access.{Lies}
+use Rattle.tag_heap.specs.Access.{HoldsBytesAt}
 use Rattle.tag_heap.specs.Heap.{Heap, IsValid, held_in, state_of}
 use Rattle.tag_heap.proofs.Preserved.{has_place, places-read}
 
@@ -53,5 +53,5 @@ module _ {k : Kind} (h : Heap) (v : IsValid k h) (q a : ℕ) (some : get h.proxi
   pub passes : (k : Kind) (at count : ℕ) → length bytes < at + count → PassesEnd (state_of k h) (record { number = q; from = at }) count
   passes k at count more = record { object = object; found = held; past = more }
 
-  pub lies_there : (at count : ℕ) → at + count ≤ length bytes → Lies h (record { number = q; from = at }) count a
+  pub lies_there : (at count : ℕ) → at + count ≤ length bytes → HoldsBytesAt h (record { number = q; from = at }) count a
   lies_there at count fits = record { found = held; within = fits }

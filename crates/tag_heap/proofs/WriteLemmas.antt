@@ -26,14 +26,14 @@ use Rattle.cf_model.specs.Families.{IsTiled, free_lists_of, list_count_of}
 use Rattle.cf_model.specs.Rules.{AreOwned, KeepsRules, content_word}
 use Rattle.cf_model.specs.Steps.{StaysOutside, WritesBytes}
 use Rattle.cf_model.proofs.CallerLemmas.{owned_replaced}
-use Rattle.tag_heap.specs.Access.{Lies}
+use Rattle.tag_heap.specs.Access.{HoldsBytesAt}
 use Rattle.tag_heap.specs.Heap.{Heap, IsValid, held_in, order_of, state_of}
 use Rattle.tag_heap.proofs.ByKind.{of_tiled}
 use Rattle.tag_heap.proofs.Preserved.{Becomes, are_bytes, becomes_rules, becomes_state, becomes_valid, places_are}
 use Rattle.tag_heap.proofs.ReadLemmas.{bytes_few, room}
 use Rattle.tag_heap.proofs.PartLemmas.{lies_place}
 
-module _ {k : Kind} (h : Heap) (v : IsValid k h) (q at a : ℕ) (part : List ℕ) (l : Lies h (record { number = q; from = at }) (length part) a) (each : AreBytes part)
+module _ {k : Kind} (h : Heap) (v : IsValid k h) (q at a : ℕ) (part : List ℕ) (l : HoldsBytesAt h (record { number = q; from = at }) (length part) a) (each : AreBytes part)
     (t : Tagged) (blocks : t.blocks ≡ h.tagged.blocks) (same_lists : t.lists ≡ h.tagged.lists) (tags : AreTags t)
     (o : Overwrites h.tagged.words t.words (record { from = a + 2 + at / 8; count = words_with (at % 8) (length part) }) (at % 8) part) where
   abbrev old : List ℕ

@@ -4,15 +4,15 @@ use Rattle.std.specs.FinMap.{get}
 use Rattle.cf_base.specs.declared.answers.AccessFault.{AccessFault}
 use Rattle.cf_base.specs.declared.kind.Kind.{Kind}
 use Rattle.page_model.specs.Bytes.{bytes_at}
-use Rattle.cf_model.specs.Steps.{Part, IsFault}
+use Rattle.cf_model.specs.Steps.{Position, IsFault}
 use Rattle.tag_heap.specs.Heap.{Heap, held_in, state_of}
 
--- object `part.number` has its block at the address `place`, and has `count` bytes from byte `part.from` on
-pub record Lies (h : Heap) (part : Part) (count place : ℕ) : Type 0 where
-  pub found : get (held_in h) part.number ≡ Some (record { place = place; bytes = bytes_at h.tagged.words (place + 1) })
-  pub within : part.from + count ≤ length (bytes_at h.tagged.words (place + 1))
+-- object `position.number` has its block at the address `place`, and has `count` bytes from byte `position.from` on
+pub record HoldsBytesAt (h : Heap) (position : Position) (count place : ℕ) : Type 0 where
+  pub found : get (held_in h) position.number ≡ Some (record { place = place; bytes = bytes_at h.tagged.words (place + 1) })
+  pub within : position.from + count ≤ length (bytes_at h.tagged.words (place + 1))
 
 -- what `find` returns for `count` bytes of the part: the address of the object, or the fault of the call
-abbrev pub IsFound : Kind → Heap → Part → ℕ → Result ℕ AccessFault → Type 0
-IsFound kind h part count (Ok place) = Lies h part count place
-IsFound kind h part count (Err e) = IsFault (state_of kind h) part count e
+abbrev pub IsFound : Kind → Heap → Position → ℕ → Result ℕ AccessFault → Type 0
+IsFound kind h position count (Ok place) = HoldsBytesAt h position count place
+IsFound kind h position count (Err e) = IsFault (state_of kind h) position count e

@@ -7,15 +7,15 @@ use Rattle.cf_base.specs.declared.kind.Kind.{Kind}
 use Rattle.page_model.specs.Held.{Placed}
 use Rattle.block_model.specs.Buckets.{FreeLists}
 use Rattle.block_model.specs.FreeOrder.{next_block}
-use Rattle.tag_blocks.specs.Blocks.{Finds}
+use Rattle.tag_blocks.specs.Blocks.{FindsBlock}
 use Rattle.cf_model.specs.State.{HeapState}
 use Rattle.cf_model.specs.Steps.{IsRefusedBy}
 use Rattle.tag_heap.specs.Heap.{Heap, state_of}
 
 -- what `has_room` returns in the state s: `Ok` if a malloc of `bytes` bytes has no cause to be refused, else `Err` with its cause
-abbrev pub IsRoomAnswer : HeapState → ℕ → Result Unit Refusal → Type 0
-IsRoomAnswer s bytes (Ok done) = (e : Refusal) → ¬ IsRefusedBy s bytes e
-IsRoomAnswer s bytes (Err e) = IsRefusedBy s bytes e
+abbrev pub IsHasRoomAnswer : HeapState → ℕ → Result Unit Refusal → Type 0
+IsHasRoomAnswer s bytes (Ok done) = (e : Refusal) → ¬ IsRefusedBy s bytes e
+IsHasRoomAnswer s bytes (Err e) = IsRefusedBy s bytes e
 
 -- a result without its address, to compare it with what `has_room` returns
 abbrev pub done_by : Result ℕ Refusal → Result Unit Refusal
@@ -31,10 +31,10 @@ length_of s h = option_map (λ (x : Placed). length x.bytes) (get s.held h)
 pub record HasRoom (rule : FreeLists) (h : Heap) (bytes place : ℕ) : Type 0 where
   pub fits : need bytes ≤ h.settings.page_words
   pub few : len h.proxies.places ≢ h.proxies.limit
-  pub found : Finds rule h.tagged.blocks (need bytes + 1) place
+  pub found : FindsBlock rule h.tagged.blocks (need bytes + 1) place
   pub next : next_block rule h.tagged.lists (need bytes + 1) ≡ Some place
 
 -- what `room` returns in the heap h for `bytes` bytes: the address of the block that a malloc takes, or the cause for which it is refused
-abbrev pub IsRoom : FreeLists → Kind → Heap → ℕ → Result ℕ Refusal → Type 0
-IsRoom rule kind h bytes (Ok place) = HasRoom rule h bytes place
-IsRoom rule kind h bytes (Err e) = IsRefusedBy (state_of kind h) bytes e
+abbrev pub IsBlockFor : FreeLists → Kind → Heap → ℕ → Result ℕ Refusal → Type 0
+IsBlockFor rule kind h bytes (Ok place) = HasRoom rule h bytes place
+IsBlockFor rule kind h bytes (Err e) = IsRefusedBy (state_of kind h) bytes e

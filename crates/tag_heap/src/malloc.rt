@@ -8,7 +8,7 @@ ghost use Rattle.cf_model.specs.Steps.{IsMallocStep, StaysOpen};
 ghost use Rattle.tag_heap.specs.Choices.{MallocChooses};
 ghost use Rattle.tag_heap.specs.Costs.{malloc_steps, room_steps, search_steps};
 ghost use Rattle.tag_heap.specs.Heap.{state_of};
-ghost use Rattle.tag_heap.specs.Room.{IsRoom, IsRoomAnswer, done_by};
+ghost use Rattle.tag_heap.specs.Room.{IsBlockFor, IsHasRoomAnswer, done_by};
 
 use crate::fit_policy::FitPolicy;
 use crate::open_heap::OpenHeap;
@@ -66,8 +66,8 @@ impl<B: FitPolicy> OpenHeap<B> {
     /// Returns the address of the free block that a malloc of `bytes` bytes would take now, or
     /// fails with the refusal that it would return. Changes nothing.
     pub(crate) fn room(&self, bytes: u32, steps: &mut Steps) -> Result<u32, Refusal>
-        ensures room { IsRoom B.rule B.kind self.now bytes result }
-        ensures answer { IsRoomAnswer (state_of B.kind self.now) bytes (done_by result) }
+        ensures room { IsBlockFor B.rule B.kind self.now bytes result }
+        ensures answer { IsHasRoomAnswer (state_of B.kind self.now) bytes (done_by result) }
         ensures rules { KeepsRules (state_of B.kind self.now) }
         ensures steps { RoseBy steps.old steps.new (search_steps (state_of B.kind self.now) bytes result) }
         ensures bound { RoseAtMost steps.old steps.new (room_steps (done_by result)) }

@@ -10,7 +10,7 @@ ghost use Rattle.cf_model.specs.State.{closed_state};
 ghost use Rattle.cf_model.specs.Steps.{BlocksStayIn, IsFreeStep, IsMallocStep, IsReadAnswer, IsResizeStep, IsWriteStep, StaysOpen};
 ghost use Rattle.tag_heap.specs.Costs.{access_steps, length_steps, malloc_steps, room_steps};
 ghost use Rattle.tag_heap.specs.Heap.{state_of};
-ghost use Rattle.tag_heap.specs.Room.{IsRoomAnswer, length_of};
+ghost use Rattle.tag_heap.specs.Room.{IsHasRoomAnswer, length_of};
 
 use crate::fit_policy::FitPolicy;
 use crate::open_heap::OpenHeap;
@@ -58,7 +58,7 @@ impl<B: FitPolicy> TagHeap<B> {
     /// refusal. Changes nothing, and costs at most four steps.
     pub fn has_room(&self, bytes: u32, steps: &mut Steps) -> Result<(), Refusal>
         requires open { IsTrue self.now.is_open }
-        ensures answer { IsRoomAnswer self.now bytes result }
+        ensures answer { IsHasRoomAnswer self.now bytes result }
         ensures steps { RoseAtMost steps.old steps.new (room_steps result) }
     {
         self.open().room(bytes, steps)?;

@@ -4,10 +4,10 @@
 #![tactic(auto)]
 
 mod free_lists;
-mod plain_blocks;
+mod block_reference;
 mod run;
 
 pub use free_lists::{half_fit_sizes, tlsf_sizes};
-pub use plain_blocks::PlainBlocks;
+pub use block_reference::BlockReference;
 pub use run::BlockRun;
 pub use test_support::Wrong;

@@ -4,20 +4,20 @@ ghost use Rattle.std.specs.Prelude.{◌≡◌, IfOk};
 ghost use Rattle.cf_model.specs.Answers.{totals_in};
 ghost use Rattle.cf_model.specs.Steps.{IsMallocStep};
 
-use crate::plain_blocks::{Block, PlainBlocks};
+use crate::block_reference::{Block, BlockReference};
 use cf_base::{Freed, Handle, Refusal, ResizeFault, Settings, Totals};
 use cf_model::Manager;
 use std::alloc::Global;
 use step_ledger::Meter;
-use test_support::{Calls, Draw, Objects, Wrong, hold};
+use test_support::{ManagerUnderTest, Draw, Objects, Wrong, hold};
 
 /// A manager with blocks under test, and what is expected of it.
 #[derive(Drop)]
 pub struct BlockRun<H: Manager> {
     /// The manager, with the ledger of its calls.
-    calls: Calls<H>,
+    calls: ManagerUnderTest<H>,
     /// The expected blocks and free lists.
-    plain: PlainBlocks,
+    plain: BlockReference,
     /// The expected objects by number, each with the address of its block and its bytes.
     objects: Objects<u32>,
     /// The words of a page: no object may be longer, with its header.
@@ -46,8 +46,8 @@ impl<H: Manager> BlockRun<H> {
         heap.open_heap(&settings)?;
         let words = pages.wrapping_mul(settings.page_words);
         Ok(BlockRun {
-            calls: Calls { heap, meter },
-            plain: PlainBlocks::new(alloc, sizes, words)?,
+            calls: ManagerUnderTest { heap, meter },
+            plain: BlockReference::new(alloc, sizes, words)?,
             objects: Objects::none(alloc, proxies)?,
             page_words: settings.page_words,
             words,

@@ -1,4 +1,4 @@
-//! `Calls`: a manager under test with its ledger, calls of it, and comparisons of what it shows with what a
+//! `ManagerUnderTest`: a manager under test with its ledger, calls of it, and comparisons of what it shows with what a
 //! test wants.
 ghost use Rattle.std.specs.Prelude.{◌≡◌, IfOk, IsTrue, OnOk, slice_get};
 ghost use Rattle.cf_model.specs.Answers.{block_in, place_of, totals_in};
@@ -13,12 +13,12 @@ use step_ledger::Meter;
 /// `Wrong::Closed` unless the heap is open; else it returns the manager's own result. A comparison fails with
 /// the result that differs from `want`.
 #[derive(Drop)]
-pub struct Calls<H: Manager> {
+pub struct ManagerUnderTest<H: Manager> {
     pub heap: H,
     pub meter: Meter,
 }
 
-impl<H: Manager> Calls<H> {
+impl<H: Manager> ManagerUnderTest<H> {
     /// Sets the count of steps to 0 for a call. Fails if the heap is closed.
     fn start(&mut self) -> Result<(), Wrong>
         ensures heap { self.new.heap ≡ self.old.heap }

@@ -9,7 +9,7 @@ mod objects;
 mod sizes;
 mod wrong;
 
-pub use calls::Calls;
+pub use calls::ManagerUnderTest;
 pub use draw::Draw;
 pub use objects::{Object, Objects, header};
 pub use sizes::{pages_needed, slot_for, slot_sizes};

@@ -1,4 +1,4 @@
--- For `cf_main` and `run_mode`: from `Ends` of the chosen mode to each clause of `cf_main`.
+-- For `cf_main` and `run_mode`: from `EndsWithCause` of the chosen mode to each clause of `cf_main`.
 use Rattle.std.proofs.Common.{◌≡◌, ◌≢◌, ℕ, List, Option, Some, None, ap, inl, inr, refl, subst, sym}
 use Rattle.clap.specs.Words.{Text}
 use Rattle.cf_base.specs.declared.kind.Kind.TheVariants.{Moving}
@@ -31,7 +31,7 @@ use Rattle.quota_laws.specs.Transcript.{MeetsTasks}
 use Rattle.quota_session.proofs.CallerLemmas.{tasks_met}
 use Rattle.quota_session.specs.Playing.{quota_tasks}
 use Rattle.manager_modes.proofs.CallerLemmas.{IsSound, bench_sound, compare_sound, compare_shown, did_all, load_sound, never_bad_image, own_sound, own_shown, run_sound, run_shown, save_sound}
-use Rattle.manager_modes.specs.Outcomes.{Ends, EndsWhole, Handed, IsMadeLarge, Loads, OrLacks, Saves, effects_of, kinds_in}
+use Rattle.manager_modes.specs.Outcomes.{EndsWithCause, EndsWhole, CallState, IsMadeLarge, Loads, OrLacks, Saves, effects_of, kinds_in}
 use Rattle.top_call.specs.TopOutcome.{AnswersInput, DoesChosen, EndsWell, HasRightInput, InMode, IsMadeForTasks, IsMadeSliced, IsRightInput, PrintsBytes, PrintsAsClaimed, PrintsInMode}
 
 sound : (mode : Mode) (choice : Choice) → IsSound (InMode mode choice) (IsRightInput mode)
@@ -45,9 +45,9 @@ sound Slice choice = own_sound slices (IsMadeSliced choice.quantum)
 sound Quota choice = own_sound quota_tasks IsMadeForTasks
 
 -- the choice is of this mode
-pub in_mode : (mode : Mode) (choice : Choice) → choice.mode ≡ mode → (old : Handed) (st : Status) (new : Handed) → Ends (InMode mode choice) old st new
-    → Ends (InMode choice.mode choice) old st new
-in_mode mode choice is old st new ends = subst (λ (m : Mode). Ends (InMode m choice) old st new) (sym is) ends
+pub in_mode : (mode : Mode) (choice : Choice) → choice.mode ≡ mode → (old : CallState) (st : Status) (new : CallState) → EndsWithCause (InMode mode choice) old st new
+    → EndsWithCause (InMode choice.mode choice) old st new
+in_mode mode choice is old st new ends = subst (λ (m : Mode). EndsWithCause (InMode m choice) old st new) (sym is) ends
 
 -- a call that answered all items did not fail to write
 not_cut : (st : Status) → AnswersAll st → st ≢ WriteFault
@@ -60,7 +60,7 @@ printed_of Claim call met None is = tt
 printed_of Claim call met (Some read) is = met read (sym is)
 
 -- what a mode claims of its output holds
-shown : (mode : Mode) (choice : Choice) (old : Handed) (st : Status) (new : Handed) → OrLacks (InMode mode choice) old st new → AnswersAll st
+shown : (mode : Mode) (choice : Choice) (old : CallState) (st : Status) (new : CallState) → OrLacks (InMode mode choice) old st new → AnswersAll st
     → PrintsInMode mode choice (kinds_in old) (effects_of old st new)
 shown Run choice = run_shown choice.kind
 shown Compare choice = compare_shown
@@ -83,7 +83,7 @@ shown Quota choice = own_shown quota_tasks IsMadeForTasks MeetsTasks λ begin ma
 shown mode choice = λ old st new done is. tt
 
 -- only mode `load` ends by `BadImage`, and then the text is that of the refused image
-bad_image_shown : (mode : Mode) (choice : Choice) (old new : Handed) → InMode mode choice old BadImage new
+bad_image_shown : (mode : Mode) (choice : Choice) (old new : CallState) → InMode mode choice old BadImage new
     → PrintsInMode mode choice (kinds_in old) (effects_of old BadImage new)
 bad_image_shown Run choice old new done =
     absurd (never_bad_image one_manager (run_at fresh_session (chosen_manager choice.kind old.managers)) done.end (effects_of old BadImage new) refl done.outcome)
@@ -100,7 +100,7 @@ bad_image_shown Quota choice old new done = absurd (never_bad_image quota_tasks 
 bad_image_shown Bench choice old new done = tt
 
 -- the output is as claimed at each status at which every item was answered, or an image loaded or refused
-shown_at : (mode : Mode) (choice : Choice) (old : Handed) (st : Status) (new : Handed) → OrLacks (InMode mode choice) old st new → AnswersInput st
+shown_at : (mode : Mode) (choice : Choice) (old : CallState) (st : Status) (new : CallState) → OrLacks (InMode mode choice) old st new → AnswersInput st
     → PrintsInMode mode choice (kinds_in old) (effects_of old st new)
 shown_at mode choice old BadImage new done is = bad_image_shown mode choice old new done
 shown_at mode choice old Done new done is = shown mode choice old Done new done is
@@ -112,8 +112,8 @@ shown_at mode choice old OutOfMemory new done is = absurd is
 shown_at mode choice old Words new done is = absurd is
 
 -- The whole call, if the arguments make this choice and its mode ends like this.
-module _ (words : List Text) (choice : Choice) (chosen : Chooses words choice) (old : Handed) (st : Status) (new : Handed)
-    (ends : Ends (InMode choice.mode choice) old st new) where
+module _ (words : List Text) (choice : Choice) (chosen : Chooses words choice) (old : CallState) (st : Status) (new : CallState)
+    (ends : EndsWithCause (InMode choice.mode choice) old st new) where
   pub chosen_ends : EndsWell words old st new
   chosen_ends = go st ends.outcome
     where

@@ -28,7 +28,7 @@ use Rattle.image_run.specs.Script.{script_under}
 use Rattle.large_objects.specs.Playing.{large_heap}
 use Rattle.large_laws.specs.LargeHeadline.{MeetsLarge}
 use Rattle.manager_modes.specs.Claims.{MeetsClaim}
-use Rattle.manager_modes.specs.Outcomes.{Benches, Compares, Handed, IsMadeLarge, Loads, PlaysOwn, Runs, Saves, effects_of, kinds_in, orders_in}
+use Rattle.manager_modes.specs.Outcomes.{Benches, Compares, CallState, IsMadeLarge, Loads, PlaysOwn, Runs, Saves, effects_of, kinds_in, orders_in}
 use Rattle.quota_laws.specs.Transcript.{MeetsTasks}
 use Rattle.quota_session.specs.Playing.{quota_tasks}
 use Rattle.run_model.specs.Runs.{Run as RunOver}
@@ -37,7 +37,7 @@ use Rattle.run_model.specs.Texts.{Reply, said, text_of}
 use Rattle.script_loop.proofs.CallerLemmas.{appended_none, observed_row, wrote_by}
 use Rattle.script_loop.specs.Consequences.{AnswersAll}
 use Rattle.script_loop.specs.OneManager.{one_manager}
-use Rattle.script_loop.specs.ScriptOutcome.{Effects, IsRow, MOST_BYTES, MeetsOutcome, EndsAt, has_bad, items_within}
+use Rattle.script_loop.specs.ScriptOutcome.{Effects, IsStatusRow, MOST_BYTES, MeetsOutcome, EndsAt, has_bad, items_within}
 use Rattle.script_loop.specs.Semantics.{RunBy, Semantics}
 use Rattle.script_reader.specs.Items.{Item, asks}
 use Rattle.side_by_side.proofs.CallerLemmas.{chosen_kind, own_of, stand_of}
@@ -61,7 +61,7 @@ module _ {S P : Type 0} (m : Semantics S P) (from to : S) (all : List ℕ) where
   by_tests bad few is are = ap (λ b. cond b BadScript (cond (nat_le (length all) MOST_BYTES) Done TooLong)) is
       ∙ ap (λ f. cond bad BadScript (cond f Done TooLong)) are
 
-  row_status : (left : List ℕ) (call : Effects) (st : Status) → IsRow m st from all left call to → AnswersAll st → st ≡ status_of all
+  row_status : (left : List ℕ) (call : Effects) (st : Status) → IsStatusRow m st from all left call to → AnswersAll st → st ≡ status_of all
   row_status left call Done row is = sym (by_tests false true row.2 (le-leb (length all) MOST_BYTES row.0))
   row_status left call BadScript row is = sym (by_tests true (nat_le (length all) MOST_BYTES) row.0 refl)
   row_status left call TooLong row is = sym (by_tests false false row.1 (lt-leb (length all) MOST_BYTES row.0))
@@ -345,7 +345,7 @@ bench_once seed count from other to there before after written kinds one two som
     two.written ∙ ap (λ (r : List Reply). appended before (bench_text count r there)) replies
     ∙ ap (λ (s : RunState). appended before (bench_text count run.replies s)) end ∙ sym one.written
 
-pub bench_calls_once : (choice : Choice) (one two last end : Handed) → Benches choice one Done last → Benches choice two Done end
+pub bench_calls_once : (choice : Choice) (one two last end : CallState) → Benches choice one Done last → Benches choice two Done end
     → two.sink.written ≡ one.sink.written → end.sink.written ≡ last.sink.written
 bench_calls_once choice one two last end a b before =
     let begun = run_at fresh_session (closed_state choice.kind) in
@@ -438,7 +438,7 @@ as_input OutOfMemory all = absurd all
 as_input BadImage all = absurd all
 
 -- a call that answered all items did what its arguments choose
-did_chosen : (words : List Text) (old : Handed) (st : Status) (new : Handed) → EndsWell words old st new → AnswersAll st → DoesChosen words old st new
+did_chosen : (words : List Text) (old : CallState) (st : Status) (new : CallState) → EndsWell words old st new → AnswersAll st → DoesChosen words old st new
 did_chosen words old Done new ends all = ends
 did_chosen words old BadScript new ends all = ends
 did_chosen words old TooLong new ends all = ends

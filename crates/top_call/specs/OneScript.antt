@@ -18,14 +18,14 @@ use Rattle.headline_laws.specs.OneOutput.{IsOrdered}
 use Rattle.script_loop.specs.Consequences.{AnswersAll}
 use Rattle.script_loop.specs.ScriptOutcome.{MOST_BYTES, has_bad, items_within}
 use Rattle.side_by_side.specs.FirstOfKind.{chosen_manager}
-use Rattle.manager_modes.specs.Outcomes.{Handed, kinds_in, orders_in}
+use Rattle.manager_modes.specs.Outcomes.{CallState, kinds_in, orders_in}
 use Rattle.top_call.specs.TopOutcome.{EndsWell, PrintsAsClaimed}
 
 -- a call: what it works on, before and after it, and its status
 pub record TopCall : Type 0 where
-  pub old : Handed
+  pub old : CallState
   pub status : Status
-  pub new : Handed
+  pub new : CallState
 
 -- the call keeps the contract of `cf_main` for the arguments `words`
 pub record KeepsContract (words : List Text) (call : TopCall) : Type 0 where

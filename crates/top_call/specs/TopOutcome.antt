@@ -24,7 +24,7 @@ use Rattle.quota_heap.specs.State as quota_state
 use Rattle.quota_session.specs.Playing.{quota_tasks}
 use Rattle.quota_session.specs.QuotaRun.{QuotaRun, first_session, quota_run}
 use Rattle.manager_modes.specs.Claims.{HoldsImage, MeetsClaim}
-use Rattle.manager_modes.specs.Outcomes.{Benches, Compares, Handed, Loads, OrLacks, PlaysLarge, PlaysOwn, Runs, Saves, effects_of, kinds_in}
+use Rattle.manager_modes.specs.Outcomes.{Benches, Compares, CallState, Loads, OrLacks, PlaysLarge, PlaysOwn, Runs, Saves, effects_of, kinds_in}
 
 -- the state of a new run in mode `slice`: no id is live, and the sliced heap, for slices of at most `quantum` words, was never open
 abbrev pub IsMadeSliced : ℕ → SlicePlay → Type 0
@@ -35,15 +35,15 @@ abbrev pub IsMadeForTasks : QuotaRun → Type 0
 IsMadeForTasks s = s ≡ quota_run None first_session quota_state.closed_state
 
 -- Mode `slice`: a script ran on a sliced heap made for it, in which a free leaves work to later slices.
-abbrev pub PlaysSlices : ℕ → Handed → Status → Handed → Type 0
+abbrev pub PlaysSlices : ℕ → CallState → Status → CallState → Type 0
 PlaysSlices quantum = PlaysOwn slices (IsMadeSliced quantum)
 
 -- Mode `quota`: a script of tasks ran on a heap made for it, whose pages they share, each with a quota.
-abbrev pub PlaysQuotas : Handed → Status → Handed → Type 0
+abbrev pub PlaysQuotas : CallState → Status → CallState → Type 0
 PlaysQuotas = PlaysOwn quota_tasks IsMadeForTasks
 
 -- the record of what a call in this mode did, for the values of the arguments
-abbrev pub InMode : Mode → Choice → Handed → Status → Handed → Type 0
+abbrev pub InMode : Mode → Choice → CallState → Status → CallState → Type 0
 InMode Run choice = Runs choice.kind
 InMode Compare choice = Compares
 InMode Bench choice = Benches choice
@@ -54,13 +54,13 @@ InMode Slice choice = PlaysSlices choice.quantum
 InMode Quota choice = PlaysQuotas
 
 -- the arguments choose a mode and its values, and the call did what these ask
-pub record DoesChosen (words : List Text) (old : Handed) (status : Status) (new : Handed) : Type 0 where
+pub record DoesChosen (words : List Text) (old : CallState) (status : Status) (new : CallState) : Type 0 where
   pub choice : Choice
   pub chosen : Chooses words choice
   pub done : InMode choice.mode choice old status new
 
 -- with the status `Words`, the arguments are refused, and the call changed nothing; with any other, it did what they choose
-abbrev pub EndsWell : List Text → Handed → Status → Handed → Type 0
+abbrev pub EndsWell : List Text → CallState → Status → CallState → Type 0
 EndsWell words old Words new = AreRefused words × (new ≡ old)
 EndsWell words old status new = OrLacks (DoesChosen words) old status new
 
@@ -94,7 +94,7 @@ AnswersInput BadImage = ⊤
 AnswersInput status = AnswersAll status
 
 -- if every item was answered, or an image loaded or refused, the output is as claimed, whatever the chunks of the source
-abbrev pub PrintsAsClaimed : List Text → Handed → Status → Handed → Type 0
+abbrev pub PrintsAsClaimed : List Text → CallState → Status → CallState → Type 0
 PrintsAsClaimed words old status new = AnswersInput status → PrintsChosen words (kinds_in old) (effects_of old status new)
 
 -- the input is right for the mode: an image, or a script within the limit with no bad line; mode `bench` reads nothing

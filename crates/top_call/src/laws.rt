@@ -12,7 +12,7 @@ ghost use Rattle.command_line.specs.declared.choice.Mode.TheVariants.{Run};
 ghost use Rattle.run_model.specs.Sessions.{RunState};
 ghost use Rattle.bench_run.specs.Bench.{EndsBench};
 ghost use Rattle.side_by_side.specs.FirstOfKind.{chosen_manager};
-ghost use Rattle.manager_modes.specs.Outcomes.{Benches, Handed, kinds_in};
+ghost use Rattle.manager_modes.specs.Outcomes.{Benches, CallState, kinds_in};
 ghost use Rattle.top_call.specs.OneScript.{AnswersWhole, IsRunInOrder, KeepsContract, LeavesNoChoice, PrintsReplies, PromisesOrder, TopCall};
 
 /// Two calls with the same arguments and the same input print the same bytes and return the same
@@ -51,7 +51,7 @@ pub fn closed_managers_leave_no_choice()
 /// numbers. Clause `calls`: two calls in mode `bench`. Clause `runs`: any two benches whose managers have
 /// an order at the end.
 pub fn equal_benches_print_equal_lines()
-    ensures calls { (choice : Choice) (one two last end : Handed)
+    ensures calls { (choice : Choice) (one two last end : CallState)
         → Benches choice one Done last → Benches choice two Done end
         → two.sink.written ≡ one.sink.written → end.sink.written ≡ last.sink.written }
     ensures runs { (seed count : ℕ) (from other to there : RunState) (before after written : Option (List ℕ))

@@ -5,7 +5,7 @@ ghost use Rattle.top_call.specs.TopOutcome.{PlaysQuotas};
 use cf_base::Status;
 use cf_io::{Sink, Source};
 use quota_heap::QuotaHeap;
-use quota_session::{QuotaPlayer, run_quotas};
+use quota_session::{QuotaHandler, run_quotas};
 use std::alloc::Global;
 
 /// Runs a script of tasks, each with a quota of pages, on a heap of tasks that is made for it.
@@ -18,9 +18,9 @@ pub fn play_quotas<S: Source, K: Sink>(
     ensures { EndsBeside PlaysQuotas (source_seen S.Source source.old) (sink_seen K.Sink sink.old) result
         (source_seen S.Source source.new) (sink_seen K.Sink sink.new) }
 {
-    let Ok(mut player) = QuotaPlayer::start(rt, alloc) else {
+    let Ok(mut mode_handler) = QuotaHandler::start(rt, alloc) else {
         return Status::OutOfMemory;
     };
     let mut heap = QuotaHeap::closed(alloc);
-    run_quotas(&mut player, &mut heap, source, sink)
+    run_quotas(&mut mode_handler, &mut heap, source, sink)
 }

@@ -5,7 +5,7 @@ ghost use Rattle.top_call.specs.TopOutcome.{PlaysSlices};
 
 use cf_base::Status;
 use cf_io::{Sink, Source};
-use slice_session::{SlicePlayer, run_slices};
+use slice_session::{SliceHandler, run_slices};
 use sliced_heap::SlicedHeap;
 use std::alloc::Global;
 
@@ -23,9 +23,9 @@ pub fn play_slices<S: Source, K: Sink>(
     ensures { EndsBeside (PlaysSlices quantum) (source_seen S.Source source.old) (sink_seen K.Sink sink.old) result
         (source_seen S.Source source.new) (sink_seen K.Sink sink.new) }
 {
-    let Ok(mut player) = SlicePlayer::start(rt, alloc, quantum) else {
+    let Ok(mut mode_handler) = SliceHandler::start(rt, alloc, quantum) else {
         return Status::OutOfMemory;
     };
     let mut heap = SlicedHeap::closed(alloc);
-    run_slices(&mut player, &mut heap, source, sink)
+    run_slices(&mut mode_handler, &mut heap, source, sink)
 }

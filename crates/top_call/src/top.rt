@@ -2,7 +2,7 @@
 ghost use Rattle.std.specs.Prelude.{◌≡◌, ◌<◌, ◌≤◌, ◌+◌, ◌⊎◌, is_some, map, string_bytes, ◌≢◌};
 ghost use Rattle.cf_io.specs.Feeds.{FailsLast, last_count};
 ghost use Rattle.script_loop.specs.ScriptOutcome.{MOST_BYTES};
-ghost use Rattle.manager_modes.specs.Outcomes.{Ends, EndsWhole, seen};
+ghost use Rattle.manager_modes.specs.Outcomes.{EndsWithCause, EndsWhole, seen};
 ghost use Rattle.top_call.specs.TopOutcome.{EndsWell, HasRightInput, InMode, PrintsAsClaimed};
 
 use crate::quota::play_quotas;
@@ -10,7 +10,7 @@ use crate::slice::play_slices;
 use cf_base::Status;
 use cf_io::{Sink, Source};
 use cf_model::Manager;
-use command_line::{Choice, Mode, WordsFault, read_words};
+use command_line::{Choice, Mode, ArgumentsFault, read_arguments};
 use manager_modes::{bench_seed, compare_all, load_image, play_large, run_chosen, save_image};
 use std::alloc::Global;
 
@@ -60,10 +60,10 @@ pub fn cf_main<H: Manager, S: Source, K: Sink>(
     ensures too_long { result ≡ Status.TooLong
         → (S.given source.old + MOST_BYTES < S.given source.new) ⊎ (S.given source.new ≡ last_count) }
 {
-    match read_words(alloc, words) {
+    match read_arguments(alloc, words) {
         Ok(choice) => run_mode(rt, alloc, choice, source, sink, managers),
-        Err(WordsFault::Refused) => Status::Words,
-        Err(WordsFault::OutOfMemory) => Status::OutOfMemory,
+        Err(ArgumentsFault::Refused) => Status::Words,
+        Err(ArgumentsFault::OutOfMemory) => Status::OutOfMemory,
     }
 }
 
@@ -78,7 +78,7 @@ fn run_mode<H: Manager, S: Source, K: Sink>(
 ) -> Status
     requires least { 1 ≤ choice.quantum }
     requires most { choice.quantum ≤ 16384 }
-    ensures { Ends (InMode choice.mode choice)
+    ensures { EndsWithCause (InMode choice.mode choice)
         (seen S.Source K.Sink H.Manager source.old sink.old managers.old.items) result
         (seen S.Source K.Sink H.Manager source.new sink.new managers.new.items) }
 {

@@ -5,7 +5,7 @@ use Rattle.std.proofs.lemmas.Bool.{cases_eq, cases_lt}
 use Rattle.std.proofs.lemmas.List.{get_or-set_same, get_or-set_other, set_past}
 use Rattle.cf_base.specs.Settings.{Profile}
 use Rattle.cf_base.specs.declared.kind.Kind.{Kind}
-use Rattle.page_model.specs.Paging.{AreOne}
+use Rattle.page_model.specs.Paging.{EveryBoundIsOne}
 use Rattle.page_model.proofs.CallerLemmas.{first_ones}
 use Rattle.cf_model.specs.Rules.{IsPaged}
 use Rattle.cf_model.specs.State.{layout_of}
@@ -34,13 +34,13 @@ with_one bounds (Some c) d one = set_to_one bounds c d one
 -- every bound is 1, if the run has begun
 abbrev pub IsOne : Option ById → Type 0
 IsOne None = ⊤
-IsOne (Some t) = AreOne (paging_by_id t)
+IsOne (Some t) = EveryBoundIsOne (paging_by_id t)
 
-begun_at_one : (k : Kind) (p : Profile) → IsPaged k → p.k ≡ 1 → AreOne (paging_by_id (begun k p))
+begun_at_one : (k : Kind) (p : Profile) → IsPaged k → p.k ≡ 1 → EveryBoundIsOne (paging_by_id (begun k p))
 begun_at_one k p paged one = rw (paged, opening_bounds) (first_ones p (layout_of k) one)
 
-command_at_one : (t : ById) (c : Command) → AreOne (paging_by_id t) → AsksForOne (asks c)
-    → IsItemAtOne (Some t) (asks c) × AreOne (paging_by_id (after_by_id t c))
+command_at_one : (t : ById) (c : Command) → EveryBoundIsOne (paging_by_id t) → AsksForOne (asks c)
+    → IsItemAtOne (Some t) (asks c) × EveryBoundIsOne (paging_by_id (after_by_id t c))
 command_at_one t (Bound words k) ones one = (
   tt,
   λ d lt. subst (λ n. get_or (bounds_with t.bounds (class_bounded t words) n) d 0 ≡ 1) (sym one)

@@ -6,10 +6,10 @@ use Rattle.std.proofs.lemmas.Nat.{mod-mul-add}
 use Rattle.std.proofs.Math.Nat.{mul-mod_left}
 use Rattle.cf_lemmas.proofs.Ranges.{one}
 use Rattle.page_model.specs.Held.{Held, Objects, objects}
-use Rattle.page_model.specs.Paging.{Paging, IsPaging, AreOne, classes, slot_words, slots_of, class_for}
+use Rattle.page_model.specs.Paging.{Paging, IsPaging, EveryBoundIsOne, classes, slot_words, slots_of, class_for}
 use Rattle.page_model.specs.Counts.{LieOn, ceil_div}
 use Rattle.page_model.specs.Figures.{asked_bytes, figures_of, taken_bytes, totals_of}
-use Rattle.page_model.specs.Arrangement.{live, home_pages, not_full_pages, pages_needed, pages_needed_with, IsSound}
+use Rattle.page_model.specs.Arrangement.{live, pages_of_class, not_full_pages, pages_needed, pages_needed_with, IsSound}
 use Rattle.cf_lemmas.proofs.Tests.{eq_no, eq_yes}
 use Rattle.page_model.proofs.CallerLemmas.{slots_some, sound_stand, can_hold_one, used_at_one, sum_same}
 use Rattle.transcript_laws.specs.AtOne.{figures_at_one, part_pages, totals_at_one}
@@ -39,13 +39,13 @@ part_is (suc h) n m (suc zero) pos s =
     sym (leaves n m (omega arith))
 part_is h n m (suc (suc q)) pos s = absurd (omega (arith, s.few))
 
-module _ (p : Paging) (ok : IsPaging p) (ones : AreOne p) (m : Held) (s : IsSound p m) where
+module _ (p : Paging) (ok : IsPaging p) (ones : EveryBoundIsOne p) (m : Held) (s : IsSound p m) where
   module _ (c : ℕ) (lt : c < classes p) where
-    stand_at_one : LieOn (home_pages p m c) (live p (objects m) c) (slots_of p c) 1 (not_full_pages p m c)
-    stand_at_one = subst (λ k. LieOn (home_pages p m c) (live p (objects m) c) (slots_of p c) k (not_full_pages p m c)) (ones c lt) (sound_stand p ok c lt m s)
+    stand_at_one : LieOn (pages_of_class p m c) (live p (objects m) c) (slots_of p c) 1 (not_full_pages p m c)
+    stand_at_one = subst (λ k. LieOn (pages_of_class p m c) (live p (objects m) c) (slots_of p c) k (not_full_pages p m c)) (ones c lt) (sound_stand p ok c lt m s)
 
-    home_is : home_pages p m c ≡ ceil_div (live p (objects m) c) (slots_of p c)
-    home_is = can_hold_one (home_pages p m c) (live p (objects m) c) (slots_of p c) (slots_some p ok c lt) (not_full_pages p m c, stand_at_one)
+    home_is : pages_of_class p m c ≡ ceil_div (live p (objects m) c) (slots_of p c)
+    home_is = can_hold_one (pages_of_class p m c) (live p (objects m) c) (slots_of p c) (slots_some p ok c lt) (not_full_pages p m c, stand_at_one)
 
     not_full_is : not_full_pages p m c ≡ part_pages (live p (objects m) c) (slots_of p c)
     not_full_is = part_is _ _ _ _ (slots_some p ok c lt) stand_at_one

@@ -2,7 +2,7 @@
 -- state before the `heap` line.
 use Rattle.std.specs.Prelude.{◌≡◌, ⊤, List, [], ◌∷◌, Option, Some, None, codes}
 use Rattle.cf_base.specs.declared.kind.Kind.{Kind}
-use Rattle.page_model.specs.Paging.{AreOne}
+use Rattle.page_model.specs.Paging.{EveryBoundIsOne}
 use Rattle.script_reader.specs.Items.{Item, asks, bad, starts}
 use Rattle.script_reader.specs.declared.command.Command.{Command}
 use Rattle.script_reader.specs.declared.command.Command.TheVariants.{Place, Block, Peek, Steps, Bound}
@@ -36,7 +36,7 @@ transcript kind items = replies_from kind None items
 -- in state `t`, before this command, every bound is 1; for command `k` nothing is asked, since its reply doesn't depend on the bounds
 abbrev pub IsAtOne : ById → Command → Type 0
 IsAtOne t (Bound slot_words k) = ⊤
-IsAtOne t command = AreOne (paging_by_id t)
+IsAtOne t command = EveryBoundIsOne (paging_by_id t)
 
 -- `IsAtOne` in state `t`, if the item is a command and the `heap` line has come; nothing is asked of other items
 abbrev pub IsItemAtOne : Option ById → Item → Type 0

@@ -5,7 +5,7 @@ ghost use Rattle.page_model.specs.Bytes.{byte_of, written};
 ghost use Rattle.word_bytes.specs.Cells.{byte_in, overwritten};
 
 /// How many bytes a word has.
-const CELL: usize = 8;
+const WORD_BYTES: usize = 8;
 
 /// Replaces the bytes of `cell` from byte `from` on by those of `part`. A cell is the eight bytes
 /// of a word.
@@ -14,8 +14,8 @@ fn overwrite(cell: &mut [u8], from: usize, part: &[u8])
     ensures { cell.new ≡ written cell.old from part.now }
 {
     // A copy of a constant length compiles to one store.
-    if part.len() == CELL {
-        cell[from..from + CELL].copy_from_slice(part);
+    if part.len() == WORD_BYTES {
+        cell[from..from + WORD_BYTES].copy_from_slice(part);
     } else {
         cell[from..from + part.len()].copy_from_slice(part);
     }
@@ -43,14 +43,14 @@ fn word_of(part: &[u8]) -> u64
 }
 
 /// Fills `out` with the bytes of `word` from byte `from` on.
-pub(crate) fn copy_cell(word: u64, from: usize, out: &mut [u8])
+pub(crate) fn copy_word(word: u64, from: usize, out: &mut [u8])
     requires { from + length out.old ≤ 8 }
     ensures { (j : ℕ) → j < length out.new → slice_index out.new j ≡ byte_of (from + j) word }
 {
     let cell = word.to_le_bytes();
     // A copy of a constant length compiles to one load and one store.
-    if out.len() == CELL {
-        out.copy_from_slice(&cell[from..from + CELL]);
+    if out.len() == WORD_BYTES {
+        out.copy_from_slice(&cell[from..from + WORD_BYTES]);
     } else {
         out.copy_from_slice(&cell[from..from + out.len()]);
     }
@@ -63,16 +63,16 @@ pub fn read_bytes(words: &[u64], at: usize, out: &mut [u8])
     ensures { (k : ℕ) → k < length out.new → slice_index out.new k ≡ byte_in words.now (at + k) }
 {
     let mut done = 0;
-    if at % CELL > 0 {
-        done = (CELL - at % CELL).min(out.len());
-        copy_cell(words[at / CELL], at % CELL, &mut out[..done]);
+    if at % WORD_BYTES > 0 {
+        done = (WORD_BYTES - at % WORD_BYTES).min(out.len());
+        copy_word(words[at / WORD_BYTES], at % WORD_BYTES, &mut out[..done]);
     }
-    'whole: while done + CELL <= out.len() {
-        copy_cell(words[(at + done) / CELL], 0, &mut out[done..done + CELL]);
-        done += CELL;
+    'whole: while done + WORD_BYTES <= out.len() {
+        copy_word(words[(at + done) / WORD_BYTES], 0, &mut out[done..done + WORD_BYTES]);
+        done += WORD_BYTES;
     }
     if done < out.len() {
-        copy_cell(words[(at + done) / CELL], 0, &mut out[done..]);
+        copy_word(words[(at + done) / WORD_BYTES], 0, &mut out[done..]);
     }
 }
 
@@ -84,16 +84,16 @@ pub fn write_bytes(words: &mut [u64], at: usize, bytes: &[u8])
     ensures { (k : ℕ) → byte_in words.new k ≡ overwritten (byte_in words.old) at bytes.now k }
 {
     let mut done = 0;
-    if at % CELL > 0 {
-        done = (CELL - at % CELL).min(bytes.len());
-        words[at / CELL] = patched(words[at / CELL], at % CELL, &bytes[..done]);
+    if at % WORD_BYTES > 0 {
+        done = (WORD_BYTES - at % WORD_BYTES).min(bytes.len());
+        words[at / WORD_BYTES] = patched(words[at / WORD_BYTES], at % WORD_BYTES, &bytes[..done]);
     }
-    'whole: while done + CELL <= bytes.len() {
-        words[(at + done) / CELL] = word_of(&bytes[done..done + CELL]);
-        done += CELL;
+    'whole: while done + WORD_BYTES <= bytes.len() {
+        words[(at + done) / WORD_BYTES] = word_of(&bytes[done..done + WORD_BYTES]);
+        done += WORD_BYTES;
     }
     if done < bytes.len() {
-        let cell = (at + done) / CELL;
+        let cell = (at + done) / WORD_BYTES;
         words[cell] = patched(words[cell], 0, &bytes[done..]);
     }
 }

@@ -4,7 +4,7 @@ ghost use Rattle.std.specs.Prelude.{◌≡◌, ℕ, ◌+◌, ◌*◌, ◌<◌, �
 ghost use Rattle.step_ledger.specs.Counting.{RoseBy};
 ghost use Rattle.word_bytes.specs.Overwriting.{Overwrites, byte_from, words_with};
 
-use crate::cells::{copy_cell, patched, read_bytes, write_bytes};
+use crate::cells::{copy_word, patched, read_bytes, write_bytes};
 use region::Region;
 use step_ledger::Steps;
 
@@ -102,7 +102,7 @@ pub fn read_word(region: &Region, i: u32, at: usize, out: &mut [u8], steps: &mut
     ensures bytes { (j : ℕ) → j < length out.new → slice_index out.new j ≡ byte_from region.now i (at + j) }
     ensures steps { RoseBy steps.old steps.new 1 }
 {
-    copy_cell(region.read(i, steps), at, out);
+    copy_word(region.read(i, steps), at, out);
 }
 
 /// Writes `bytes` into word `i` of the region, from its byte `at` on. Every other byte stays. Costs

@@ -13,13 +13,13 @@ use step_ledger::Meter;
 
 /// The state of an open manager: the number of its live objects, and the address in words of the object with
 /// handle 1 (id 2), if it is live.
-type LieOn = (u32, Option<u32>);
+type ManagerState = (u32, Option<u32>);
 
 /// The state of a manager after 0, 1, and so on up to 14 lines of `MOVE`; `None` while it is closed.
-type Stands = [Option<LieOn>; 15];
+type StatesByLine = [Option<ManagerState>; 15];
 
 /// The moving manager: the line `f 3` moves the object with handle 1 from word 23 to word 64.
-const MOVING: Stands = [
+const MOVING: StatesByLine = [
     None,
     Some((0, None)),
     Some((1, None)),
@@ -38,7 +38,7 @@ const MOVING: Stands = [
 ];
 
 /// The non-moving manager, whose slots have 24 words: the same line moves it from word 24 to word 64.
-const NON_MOVING: Stands = [
+const NON_MOVING: StatesByLine = [
     None,
     Some((0, None)),
     Some((1, None)),
@@ -57,7 +57,7 @@ const NON_MOVING: Stands = [
 ];
 
 /// The managers with blocks: five blocks of 24 words fit the region, and at the end no object of a whole page does.
-const BLOCKS: Stands = [
+const BLOCKS: StatesByLine = [
     None,
     Some((0, None)),
     Some((1, None)),
@@ -82,7 +82,7 @@ struct Answers {
     words: &'static [&'static str],
     kinds: &'static [Kind],
     text: &'static [u8],
-    stands: &'static [Stands],
+    stands: &'static [StatesByLine],
     calls: u64,
 }
 
@@ -129,7 +129,7 @@ const ANSWERS: [Answers; 5] = [
 const LINES: [usize; 16] = [0, 0, 0, 1, 2, 3, 4, 5, 6, 6, 8, 9, 11, 12, 13, 14];
 
 /// Returns the state of a manager; `None` if it is closed.
-fn stand_of(rt: &HostRuntime, manager: &Boxed) -> Option<LieOn> {
+fn stand_of(rt: &HostRuntime, manager: &Boxed) -> Option<ManagerState> {
     let mut meter = Meter::new(rt);
     if manager.is_open() {
         let live = manager.totals(meter.steps()).live;

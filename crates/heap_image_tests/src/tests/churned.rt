@@ -7,7 +7,7 @@ ghost use Rattle.cf_session.specs.Apply.{run_at};
 ghost use Rattle.run_model.specs.Sessions.{IsGoing};
 ghost use Rattle.heap_image_tests.specs.Ready.{IsReady};
 
-use super::images::{give, image, load_and_save, open};
+use super::images::{do_command, image, load_and_save, open};
 use cf_base::Settings;
 use cf_model::Manager;
 use cf_session::Session;
@@ -59,7 +59,7 @@ fn churn<H: Manager>(heap: &mut H, session: &mut Session, draw: &mut Draw)
 {
     'commands: for _i in 0..COMMANDS {
         let bytes = draw.bytes();
-        give(heap, session, drawn(draw, &bytes));
+        do_command(heap, session, drawn(draw, &bytes));
     }
 }
 

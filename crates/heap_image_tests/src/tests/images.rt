@@ -46,7 +46,7 @@ fn is_change(command: CommandRef) -> bool
 }
 
 /// Does the command if it is one of those of `is_change`, and drops its reply. Else nothing is done.
-pub fn give<H: Manager>(heap: &mut H, session: &mut Session, command: CommandRef)
+pub fn do_command<H: Manager>(heap: &mut H, session: &mut Session, command: CommandRef)
     requires { IsGoing (run_at session.old (H.state heap.old)) }
     ensures going { IsGoing (run_at session.new (H.state heap.new)) }
     ensures ready { (p : Profile) → IsReady p (run_at session.old (H.state heap.old)) → IsReady p (run_at session.new (H.state heap.new)) }

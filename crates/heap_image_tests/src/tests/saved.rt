@@ -6,7 +6,7 @@ ghost use Rattle.cf_session.specs.Apply.{run_at};
 ghost use Rattle.run_model.specs.Sessions.{IsGoing};
 ghost use Rattle.heap_image_tests.specs.Ready.{IsReady};
 
-use super::images::{give, image, open};
+use super::images::{do_command, image, open};
 use cf_base::Settings;
 use cf_model::Manager;
 use cf_session::Session;
@@ -90,12 +90,12 @@ pub static ROWS: [Row; 4] = [
 ];
 
 /// Does these commands on the heap in order, through the session.
-fn give_all<H: Manager>(heap: &mut H, session: &mut Session, commands: &[CommandRef])
+fn do_commands<H: Manager>(heap: &mut H, session: &mut Session, commands: &[CommandRef])
     requires { IsGoing (run_at session.old (H.state heap.old)) }
     ensures { (p : Profile) → IsReady p (run_at session.old (H.state heap.old)) → IsReady p (run_at session.new (H.state heap.new)) }
 {
     'commands: for command in commands {
-        give(heap, session, *command);
+        do_command(heap, session, *command);
     }
 }
 
@@ -113,7 +113,7 @@ fn image_of_row<H: Manager>(
     let settings = Settings::check(pages, page_bytes, k, proxies)?;
     let mut session = Session::start(rt, alloc)?;
     open(heap, &session, &settings)?;
-    give_all(heap, &mut session, row.commands);
+    do_commands(heap, &mut session, row.commands);
     image(rt, alloc, heap, &session, &settings)
 }
 

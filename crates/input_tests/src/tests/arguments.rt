@@ -1,7 +1,7 @@
-//! Tests of `read_words`, which reads the arguments of the command line: arguments that are accepted, each
+//! Tests of `read_arguments`, which reads the arguments of the command line: arguments that are accepted, each
 //! with the choice that it must return, and arguments that are refused.
 use cf_base::Kind;
-use command_line::{Choice, Mode, WordsFault, read_words};
+use command_line::{Choice, Mode, ArgumentsFault, read_arguments};
 use std::alloc::{AllocError, Global};
 use std::test::Fail;
 
@@ -100,7 +100,7 @@ fn words_are_taken(rt: HostRuntime) -> Result<(), Fail> {
             quantum: 16,
         };
         assert_eq!(rt;
-            read_words(rt.alloc(), all.as_slice()),
+            read_arguments(rt.alloc(), all.as_slice()),
             Ok(wanted),
             "{words:?}"
         );
@@ -130,7 +130,7 @@ fn a_quantum_is_taken_in_each_mode(rt: HostRuntime) -> Result<(), Fail> {
             quantum,
         };
         assert_eq!(rt;
-            read_words(rt.alloc(), all.as_slice()),
+            read_arguments(rt.alloc(), all.as_slice()),
             Ok(wanted),
             "{words:?}"
         );
@@ -138,7 +138,7 @@ fn a_quantum_is_taken_in_each_mode(rt: HostRuntime) -> Result<(), Fail> {
     Ok(())
 }
 
-// `read_words` returns `Refused` for each of these: requests for help; unknown names of modes and managers
+// `read_arguments` returns `Refused` for each of these: requests for help; unknown names of modes and managers
 // (upper and lower case differ); a second mode; an option that is unknown, given twice, or without a value;
 // and a number that is malformed or out of range.
 #[test]
@@ -181,8 +181,8 @@ fn words_are_refused(rt: HostRuntime) -> Result<(), Fail> {
         ["--count", "1", "--count", "2"].as_slice(),
     ] {
         let all = texts(rt.alloc(), words)?;
-        let read = read_words(rt.alloc(), all.as_slice());
-        assert_eq!(rt; read, Err(WordsFault::Refused), "{words:?}");
+        let read = read_arguments(rt.alloc(), all.as_slice());
+        assert_eq!(rt; read, Err(ArgumentsFault::Refused), "{words:?}");
     }
     Ok(())
 }

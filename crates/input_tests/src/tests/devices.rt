@@ -12,7 +12,7 @@ use std::test::Fail;
 
 /// Calls `take` once for each entry of `wanted`: the length of the buffer, the result, and what four bytes,
 /// which were all `.` before and of which the buffer is the first ones, hold then.
-fn gives<S: Source + Drop>(
+fn takes_each<S: Source + Drop>(
     rt: &impl Abort,
     mut source: S,
     wanted: &[(usize, Result<usize, Failed>, &[u8])],
@@ -25,7 +25,7 @@ fn gives<S: Source + Drop>(
 }
 
 /// Calls `put` once for each entry of `wanted`: the bytes, and the result.
-fn takes<K: Sink>(rt: &impl Abort, sink: &mut K, wanted: &[(&[u8], Result<usize, Failed>)]) {
+fn puts_each<K: Sink>(rt: &impl Abort, sink: &mut K, wanted: &[(&[u8], Result<usize, Failed>)]) {
     for (bytes, answer) in wanted {
         assert_eq!(rt; sink.put(bytes), *answer);
     }
@@ -43,7 +43,7 @@ fn a_source_fails_and_is_cut_as_planned(rt: HostRuntime) -> Result<(), Fail> {
         cuts,
         Vec::from_slice(alloc, &[9, 2])?,
     );
-    gives(
+    takes_each(
         &rt,
         source,
         &[
@@ -69,18 +69,18 @@ fn other_sources_give_what_they_have(rt: HostRuntime) -> Result<(), Fail> {
         (2, Ok(1), b"e..."),
         (4, Ok(0), b"...."),
     ];
-    gives(
+    takes_each(
         &rt,
         SureSource::new(Vec::from_slice(alloc, b"abcde")?),
         &ends,
     );
-    gives(&rt, StdSource::new(b"abcde".as_slice()), &ends);
+    takes_each(&rt, StdSource::new(b"abcde".as_slice()), &ends);
     let goes_on: [(usize, Result<usize, Failed>, &[u8]); 3] = [
         (4, Ok(4), b"abca"),
         (2, Ok(2), b"bc.."),
         (4, Ok(4), b"abca"),
     ];
-    gives(
+    takes_each(
         &rt,
         LoopSource::new(Vec::from_slice(alloc, b"abc")?),
         &goes_on,
@@ -95,13 +95,13 @@ fn sinks_take_what_they_have_room_for(rt: HostRuntime) -> Result<(), Fail> {
     let alloc = rt.alloc();
     let small = MemSink::new(alloc, 2, Vec::new(alloc), Vec::new(alloc));
     let mut small = small.expect(&rt, "room for two");
-    takes(
+    puts_each(
         &rt,
         &mut small,
         &[(b"ok\n", Ok(2)), (b"\n", Err(Failed)), (b"", Ok(0))],
     );
     assert_eq!(rt; small.written(), b"ok".as_slice());
-    takes(&rt, &mut NullSink, &[(b"any", Ok(3)), (b"", Ok(0))]);
+    puts_each(&rt, &mut NullSink, &[(b"any", Ok(3)), (b"", Ok(0))]);
     Ok(())
 }
 
@@ -170,12 +170,12 @@ fn devices_of_std_fail_as_their_reader_or_writer_does(rt: HostRuntime) -> Result
         (Some(2), false, Ok(2), Err(Failed)),
         (None, true, Err(Failed), Err(Failed)),
     ] {
-        gives(
+        takes_each(
             &rt,
             StdSource::new(Pipe { moves, flushes }),
             &[(4, taken, b"....")],
         );
-        takes(
+        puts_each(
             &rt,
             &mut StdSink::new(Pipe { moves, flushes }),
             &[(b"abc", put)],

@@ -122,7 +122,7 @@ fn play<H: Manager>(alloc: Global, inner: H, meter: Meter, layout: Layout) -> Re
     let came = churn.refused.iter().all(|count| LEAST <= *count);
     hold(came, Wrong::Differs("how often a malloc is refused"))?;
     hold(
-        LEAST <= churn.both.parts_kept,
+        LEAST <= churn.both.refused_part_frees,
         Wrong::Differs("how often a part is freed"),
     )
 }

@@ -5,7 +5,7 @@ ghost use Rattle.cf_model.specs.Families.{IsPaged};
 use crate::tests::driver::Driver;
 use cf_base::{Handle, Layout, Refusal, Settings};
 use cf_model::Manager;
-use page_reference::Plain;
+use page_reference::ReferencePages;
 use std::alloc::Global;
 use step_ledger::Meter;
 use test_support::{Objects, Wrong, hold, pages_needed};
@@ -37,7 +37,7 @@ pub struct Compared<H: Manager> {
     /// The expected objects by handle.
     pub objects: Objects<()>,
     /// How often a free was refused although the manager below has an object of that handle: a part.
-    pub parts_kept: u32,
+    pub refused_part_frees: u32,
 }
 
 impl<H: Manager> Compared<H> {
@@ -46,7 +46,7 @@ impl<H: Manager> Compared<H> {
         requires { IsPaged (H.state inner).kind }
     {
         let settings = Settings::check(shape.pages, shape.page_bytes, 1, shape.proxies)?;
-        let classes = Plain::new(alloc, &settings, shape.layout)?;
+        let classes = ReferencePages::new(alloc, &settings, shape.layout)?;
         let mut sizes = Vec::new(alloc);
         for c in 0..classes.classes() {
             sizes.push(classes.slot_words(c))?;
@@ -58,7 +58,7 @@ impl<H: Manager> Compared<H> {
             shape,
             sizes,
             objects: Objects::none(alloc, shape.proxies)?,
-            parts_kept: 0,
+            refused_part_frees: 0,
         })
     }
 
@@ -113,7 +113,7 @@ impl<H: Manager> Compared<H> {
             Wrong::Differs("whether a free was refused"),
         )?;
         if is_part && !is_object {
-            self.parts_kept = self.parts_kept.saturating_add(1);
+            self.refused_part_frees = self.refused_part_frees.saturating_add(1);
         }
         Ok(())
     }

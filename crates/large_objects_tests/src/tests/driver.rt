@@ -48,7 +48,7 @@ impl<H: Manager> Driver<H> {
     }
 
     /// Makes an object of `bytes` bytes, and returns its handle. Fails if the malloc is refused.
-    pub fn given(&mut self, bytes: u32) -> Result<Handle, Wrong> {
+    pub fn made_object(&mut self, bytes: u32) -> Result<Handle, Wrong> {
         match self.malloc(bytes)? {
             Ok(h) => Ok(h),
             Err(cause) => Err(Wrong::Malloc(Err(cause))),
@@ -99,7 +99,7 @@ impl<H: Manager> Driver<H> {
 
     /// Reads into `out` from byte `at` on. Fails if the read is refused, or returns other bytes than
     /// `want`. Before it, `out` is filled with other bytes.
-    pub fn gives(&mut self, h: Handle, at: u32, out: &mut [u8], want: &[u8]) -> Result<(), Wrong> {
+    pub fn read_equals(&mut self, h: Handle, at: u32, out: &mut [u8], want: &[u8]) -> Result<(), Wrong> {
         out.fill(0xee);
         let done = self.read(h, at, out)?;
         hold(done.is_ok(), Wrong::Access(done))?;

@@ -55,7 +55,7 @@ fn written_and_read<H: Manager>(
         table.push((i % PERIOD) as u8)?;
     }
     let mut driver = Driver::open(alloc, inner, meter, settings)?;
-    let h = driver.given(BYTES)?;
+    let h = driver.made_object(BYTES)?;
     write_chunks(&mut driver, h, &table)?;
     read_chunks(&mut driver, h, &table)?;
     read_edges(&mut driver, h, &table, part_bytes)
@@ -79,7 +79,7 @@ fn read_chunks<H: Manager>(driver: &mut Driver<H>, h: Handle, table: &[u8]) -> R
         let Some(out) = room.get_mut(..want.len()) else {
             return Err(Wrong::Line);
         };
-        driver.gives(h, at, out, want)?;
+        driver.read_equals(h, at, out, want)?;
     }
     Ok(())
 }
@@ -97,7 +97,7 @@ fn read_edges<H: Manager>(
         let Some(want) = bytes_at(table, at)?.get(..8) else {
             return Err(Wrong::Line);
         };
-        driver.gives(h, at, &mut out, want)?;
+        driver.read_equals(h, at, &mut out, want)?;
         at = at.saturating_add(part_bytes);
     }
     Ok(())

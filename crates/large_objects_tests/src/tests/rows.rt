@@ -199,7 +199,7 @@ fn play_call<H: Manager>(
     let mut out = [0; 8];
     match call {
         Call::Malloc(id, bytes) => {
-            let h = driver.given(bytes)?;
+            let h = driver.made_object(bytes)?;
             if let Some(entry) = handles.get_mut(id) {
                 *entry = h;
             }
@@ -221,7 +221,7 @@ fn play_call<H: Manager>(
             )
         }
         Call::Write(id, at) => driver.put(handle(handles, id), at, &EIGHT),
-        Call::Read(id, at) => driver.gives(handle(handles, id), at, &mut out, &EIGHT),
+        Call::Read(id, at) => driver.read_equals(handle(handles, id), at, &mut out, &EIGHT),
         Call::Fault(id, at, fault) => {
             let answer = driver.read(handle(handles, id), at, &mut out[..5])?;
             hold(answer == Err(fault), Wrong::Access(answer))

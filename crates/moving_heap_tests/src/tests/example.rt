@@ -1,21 +1,21 @@
 //! Tests of the examples in `library_example`: of an object on the moving manager, and of a control loop on
 //! the sliced heap.
 use cf_base::{AccessFault, Settings};
-use library_example::{Missed, first_object, next_frame, take_out};
+use library_example::{Missed, first_object, next_frame, read_and_free};
 use slice_model::{SliceFault, SliceRefusal};
 use sliced_heap::SlicedHeap;
 use std::test::Fail;
 use step_ledger::Meter;
 
-/// `first_object`, which the README prints, stores two bytes, and `take_out` returns them and frees the
-/// object. So a second `take_out` fails with `Unknown`.
+/// `first_object`, which the README prints, stores two bytes, and `read_and_free` returns them and frees the
+/// object. So a second `read_and_free` fails with `Unknown`.
 #[test]
 fn what_was_stored_is_taken_out(rt: HostRuntime) -> Result<(), Fail> {
     let (mut heap, object) = first_object(&rt, rt.alloc()).ok_or("out of memory")?;
     let meter = &mut Meter::new(&rt);
-    assert_eq!(rt; take_out(&mut heap, object, meter)?, [0xca, 0xfe]);
+    assert_eq!(rt; read_and_free(&mut heap, object, meter)?, [0xca, 0xfe]);
     assert_eq!(rt;
-        take_out(&mut heap, object, meter),
+        read_and_free(&mut heap, object, meter),
         Err(AccessFault::Unknown)
     );
     Ok(())

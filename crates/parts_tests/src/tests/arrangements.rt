@@ -2,7 +2,7 @@
 //! addresses, and what it must compute for them. Each was worked out by hand. Pages have 64 words. An
 //! object of 176 bytes has a slot of 23 words, two to a page, and one of 504 bytes a page.
 use cf_base::{Figures, Layout, Settings, Totals};
-use page_reference::Plain;
+use page_reference::ReferencePages;
 use page_reference::frames::{block_of, exchange, new_frames};
 use std::alloc::{AllocError, Global};
 use std::process::Abort;
@@ -10,7 +10,7 @@ use std::test::Fail;
 
 /// What the reference implementation must compute for an arrangement.
 #[derive(Clone, Copy)]
-struct Numbers {
+struct WantedNumbers {
     /// The length in bytes that `figures`, `needed` and `lacks` are for.
     bytes: u32,
     /// The figures of the class for that length: the words of a slot, the slots of a page, its live
@@ -31,7 +31,7 @@ struct Numbers {
 type Entry = (u16, u32, u32);
 
 /// The number of pages of 64 words, the objects on them, and what must be computed for these.
-type Case = (u32, &'static [Entry], Numbers);
+type Case = (u32, &'static [Entry], WantedNumbers);
 
 /// Arrangements of the moving manager, whose slots have any number of words.
 static CASES: [Case; 14] = [
@@ -39,7 +39,7 @@ static CASES: [Case; 14] = [
     (
         2,
         &[(0, 0, 176), (1, 23, 176), (2, 64, 176), (3, 87, 176)],
-        Numbers {
+        WantedNumbers {
             bytes: 176,
             figures: [23, 2, 4, 2, 0],
             totals: [4, 2, 0, 0],
@@ -53,7 +53,7 @@ static CASES: [Case; 14] = [
     (
         2,
         &[(1, 64, 176), (3, 87, 176), (2, 0, 504)],
-        Numbers {
+        WantedNumbers {
             bytes: 176,
             figures: [23, 2, 2, 1, 0],
             totals: [3, 2, 0, 0],
@@ -65,7 +65,7 @@ static CASES: [Case; 14] = [
     (
         2,
         &[(1, 64, 176), (3, 87, 176), (2, 0, 504)],
-        Numbers {
+        WantedNumbers {
             bytes: 504,
             figures: [64, 1, 1, 1, 0],
             totals: [3, 2, 0, 0],
@@ -79,7 +79,7 @@ static CASES: [Case; 14] = [
     (
         2,
         &[(1, 23, 176), (3, 87, 176)],
-        Numbers {
+        WantedNumbers {
             bytes: 504,
             figures: [64, 1, 0, 0, 0],
             totals: [2, 2, 0, 0],
@@ -91,7 +91,7 @@ static CASES: [Case; 14] = [
     (
         2,
         &[(1, 23, 176), (3, 87, 176)],
-        Numbers {
+        WantedNumbers {
             bytes: 176,
             figures: [23, 2, 2, 2, 2],
             totals: [2, 2, 0, 0],
@@ -104,7 +104,7 @@ static CASES: [Case; 14] = [
     (
         3,
         &[(1, 23, 176), (3, 87, 176), (4, 128, 176), (5, 151, 176)],
-        Numbers {
+        WantedNumbers {
             bytes: 176,
             figures: [23, 2, 4, 3, 2],
             totals: [4, 3, 0, 0],
@@ -116,7 +116,7 @@ static CASES: [Case; 14] = [
     (
         3,
         &[(1, 23, 176), (3, 128, 176), (5, 151, 176)],
-        Numbers {
+        WantedNumbers {
             bytes: 176,
             figures: [23, 2, 3, 2, 1],
             totals: [3, 2, 1, 64],
@@ -129,7 +129,7 @@ static CASES: [Case; 14] = [
     (
         2,
         &[(0, 87, 176), (2, 64, 176)],
-        Numbers {
+        WantedNumbers {
             bytes: 176,
             figures: [23, 2, 2, 1, 0],
             totals: [2, 1, 1, 64],
@@ -142,7 +142,7 @@ static CASES: [Case; 14] = [
     (
         2,
         &[(0, 0, 176), (1, 23, 176)],
-        Numbers {
+        WantedNumbers {
             bytes: 176,
             figures: [23, 2, 2, 1, 0],
             totals: [2, 1, 1, 64],
@@ -156,7 +156,7 @@ static CASES: [Case; 14] = [
     (
         3,
         &[(0, 0, 176), (1, 23, 176), (2, 64, 176)],
-        Numbers {
+        WantedNumbers {
             bytes: 504,
             figures: [64, 1, 0, 0, 0],
             totals: [3, 2, 1, 64],
@@ -168,7 +168,7 @@ static CASES: [Case; 14] = [
     (
         3,
         &[(0, 0, 176), (1, 23, 176), (2, 64, 176), (3, 128, 504)],
-        Numbers {
+        WantedNumbers {
             bytes: 504,
             figures: [64, 1, 1, 1, 0],
             totals: [4, 3, 0, 0],
@@ -180,7 +180,7 @@ static CASES: [Case; 14] = [
     (
         3,
         &[(0, 128, 504), (1, 23, 176), (2, 0, 176)],
-        Numbers {
+        WantedNumbers {
             bytes: 176,
             figures: [23, 2, 2, 1, 0],
             totals: [3, 2, 1, 64],
@@ -193,7 +193,7 @@ static CASES: [Case; 14] = [
     (
         2,
         &[(0, 0, 504), (1, 64, 504)],
-        Numbers {
+        WantedNumbers {
             bytes: 504,
             figures: [64, 1, 2, 2, 0],
             totals: [2, 2, 0, 0],
@@ -206,7 +206,7 @@ static CASES: [Case; 14] = [
     (
         2,
         &[],
-        Numbers {
+        WantedNumbers {
             bytes: 504,
             figures: [64, 1, 0, 0, 0],
             totals: [0, 0, 2, 64],
@@ -224,7 +224,7 @@ static BLOCK_CASES: [Case; 2] = [
     (
         2,
         &[(0, 0, 176), (1, 24, 176), (2, 64, 176), (3, 88, 176)],
-        Numbers {
+        WantedNumbers {
             bytes: 176,
             figures: [24, 2, 4, 2, 0],
             totals: [4, 2, 0, 0],
@@ -237,7 +237,7 @@ static BLOCK_CASES: [Case; 2] = [
     (
         2,
         &[(1, 64, 176), (3, 88, 176), (2, 0, 504)],
-        Numbers {
+        WantedNumbers {
             bytes: 176,
             figures: [24, 2, 2, 1, 0],
             totals: [3, 2, 0, 0],
@@ -305,18 +305,18 @@ static FREES: [(u32, u32, &[Entry], u16, bool); 13] = [
 
 /// The reference implementation with `pages` pages of 64 words, in which each class has bound k, and with
 /// these objects, whose bytes are zeros.
-fn laid(
+fn reference_with(
     rt: &impl Abort,
     alloc: Global,
     layout: Layout,
     pages: u32,
     k: u32,
     objects: &[Entry],
-) -> Result<Plain, Fail> {
+) -> Result<ReferencePages, Fail> {
     let Ok(settings) = Settings::check(pages, 512, k, 8) else {
         panic!(rt; "{pages} pages");
     };
-    let mut plain = Plain::new(alloc, &settings, layout)?;
+    let mut plain = ReferencePages::new(alloc, &settings, layout)?;
     for (number, place, length) in objects {
         plain.put(alloc, *number, *place, *length, &[])?;
     }
@@ -325,7 +325,7 @@ fn laid(
 
 /// Whether the figures of a class are these: the words of a slot, the slots of a page, its live objects, its
 /// pages, and the partly full ones.
-fn has_figures(plain: &Plain, class: u32, want: [u32; 5]) -> bool {
+fn has_figures(plain: &ReferencePages, class: u32, want: [u32; 5]) -> bool {
     let [slot_words, slots, live, pages, not_full] = want;
     let want = Figures {
         slot_words,
@@ -338,7 +338,7 @@ fn has_figures(plain: &Plain, class: u32, want: [u32; 5]) -> bool {
 }
 
 /// Whether the figures of the whole heap are those of `want`.
-fn has_totals(plain: &Plain, want: &Numbers) -> bool {
+fn has_totals(plain: &ReferencePages, want: &WantedNumbers) -> bool {
     let [live, used, free, largest] = want.totals;
     let [asked, taken, held] = want.in_bytes;
     let want = Totals {
@@ -354,7 +354,7 @@ fn has_totals(plain: &Plain, want: &Numbers) -> bool {
 }
 
 /// Whether the reference implementation computes these numbers for its objects.
-fn has_numbers(plain: &Plain, want: &Numbers) -> bool {
+fn has_numbers(plain: &ReferencePages, want: &WantedNumbers) -> bool {
     let class = plain.class_for(want.bytes);
     has_figures(plain, class, want.figures)
         && has_totals(plain, want)
@@ -373,7 +373,7 @@ fn first_wrong(
     cases: &[Case],
 ) -> Result<Option<usize>, Fail> {
     for i in 0..cases.len() {
-        let plain = laid(rt, alloc, layout, cases[i].0, 1, cases[i].1)?;
+        let plain = reference_with(rt, alloc, layout, cases[i].0, 1, cases[i].1)?;
         if !has_numbers(&plain, &cases[i].2) {
             return Ok(Some(i));
         }
@@ -381,7 +381,7 @@ fn first_wrong(
     Ok(None)
 }
 
-// For each arrangement of `CASES` and `BLOCK_CASES`, `Plain` computes the numbers that were worked out by
+// For each arrangement of `CASES` and `BLOCK_CASES`, `ReferencePages` computes the numbers that were worked out by
 // hand: the figures, the pages that are needed, and whether a slot is left.
 #[test]
 fn worked_arrangements_have_their_numbers(rt: HostRuntime) -> Result<(), Fail> {
@@ -394,12 +394,12 @@ fn worked_arrangements_have_their_numbers(rt: HostRuntime) -> Result<(), Fail> {
     Ok(())
 }
 
-// `Plain::must_move` returns for each free of `FREES` whether another object must move.
+// `ReferencePages::must_move` returns for each free of `FREES` whether another object must move.
 #[test]
 fn a_free_moves_an_object_where_it_must(rt: HostRuntime) -> Result<(), Fail> {
     let alloc = rt.alloc();
     for (pages, k, objects, number, moves) in FREES.iter() {
-        let plain = laid(&rt, alloc, Layout::Words, *pages, *k, objects)?;
+        let plain = reference_with(&rt, alloc, Layout::Words, *pages, *k, objects)?;
         assert_eq!(rt;
             plain.must_move(*number),
             *moves,
@@ -409,12 +409,12 @@ fn a_free_moves_an_object_where_it_must(rt: HostRuntime) -> Result<(), Fail> {
     Ok(())
 }
 
-// After `Plain::remove` of both objects none is left, and no page is used. To remove number 7, which has no
+// After `ReferencePages::remove` of both objects none is left, and no page is used. To remove number 7, which has no
 // object, changes nothing.
 #[test]
 fn what_was_put_and_removed_again_is_as_nothing(rt: HostRuntime) -> Result<(), Fail> {
     let objects = [(0, 0, 504), (1, 64, 504)];
-    let mut plain = laid(&rt, rt.alloc(), Layout::Words, 2, 1, &objects)?;
+    let mut plain = reference_with(&rt, rt.alloc(), Layout::Words, 2, 1, &objects)?;
     for number in [0, 1, 7] {
         plain.remove(number);
     }
@@ -422,12 +422,12 @@ fn what_was_put_and_removed_again_is_as_nothing(rt: HostRuntime) -> Result<(), F
     Ok(())
 }
 
-// `Plain::move_to` puts object 3 at word 128, so page 1 has no object left, and page 2 has two. Numbers 4
+// `ReferencePages::move_to` puts object 3 at word 128, so page 1 has no object left, and page 2 has two. Numbers 4
 // and 7 have no object, so for them it changes nothing.
 #[test]
 fn an_object_that_moves_leaves_its_page(rt: HostRuntime) -> Result<(), Fail> {
     let objects = [(1, 23, 176), (3, 87, 176), (5, 151, 176)];
-    let mut plain = laid(&rt, rt.alloc(), Layout::Words, 3, 1, &objects)?;
+    let mut plain = reference_with(&rt, rt.alloc(), Layout::Words, 3, 1, &objects)?;
     for number in [3, 4, 7] {
         plain.move_to(number, 128);
     }
@@ -440,7 +440,7 @@ fn an_object_that_moves_leaves_its_page(rt: HostRuntime) -> Result<(), Fail> {
 /// `wants` is the number of a word, and its value.
 fn has_words(
     alloc: Global,
-    plain: &Plain,
+    plain: &ReferencePages,
     count: usize,
     wants: &[(usize, u64)],
 ) -> Result<bool, AllocError> {
@@ -458,13 +458,13 @@ fn are_words(words: &[u64], wants: &[(usize, u64)]) -> bool {
     true
 }
 
-// `Plain::image` computes the words of the region. The first word of an object is its header: its length,
+// `ReferencePages::image` computes the words of the region. The first word of an object is its header: its length,
 // 176 or 0xb0, in the upper half, and its number in the lower one. Then come its bytes, the first one
 // lowest in its word. All other words are zero.
 #[test]
 fn words_are_headers_and_bytes_and_zeros(rt: HostRuntime) -> Result<(), Fail> {
     let alloc = rt.alloc();
-    let mut plain = laid(&rt, alloc, Layout::Words, 2, 1, &[(3, 87, 176)])?;
+    let mut plain = reference_with(&rt, alloc, Layout::Words, 2, 1, &[(3, 87, 176)])?;
     plain.put(alloc, 1, 64, 176, &[0xa1, 0xb2])?;
     let wants = [
         (0, 0),
@@ -479,25 +479,25 @@ fn words_are_headers_and_bytes_and_zeros(rt: HostRuntime) -> Result<(), Fail> {
     Ok(())
 }
 
-// `Plain::put` cuts the bytes to the object's length: of four bytes, an object of three has the first three.
+// `ReferencePages::put` cuts the bytes to the object's length: of four bytes, an object of three has the first three.
 #[test]
 fn bytes_past_the_length_dont_count(rt: HostRuntime) -> Result<(), Fail> {
     let alloc = rt.alloc();
-    let mut plain = laid(&rt, alloc, Layout::Words, 1, 1, &[])?;
+    let mut plain = reference_with(&rt, alloc, Layout::Words, 1, 1, &[])?;
     plain.put(alloc, 0, 0, 3, b"abcd")?;
     let wants = [(0, 0x0000_0003_0000_0000), (1, 0x0063_6261), (63, 0)];
     assert!(rt; has_words(alloc, &plain, 64, &wants)?);
     Ok(())
 }
 
-// The words after a resize of object 0 from 176 to 504 bytes (0x1f8), by `Plain::put` and
-// `Plain::move_to`: the object is at word 128 with its two first bytes. Object 2 has moved from word 64
+// The words after a resize of object 0 from 176 to 504 bytes (0x1f8), by `ReferencePages::put` and
+// `ReferencePages::move_to`: the object is at word 128 with its two first bytes. Object 2 has moved from word 64
 // to the old slot at word 0, and word 64 is zero.
 #[test]
 fn a_resized_object_keeps_its_first_bytes(rt: HostRuntime) -> Result<(), Fail> {
     let alloc = rt.alloc();
     let objects = [(1, 23, 176), (2, 64, 176)];
-    let mut plain = laid(&rt, alloc, Layout::Words, 3, 1, &objects)?;
+    let mut plain = reference_with(&rt, alloc, Layout::Words, 3, 1, &objects)?;
     plain.put(alloc, 0, 128, 504, &[0xa1, 0xb2])?;
     plain.move_to(2, 0);
     let wants = [
@@ -551,13 +551,13 @@ fn an_object_that_moves_keeps_its_blocks(rt: HostRuntime) -> Result<(), Fail> {
     Ok(())
 }
 
-// In slots of blocks: a free of object 2 must move object 1 from word 24 to word 64. After `Plain::remove`
-// and `Plain::move_to`, the image has its header at word 64, and zero at word 24.
+// In slots of blocks: a free of object 2 must move object 1 from word 24 to word 64. After `ReferencePages::remove`
+// and `ReferencePages::move_to`, the image has its header at word 64, and zero at word 24.
 #[test]
 fn an_object_that_fills_a_hole_leaves_zeros(rt: HostRuntime) -> Result<(), Fail> {
     let alloc = rt.alloc();
     let objects = [(1, 24, 176), (2, 64, 176), (3, 88, 176)];
-    let mut plain = laid(&rt, alloc, Layout::Blocks, 2, 1, &objects)?;
+    let mut plain = reference_with(&rt, alloc, Layout::Blocks, 2, 1, &objects)?;
     assert!(rt; plain.must_move(2));
     plain.remove(2);
     plain.move_to(1, 64);

@@ -1,5 +1,5 @@
 //! The steps of single calls of `QuotaHeap`, each worked out by hand; the longest of each kind is among them.
-use super::calls::{Call, answer};
+use super::calls::{Call, text_of_result};
 use quota_heap::{QuotaHeap, Settings};
 use std::test::Fail;
 use step_ledger::Meter;
@@ -53,7 +53,7 @@ fn each_call_takes_its_steps(rt: HostRuntime) -> Result<(), Fail> {
     let mut heap = QuotaHeap::closed(rt.alloc());
     heap.open_heap(&Settings::check(3, 512, 1, 8)?)?;
     for (call, want, steps) in CALLS {
-        assert_eq!(rt; answer(&mut heap, &mut meter, 0, call), want);
+        assert_eq!(rt; text_of_result(&mut heap, &mut meter, 0, call), want);
         assert_eq!(rt; meter.lap(), steps);
     }
     assert_eq!(rt; heap.pages(0), 1);

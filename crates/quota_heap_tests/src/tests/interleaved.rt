@@ -1,7 +1,7 @@
 //! Two tasks of eight calls each, in every order of the calls: each task gets the results that it gets alone.
 ghost use Rattle.std.specs.Prelude.{IsTrue, OnOk};
 
-use super::calls::{Call, answer};
+use super::calls::{Call, text_of_result};
 use quota_heap::{OutOfMemory, QuotaHeap, Settings};
 use std::test::Fail;
 use step_ledger::Meter;
@@ -41,8 +41,8 @@ fn open(heap: &mut QuotaHeap, meter: &mut Meter, settings: &Settings) -> Result<
     ensures { OnOk result (IsTrue heap.new.is_open) }
 {
     heap.open_heap(settings)?;
-    let _two = answer(heap, meter, 0, Call::Quota(2));
-    let _one = answer(heap, meter, 1, Call::Quota(1));
+    let _two = text_of_result(heap, meter, 0, Call::Quota(2));
+    let _one = text_of_result(heap, meter, 1, Call::Quota(1));
     Ok(())
 }
 
@@ -56,7 +56,7 @@ fn agrees(heap: &mut QuotaHeap, meter: &mut Meter, task: usize, at: usize) -> bo
         return false;
     }
     let (call, want) = CALLS[task][at];
-    answer(heap, meter, task as u32, call) == want
+    text_of_result(heap, meter, task as u32, call) == want
 }
 
 /// Makes all calls of one task in order, and returns whether each has the result that `CALLS` requires.

@@ -1,5 +1,5 @@
 //! A short list of calls of several tasks, with the results worked out by hand.
-use super::calls::{Call, answer};
+use super::calls::{Call, text_of_result};
 use quota_heap::{QuotaHeap, Settings};
 use std::test::Fail;
 use step_ledger::Meter;
@@ -29,7 +29,7 @@ fn a_page_that_is_freed_stays_in_the_quota(rt: HostRuntime) -> Result<(), Fail> 
         (1, Call::Quota(2), "ok"),
         (1, Call::Malloc(8), "ok"),
     ] {
-        assert_eq!(rt; answer(&mut heap, &mut meter, task, call), want);
+        assert_eq!(rt; text_of_result(&mut heap, &mut meter, task, call), want);
     }
     Ok(())
 }

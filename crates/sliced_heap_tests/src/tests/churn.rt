@@ -3,7 +3,7 @@
 //! only the objects that it made. The heap itself doesn't know the tasks.
 ghost use Rattle.std.specs.Prelude.{◌≡◌, ◌≤◌, IsTrue, OnOk};
 
-use super::slow::{MOST, PAGE_WORDS, PAGES, PROXIES, Slot, Slow, slot_at, slots};
+use super::slow::{MOST, PAGE_WORDS, PAGES, PROXIES, Slot, SliceReference, slot_at, slots};
 use cf_base::{Handle, Settings};
 use slice_model::SliceRefusal;
 use sliced_heap::SlicedHeap;
@@ -22,12 +22,12 @@ const CALLS: u32 = 20_000;
 const BETWEEN: u32 = 100;
 
 /// How often something has occurred in a run: a malloc was refused because of a job (`waits`) or for
-/// space (`over`), a job followed another one (`follows`), an object in motion was read or written
+/// space (`refused_for_space`), a job followed another one (`follows`), an object in motion was read or written
 /// (`moving`).
 #[derive(Clone, Copy, Debug, PartialEq, Eq)]
 struct Seen {
     waits: u32,
-    over: u32,
+    refused_for_space: u32,
     follows: u32,
     moving: u32,
 }
@@ -38,7 +38,7 @@ struct Seen {
 struct Churn {
     heap: SlicedHeap,
     meter: Meter,
-    slow: Slow,
+    slow: SliceReference,
     draw: Draw,
     quantum: u32,
     seen: Seen,
@@ -56,12 +56,12 @@ impl Churn {
         Ok(Churn {
             heap,
             meter,
-            slow: Slow::new(alloc)?,
+            slow: SliceReference::new(alloc)?,
             draw: Draw::seeded(u64::from(quantum)),
             quantum,
             seen: Seen {
                 waits: 0,
-                over: 0,
+                refused_for_space: 0,
                 follows: 0,
                 moving: 0,
             },
@@ -133,9 +133,9 @@ impl Churn {
         let given = self.heap.malloc(length, self.meter.steps());
         hold(given.err() == want, Wrong::Differs("a malloc"))?;
         match given {
-            Ok(handle) => return self.placed(task, handle.0, length),
+            Ok(handle) => return self.find_new_object(task, handle.0, length),
             Err(SliceRefusal::Busy) => self.seen.waits = self.seen.waits.saturating_add(1),
-            Err(SliceRefusal::Space) => self.seen.over = self.seen.over.saturating_add(1),
+            Err(SliceRefusal::Space) => self.seen.refused_for_space = self.seen.refused_for_space.saturating_add(1),
             Err(_) => {}
         }
         Ok(())
@@ -144,7 +144,7 @@ impl Churn {
     /// Adds the object that the heap has just made to the slow implementation, all zeros. The heap doesn't
     /// show its address: it is the slot with the object's header, of those that a malloc may use. Fails if
     /// no such slot has it.
-    fn placed(&mut self, task: u32, number: u32, length: u32) -> Result<(), Wrong> {
+    fn find_new_object(&mut self, task: u32, number: u32, length: u32) -> Result<(), Wrong> {
         let words = self.slow.slot_words(length);
         let usable = self.slow.has_usable(words);
         for page in 0..PAGES {
@@ -183,20 +183,20 @@ impl Churn {
             return Ok(());
         }
         self.slow.remove(number);
-        self.sliced()
+        self.follow_slice()
     }
 
     /// Does a slice of the job in the heap and in the slow implementation, and compares the words left.
     fn step(&mut self) -> Result<(), Wrong> {
         self.start()?;
         self.heap.step(self.meter.steps());
-        self.sliced()
+        self.follow_slice()
     }
 
     /// Follows a slice that the heap has just done, in a free or a step. If an object was to move into the
     /// job's slot, its header is now there and shows which one; it must be one that may. Then the slow
     /// implementation does the slice too, and both must have the same number of words left.
-    fn sliced(&mut self) -> Result<(), Wrong> {
+    fn follow_slice(&mut self) -> Result<(), Wrong> {
         if let Some(place) = self.slow.awaited() {
             let word = self.word(place)?;
             let number = (word.unwrap_or(0) % 4_294_967_296) as u32;
@@ -300,7 +300,7 @@ fn calls_of_four_tasks_are_answered_as_the_slow_program_computes(
         let seen = churn.seen;
         // A slice of more words than any slot has leaves no job.
         let pending = 0 < seen.waits && 0 < seen.follows && 0 < seen.moving;
-        assert!(rt; 0 < seen.over && pending == (quantum <= 64), "{seen:?}");
+        assert!(rt; 0 < seen.refused_for_space && pending == (quantum <= 64), "{seen:?}");
     }
     Ok(())
 }

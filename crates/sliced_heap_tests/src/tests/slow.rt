@@ -49,7 +49,7 @@ pub struct Job {
 /// The slow reference implementation: the objects by number, the sizes of slots in words, and the pending
 /// job.
 #[derive(Drop)]
-pub struct Slow {
+pub struct SliceReference {
     pub objects: Objects<Slot>,
     sizes: Vec<u32>,
     job: Option<Job>,
@@ -71,10 +71,10 @@ fn page_of(place: u32) -> u32 {
     place / PAGE_WORDS
 }
 
-impl Slow {
+impl SliceReference {
     /// A heap without objects and without a job.
-    pub fn new(alloc: Global) -> Result<Slow, Wrong> {
-        Ok(Slow {
+    pub fn new(alloc: Global) -> Result<SliceReference, Wrong> {
+        Ok(SliceReference {
             objects: Objects::none(alloc, PROXIES)?,
             sizes: slot_sizes(alloc, PAGE_WORDS)?,
             job: None,

@@ -8,14 +8,14 @@ use Rattle.heap_image.specs.Counts.{after_mallocs}
 use Rattle.heap_image.specs.Feed.{feed_at}
 use Rattle.heap_image.specs.Heaps.{objects_of}
 use Rattle.heap_image.specs.Load.{IsLoading}
-use Rattle.heap_image.specs.Stages.{Passes}
+use Rattle.heap_image.specs.Stages.{WholeFields}
 use Rattle.heap_image.proofs.image_in.load_entries.Given as goal
 
 abbrev pub invariant-entries : goal.invariant-entries
 invariant-entries g l = record {
   loading : IsLoading (run_at l.session (g.H.Manager.state l.heap));
   profile : (g.H.Manager.state l.heap).profile ≡ (g.H.Manager.state l.initial.heap).profile;
-  passed : Passes (entries_decoded (g.H.Manager.state l.initial.heap).profile l.count at_first) (feed_at (g.S.Source.rest l.initial.source) (g.S.Source.given l.initial.source))
+  passed : WholeFields (entries_decoded (g.H.Manager.state l.initial.heap).profile l.count at_first) (feed_at (g.S.Source.rest l.initial.source) (g.S.Source.given l.initial.source))
       (feed_at (g.S.Source.rest l.source) (g.S.Source.given l.source))
       (entries_decoded (g.H.Manager.state l.initial.heap).profile (l.count - l.i) (reached_in (run_at l.session (g.H.Manager.state l.heap)) l.next l.at));
   fresh : (id : ℕ) → l.next ≤ id → map.get (objects_of (run_at l.session (g.H.Manager.state l.heap))) id ≡ None;

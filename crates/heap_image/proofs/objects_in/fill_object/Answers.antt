@@ -5,7 +5,7 @@ use Rattle.std.proofs.lemmas.List.{length-take-le}
 use Rattle.cf_session.specs.Apply.{run_at}
 use Rattle.heap_image.specs.Counts.{CountsFree}
 use Rattle.heap_image.specs.Feed.{feed_at}
-use Rattle.heap_image.specs.Stages.{Falls}
+use Rattle.heap_image.specs.Stages.{TakesFewer}
 use Rattle.heap_image.proofs.PartLemmas.{falls_more, held_in, leads_first, leads_removed, leads_written, part_fits, written_next}
 use Rattle.heap_image.proofs.StageLemmas.{takes_nothing, takes_then}
 use Rattle.heap_image.proofs.objects_in.fill_object.Goals as goal
@@ -43,7 +43,7 @@ returns-in-Cut-clause-fills g c =
     let size : length c.fill.new.buffer ≡ c.min-count.result = c.fill.auto.buffer ∙ length-take-le c.min-count.result c.chunks.buffer
     (omega (arith, c.min-count.ensures, c.requires.buffer, c.chunks.auto.buffer)) in
     let fits : c.chunks.done + c.min-count.result ≤ c.args.n = omega (arith, c.min-count.ensures) in
-    let falls = subst (λ k. Falls k (feed_at (g.S.Source.rest c.chunks.source) (g.S.Source.given c.chunks.source))
+    let falls = subst (λ k. TakesFewer k (feed_at (g.S.Source.rest c.chunks.source) (g.S.Source.given c.chunks.source))
     (feed_at (g.S.Source.rest c.fill.new.source) (g.S.Source.given c.fill.new.source))) size c.in-Cut.ensures.fills.0 in (
       (refl, falls_more so_far.bytes c.args.n c.chunks.done c.min-count.result _ _ _ so_far.count fits so_far.took falls, c.in-Cut.ensures.fills.1),
       leads_removed (run_at c.args.session.now (g.H.Manager.state c.args.heap.now)) (run_at c.chunks.session (g.H.Manager.state c.chunks.heap))
@@ -56,7 +56,7 @@ returns-in-Failed-clause-fills g c =
     let size : length c.fill.new.buffer ≡ c.min-count.result = c.fill.auto.buffer ∙ length-take-le c.min-count.result c.chunks.buffer
     (omega (arith, c.min-count.ensures, c.requires.buffer, c.chunks.auto.buffer)) in
     let fits : c.chunks.done + c.min-count.result ≤ c.args.n = omega (arith, c.min-count.ensures) in
-    let falls = subst (λ k. Falls k (feed_at (g.S.Source.rest c.chunks.source) (g.S.Source.given c.chunks.source))
+    let falls = subst (λ k. TakesFewer k (feed_at (g.S.Source.rest c.chunks.source) (g.S.Source.given c.chunks.source))
     (feed_at (g.S.Source.rest c.fill.new.source) (g.S.Source.given c.fill.new.source))) size c.in-Failed.ensures.fills in (
       falls_more so_far.bytes c.args.n c.chunks.done c.min-count.result _ _ _ so_far.count fits so_far.took falls,
       leads_removed (run_at c.args.session.now (g.H.Manager.state c.args.heap.now)) (run_at c.chunks.session (g.H.Manager.state c.chunks.heap))

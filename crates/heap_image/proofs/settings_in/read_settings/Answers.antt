@@ -1,19 +1,19 @@
 use Rattle.std.proofs.Common.{refl, subst, sym, ◌∙◌}
 use Rattle.heap_image.specs.Feed.{feed_at}
-use Rattle.heap_image.specs.Stages.{Falls}
+use Rattle.heap_image.specs.Stages.{TakesFewer}
 use Rattle.heap_image.specs.declared.fault.LoadFault.TheVariants as fault
 use Rattle.heap_image.proofs.MarkLemmas.{mark_bad, mark_stops, mark_then}
 use Rattle.heap_image.proofs.settings_in.read_settings.Goals as goal
 
 pub returns-in-Cut-clause-settings : goal.returns-in-Cut-clause-settings
 returns-in-Cut-clause-settings g c =
-    let falls = subst (λ n. Falls n (feed_at (g.S.Source.rest c.args.source.now) (g.S.Source.given c.args.source.now))
+    let falls = subst (λ n. TakesFewer n (feed_at (g.S.Source.rest c.args.source.now) (g.S.Source.given c.args.source.now))
     (feed_at (g.S.Source.rest c.fill.new.source) (g.S.Source.given c.fill.new.source))) c.fill.auto.buffer c.in-Cut.ensures.fills.0 in
     mark_stops 16 _ _ (fault.Bad 0) (refl, falls, c.in-Cut.ensures.fills.1)
 
 pub returns-in-Failed-clause-settings : goal.returns-in-Failed-clause-settings
 returns-in-Failed-clause-settings g c =
-    let falls = subst (λ n. Falls n (feed_at (g.S.Source.rest c.args.source.now) (g.S.Source.given c.args.source.now))
+    let falls = subst (λ n. TakesFewer n (feed_at (g.S.Source.rest c.args.source.now) (g.S.Source.given c.args.source.now))
     (feed_at (g.S.Source.rest c.fill.new.source) (g.S.Source.given c.fill.new.source))) c.fill.auto.buffer c.in-Failed.ensures.fills in
     mark_stops 16 _ _ fault.Read falls
 

@@ -10,8 +10,8 @@ pub returns-in_default : goal.returns-in_default
 returns-in_default g c =
     let by = c.play_script.ensures in
     record {
-      ends = ends_early (settled (run_at c.args.player.now.player (g.H.Manager.state c.args.heap.now)) c.args.player.now.settings)
-          (settled (run_at c.play_script.new.player.player (g.H.Manager.state c.play_script.new.heap)) c.play_script.new.player.settings) _ _ _ _ _ _
+      ends = ends_early (settled (run_at c.args.mode_handler.now.mode_handler (g.H.Manager.state c.args.heap.now)) c.args.mode_handler.now.settings)
+          (settled (run_at c.play_script.new.mode_handler.mode_handler (g.H.Manager.state c.play_script.new.heap)) c.play_script.new.mode_handler.settings) _ _ _ _ _ _
           c.play_script.result c.in_default.not-Done by.causes.write_fault by.outcome refl;
       promise = ap (λ (p : Kind × Bool). p.1) by.plan;
       causes = record {
@@ -28,35 +28,35 @@ returns-in_default g c =
 pub returns-in_default-settings-clause-ends : goal.returns-in_default-settings-clause-ends
 returns-in_default-settings-clause-ends g c =
     let by = c.play_script.ensures in
-    let from = settled (run_at c.args.player.now.player (g.H.Manager.state c.args.heap.now)) c.args.player.now.settings in
-    let to = settled (run_at c.play_script.new.player.player (g.H.Manager.state c.play_script.new.heap)) c.play_script.new.player.settings in
+    let from = settled (run_at c.args.mode_handler.now.mode_handler (g.H.Manager.state c.args.heap.now)) c.args.mode_handler.now.settings in
+    let to = settled (run_at c.play_script.new.mode_handler.mode_handler (g.H.Manager.state c.play_script.new.heap)) c.play_script.new.mode_handler.settings in
     ends_unopened from to _ _ _ _ _ _ c.play_script.result c.in-Done.is by.outcome
     (unopened from to _ by.outcome c.in-Done.is c.in_default-settings.is c.requires.closed) refl
 
 -- a `heap` line came
 pub save-requires-clause-open : goal.save-requires-clause-open
 save-requires-clause-open g c =
-    let from = settled (run_at c.args.player.now.player (g.H.Manager.state c.args.heap.now)) c.args.player.now.settings in
-    let to = settled (run_at c.play_script.new.player.player (g.H.Manager.state c.play_script.new.heap)) c.play_script.new.player.settings in
+    let from = settled (run_at c.args.mode_handler.now.mode_handler (g.H.Manager.state c.args.heap.now)) c.args.mode_handler.now.settings in
+    let to = settled (run_at c.play_script.new.mode_handler.mode_handler (g.H.Manager.state c.play_script.new.heap)) c.play_script.new.mode_handler.settings in
     (opened from to _ c.in-Some.settings c.play_script.ensures.outcome c.in-Done.is c.in-Some.is c.requires.unset).0.opened
 
 pub save-requires-clause-settings : goal.save-requires-clause-settings
 save-requires-clause-settings g c =
-    let from = settled (run_at c.args.player.now.player (g.H.Manager.state c.args.heap.now)) c.args.player.now.settings in
-    let to = settled (run_at c.play_script.new.player.player (g.H.Manager.state c.play_script.new.heap)) c.play_script.new.player.settings in
+    let from = settled (run_at c.args.mode_handler.now.mode_handler (g.H.Manager.state c.args.heap.now)) c.args.mode_handler.now.settings in
+    let to = settled (run_at c.play_script.new.mode_handler.mode_handler (g.H.Manager.state c.play_script.new.heap)) c.play_script.new.mode_handler.settings in
     (opened from to _ c.in-Some.settings c.play_script.ensures.outcome c.in-Done.is c.in-Some.is c.requires.unset).1
 
 pub save-requires-clause-tied : goal.save-requires-clause-tied
 save-requires-clause-tied g c =
-    let from = settled (run_at c.args.player.now.player (g.H.Manager.state c.args.heap.now)) c.args.player.now.settings in
-    let to = settled (run_at c.play_script.new.player.player (g.H.Manager.state c.play_script.new.heap)) c.play_script.new.player.settings in
+    let from = settled (run_at c.args.mode_handler.now.mode_handler (g.H.Manager.state c.args.heap.now)) c.args.mode_handler.now.settings in
+    let to = settled (run_at c.play_script.new.mode_handler.mode_handler (g.H.Manager.state c.play_script.new.heap)) c.play_script.new.mode_handler.settings in
     (opened from to _ c.in-Some.settings c.play_script.ensures.outcome c.in-Done.is c.in-Some.is c.requires.unset).0.tied
 
 pub returns-in-Ok-clause-ends : goal.returns-in-Ok-clause-ends
 returns-in-Ok-clause-ends g c =
     let by = c.play_script.ensures in
-    let from = settled (run_at c.args.player.now.player (g.H.Manager.state c.args.heap.now)) c.args.player.now.settings in
-    let to = settled (run_at c.play_script.new.player.player (g.H.Manager.state c.play_script.new.heap)) c.play_script.new.player.settings in
+    let from = settled (run_at c.args.mode_handler.now.mode_handler (g.H.Manager.state c.args.heap.now)) c.args.mode_handler.now.settings in
+    let to = settled (run_at c.play_script.new.mode_handler.mode_handler (g.H.Manager.state c.play_script.new.heap)) c.play_script.new.mode_handler.settings in
     let going = (opened from to _ c.in-Some.settings by.outcome c.in-Done.is c.in-Some.is c.requires.unset).0 in
     let moving : (g.H.Manager.state c.play_script.new.heap).kind ≡ Moving = ap (λ (p : Kind × Bool). p.0) by.plan ∙ c.requires.moving in
     ends_saved from to _ _ _ _ _ _ c.play_script.result c.in-Done.is by.outcome (saved_going to.state going) c.in-Ok.ensures.puts
@@ -69,8 +69,8 @@ returns-in-Ok-clause-ends g c =
 pub returns-in-Err-clause-ends : goal.returns-in-Err-clause-ends
 returns-in-Err-clause-ends g c =
     let by = c.play_script.ensures in
-    let from = settled (run_at c.args.player.now.player (g.H.Manager.state c.args.heap.now)) c.args.player.now.settings in
-    let to = settled (run_at c.play_script.new.player.player (g.H.Manager.state c.play_script.new.heap)) c.play_script.new.player.settings in
+    let from = settled (run_at c.args.mode_handler.now.mode_handler (g.H.Manager.state c.args.heap.now)) c.args.mode_handler.now.settings in
+    let to = settled (run_at c.play_script.new.mode_handler.mode_handler (g.H.Manager.state c.play_script.new.heap)) c.play_script.new.mode_handler.settings in
     let going = (opened from to _ c.in-Some.settings by.outcome c.in-Done.is c.in-Some.is c.requires.unset).0 in
     ends_cut from to _ _ _ _ _ _ c.play_script.result c.in-Done.is by.outcome (saved_going to.state going) c.in-Err.field-0 c.in-Err.ensures.puts
 

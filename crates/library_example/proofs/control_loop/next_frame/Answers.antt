@@ -28,5 +28,5 @@ returns-in-Err-malloc-clause-in_time c enough same =
     let all = c.loop-i-test.false in
     let busy : c.in-Err-malloc.cause ≡ Busy = cc in
     let ended = c.loop-i.invariant in
-    not_busy c.slices_alone_end_every_job.ensures c.a_malloc_waits_for_a_job_alone.ensures c.args.heap.now c.free.new.self c.loop-i.heap c.loop-i.i c.args.bytes
+    not_busy c.slices_alone_end_every_job.ensures c.a_malloc_is_busy_only_with_a_job.ensures c.args.heap.now c.free.new.self c.loop-i.heap c.loop-i.i c.args.bytes
     c.in-Err-malloc.cause c.free.ensures.same c.free.ensures.rules ended.rules (omega arith) ended.slices c.in-Err-malloc.ensures.step.0 busy

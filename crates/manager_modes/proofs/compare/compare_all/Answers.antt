@@ -18,4 +18,4 @@ returns g c =
     each_ends _ _ _ _ c.play_script.result
     by.causes
     (λ m. g.H.Manager.state m) c.in-Ok.sessions.each.items c.args.managers.now.items started
-    c.play_script.new.player.each.items c.play_script.new.heap.items by.plan by.outcome
+    c.play_script.new.mode_handler.each.items c.play_script.new.heap.items by.plan by.outcome

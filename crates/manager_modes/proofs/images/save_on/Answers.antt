@@ -14,5 +14,5 @@ pub returns : goal.returns
 returns g c = λ managers.
     let by = c.save_script.ensures in
     saved_ends _ _ _ _ managers c.save_script.result c.in-Ok.session (g.H.Manager.state c.args.heap.now)
-    (run_at c.save_script.new.player.player (g.H.Manager.state c.save_script.new.heap)) c.in-Ok.ensures c.requires
+    (run_at c.save_script.new.mode_handler.mode_handler (g.H.Manager.state c.save_script.new.heap)) c.in-Ok.ensures c.requires
     by.causes by.promise by.ends

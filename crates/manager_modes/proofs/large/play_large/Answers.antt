@@ -13,7 +13,7 @@ returns g c = λ managers.
     let inner = c.new-heap.ensures.inner ∙ c.closed.ensures in
     made_ends large_heap IsMadeLarge _ _ _ _ managers c.run_large.result
     by.causes
-    (large_run c.in-Ok.player.session c.new-heap.result) (large_run c.run_large.new.player.session c.run_large.new.heap)
+    (large_run c.in-Ok.mode_handler.session c.new-heap.result) (large_run c.run_large.new.mode_handler.session c.run_large.new.heap)
     (record {
       fresh = record { ids = c.in-Ok.ensures; pages = subst (λ (s : HeapState). IsPaged s.kind) (sym inner) refl };
       inner = inner;

@@ -4,7 +4,7 @@ use Rattle.std.specs.List.{range_with_len}
 use Rattle.cf_io.specs.Feeds.{appended}
 use Rattle.cf_io.specs.Texts.{led}
 use Rattle.frag_report.specs.Classes.{classes_below}
-use Rattle.page_model.specs.Arrangement.{home_pages}
+use Rattle.page_model.specs.Arrangement.{pages_of_class}
 use Rattle.page_model.specs.Paging.{classes}
 use Rattle.quota_heap.specs.State.{held_by}
 use Rattle.quota_model.specs.Refusals.{task_paging}
@@ -14,7 +14,7 @@ abbrev pub invariant-loop-c : goal.invariant-loop-c
 invariant-loop-c g l = record {
   put : g.K.Sink.written l.out ≡ appended (g.K.Sink.written l.initial.out) (led [] (classes_below (task_paging l.heap.profile) (held_by l.heap l.task) l.c));
   same : g.K.Sink.faults l.out ≡ g.K.Sink.faults l.initial.out;
-  used : l.used ≡ sum_by (home_pages (task_paging l.heap.profile) (held_by l.heap l.task)) (range_with_len 0 l.c);
+  used : l.used ≡ sum_by (pages_of_class (task_paging l.heap.profile) (held_by l.heap l.task)) (range_with_len 0 l.c);
   within : l.c ≤ classes (task_paging l.heap.profile);
   few : l.used ≤ l.c * 2 ^ 32;
 }

@@ -11,10 +11,10 @@ use Rattle.quota_session.proofs.session.answer.Goals as goal
 pub returns-in_default-clause-step : goal.returns-in_default-clause-step
 returns-in_default-clause-step g c = shown_line quota_tasks (λ _ _ _ _ turn. turn)
     (quota_run (Some (profile_of c.args.s.now)) (session_of c.args.records.now) c.args.heap.now)
-    (quota_run (Some (profile_of c.args.s.now)) (session_of c.speak-outcome.new.records) c.speak-outcome.new.heap)
+    (quota_run (Some (profile_of c.args.s.now)) (session_of c.build_reply-outcome.new.records) c.build_reply-outcome.new.heap)
     (owned_command c.args.c)
-    c.speak-outcome.new.line _ _ c.put_line.result c.speak-outcome.result c.ended-in_default.result c.speak-outcome.ensures.speaks
-    c.speak-outcome.ensures.outcome c.put_line.ensures.puts c.ended-in_default.ensures
+    c.build_reply-outcome.new.line _ _ c.put_line.result c.build_reply-outcome.result c.ended-in_default.result c.build_reply-outcome.ensures.speaks
+    c.build_reply-outcome.ensures.outcome c.put_line.ensures.puts c.ended-in_default.ensures
 
 pub returns-in-Walk-clause-step : goal.returns-in-Walk-clause-step
 returns-in-Walk-clause-step g c = shown_walk (quota_run (Some (profile_of c.args.s.now)) (session_of c.args.records.now) c.args.heap.now)

@@ -7,7 +7,7 @@ use Rattle.script_loop.proofs.answering.answer_chunk.Goals as goal
 pub feeds-init : goal.feeds-init
 feeds-init g c = record {
   text = [];
-  answered = answered_none g.A.Player.semantics _;
+  answered = answered_none g.A.ModeHandler.semantics _;
   ready = c.requires.ready;
   waiting = c.requires.waiting;
   same_end = c.requires.open;
@@ -27,8 +27,8 @@ feeds-preserved g c =
     let count = ap (λ r. r.fed) took.fed in
     record {
       text = so_far.text ++ kept.text;
-      answered = answered_next g.A.Player.semantics
-          (answered_fed g.A.Player.semantics _ c.args.chunk.now c.feeds.at c.feed-at.result so_far.answered so_far.same_end took.fed) kept.answered;
+      answered = answered_next g.A.ModeHandler.semantics
+          (answered_fed g.A.ModeHandler.semantics _ c.args.chunk.now c.feeds.at c.feed-at.result so_far.answered so_far.same_end took.fed) kept.answered;
       ready = kept.ready;
       waiting = kept.waiting;
       same_end = kept.same_end ∙ ap (λ r. r.ended) took.fed ∙ so_far.same_end;
@@ -45,9 +45,9 @@ returns-in-Stopped-clause-goes g c =
     let kept = c.in-Stopped.ensures.goes in
     record {
       text = so_far.text ++ kept.text;
-      answered = answered_over g.A.Player.semantics kept.over.0 c.args.chunk.now _
-          (answered_next g.A.Player.semantics
-          (answered_fed g.A.Player.semantics _ c.args.chunk.now c.feeds.at c.feed-at.result so_far.answered so_far.same_end took.fed) kept.answered)
+      answered = answered_over g.A.ModeHandler.semantics kept.over.0 c.args.chunk.now _
+          (answered_next g.A.ModeHandler.semantics
+          (answered_fed g.A.ModeHandler.semantics _ c.args.chunk.now c.feeds.at c.feed-at.result so_far.answered so_far.same_end took.fed) kept.answered)
           kept.over.1;
       wrote = appended_after _ _ _ _ _ so_far.wrote kept.wrote;
       over = kept.over;
@@ -60,8 +60,8 @@ returns-in-Cut-clause-goes g c =
     let kept = c.in-Cut.ensures.goes in
     record {
       out = so_far.text ++ kept.out;
-      cut = cut_over g.A.Player.semantics c.args.chunk.now _
-          (cut_next g.A.Player.semantics (answered_fed g.A.Player.semantics _ c.args.chunk.now c.feeds.at c.feed-at.result so_far.answered so_far.same_end
+      cut = cut_over g.A.ModeHandler.semantics c.args.chunk.now _
+          (cut_next g.A.ModeHandler.semantics (answered_fed g.A.ModeHandler.semantics _ c.args.chunk.now c.feeds.at c.feed-at.result so_far.answered so_far.same_end
           took.fed) kept.cut);
       wrote = appended_after _ _ _ _ _ so_far.wrote kept.wrote;
     }

@@ -7,9 +7,9 @@ use Rattle.script_loop.proofs.answering.answer_chunk.Given as goal
 abbrev pub invariant-feeds : goal.invariant-feeds
 invariant-feeds g l = record {
   text : List ℕ;
-  answered : Answered g.A.Player.semantics (playing l.initial.reader (g.A.Player.state l.initial.player l.initial.heap)) (take l.at l.chunk)
-      (playing l.reader (g.A.Player.state l.player l.heap)) text false;
-  ready : IsReady g.A.Player.semantics (playing l.reader (g.A.Player.state l.player l.heap));
+  answered : Answered g.A.ModeHandler.semantics (playing l.initial.reader (g.A.ModeHandler.state l.initial.mode_handler l.initial.heap)) (take l.at l.chunk)
+      (playing l.reader (g.A.ModeHandler.state l.mode_handler l.heap)) text false;
+  ready : IsReady g.A.ModeHandler.semantics (playing l.reader (g.A.ModeHandler.state l.mode_handler l.heap));
   waiting : IsWaiting l.reader;
   same_end : l.reader.ended ≡ false;
   fed : l.reader.fed ≡ l.initial.reader.fed + l.at;

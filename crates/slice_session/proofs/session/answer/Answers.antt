@@ -5,7 +5,7 @@ use Rattle.slice_session.specs.SliceRun.{slice_run}
 use Rattle.slice_session.proofs.session.answer.Goals as goal
 
 pub returns-clause-step : goal.returns-clause-step
-returns-clause-step g c = shown_line sliced (λ _ _ _ _ turn. turn) (slice_run c.args.ids.now c.args.heap.now) (slice_run c.speak-outcome.new.ids c.speak-outcome.new.heap)
+returns-clause-step g c = shown_line sliced (λ _ _ _ _ turn. turn) (slice_run c.args.ids.now c.args.heap.now) (slice_run c.build_reply-outcome.new.ids c.build_reply-outcome.new.heap)
     (owned_command c.args.c)
-    c.speak-outcome.new.line _ _ c.put_line.result c.speak-outcome.result c.ended.result c.speak-outcome.ensures.speaks
-    c.speak-outcome.ensures.outcome c.put_line.ensures.puts c.ended.ensures
+    c.build_reply-outcome.new.line _ _ c.put_line.result c.build_reply-outcome.result c.ended.result c.build_reply-outcome.ensures.speaks
+    c.build_reply-outcome.ensures.outcome c.put_line.ensures.puts c.ended.ensures

@@ -12,6 +12,6 @@ returns g c = λ managers.
     let by = c.run_quotas.ensures in
     made_ends quota_tasks IsMadeForTasks _ _ _ _ managers c.run_quotas.result
     by.causes
-    (quota_run (option_map profile_of c.in-Ok.player.settings) c.in-Ok.player.session c.closed-heap.result)
-    (quota_run (option_map profile_of c.run_quotas.new.player.settings) c.run_quotas.new.player.session c.run_quotas.new.heap)
+    (quota_run (option_map profile_of c.in-Ok.mode_handler.settings) c.in-Ok.mode_handler.session c.closed-heap.result)
+    (quota_run (option_map profile_of c.run_quotas.new.mode_handler.settings) c.run_quotas.new.mode_handler.session c.run_quotas.new.heap)
     (rw (c.in-Ok.ensures.session, c.in-Ok.ensures.settings, c.closed-heap.ensures) refl) by.outcome

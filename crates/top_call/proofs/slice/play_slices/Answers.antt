@@ -12,6 +12,6 @@ returns g c = λ managers.
     let by = c.run_slices.ensures in
     made_ends slices (IsMadeSliced c.args.quantum) _ _ _ _ managers c.run_slices.result
     by.causes
-    (slice_play c.in-Ok.player.session c.in-Ok.player.quantum c.closed-heap.result)
-    (slice_play c.run_slices.new.player.session c.run_slices.new.player.quantum c.run_slices.new.heap)
+    (slice_play c.in-Ok.mode_handler.session c.in-Ok.mode_handler.quantum c.closed-heap.result)
+    (slice_play c.run_slices.new.mode_handler.session c.run_slices.new.mode_handler.quantum c.run_slices.new.heap)
     (rw (c.in-Ok.ensures.session, c.in-Ok.ensures.quantum, c.closed-heap.ensures) refl) by.outcome

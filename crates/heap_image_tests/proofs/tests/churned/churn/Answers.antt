@@ -2,6 +2,6 @@ use Rattle.heap_image_tests.proofs.tests.churned.churn.Goals as goal
 
 pub commands-preserved : goal.commands-preserved
 commands-preserved g c = record {
-  going = c.give.ensures.going;
-  ready = λ p ready. c.give.ensures.ready p (c.commands.invariant.ready p ready);
+  going = c.do_command.ensures.going;
+  ready = λ p ready. c.do_command.ensures.ready p (c.commands.invariant.ready p ready);
 }

@@ -6,14 +6,14 @@ use Rattle.std_alloc.proofs.SendSync.{quiet}
 use Rattle.held_heap.proofs.Crosses.{place-Keyless}
 use Rattle.held_heap.specs.NonMoving.{open_heap}
 use Rattle.held_heap.specs.contracts.nonmoving.Place.{the_row, the_type}
-use Rattle.held_heap.specs.contracts.offered.NonMovingHeapOffered.TheImpl as offered
+use Rattle.held_heap.specs.contracts.exported_manager.NonMovingHeapExportedManager.TheImpl as exported_manager
 use Rattle.nonmoving_heap.specs.contracts.manager.NonMovingHeap as manager
 use Rattle.nonmoving_heap.specs.contracts.manager.NonMovingHeapManager.TheImpl as calls
 use Rattle.held_heap.proofs.held.Held.TheSendSync.{the_send as held}
 use Rattle.nonmoving_heap.proofs.manager.NonMovingHeap.TheSendSync.{the_send as heap}
 
 heap-send : IsSend open_heap
-heap-send = held manager.the_row offered.ghosts calls.ghosts heap
+heap-send = held manager.the_row exported_manager.ghosts calls.ghosts heap
 
 pub send : IsSend the_row
 send =

@@ -6,7 +6,7 @@ use Rattle.std_alloc.proofs.SendSync.{quiet}
 use Rattle.held_heap.proofs.Crosses.{place-Keyless}
 use Rattle.held_heap.specs.Tlsf.{open_heap}
 use Rattle.held_heap.specs.contracts.tlsf.Place.{the_row, the_type}
-use Rattle.held_heap.specs.contracts.offered.TagHeapOffered.TheImpl as offered
+use Rattle.held_heap.specs.contracts.exported_manager.TagHeapExportedManager.TheImpl as exported_manager
 use Rattle.held_heap.proofs.held.Held.TheSendSync.{the_send as held}
 use Rattle.tag_heap.specs.contracts.manager.TagHeap as tag_heap
 use Rattle.tag_heap.specs.contracts.manager.TagHeapManager.TheImpl as manager
@@ -18,7 +18,7 @@ use Rattle.tlsf_heap.specs.contracts.heap.TlsfBucketsFitPolicy.TheImpl as policy
 heap-send : IsSend open_heap
 heap-send = held
     (tag_heap.the_row tlsf.the_row policy.ghosts buckets.ghosts)
-    (offered.ghosts tlsf.the_row policy.ghosts offered.no_dict buckets.ghosts offered.no_dict offered.no_dict)
+    (exported_manager.ghosts tlsf.the_row policy.ghosts exported_manager.no_dict buckets.ghosts exported_manager.no_dict exported_manager.no_dict)
     (manager.ghosts tlsf.the_row policy.ghosts manager.no_dict buckets.ghosts manager.no_dict manager.no_dict)
     (heap tlsf.the_row policy.ghosts buckets.ghosts)
 

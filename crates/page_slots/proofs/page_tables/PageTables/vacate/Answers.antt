@@ -16,4 +16,4 @@ returns-else-count-eq0-clause-steps c =
     c.index_mut-map.ensures.value c.requires.used
     c.unset.ensures.value c.count.ensures.value in
     kept_steps c.args.self.now.maps.items c.args.page c.count.result few c.args.which _ _ _ _ c.unset.ensures.steps c.count.ensures.steps c.if-count-eq0.false
-    c.open_if_full.ensures.steps
+    c.move_if_full.ensures.steps

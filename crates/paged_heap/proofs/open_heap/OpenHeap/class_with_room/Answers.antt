@@ -3,7 +3,7 @@ use Rattle.std.proofs.Common.{arith, sym, ◌∙◌}
 use Rattle.paged_heap.specs.Heap.{seen}
 use Rattle.paged_heap.proofs.CountLimits.{class_is}
 use Rattle.paged_heap.proofs.LayoutFacts.{as_many, tables_ok}
-use Rattle.paged_heap.proofs.MallocLemmas.{wants_proxy, wants_space}
+use Rattle.paged_heap.proofs.MallocLemmas.{lacks_proxy, lacks_space}
 use Rattle.paged_heap.proofs.open_heap.OpenHeap.class_with_room.Goals as goal
 
 pub has_slot-requires : goal.has_slot-requires
@@ -16,10 +16,10 @@ has_slot-requires g c =
 
 pub returns-then-live-self-clause-cause : goal.returns-then-live-self-clause-cause
 returns-then-live-self-clause-cause g c =
-    wants_proxy (seen g.A.Mapping.kind c.args.self.now) c.requires.kept c.args.bytes c.in-Some.c c.in-Some.ensures.found
+    lacks_proxy (seen g.A.Mapping.kind c.args.self.now) c.requires.kept c.args.bytes c.in-Some.c c.in-Some.ensures.found
     (sym c.live.ensures.count ∙ c.if-live-self.true)
 
 pub returns-else-has_slot-clause-cause : goal.returns-else-has_slot-clause-cause
 returns-else-has_slot-clause-cause g c =
-    wants_space (seen g.A.Mapping.kind c.args.self.now) c.requires.kept c.args.bytes c.in-Some.c c.in-Some.ensures.found
+    lacks_space (seen g.A.Mapping.kind c.args.self.now) c.requires.kept c.args.bytes c.in-Some.c c.in-Some.ensures.found
     (λ e. c.if-live-self.false (c.live.ensures.count ∙ e)) (c.has_slot.ensures.none c.if-has_slot.false)

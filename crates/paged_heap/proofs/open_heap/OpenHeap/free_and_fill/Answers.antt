@@ -8,7 +8,7 @@ use Rattle.paged_heap.specs.Layout.{held_in, order_in, paging_at}
 use Rattle.paged_heap.proofs.ByKind.{framed_of, in_region, laid_same}
 use Rattle.paged_heap.proofs.CostLemmas.{filled_sum}
 use Rattle.paged_heap.proofs.FreedObject.{asked_some, goes_freed, goes_kept, live_some, taken_some}
-use Rattle.paged_heap.proofs.FreeAndFill.{apart_there, fill_follows, fills_of, frames_are, free_is, leaves_of, live_there, moved_is, mover, place_in, r, refilled, source_there}
+use Rattle.paged_heap.proofs.FreeAndFill.{apart_there, fill_follows, fills_of, frames_are, free_is, call_result, live_there, moved_is, mover, place_in, r, refilled, source_there}
 use Rattle.paged_heap.proofs.FreeAndFill.{target_there, whole_is, whole_source, whole_target, whole_there}
 use Rattle.paged_heap.proofs.LayoutFacts.{retabled, with_tables}
 use Rattle.paged_heap.proofs.open_heap.OpenHeap.free_and_fill.Goals as goal
@@ -47,7 +47,7 @@ pub move_to-requires-clause-live : goal.move_to-requires-clause-live
 move_to-requires-clause-live g c =
     let fills = fills_of c.requires.kept.kept c.requires.object c.requires.moves c.fill_slot-from.ensures.filled c.fill_slot-from.ensures.kept in
     let left =
-    leaves_of fills (retabled g.A.Mapping.kind c.args.self.now c.fill_slot-from.new.self c.fill_slot-from.new.lists c.fill_slot-from.ensures.classes) c.read.ensures.value c.unpack.ensures.number
+    call_result fills (retabled g.A.Mapping.kind c.args.self.now c.fill_slot-from.new.self c.fill_slot-from.new.lists c.fill_slot-from.ensures.classes) c.read.ensures.value c.unpack.ensures.number
     c.slot_words-slot_words.ensures.value
     c.release.ensures.places (ap (seen g.A.Mapping.kind) c.count_out.ensures) in
     live_there fills left
@@ -56,7 +56,7 @@ pub move_to-requires-clause-source : goal.move_to-requires-clause-source
 move_to-requires-clause-source g c =
     let fills = fills_of c.requires.kept.kept c.requires.object c.requires.moves c.fill_slot-from.ensures.filled c.fill_slot-from.ensures.kept in
     let left =
-    leaves_of fills (retabled g.A.Mapping.kind c.args.self.now c.fill_slot-from.new.self c.fill_slot-from.new.lists c.fill_slot-from.ensures.classes) c.read.ensures.value c.unpack.ensures.number
+    call_result fills (retabled g.A.Mapping.kind c.args.self.now c.fill_slot-from.new.self c.fill_slot-from.new.lists c.fill_slot-from.ensures.classes) c.read.ensures.value c.unpack.ensures.number
     c.slot_words-slot_words.ensures.value
     c.release.ensures.places (ap (seen g.A.Mapping.kind) c.count_out.ensures) in
     let laid =
@@ -70,7 +70,7 @@ pub move_to-requires-clause-target : goal.move_to-requires-clause-target
 move_to-requires-clause-target g c =
     let fills = fills_of c.requires.kept.kept c.requires.object c.requires.moves c.fill_slot-from.ensures.filled c.fill_slot-from.ensures.kept in
     let left =
-    leaves_of fills (retabled g.A.Mapping.kind c.args.self.now c.fill_slot-from.new.self c.fill_slot-from.new.lists c.fill_slot-from.ensures.classes) c.read.ensures.value c.unpack.ensures.number
+    call_result fills (retabled g.A.Mapping.kind c.args.self.now c.fill_slot-from.new.self c.fill_slot-from.new.lists c.fill_slot-from.ensures.classes) c.read.ensures.value c.unpack.ensures.number
     c.slot_words-slot_words.ensures.value
     c.release.ensures.places (ap (seen g.A.Mapping.kind) c.count_out.ensures) in
     let laid =
@@ -84,7 +84,7 @@ pub move_to-requires-clause-apart : goal.move_to-requires-clause-apart
 move_to-requires-clause-apart g c =
     let fills = fills_of c.requires.kept.kept c.requires.object c.requires.moves c.fill_slot-from.ensures.filled c.fill_slot-from.ensures.kept in
     let left =
-    leaves_of fills (retabled g.A.Mapping.kind c.args.self.now c.fill_slot-from.new.self c.fill_slot-from.new.lists c.fill_slot-from.ensures.classes) c.read.ensures.value c.unpack.ensures.number
+    call_result fills (retabled g.A.Mapping.kind c.args.self.now c.fill_slot-from.new.self c.fill_slot-from.new.lists c.fill_slot-from.ensures.classes) c.read.ensures.value c.unpack.ensures.number
     c.slot_words-slot_words.ensures.value
     c.release.ensures.places (ap (seen g.A.Mapping.kind) c.count_out.ensures) in
     apart_there fills left
@@ -103,7 +103,7 @@ pub move_to-requires-clause-whole : goal.move_to-requires-clause-whole
 move_to-requires-clause-whole g c =
     let fills = fills_of c.requires.kept.kept c.requires.object c.requires.moves c.fill_slot-from.ensures.filled c.fill_slot-from.ensures.kept in
     let left =
-    leaves_of fills (retabled g.A.Mapping.kind c.args.self.now c.fill_slot-from.new.self c.fill_slot-from.new.lists c.fill_slot-from.ensures.classes) c.read.ensures.value c.unpack.ensures.number
+    call_result fills (retabled g.A.Mapping.kind c.args.self.now c.fill_slot-from.new.self c.fill_slot-from.new.lists c.fill_slot-from.ensures.classes) c.read.ensures.value c.unpack.ensures.number
     c.slot_words-slot_words.ensures.value
     c.release.ensures.places (ap (seen g.A.Mapping.kind) c.count_out.ensures) in
     whole_there fills left
@@ -112,7 +112,7 @@ pub returns-clause-step : goal.returns-clause-step
 returns-clause-step g c =
     let fills = fills_of c.requires.kept.kept c.requires.object c.requires.moves c.fill_slot-from.ensures.filled c.fill_slot-from.ensures.kept in
     let left =
-    leaves_of fills (retabled g.A.Mapping.kind c.args.self.now c.fill_slot-from.new.self c.fill_slot-from.new.lists c.fill_slot-from.ensures.classes) c.read.ensures.value c.unpack.ensures.number
+    call_result fills (retabled g.A.Mapping.kind c.args.self.now c.fill_slot-from.new.self c.fill_slot-from.new.lists c.fill_slot-from.ensures.classes) c.read.ensures.value c.unpack.ensures.number
     c.slot_words-slot_words.ensures.value
     c.release.ensures.places (ap (seen g.A.Mapping.kind) c.count_out.ensures) in
     let whole = whole_is fills left (ap (seen g.A.Mapping.kind) c.move_to.ensures.rest) in
@@ -127,7 +127,7 @@ pub returns-clause-kept : goal.returns-clause-kept
 returns-clause-kept g c =
     let fills = fills_of c.requires.kept.kept c.requires.object c.requires.moves c.fill_slot-from.ensures.filled c.fill_slot-from.ensures.kept in
     let left =
-    leaves_of fills (retabled g.A.Mapping.kind c.args.self.now c.fill_slot-from.new.self c.fill_slot-from.new.lists c.fill_slot-from.ensures.classes) c.read.ensures.value c.unpack.ensures.number
+    call_result fills (retabled g.A.Mapping.kind c.args.self.now c.fill_slot-from.new.self c.fill_slot-from.new.lists c.fill_slot-from.ensures.classes) c.read.ensures.value c.unpack.ensures.number
     c.slot_words-slot_words.ensures.value
     c.release.ensures.places (ap (seen g.A.Mapping.kind) c.count_out.ensures) in
     let whole = whole_is fills left (ap (seen g.A.Mapping.kind) c.move_to.ensures.rest) in
@@ -144,7 +144,7 @@ returns-clause-choice g c =
     let kind = g.A.Mapping.kind in let h = seen kind c.args.self.now in let n = seen kind c.move_to.new.self in
     let fills = fills_of c.requires.kept.kept c.requires.object c.requires.moves c.fill_slot-from.ensures.filled c.fill_slot-from.ensures.kept in
     let left =
-    leaves_of fills (retabled kind c.args.self.now c.fill_slot-from.new.self c.fill_slot-from.new.lists c.fill_slot-from.ensures.classes) c.read.ensures.value c.unpack.ensures.number
+    call_result fills (retabled kind c.args.self.now c.fill_slot-from.new.self c.fill_slot-from.new.lists c.fill_slot-from.ensures.classes) c.read.ensures.value c.unpack.ensures.number
     c.slot_words-slot_words.ensures.value
     c.release.ensures.places (ap (seen kind) c.count_out.ensures) in
     let whole = whole_is fills left (ap (seen kind) c.move_to.ensures.rest) in

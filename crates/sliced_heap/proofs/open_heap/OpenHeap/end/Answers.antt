@@ -3,7 +3,7 @@ use Rattle.page_slots.specs.Tables.{IsUsed, page_at, slot_at}
 use Rattle.slice_model.specs.State.{Idle}
 use Rattle.sliced_heap.specs.Heap.{Heap, seen}
 use Rattle.sliced_heap.specs.Layout.{tables_in}
-use Rattle.sliced_heap.specs.Steps.{Fills, StaysVacant}
+use Rattle.sliced_heap.specs.Steps.{FillsSlot, StaysVacant}
 use Rattle.sliced_heap.proofs.EndLemmas.{filled_ends, filled_follows, idle_at, slot_used}
 use Rattle.sliced_heap.proofs.Facts.{only_tables}
 use Rattle.sliced_heap.proofs.open_heap.OpenHeap.end.Goals as goal
@@ -11,17 +11,17 @@ use Rattle.sliced_heap.proofs.open_heap.OpenHeap.end.Goals as goal
 pub returns-then-fill-clause-ended : goal.returns-then-fill-clause-ended
 returns-then-fill-clause-ended c =
     filled_ends (seen c.args.self.now) c.requires.kept c.args.k c.requires.job (seen c.fill.new.self)
-    (subst (λ b. Fills (seen c.args.self.now) c.args.k b (seen c.fill.new.self)) c.if-fill.true c.fill.ensures.filled)
+    (subst (λ b. FillsSlot (seen c.args.self.now) c.args.k b (seen c.fill.new.self)) c.if-fill.true c.fill.ensures.filled)
 
 pub returns-then-fill-clause-ordered : goal.returns-then-fill-clause-ordered
 returns-then-fill-clause-ordered c =
     filled_follows (seen c.args.self.now) c.requires.kept c.args.k c.requires.job (seen c.fill.new.self)
-    (subst (λ b. Fills (seen c.args.self.now) c.args.k b (seen c.fill.new.self)) c.if-fill.true c.fill.ensures.filled)
+    (subst (λ b. FillsSlot (seen c.args.self.now) c.args.k b (seen c.fill.new.self)) c.if-fill.true c.fill.ensures.filled)
 
 pub drop_slot-requires-clause-used : goal.drop_slot-requires-clause-used
 drop_slot-requires-clause-used c =
     let v : StaysVacant (seen c.args.self.now) c.args.k (seen c.fill.new.self) =
-    subst (λ b. Fills (seen c.args.self.now) c.args.k b (seen c.fill.new.self)) c.if-fill.false c.fill.ensures.filled in
+    subst (λ b. FillsSlot (seen c.args.self.now) c.args.k b (seen c.fill.new.self)) c.if-fill.false c.fill.ensures.filled in
     subst (λ (x : Heap). IsUsed (tables_in x) c.args.k.class (page_at x.classes c.args.k.address) (slot_at x.classes c.args.k.class c.args.k.address))
     (sym v.same)
     (slot_used (seen c.args.self.now) c.requires.kept c.args.k c.requires.job)
@@ -29,7 +29,7 @@ drop_slot-requires-clause-used c =
 pub returns-clause-ended : goal.returns-clause-ended
 returns-clause-ended c =
     let v : StaysVacant (seen c.args.self.now) c.args.k (seen c.fill.new.self) =
-    subst (λ b. Fills (seen c.args.self.now) c.args.k b (seen c.fill.new.self)) c.if-fill.false c.fill.ensures.filled in
+    subst (λ b. FillsSlot (seen c.args.self.now) c.args.k b (seen c.fill.new.self)) c.if-fill.false c.fill.ensures.filled in
     (idle_at (seen c.args.self.now) c.requires.kept c.args.k c.requires.job v.stays c.requires.zeros (seen c.fill.new.self) _ v.same
     (ap (λ (x : Heap). record x { job = Idle }) (only_tables c.fill.new.self c.drop_slot.new.self c.drop_slot.new.lists c.drop_slot.ensures.classes))
     c.drop_slot.ensures.freed c.drop_slot.ensures.kept).1
@@ -37,7 +37,7 @@ returns-clause-ended c =
 pub returns-clause-ordered : goal.returns-clause-ordered
 returns-clause-ordered c =
     let v : StaysVacant (seen c.args.self.now) c.args.k (seen c.fill.new.self) =
-    subst (λ b. Fills (seen c.args.self.now) c.args.k b (seen c.fill.new.self)) c.if-fill.false c.fill.ensures.filled in
+    subst (λ b. FillsSlot (seen c.args.self.now) c.args.k b (seen c.fill.new.self)) c.if-fill.false c.fill.ensures.filled in
     (idle_at (seen c.args.self.now) c.requires.kept c.args.k c.requires.job v.stays c.requires.zeros (seen c.fill.new.self) _ v.same
     (ap (λ (x : Heap). record x { job = Idle }) (only_tables c.fill.new.self c.drop_slot.new.self c.drop_slot.new.lists c.drop_slot.ensures.classes))
     c.drop_slot.ensures.freed c.drop_slot.ensures.kept).2
@@ -45,7 +45,7 @@ returns-clause-ordered c =
 pub returns-clause-kept : goal.returns-clause-kept
 returns-clause-kept c =
     let v : StaysVacant (seen c.args.self.now) c.args.k (seen c.fill.new.self) =
-    subst (λ b. Fills (seen c.args.self.now) c.args.k b (seen c.fill.new.self)) c.if-fill.false c.fill.ensures.filled in
+    subst (λ b. FillsSlot (seen c.args.self.now) c.args.k b (seen c.fill.new.self)) c.if-fill.false c.fill.ensures.filled in
     (idle_at (seen c.args.self.now) c.requires.kept c.args.k c.requires.job v.stays c.requires.zeros (seen c.fill.new.self) _ v.same
     (ap (λ (x : Heap). record x { job = Idle }) (only_tables c.fill.new.self c.drop_slot.new.self c.drop_slot.new.lists c.drop_slot.ensures.classes))
     c.drop_slot.ensures.freed c.drop_slot.ensures.kept).0

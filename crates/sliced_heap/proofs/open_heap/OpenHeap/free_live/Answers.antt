@@ -5,16 +5,16 @@ use Rattle.sliced_heap.proofs.open_heap.OpenHeap.free_live.Goals as goal
 
 pub returns-clause-step : goal.returns-clause-step
 returns-clause-step c =
-    (frees_from (seen c.args.self.now) c.requires.kept c.requires.idle c.args.h.0 c.forget-k.result (seen c.forget-k.new.self) (seen c.fill-filled.new.self)
-    (seen c.slice.new.self) c.forget-k.ensures.gone c.forget-k.ensures.kept c.fill-filled.result c.fill-filled.ensures.filled c.slice.ensures.ordered).frees
+    (frees_from (seen c.args.self.now) c.requires.kept c.requires.idle c.args.h.0 c.start_clearing-k.result (seen c.start_clearing-k.new.self) (seen c.fill-filled.new.self)
+    (seen c.slice.new.self) c.start_clearing-k.ensures.gone c.start_clearing-k.ensures.kept c.fill-filled.result c.fill-filled.ensures.filled c.slice.ensures.ordered).frees
 
 pub returns-clause-ordered : goal.returns-clause-ordered
 returns-clause-ordered c =
-    frees_from (seen c.args.self.now) c.requires.kept c.requires.idle c.args.h.0 c.forget-k.result (seen c.forget-k.new.self) (seen c.fill-filled.new.self)
-    (seen c.slice.new.self) c.forget-k.ensures.gone c.forget-k.ensures.kept c.fill-filled.result c.fill-filled.ensures.filled c.slice.ensures.ordered
+    frees_from (seen c.args.self.now) c.requires.kept c.requires.idle c.args.h.0 c.start_clearing-k.result (seen c.start_clearing-k.new.self) (seen c.fill-filled.new.self)
+    (seen c.slice.new.self) c.start_clearing-k.ensures.gone c.start_clearing-k.ensures.kept c.fill-filled.result c.fill-filled.ensures.filled c.slice.ensures.ordered
 
 pub returns-clause-steps : goal.returns-clause-steps
 returns-clause-steps c =
-    free_takes (seen c.args.self.now) (seen c.forget-k.new.self) (seen c.fill-filled.new.self) c.args.h.0 c.forget-k.result c.fill-filled.result
-    c.args.steps.now c.forget-k.new.steps c.fill-filled.new.steps c.slice.new.steps c.forget-k.ensures.gone c.fill-filled.ensures.filled
-    c.fill-filled.ensures.partly c.forget-k.ensures.steps c.fill-filled.ensures.steps c.slice.ensures.steps
+    free_takes (seen c.args.self.now) (seen c.start_clearing-k.new.self) (seen c.fill-filled.new.self) c.args.h.0 c.start_clearing-k.result c.fill-filled.result
+    c.args.steps.now c.start_clearing-k.new.steps c.fill-filled.new.steps c.slice.new.steps c.start_clearing-k.ensures.gone c.fill-filled.ensures.filled
+    c.fill-filled.ensures.partly c.start_clearing-k.ensures.steps c.fill-filled.ensures.steps c.slice.ensures.steps

@@ -5,25 +5,25 @@ use Rattle.page_slots.specs.Orders.{order_of}
 use Rattle.sliced_heap.specs.Layout.{paging_at}
 use Rattle.sliced_heap.specs.declared.open_heap.OpenHeap.{OpenHeap}
 use Rattle.sliced_heap.proofs.Facts.{only_tables, seen_with}
-use Rattle.sliced_heap.proofs.MallocLemmas.{given_from, live_room, place_inside, wants_proxy, wants_slot, wants_space, within_of}
+use Rattle.sliced_heap.proofs.MallocLemmas.{given_from, live_room, place_inside, lacks_proxy, lacks_slot, lacks_space, within_of}
 use Rattle.sliced_heap.proofs.open_heap.OpenHeap.malloc.Goals as goal
 
 pub returns-then-live-self-clause-step : goal.returns-then-live-self-clause-step
 returns-then-live-self-clause-step c = (
-  wants_proxy (seen c.args.self.now) c.requires c.args.bytes c.in-Some.c c.in-Some.ensures.found (sym c.live.ensures.count ∙ c.if-live-self.true),
+  lacks_proxy (seen c.args.self.now) c.requires c.args.bytes c.in-Some.c c.in-Some.ensures.found (sym c.live.ensures.count ∙ c.if-live-self.true),
   refl,
 )
 
 pub returns-then-is_over-clause-step : goal.returns-then-is_over-clause-step
 returns-then-is_over-clause-step c = (
-  wants_space (seen c.args.self.now) c.requires c.args.bytes c.in-Some.c c.in-Some.ensures.found (λ e. c.if-live-self.false (c.live.ensures.count ∙ e))
+  lacks_space (seen c.args.self.now) c.requires c.args.bytes c.in-Some.c c.in-Some.ensures.found (λ e. c.if-live-self.false (c.live.ensures.count ∙ e))
       (c.is_over.ensures.0 c.if-is_over.true),
   refl,
 )
 
 pub returns-in_default-take_slot-clause-step : goal.returns-in_default-take_slot-clause-step
 returns-in_default-take_slot-clause-step c = (
-  wants_slot (seen c.args.self.now) c.requires c.args.bytes c.in-Some.c c.in-Some.ensures.found (λ e. c.if-live-self.false (c.live.ensures.count ∙ e))
+  lacks_slot (seen c.args.self.now) c.requires c.args.bytes c.in-Some.c c.in-Some.ensures.found (λ e. c.if-live-self.false (c.live.ensures.count ∙ e))
       (within_of c.is_over.result _ _ c.is_over.ensures c.if-is_over.false) _ c.in_default-take_slot.ensures.taken,
   refl,
 )

@@ -2,7 +2,7 @@ use Rattle.std.proofs.Common.{[], Some, None, arith, sym, ◌∙◌}
 use Rattle.tag_blocks.proofs.CostLemmas.{by_same}
 use Rattle.tag_heap.proofs.CostLemmas.{find_cost}
 use Rattle.tag_heap.proofs.Preserved.{rules}
-use Rattle.tag_heap.proofs.MallocLemmas.{has_no_cause, wants_proxy, wants_space}
+use Rattle.tag_heap.proofs.MallocLemmas.{has_no_cause, lacks_proxy, lacks_space}
 use Rattle.tag_heap.proofs.open_heap.OpenHeap.room.Goals as goal
 
 pub returns-then-self-need-clause-rules : goal.returns-then-self-need-clause-rules
@@ -10,7 +10,7 @@ returns-then-self-need-clause-rules g c = rw (← c.self.view_is) (rules _ c.sel
 
 pub returns-then-live-self-clause-room : goal.returns-then-live-self-clause-room
 returns-then-live-self-clause-room g c = rw (← c.self.view_is) (
-    wants_proxy g.B.FitPolicy.kind g.met.B.FitPolicy.tiled _ c.self.invariant c.args.bytes
+    lacks_proxy g.B.FitPolicy.kind g.met.B.FitPolicy.tiled _ c.self.invariant c.args.bytes
     (let f = c.if-self-need.false in let e = c.need_of-need.ensures in omega arith)
     (sym c.live.ensures.count ∙ c.if-live-self.true ∙ sym c.self.invariant.numbers))
 
@@ -42,7 +42,7 @@ returns-in-Some-clause-rules g c = rw (← c.self.view_is) (rules _ c.self.invar
 
 pub returns-in-None-clause-room : goal.returns-in-None-clause-room
 returns-in-None-clause-room g c = rw (← c.self.view_is) (
-    wants_space g.B.FitPolicy.kind g.met.B.FitPolicy.tiled _ c.self.invariant c.args.bytes
+    lacks_space g.B.FitPolicy.kind g.met.B.FitPolicy.tiled _ c.self.invariant c.args.bytes
     (let f = c.if-self-need.false in let e = c.need_of-need.ensures in omega arith) _ g.met.B.FitPolicy.lists
     (λ all. c.if-live-self.false (c.live.ensures.count ∙ all ∙ c.self.invariant.numbers))
     c.need_of-need.result c.need_of-need.ensures c.in-None.ensures.found)

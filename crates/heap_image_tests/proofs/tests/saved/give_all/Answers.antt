@@ -1,7 +1,0 @@
-use Rattle.heap_image_tests.proofs.tests.saved.give_all.Goals as goal
-
-pub commands-preserved : goal.commands-preserved
-commands-preserved g c = record {
-  going = c.give.ensures.going;
-  ready = λ p ready. c.give.ensures.ready p (c.commands.invariant.ready p ready);
-}

@@ -1,0 +1,107 @@
+//! The mode handler of mode `quota`, which runs a script on a heap that tasks share.
+ghost use Rattle.std.specs.Prelude.{◌≡◌, ⊤, IfOk, None, option_map};
+ghost use Rattle.cf_base.specs.Settings.{profile_of};
+ghost use Rattle.script_loop.specs.ScriptOutcome.{Plays, sink_at, source_at};
+ghost use Rattle.quota_session.specs.Playing.{quota_tasks};
+ghost use Rattle.quota_session.specs.QuotaRun.{QuotaRun, first_session, quota_run};
+
+use crate::session::QuotaSession;
+use cf_base::{Failed, OutOfMemory, Settings, Status};
+use cf_io::{Sink, Source, put_all};
+use quota_heap::QuotaHeap;
+use script_loop::{OpenFault, ModeHandler, play_script};
+use script_reader::CommandRef;
+use std::alloc::Global;
+use step_ledger::Meter;
+
+/// The mode handler: a session over sixteen tasks, with the settings of the `heap` line and a ledger.
+#[derive(Drop)]
+pub struct QuotaHandler {
+    pub session: QuotaSession,
+    /// The settings of the `heap` line, but always with the bound 1; none before that line.
+    pub settings: Option<Settings>,
+    meter: Meter,
+}
+
+impl QuotaHandler {
+    /// A handler with a new session and without settings. Allocates all memory of the session, and fails with
+    /// `OutOfMemory` if there is none.
+    pub fn start(rt: &HostRuntime, alloc: Global) -> Result<QuotaHandler, OutOfMemory>
+        ensures session { IfOk result (λ p. p.session ≡ first_session) }
+        ensures settings { IfOk result (λ p. p.settings ≡ None) }
+    {
+        Ok(QuotaHandler {
+            session: QuotaSession::start(alloc)?,
+            settings: None,
+            meter: Meter::new(rt),
+        })
+    }
+}
+
+impl ModeHandler<QuotaHeap> for QuotaHandler {
+    ghost State = { QuotaRun };
+
+    ghost Plan = { ⊤ };
+
+    ghost state = { λ mode_handler heap. quota_run (option_map profile_of mode_handler.settings) mode_handler.session heap };
+
+    ghost semantics = { quota_tasks };
+
+    /// Opens the heap with the settings of the `heap` line, but the bound 1, and writes the reply `ok`.
+    fn open<K: Sink>(
+        &mut self,
+        heap: &mut QuotaHeap,
+        settings: &Settings,
+        sink: &mut K,
+    ) -> Result<(), OpenFault> {
+        // Every class has the bound 1, whatever bound the line has.
+        let settings = Settings {
+            pages: settings.pages,
+            page_words: settings.page_words,
+            k: 1,
+            proxies: settings.proxies,
+        };
+        heap.open_heap(&settings)?;
+        self.settings = Some(settings);
+        put_all(sink, b"ok\n")?;
+        Ok(())
+    }
+
+    /// Does the command on the heap and writes its reply. The heap was opened before.
+    fn answer<K: Sink>(
+        &mut self,
+        heap: &mut QuotaHeap,
+        command: CommandRef,
+        sink: &mut K,
+    ) -> Result<(), Failed> {
+        let Some(settings) = self.settings else {
+            unreachable!();
+        };
+        self.session
+            .apply_ref(heap, &settings, command, sink, &mut self.meter)?;
+        Ok(())
+    }
+}
+
+/// Runs the script of a source on the heap, and writes the replies to a sink; the status says how it ended.
+/// The `heap` line opens the heap, with the bound 1 for each class; each later command is done for the
+/// present task or for the one that it names. Each complete line has its reply before the next chunk is
+/// taken. The run stops at a bad line, if the source or the sink fails, if an allocation fails at the
+/// `heap` line, and after 268,435,455 bytes.
+pub fn run_quotas<S: Source, K: Sink>(
+    mode_handler: &mut QuotaHandler,
+    heap: &mut QuotaHeap,
+    source: &mut S,
+    sink: &mut K,
+) -> Status
+    requires { mode_handler.old.session ≡ first_session }
+    ensures { Plays quota_tasks (quota_run (option_map profile_of mode_handler.old.settings) mode_handler.old.session heap.old)
+        (source_at (S.rest source.old) (S.given source.old) (S.faults source.old) (S.last_failed source.old))
+        (sink_at (K.written sink.old) (K.faults sink.old) (K.last_failed sink.old))
+        result
+        (source_at (S.rest source.new) (S.given source.new) (S.faults source.new) (S.last_failed source.new))
+        (sink_at (K.written sink.new) (K.faults sink.new) (K.last_failed sink.new))
+        (quota_run (option_map profile_of mode_handler.new.settings) mode_handler.new.session heap.new) }
+{
+    play_script(mode_handler, heap, source, sink)
+}

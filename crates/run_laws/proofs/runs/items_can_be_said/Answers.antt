@@ -1,5 +1,0 @@
-use Rattle.run_laws.proofs.Items.{items_sayable}
-use Rattle.run_laws.proofs.runs.items_can_be_said.Goals as goal
-
-pub returns : goal.returns
-returns c = items_sayable

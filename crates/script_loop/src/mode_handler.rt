@@ -1,0 +1,87 @@
+//! The trait `ModeHandler`: a mode handler, which the script loop calls for each item.
+ghost use Rattle.std.specs.Prelude.{◌≡◌, ◌≤◌, Err, OnErr, OnOk, ◌≢◌};
+ghost use Rattle.cf_io.specs.Feeds.{FailsLast};
+ghost use Rattle.script_reader.specs.Commands.{IsWellFormed};
+ghost use Rattle.script_reader.specs.Owned.{owned_command};
+ghost use Rattle.script_loop.specs.declared.mode_handler.OpenFault.TheVariants as fault;
+ghost use Rattle.script_loop.specs.Semantics.{AnswersBy, OpensBy, Semantics, snapshot};
+
+use cf_base::{Failed, OutOfMemory, Settings};
+use cf_io::Sink;
+use script_reader::CommandRef;
+
+/// Why the reply to a `heap` line wasn't written.
+#[derive(Clone, Copy, Debug, Drop, PartialEq, Eq)]
+pub enum OpenFault {
+    /// The sink failed. The line has taken effect, and a prefix of its reply was written.
+    Failed,
+    /// An allocation failed, and nothing was written.
+    OutOfMemory,
+}
+
+impl From<Failed> for OpenFault {
+    ghost from_gives = { λ _ made. made ≡ fault.Failed };
+
+    fn from(_failed: Failed) -> OpenFault {
+        OpenFault::Failed
+    }
+}
+
+impl From<OutOfMemory> for OpenFault {
+    ghost from_gives = { λ _ made. made ≡ fault.OutOfMemory };
+
+    fn from(_error: OutOfMemory) -> OpenFault {
+        OpenFault::OutOfMemory
+    }
+}
+
+/// A mode handler: it answers the items of a script on a heap, which is one manager, a list of managers,
+/// or another heap. Each mode that reads a script has one, and `play_script` is the loop of all.
+pub trait ModeHandler<H> {
+    /// The type of the states of a run: what contracts see of the handler and its heap together.
+    ghost State: { Type 0 };
+
+    /// The type of the plan, the part of a state that no item changes.
+    ghost Plan: { Type 0 };
+
+    /// The state of a run, from the handler and its heap.
+    ghost state: { Self → H → State };
+
+    /// Which reply each item may get, and to which state it leads.
+    ghost semantics: { Semantics State Plan };
+
+    /// Answers the `heap` line, the first item of a script: opens the heap with these settings and writes the
+    /// reply. If that fails, `OpenFault` shows why the reply wasn't written whole.
+    fn open<K: Sink>(
+        &mut self,
+        heap: &mut H,
+        settings: &Settings,
+        sink: &mut K,
+    ) -> Result<(), OpenFault>
+        requires { semantics.is_fresh (state self.old heap.old) }
+        ensures opens { OpensBy semantics (snapshot (state self.old heap.old) (K.written sink.old)) settings.now
+            result (snapshot (state self.new heap.new) (K.written sink.new)) }
+        ensures going { OnOk result (semantics.is_going (state self.new heap.new)) }
+        ensures plan { semantics.plan (state self.new heap.new) ≡ semantics.plan (state self.old heap.old) }
+        ensures grows { K.faults sink.old ≤ K.faults sink.new }
+        ensures same { result ≢ Err OpenFault.Failed → K.faults sink.new ≡ K.faults sink.old }
+        ensures failed { result ≡ Err OpenFault.Failed → FailsLast (K.faults sink.old) (K.faults sink.new) (K.last_failed sink.new) };
+
+    /// Does a command on the open heap and writes its reply. If the sink fails, the command has taken effect,
+    /// and a prefix of its reply was written.
+    fn answer<K: Sink>(
+        &mut self,
+        heap: &mut H,
+        command: CommandRef,
+        sink: &mut K,
+    ) -> Result<(), Failed>
+        requires going { semantics.is_going (state self.old heap.old) }
+        requires formed { IsWellFormed (owned_command command) }
+        ensures step { AnswersBy semantics (snapshot (state self.old heap.old) (K.written sink.old)) (owned_command command.entry)
+            result (snapshot (state self.new heap.new) (K.written sink.new)) }
+        ensures going { semantics.is_going (state self.new heap.new) }
+        ensures plan { semantics.plan (state self.new heap.new) ≡ semantics.plan (state self.old heap.old) }
+        ensures grows { K.faults sink.old ≤ K.faults sink.new }
+        ensures same { OnOk result (K.faults sink.new ≡ K.faults sink.old) }
+        ensures failed { OnErr result (FailsLast (K.faults sink.old) (K.faults sink.new) (K.last_failed sink.new)) };
+}
