@@ -2,7 +2,7 @@
 pub use Rattle.block_model.proofs.BucketLaws.{half_fit_lawful, tlsf_lawful}
 pub use Rattle.block_model.proofs.StepBounds.{carve_at_most, next_at_most, none_at_most, previous_at_most, release_at_most}
 pub use Rattle.block_model.proofs.FreeOrderLemmas.{carve_follows, carve_is_malloc, carve_keeps_lists, first_is, led_other, led_same, length-led, length-without}
-pub use Rattle.block_model.proofs.FreeOrderLemmas.{list_without, no_list, none_is, one_carve, same_listed, without_used}
+pub use Rattle.block_model.proofs.FreeOrderLemmas.{last_is, last_none, list_without, no_list, none_is, one_carve, same_listed, without_used}
 pub use Rattle.block_model.proofs.FreeOrderRelease.{joined_apart, merged_same, none_ends, release_keeps_lists}
 pub use Rattle.block_model.proofs.Others.{fill_le, free_stays, lies, malloc_gives, malloc_stays, released_is_free, used_is_not_free}
 pub use Rattle.block_model.proofs.ReadBlocks.{blocks_read}

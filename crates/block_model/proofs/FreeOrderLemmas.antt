@@ -10,7 +10,7 @@ use Rattle.cf_lemmas.proofs.Members.{contains_cases, contains_head, contains_nil
 use Rattle.cf_lemmas.proofs.Tests.{eq_yes, eq_no, le_yes, le_no}
 use Rattle.block_model.specs.Buckets.{FreeLists, AreLawful}
 use Rattle.block_model.specs.Tiling.{Block, Demand, Fill, IsTiling, Carves, Serves, block_at, one_free_block, size_at, size_of, carved, carved_at}
-use Rattle.block_model.specs.FreeOrder.{AreListsOf, CarvesNext, IsFreeOf, BlocksWithLists, first_listed, first_lists, list_in, lists_carved, lists_led_by, lists_without, next_block}
+use Rattle.block_model.specs.FreeOrder.{AreListsOf, CarvesNext, IsFreeOf, BlocksWithLists, first_listed, first_lists, last_listed, later_or, list_in, lists_carved, lists_led_by, lists_without, next_block}
 use Rattle.block_model.proofs.Others.{lies, skip, take_first}
 use Rattle.block_model.proofs.Rewriting.{apart}
 
@@ -83,6 +83,23 @@ none_is [] (suc start) all = refl
 none_is ([] ∷ lists) zero all = none_is lists 0 (λ j low. all (suc j) (omega arith))
 none_is ((b ∷ ys) ∷ lists) zero all = absurd (let e : b ∷ ys ≡ [] = all 0 (omega arith) in cc)
 none_is (ys ∷ lists) (suc start) all = none_is lists start (λ j low. all (suc j) (omega arith))
+
+-- ---- the last list with a block
+
+later_some : (xs ys : List ℕ) → ys ≢ [] → later_or xs ys ≡ ys
+later_some xs [] some = absurd (some refl)
+later_some xs (y ∷ ys) some = refl
+
+pub last_none : (lists : List (List ℕ)) → ((j : ℕ) → list_in lists j ≡ []) → last_listed lists ≡ []
+last_none [] all = refl
+last_none (xs ∷ lists) all = ap (later_or xs) (last_none lists (λ j. all (suc j))) ∙ all 0
+
+pub last_is : (lists : List (List ℕ)) (k : ℕ) → list_in lists k ≢ [] → ((j : ℕ) → k < j → list_in lists j ≡ []) → last_listed lists ≡ list_in lists k
+last_is [] k some behind = absurd (some refl)
+last_is (xs ∷ lists) zero some behind = ap (later_or xs) (last_none lists (λ j. behind (suc j) (omega arith)))
+last_is (xs ∷ lists) (suc k) some behind =
+    let e = last_is lists k some (λ j lt. behind (suc j) (omega arith)) in
+    later_some xs (last_listed lists) (λ none. some (sym e ∙ none)) ∙ e
 
 -- ---- one list after a change
 

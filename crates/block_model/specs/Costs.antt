@@ -1,9 +1,9 @@
 -- How many steps the calls on blocks cost, computed from the blocks and words that they find. A carve is a malloc's part: to find a free block and split it. A
 -- release is a free's part: to clear a block and join it with free neighbours.
-use Rattle.std.specs.Prelude.{ℕ, ◌+◌, ◌-◌, ◌/◌, ◌%◌, ◌^◌, ◌==◌, ◌&&◌, List, Option, Some, None, if◌then◌else◌, nat_eq, nat_le, nat_lt, count_by}
+use Rattle.std.specs.Prelude.{ℕ, ◌+◌, ◌-◌, ◌*◌, ◌/◌, ◌%◌, ◌^◌, ◌==◌, ◌&&◌, List, Option, Some, None, if◌then◌else◌, nat_eq, nat_le, nat_lt, count_by}
 use Rattle.std.specs.Prelude.{length, slice_index}
 use Rattle.block_model.specs.Buckets.{FreeLists}
-use Rattle.block_model.specs.FreeOrder.{free_from, free_up_to, link_word, no_block}
+use Rattle.block_model.specs.FreeOrder.{free_from, free_up_to, last_listed, link_word, no_block}
 use Rattle.block_model.specs.Tiling.{Block, is_free, size_at}
 
 -- The steps of finding the first list with a block in the groups of 16 lists from `group` on; none or `list` is what is found. One step reads the bits of the
@@ -23,6 +23,11 @@ list_steps start (Some list) = if list / 16 == start / 16 then 1 else 3
 abbrev pub find_steps : FreeLists → ℕ → List Block → ℕ → Option ℕ → ℕ
 find_steps rule count blocks need None = if nat_le count (rule.search need) then 0 else list_steps (rule.search need) None
 find_steps rule count blocks need (Some at) = list_steps (rule.search need) (Some (rule.bucket (size_at blocks at))) + 1
+
+-- The steps of finding the largest free block, by the free lists. One step reads which groups of lists have a block. If a block is free, one reads which lists of
+-- the last such group have one, one reads the head of the last of these lists, and two read each block of that list.
+abbrev pub largest_steps : List (List ℕ) → ℕ
+largest_steps lists = if length (last_listed lists) == 0 then 1 else 3 + 2 * length (last_listed lists)
 
 -- The steps of writing a block's size into the header of the block behind it, at `at`; none if the region of `words` words ends there.
 abbrev pub before_steps : ℕ → ℕ → ℕ

@@ -34,6 +34,16 @@ first_listed [] = None
 first_listed ([] ∷ lists) = first_listed lists
 first_listed ((a ∷ xs) ∷ lists) = Some a
 
+-- list `ys`, or list `xs` if `ys` is empty
+abbrev pub later_or : List ℕ → List ℕ → List ℕ
+later_or xs [] = xs
+later_or xs (y ∷ ys) = y ∷ ys
+
+-- the last list that is not empty; an empty list if all are
+abbrev pub last_listed : List (List ℕ) → List ℕ
+last_listed [] = []
+last_listed (xs ∷ lists) = later_or xs (last_listed lists)
+
 -- the next block for a need: the first block of the first list that is not empty, from the list on that the rule searches first
 abbrev pub next_block : FreeLists → List (List ℕ) → ℕ → Option ℕ
 next_block rule lists need = first_listed (drop (rule.search need) lists)

@@ -4,7 +4,7 @@ ghost use Rattle.clap.specs.Words.{found_of, one_text};
 ghost use Rattle.command_line.specs.Choices.{ReadsAs, kind_named as kind_by, mode_named as mode_by};
 ghost use Rattle.command_line.specs.Choices.{quantum_in as quantum_by, u64_in as number_by};
 
-use crate::choice::{Choice, Mode, ArgumentsFault};
+use crate::choice::{ArgumentsFault, Choice, Mode};
 use crate::command::cf_command;
 use cf_base::Kind;
 use clap::ArgMatches;

@@ -13,7 +13,7 @@ use page_reference::frames::{exchange, new_frames};
 use page_reference::order::ReferenceOrder;
 use std::alloc::Global;
 use step_ledger::Meter;
-use test_support::{ManagerUnderTest, Draw, Objects, Wrong, hold};
+use test_support::{Draw, ManagerUnderTest, Objects, Wrong, hold};
 
 /// The pages of the heap.
 const PAGES: u32 = 16;

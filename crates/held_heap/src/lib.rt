@@ -5,10 +5,10 @@
 
 mod answers;
 mod codes;
+mod exported_manager;
 mod held;
 pub mod moving;
 pub mod nonmoving;
-mod exported_manager;
 mod place;
 pub mod tlsf;
 mod unboxed;

@@ -55,7 +55,13 @@ pub fn save_script<H: Manager, S: Source, K: Sink>(
     let _handle = mode_handler.mode_handler.handle(0);
     live_objects_have_an_image();
     let mut meter = Meter::new(rt);
-    match save(&settings, heap, &mode_handler.mode_handler, sink, &mut meter) {
+    match save(
+        &settings,
+        heap,
+        &mode_handler.mode_handler,
+        sink,
+        &mut meter,
+    ) {
         Ok(()) => Status::Done,
         Err(_) => Status::WriteFault,
     }

@@ -12,7 +12,7 @@ use crate::session::LargeSession;
 use cf_base::{Failed, OutOfMemory, Settings, Status};
 use cf_io::{Line, Sink, Source, put_all};
 use cf_model::Manager;
-use script_loop::{OpenFault, ModeHandler, play_script};
+use script_loop::{ModeHandler, OpenFault, play_script};
 use script_reader::CommandRef;
 use std::alloc::Global;
 use step_ledger::Meter;

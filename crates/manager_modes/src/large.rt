@@ -3,7 +3,7 @@ ghost use Rattle.manager_modes.specs.Outcomes.{EndsBeside, PlaysLarge, sink_seen
 
 use cf_base::Status;
 use cf_io::{Sink, Source};
-use large_objects::{LargeHeap, LargeHandler, run_large};
+use large_objects::{LargeHandler, LargeHeap, run_large};
 use moving_heap::MovingHeap;
 use std::alloc::Global;
 

@@ -24,9 +24,7 @@ pub use counts::{
     can_hold_is_a_test, most_pages_is_the_greatest, one_page_count_at_bound_one,
     pages_are_within_the_bound,
 };
-pub use figures::{
-    figures_after_adding, figures_after_removing, pages_and_objects_add_up,
-};
+pub use figures::{figures_after_adding, figures_after_removing, pages_and_objects_add_up};
 pub use order::{
     a_free_can_follow_an_order, a_malloc_can_follow_an_order, a_resize_can_follow_an_order,
     an_order_leaves_no_choice,
@@ -42,7 +40,7 @@ pub use soundness::{
     page_counts_of_a_sound_arrangement,
 };
 pub use words::{
-    a_part_is_written, a_word_is_its_bytes, bytes_are_read_back, headers_show,
-    objects_stay_storable, held_at_has_places, words_after_a_free, words_after_a_malloc,
-    words_after_a_resize, words_after_a_write, objects_determine_words, words_show_what_is_held,
+    a_part_is_written, a_word_is_its_bytes, bytes_are_read_back, headers_show, held_at_has_places,
+    objects_determine_words, objects_stay_storable, words_after_a_free, words_after_a_malloc,
+    words_after_a_resize, words_after_a_write, words_show_what_is_held,
 };

@@ -38,7 +38,11 @@ pub struct ResizedTo {
 
 impl ReferenceOrder {
     /// The order of an empty heap with the pages of `reference_pages`, and with numbers below `limit`.
-    pub fn first(alloc: Global, reference_pages: &ReferencePages, limit: u32) -> Result<ReferenceOrder, AllocError>
+    pub fn first(
+        alloc: Global,
+        reference_pages: &ReferencePages,
+        limit: u32,
+    ) -> Result<ReferenceOrder, AllocError>
         ensures { IfOk result (λ o. order_of o ≡ first_order reference_pages.now.paging limit) }
     {
         let mut not_full = Vec::new(alloc);
@@ -152,7 +156,12 @@ impl ReferenceOrder {
 
     /// Takes the next slot of class `c` in the heap `reference_pages`, and returns its address; none if the
     /// class has no slot left.
-    fn take(&mut self, alloc: Global, reference_pages: &ReferencePages, c: u32) -> Result<Option<u32>, AllocError>
+    fn take(
+        &mut self,
+        alloc: Global,
+        reference_pages: &ReferencePages,
+        c: u32,
+    ) -> Result<Option<u32>, AllocError>
         ensures next { IfOk result (λ a. IfSome a (λ a. TakesNext reference_pages.now.paging reference_pages.now.held (order_of self.old) c a (order_of self.new))) }
         ensures none { IfOk result (λ a. IfNone a (classes reference_pages.now.paging ≤ c ⊎ HasNoNext reference_pages.now.paging reference_pages.now.held (order_of self.old) c)) }
     {
@@ -199,7 +208,9 @@ impl ReferenceOrder {
         ensures { OnOk result (order_of self.new ≡ (if nat_eq (objects_on reference_pages.now.paging reference_pages.now.held c page + 1) (slots_of reference_pages.now.paging c)
             then with_not_full (order_of self.old) c (drop 1 (not_full_in (order_of self.old) c)) else order_of self.old)) }
     {
-        if u64::from(reference_pages.objects_on(c, page)) + 1 == u64::from(reference_pages.slots(c)) {
+        if u64::from(reference_pages.objects_on(c, page)) + 1
+            == u64::from(reference_pages.slots(c))
+        {
             let rest = behind_first(alloc, self.not_full_in(c))?;
             self.set_not_full(c, rest);
         }
@@ -298,7 +309,12 @@ impl ReferenceOrder {
             return Ok(None);
         }
         if !reference_pages.must_move(number) {
-            self.free_slot(alloc, reference_pages, class, reference_pages.page_of(place))?;
+            self.free_slot(
+                alloc,
+                reference_pages,
+                class,
+                reference_pages.page_of(place),
+            )?;
             return Ok(Some(None));
         }
         let Some((other, from)) = self.next_object(reference_pages, class) else {

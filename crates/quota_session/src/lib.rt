@@ -4,8 +4,8 @@
 
 mod changes;
 mod laws;
-mod needs;
 mod mode_handler;
+mod needs;
 mod records;
 mod reports;
 mod session;

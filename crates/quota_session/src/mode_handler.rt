@@ -9,7 +9,7 @@ use crate::session::QuotaSession;
 use cf_base::{Failed, OutOfMemory, Settings, Status};
 use cf_io::{Sink, Source, put_all};
 use quota_heap::QuotaHeap;
-use script_loop::{OpenFault, ModeHandler, play_script};
+use script_loop::{ModeHandler, OpenFault, play_script};
 use script_reader::CommandRef;
 use std::alloc::Global;
 use step_ledger::Meter;

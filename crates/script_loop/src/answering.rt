@@ -6,7 +6,7 @@ ghost use Rattle.script_reader.specs.Reading.{MOST_FED};
 ghost use Rattle.script_loop.specs.AnswersSoFar.{MeetsChunkOutcome, IsWaiting, PrintsBadLine};
 ghost use Rattle.script_loop.specs.Progress.{IsReady, playing, progress};
 
-use crate::mode_handler::{OpenFault, ModeHandler};
+use crate::mode_handler::{ModeHandler, OpenFault};
 use cf_io::{Line, Sink, push_field, put_line};
 use script_reader::{NextRef, PayloadBuffer, Reader};
 

@@ -4,8 +4,8 @@
 
 mod answering;
 mod laws;
-mod one_manager;
 mod mode_handler;
+mod one_manager;
 mod running;
 mod with_settings;
 
@@ -13,7 +13,7 @@ pub use laws::{
     cuts_never_matter, every_read_gives_what_was_written, plain_scripts_print_their_transcript,
     settings_are_kept, what_was_cut_is_a_prefix,
 };
+pub use mode_handler::{ModeHandler, OpenFault};
 pub use one_manager::run_script;
-pub use mode_handler::{OpenFault, ModeHandler};
 pub use running::{LIMIT, Script, TurnEnd, play_script};
 pub use with_settings::WithSettings;

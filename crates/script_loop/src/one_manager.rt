@@ -6,7 +6,7 @@ ghost use Rattle.run_model.specs.Sessions.{RunState, fresh_session};
 ghost use Rattle.script_loop.specs.OneManager.{one_manager};
 ghost use Rattle.script_loop.specs.ScriptOutcome.{Plays, sink_at, source_at};
 
-use crate::mode_handler::{OpenFault, ModeHandler};
+use crate::mode_handler::{ModeHandler, OpenFault};
 use crate::running::play_script;
 use cf_base::{Failed, Settings, Status};
 use cf_io::{Sink, Source, put_all};

@@ -129,7 +129,13 @@ pub fn play_script<H, A: ModeHandler<H>, S: Source, K: Sink>(
         }
     }
     script.reader.finish();
-    match answer_pending_items(&mut script.reader, mode_handler, heap, sink, &mut script.payload) {
+    match answer_pending_items(
+        &mut script.reader,
+        mode_handler,
+        heap,
+        sink,
+        &mut script.payload,
+    ) {
         ChunkOutcome::GoesOn => Status::Done,
         ChunkOutcome::Stopped => Status::BadScript,
         ChunkOutcome::Cut => Status::WriteFault,

@@ -2,7 +2,7 @@
 //! the image.
 ghost use Rattle.script_loop.specs.WithSettings.{Settled, settled, with_settings};
 
-use crate::mode_handler::{OpenFault, ModeHandler};
+use crate::mode_handler::{ModeHandler, OpenFault};
 use cf_base::{Failed, Settings};
 use cf_io::Sink;
 use script_reader::CommandRef;

@@ -204,7 +204,12 @@ impl Reader {
     /// Reads the first line of the kept bytes, which ends at `cut` and is neither blank nor a comment, passes
     /// it, and puts what a call returns for it into `next`. The bytes of a write are put into `payload`. If
     /// the line is bad, that is `Bad` with the line's number, and the reader stops.
-    fn read_first_line<'a>(&mut self, cut: Cut, payload: &'a mut PayloadBuffer, next: &mut NextRef<'a>)
+    fn read_first_line<'a>(
+        &mut self,
+        cut: Cut,
+        payload: &'a mut PayloadBuffer,
+        next: &mut NextRef<'a>,
+    )
         requires going { self.old.stopped ≡ None }
         requires line { IsNextLine self.old cut.len cut.next }
         ensures { Answers self.old (owned_next next.new) self.new }

@@ -9,7 +9,7 @@ use cf_base::{Failed, OutOfMemory, Settings};
 use cf_io::Sink;
 use cf_model::{Manager, open_all};
 use cf_session::Session;
-use script_loop::{OpenFault, ModeHandler};
+use script_loop::{ModeHandler, OpenFault};
 use script_reader::CommandRef;
 use std::alloc::Global;
 

@@ -17,8 +17,8 @@ mod words;
 pub use answers::{SliceFault, SliceRefusal};
 pub use job_slot::JobSlot;
 pub use jobs::{
-    a_job_advances_by_its_slices, a_job_ends_after_its_words_over_the_quantum,
-    a_busy_malloc_succeeds_after_the_slices, each_malloc_between_prolongs_a_job_once,
+    a_busy_malloc_succeeds_after_the_slices, a_job_advances_by_its_slices,
+    a_job_ends_after_its_words_over_the_quantum, each_malloc_between_prolongs_a_job_once,
     slices_alone_end_every_job,
 };
 pub use kept::{
@@ -32,9 +32,9 @@ pub use order::{
 };
 pub use places::places_are_those_beside_the_job;
 pub use room::{
-    a_free_has_one_answer, a_malloc_has_one_answer, when_a_malloc_is_busy,
-    a_malloc_is_busy_only_with_a_job, a_place_is_within_the_sum, a_slice_can_always_be_done,
-    no_malloc_is_busy_with_a_spare_page,
+    a_free_has_one_answer, a_malloc_has_one_answer, a_malloc_is_busy_only_with_a_job,
+    a_place_is_within_the_sum, a_slice_can_always_be_done, no_malloc_is_busy_with_a_spare_page,
+    when_a_malloc_is_busy,
 };
 pub use runs::{an_empty_heap_is_consistent, calls_of_all_tasks_are_those_of_one_map};
 pub use words::{

@@ -7,7 +7,7 @@ ghost use Rattle.slice_session.specs.Playing.{IsQuantum, SlicePlay, slice_play, 
 use crate::session::SliceSession;
 use cf_base::{Failed, OutOfMemory, Settings, Status};
 use cf_io::{Sink, Source, put_all};
-use script_loop::{OpenFault, ModeHandler, play_script};
+use script_loop::{ModeHandler, OpenFault, play_script};
 use script_reader::CommandRef;
 use sliced_heap::SlicedHeap;
 use std::alloc::Global;

@@ -5,7 +5,9 @@ use Rattle.cf_base.specs.declared.answers.AccessFault.TheVariants as access
 use Rattle.cf_base.specs.declared.answers.Handle.{Handle}
 use Rattle.cf_base.specs.declared.answers.Refusal.{Refusal}
 use Rattle.cf_base.specs.declared.answers.Refusal.TheVariants as refusal
-use Rattle.block_model.specs.Costs.{find_steps}
+use Rattle.page_model.specs.Order.{Order}
+use Rattle.block_model.specs.Costs.{find_steps, largest_steps}
+use Rattle.block_model.specs.FreeOrder.{next_block}
 use Rattle.block_model.specs.Tiling.{block_need}
 pub use Rattle.cf_model.specs.Costs.{block_free_bound as free_steps}
 use Rattle.cf_model.specs.ExactCosts.{block_malloc_cost}
@@ -29,6 +31,19 @@ room_steps (Err e) = refused_steps e
 abbrev pub search_steps : HeapState → ℕ → Result ℕ Refusal → ℕ
 search_steps s bytes (Ok place) = find_steps (free_lists_of s.kind) (list_count_of s.kind) s.tiling (block_need bytes) (Some place)
 search_steps s bytes (Err e) = block_malloc_cost s bytes (Err e) s
+
+-- The steps of `has_room` for `bytes` bytes, by its result: those of the search for the next block, or those of the refused malloc. The free lists are those of the
+-- heap's order, which a heap of blocks always has.
+abbrev pub has_room_steps : HeapState → Option Order → ℕ → Result Unit Refusal → ℕ
+has_room_steps s None bytes answer = 0
+has_room_steps s (Some order) bytes (Ok done) =
+    find_steps (free_lists_of s.kind) (list_count_of s.kind) s.tiling (block_need bytes) (next_block (free_lists_of s.kind) order.not_full (block_need bytes))
+has_room_steps s (Some order) bytes (Err e) = block_malloc_cost s bytes (Err e) s
+
+-- The steps of the figures of a heap with this order: those of finding the largest free block. A heap of blocks always has an order.
+abbrev pub totals_steps : Option Order → ℕ
+totals_steps None = 0
+totals_steps (Some order) = largest_steps order.not_full
 
 -- the exact steps of `length`, by its result: reading the proxy, and if the object is live its header
 abbrev pub length_steps : Option ℕ → ℕ

@@ -1,7 +1,8 @@
 //! The figures of an open heap with blocks: counts of live objects, bytes, words and blocks.
 ghost use Rattle.std.specs.Prelude.{◌≡◌, ◌+◌, ◌*◌};
-ghost use Rattle.step_ledger.specs.Counting.{RoseAtMost};
+ghost use Rattle.step_ledger.specs.Counting.{RoseAtMost, RoseBy};
 ghost use Rattle.cf_model.specs.Answers.{block_totals, usage_of};
+ghost use Rattle.tag_heap.specs.Costs.{totals_steps};
 ghost use Rattle.tag_heap.specs.Heap.{state_of};
 
 use crate::fit_policy::FitPolicy;
@@ -15,6 +16,7 @@ impl<B: FitPolicy> OpenHeap<B> {
     /// it searches the last free list that isn't empty for the largest free block.
     pub(crate) fn totals(&self, steps: &mut Steps) -> Totals
         ensures value { result ≡ block_totals (state_of B.kind self.now) }
+        ensures steps { RoseBy steps.old steps.new (totals_steps (state_of B.kind self.now).order) }
         ensures bound { RoseAtMost steps.old steps.new (3 + 2 * result.free) }
     {
         Totals {

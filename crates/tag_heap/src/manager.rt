@@ -8,7 +8,7 @@ ghost use Rattle.cf_model.specs.Ordered.{IsOrderedFree, IsOrderedMalloc, IsOrder
 ghost use Rattle.cf_model.specs.Rules.{KeepsRules};
 ghost use Rattle.cf_model.specs.State.{closed_state};
 ghost use Rattle.cf_model.specs.Steps.{BlocksStayIn, IsFreeStep, IsMallocStep, IsReadAnswer, IsResizeStep, IsWriteStep, StaysOpen};
-ghost use Rattle.tag_heap.specs.Costs.{access_steps, length_steps, malloc_steps, room_steps};
+ghost use Rattle.tag_heap.specs.Costs.{access_steps, has_room_steps, length_steps, malloc_steps, room_steps, totals_steps};
 ghost use Rattle.tag_heap.specs.Heap.{state_of};
 ghost use Rattle.tag_heap.specs.Room.{IsHasRoomAnswer, length_of};
 
@@ -59,7 +59,8 @@ impl<B: FitPolicy> TagHeap<B> {
     pub fn has_room(&self, bytes: u32, steps: &mut Steps) -> Result<(), Refusal>
         requires open { IsTrue self.now.is_open }
         ensures answer { IsHasRoomAnswer self.now bytes result }
-        ensures steps { RoseAtMost steps.old steps.new (room_steps result) }
+        ensures steps { RoseBy steps.old steps.new (has_room_steps self.now self.now.order bytes result) }
+        ensures bound { RoseAtMost steps.old steps.new (room_steps result) }
     {
         self.open().room(bytes, steps)?;
         Ok(())
@@ -265,7 +266,8 @@ impl<B: FitPolicy> Manager for TagHeap<B> {
         requires { IsTrue self.now.is_open }
         ensures value { result ≡ totals_in self.now.kind self.now }
         ensures rises { steps.old ≤ steps.new }
-        ensures steps { RoseAtMost steps.old steps.new (3 + 2 * result.free) }
+        ensures steps { RoseBy steps.old steps.new (totals_steps self.now.order) }
+        ensures bound { RoseAtMost steps.old steps.new (3 + 2 * result.free) }
     {
         self.open().totals(steps)
     }

@@ -3,11 +3,11 @@
 //! Nothing here ends the process: a difference is returned as an error, and the test fails with it.
 #![tactic(auto)]
 
-mod free_lists;
 mod block_reference;
+mod free_lists;
 mod run;
 
-pub use free_lists::{half_fit_sizes, tlsf_sizes};
 pub use block_reference::BlockReference;
+pub use free_lists::{half_fit_sizes, tlsf_sizes};
 pub use run::BlockRun;
 pub use test_support::Wrong;

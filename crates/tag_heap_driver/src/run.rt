@@ -9,7 +9,7 @@ use cf_base::{Freed, Handle, Refusal, ResizeFault, Settings, Totals};
 use cf_model::Manager;
 use std::alloc::Global;
 use step_ledger::Meter;
-use test_support::{ManagerUnderTest, Draw, Objects, Wrong, hold};
+use test_support::{Draw, ManagerUnderTest, Objects, Wrong, hold};
 
 /// A manager with blocks under test, and what is expected of it.
 #[derive(Drop)]

@@ -10,7 +10,7 @@ use crate::slice::play_slices;
 use cf_base::Status;
 use cf_io::{Sink, Source};
 use cf_model::Manager;
-use command_line::{Choice, Mode, ArgumentsFault, read_arguments};
+use command_line::{ArgumentsFault, Choice, Mode, read_arguments};
 use manager_modes::{bench_seed, compare_all, load_image, play_large, run_chosen, save_image};
 use std::alloc::Global;
 

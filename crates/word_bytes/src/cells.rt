@@ -68,7 +68,11 @@ pub fn read_bytes(words: &[u64], at: usize, out: &mut [u8])
         copy_word(words[at / WORD_BYTES], at % WORD_BYTES, &mut out[..done]);
     }
     'whole: while done + WORD_BYTES <= out.len() {
-        copy_word(words[(at + done) / WORD_BYTES], 0, &mut out[done..done + WORD_BYTES]);
+        copy_word(
+            words[(at + done) / WORD_BYTES],
+            0,
+            &mut out[done..done + WORD_BYTES],
+        );
         done += WORD_BYTES;
     }
     if done < out.len() {

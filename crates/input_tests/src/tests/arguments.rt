@@ -1,7 +1,7 @@
 //! Tests of `read_arguments`, which reads the arguments of the command line: arguments that are accepted, each
 //! with the choice that it must return, and arguments that are refused.
 use cf_base::Kind;
-use command_line::{Choice, Mode, ArgumentsFault, read_arguments};
+use command_line::{ArgumentsFault, Choice, Mode, read_arguments};
 use std::alloc::{AllocError, Global};
 use std::test::Fail;
 

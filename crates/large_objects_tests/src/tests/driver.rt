@@ -99,7 +99,13 @@ impl<H: Manager> Driver<H> {
 
     /// Reads into `out` from byte `at` on. Fails if the read is refused, or returns other bytes than
     /// `want`. Before it, `out` is filled with other bytes.
-    pub fn read_equals(&mut self, h: Handle, at: u32, out: &mut [u8], want: &[u8]) -> Result<(), Wrong> {
+    pub fn read_equals(
+        &mut self,
+        h: Handle,
+        at: u32,
+        out: &mut [u8],
+        want: &[u8],
+    ) -> Result<(), Wrong> {
         out.fill(0xee);
         let done = self.read(h, at, out)?;
         hold(done.is_ok(), Wrong::Access(done))?;

@@ -25,7 +25,12 @@ pub enum Call {
 
 /// Makes a call of task `task`, and returns its result as a text; `no task` if the number is above 15. Sets
 /// the ledger to 0 before, so that it has the steps of this call afterwards.
-pub fn text_of_result(heap: &mut QuotaHeap, meter: &mut Meter, task: u32, call: Call) -> &'static str
+pub fn text_of_result(
+    heap: &mut QuotaHeap,
+    meter: &mut Meter,
+    task: u32,
+    call: Call,
+) -> &'static str
     requires opened { IsTrue heap.old.is_open }
     ensures { IsTrue heap.new.is_open }
 {

@@ -3,7 +3,7 @@
 //! only the objects that it made. The heap itself doesn't know the tasks.
 ghost use Rattle.std.specs.Prelude.{◌≡◌, ◌≤◌, IsTrue, OnOk};
 
-use super::slow::{MOST, PAGE_WORDS, PAGES, PROXIES, Slot, SliceReference, slot_at, slots};
+use super::slow::{MOST, PAGE_WORDS, PAGES, PROXIES, SliceReference, Slot, slot_at, slots};
 use cf_base::{Handle, Settings};
 use slice_model::SliceRefusal;
 use sliced_heap::SlicedHeap;
@@ -135,7 +135,10 @@ impl Churn {
         match given {
             Ok(handle) => return self.find_new_object(task, handle.0, length),
             Err(SliceRefusal::Busy) => self.seen.waits = self.seen.waits.saturating_add(1),
-            Err(SliceRefusal::Space) => self.seen.refused_for_space = self.seen.refused_for_space.saturating_add(1),
+            Err(SliceRefusal::Space) => self.seen.refused_for_space = self
+                .seen
+                .refused_for_space
+                .saturating_add(1),
             Err(_) => {}
         }
         Ok(())
@@ -300,7 +303,10 @@ fn calls_of_four_tasks_are_answered_as_the_slow_program_computes(
         let seen = churn.seen;
         // A slice of more words than any slot has leaves no job.
         let pending = 0 < seen.waits && 0 < seen.follows && 0 < seen.moving;
-        assert!(rt; 0 < seen.refused_for_space && pending == (quantum <= 64), "{seen:?}");
+        assert!(rt;
+            0 < seen.refused_for_space && pending == (quantum <= 64),
+            "{seen:?}"
+        );
     }
     Ok(())
 }
