@@ -86,20 +86,20 @@ def header(crate):
     print('#include "norphuen.h"\n#include <stdbool.h>\n#define SAME(test, text) _Static_assert(test, text)')
     exported = exports(crate)
     named = {rust for _, parameters, _ in exported for _, _, rust in parameters if rust[0] == 'N'}
-    order = ['Sealed', 'Place'] + sorted(named)
+    order = ['Sealed', 'HeapBlock'] + sorted(named)
     for name in order:
         print(f'struct twin_{name} {{\n' + '\n'.join(twin_field(*field) for field in all_structs.get(name) or fail(f'no struct {name}')) + '\n};')
     for name in sorted(named):
         c, fields = snake(name), all_structs[name]
         match = re.search(rf'typedef struct {c} \{{\n(.*?)\n\}} {c};', text, re.S) or fail(f'the header has no {c}')
         written = re.findall(r'(\w+);', match[1])
-        inner = ['at' if rust == 'Place' else field for field, rust in fields]
+        inner = ['at' if rust == 'HeapBlock' else field for field, rust in fields]
         if written != inner:
             fail(f'{c} has the fields {written}, and {name} {inner}')
         print(f'SAME(sizeof({c}) == sizeof(struct twin_{name}) && _Alignof({c}) == _Alignof(struct twin_{name}), "size of {c}");')
         for field, (twin, rust) in zip(inner, fields):
             print(f'SAME(offsetof({c}, {field}) == offsetof(struct twin_{name}, {twin}), "offset of {field} in {c}");')
-            kind = 'void *' if rust == 'Place' else c_type(rust)
+            kind = 'void *' if rust == 'HeapBlock' else c_type(rust)
             print(f'SAME(_Generic((({c} *)0)->{field}, {kind}: 1, default: 0), "type of {field} in {c}");')
     for name, parameters, result in exported:
         kind = f'{c_type(result)} (*)({", ".join(c_parameters(parameters))})'
@@ -152,14 +152,14 @@ def bindings(crate):
             fail(f'bindings/norphuen.ads: {name} takes {given}, the export {wanted}')
     all_structs = structs()
     for name, rust_name in RUST.items():
-        fields = [('at' if kind == 'Place' else field, kind) for field, kind in all_structs[name]]
+        fields = [('at' if kind == 'HeapBlock' else field, kind) for field, kind in all_structs[name]]
         inside = re.search(rf'#\[repr\(C\)\]\n(?:#\[[^\n]*\]\n)*(?:pub )?struct {rust_name} \{{(.*?)\}}', rust_text, re.S) or fail(f'bindings/norphuen.rs: no {rust_name}')
         given = re.findall(r'(\w+): ([^,}]+?)\s*(?:,|$)', inside[1].strip())
-        if given != [(field, '*mut u8' if kind == 'Place' else kind) for field, kind in fields]:
+        if given != [(field, '*mut u8' if kind == 'HeapBlock' else kind) for field, kind in fields]:
             fail(f'bindings/norphuen.rs: {rust_name} has {given}, {name} has {fields}')
         inside = re.search(rf'type {ADA[name]} is (?:limited )?record (.*?) end record with Convention => C;', ada_flat) or fail(f'bindings/norphuen.ads: no {ADA[name]}')
         given = re.findall(r'(\w+) : (\S+) :=', inside[1])
-        wanted = [('At_Address' if field == 'at' else field.title(), 'System.Address' if kind == 'Place' else ADA[kind]) for field, kind in fields]
+        wanted = [('At_Address' if field == 'at' else field.title(), 'System.Address' if kind == 'HeapBlock' else ADA[kind]) for field, kind in fields]
         if given != wanted:
             fail(f'bindings/norphuen.ads: {ADA[name]} has {given}, {name} has {wanted}')
     codes = re.findall(r'pub const (\w+): i32 = (\d+);', (HELD / 'codes.rt').read_text())

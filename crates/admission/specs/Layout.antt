@@ -1,4 +1,4 @@
--- The invariants of the loops of `fill_sizes` and `count_pages`, and what the failure of `pages_with` means. No public clause cites this module.
+-- The invariants of the loops of `fill_sizes` and `count_pages`, and what the failure of `pages_with` means (`IsPast`). No public clause cites this module.
 use Rattle.std.specs.Prelude.{◌≡◌, ℕ, ◌+◌, ◌≤◌, ◌<◌, List, ◌++◌, length, slice_index, take}
 use Rattle.cf_base.specs.Classes.{sizes, sizes_from}
 use Rattle.cf_base.specs.declared.kind.Layout.TheVariants.{Words}
@@ -6,7 +6,8 @@ use Rattle.page_model.specs.Counts.{ceil_div}
 use Rattle.page_model.specs.Paging.{Paging, classes}
 use Rattle.quota_model.specs.Admission.{count_of_class, pages_of}
 
--- The first `count` entries of the table are the slot sizes of a page below `size`, which is the next one, or is past the page and ends the loop.
+-- The first `count` entries of the table are the slot sizes of a page below `size`, which is the next one, or is past the page and ends the loop. By `left`,
+-- a bound on the number of sizes to come, `sizes_from` has the rest of the sizes.
 pub record IsFilled (page_words : ℕ) (table : List ℕ) (count size : ℕ) : Type 0 where
   pub left : ℕ
   pub some : 1 ≤ size
@@ -21,7 +22,7 @@ pub record IsPast (quota others had more slots fit : ℕ) : Type 0 where
   pub past : quota < others + ceil_div (had + (fit + 1)) slots
 
 -- The loop has counted mallocs of these lengths (`asked`), `before` in number: `counts` has how many there are of each class, and `pages` is how many pages
--- they need, which are within the quota.
+-- they need, which are within the quota. `counts` has 67 entries, the most classes that a page may have.
 pub record AreCounted (p : Paging) (quota : ℕ) (asked counts : List ℕ) (pages before : ℕ) : Type 0 where
   pub counts_are : (c : ℕ) → c < classes p → slice_index counts c ≡ count_of_class p asked c
   pub pages_are : pages ≡ pages_of p asked

@@ -1,5 +1,5 @@
-//! The test whether a quota of pages is enough for the objects that a task declares, and the least
-//! quota that is.
+//! The test whether a quota of pages is enough for the objects that a task declares, its `needs`, and
+//! the least quota that is.
 ghost use Rattle.std.specs.Prelude.{◌≡◌, ℕ, ◌+◌, ◌-◌, ◌^◌, ◌≤◌, ◌<◌, IfErr, IfNone, IfOk, IfSome, Some, length, nat_lt, position};
 ghost use Rattle.std.specs.FinMap.{empty};
 ghost use Rattle.cf_base.specs.Classes.{need, sizes};
@@ -56,7 +56,7 @@ pub fn least_quota(s: &Settings, needs: &[Need]) -> Option<u32>
     }
     match pages_within(s, u32::MAX, needs) {
         Ok(pages) => Some(pages),
-        // Not reached, since 65,536 objects need no more pages than that.
+        // Not reached, since at most 65,536 objects need at most 65,536 pages.
         Err(_) => None,
     }
 }
@@ -88,9 +88,10 @@ fn pages_for(count: u64, slots: u64) -> u64
     (count + (slots - 1)) / slots
 }
 
-/// The objects of all classes so far need `pages` pages; one class, with `slots` slots to a page,
-/// has `had` of them. Returns how many pages all need after `more` objects of that class are added.
-/// If that exceeds `quota` pages, fails with the number of the added objects that still fit.
+/// So far the objects of all classes need `pages` pages. One class, with `slots` slots to a page,
+/// has `had` of these objects. Returns how many pages all objects need after `more` objects of that
+/// class are added. If that exceeds `quota` pages, fails with how many of the added objects still
+/// fit.
 fn pages_with(quota: u64, pages: u64, had: u64, more: u64, slots: u64) -> Result<u64, u64>
     requires some { 1 ≤ slots }
     requires low { slots ≤ 4096 }

@@ -18,7 +18,7 @@
 //! - `m ID BYTES`, `f ID`, `z ID BYTES`: makes, frees, resizes an object.
 //! - `w ID AT BYTES`, `r ID AT BYTES`: writes, reads BYTES bytes, 1,000,000 at most.
 //! - `g 0 COUNT`: the first COUNT commands of the generator with seed 1.
-//! - `s`: one step of the sliced heap, a slice of its pending job.
+//! - `s`: one call of `step` of the sliced heap, which does a slice of its pending job.
 //! - `d 0 COUNT`: COUNT mallocs, frees and steps of the sliced heap, drawn at random.
 #![tactic(auto)]
 

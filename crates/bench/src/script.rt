@@ -25,7 +25,8 @@ pub(crate) struct Line {
 }
 
 impl Line {
-    /// Reads a line; `None` if the text is not one.
+    /// Reads a line: a letter, then numbers of 5, 7 and 7 digits, each after one byte of any value. `None` if
+    /// the text is too short, or a number has a byte that is no digit.
     pub(crate) fn read(text: &[u8]) -> Option<Line> {
         Some(Line {
             op: *text.first()?,
@@ -59,7 +60,7 @@ impl Table {
         }
     }
 
-    /// Sets the handle of an id.
+    /// Sets the handle of an id; does nothing if the id is above 65,535.
     pub(crate) fn name(&mut self, id: u32, h: Handle) {
         if let Some(number) = self.handles.get_mut(id as usize) {
             *number = h.0;

@@ -1,4 +1,4 @@
-//! Makes the calls of a script on the sliced heap.
+//! Makes the calls of a script on the sliced heap. The module `main` describes the lines of a script.
 ghost use Rattle.std.specs.Prelude.{IsTrue};
 
 use crate::script::{LINE, Line, NONE, Table};
@@ -12,7 +12,8 @@ use step_ledger::Meter;
 /// The number of ids that drawn calls use.
 const ENTRIES: u32 = 256;
 
-/// The length in bytes of a drawn malloc: half are below 256, some take a large part of a page.
+/// The length in bytes of a malloc, by the random number `word`: half are below 256, some take a large part of a
+/// page.
 fn length_of(word: u64) -> u32 {
     let size = ((word >> 8) % 65_536) as u32;
     match word % 8 {
@@ -50,8 +51,9 @@ fn sliced_step(heap: &mut SlicedHeap, meter: &mut Meter)
     heap.step(meter.steps());
 }
 
-/// Makes the call that a random word determines: a step for one of three words; else, for a drawn entry
-/// of the table, a malloc if it has no object, or a free of its object.
+/// Makes the call that the random number `word` determines. For one of three numbers it is `step`, which does a
+/// slice of the pending job. Else the number selects an entry of the table: if the entry has no object, the call
+/// is a malloc, else a free of its object.
 fn drawn(heap: &mut SlicedHeap, word: u64, table: &mut Table, meter: &mut Meter) {
     if !heap.is_open() {
         return;
@@ -69,7 +71,8 @@ fn drawn(heap: &mut SlicedHeap, word: u64, table: &mut Table, meter: &mut Meter)
     }
 }
 
-/// Makes the call of a line, and returns whether it succeeded.
+/// Makes the call of a line, or for the letter `d` a number of drawn calls. Returns whether it succeeded:
+/// false for a letter that is no call of this heap.
 fn apply(heap: &mut SlicedHeap, line: Line, table: &mut Table, meter: &mut Meter) -> bool {
     if !heap.is_open() {
         return false;
@@ -98,8 +101,9 @@ fn apply(heap: &mut SlicedHeap, line: Line, table: &mut Table, meter: &mut Meter
     }
 }
 
-/// Opens the heap and makes the calls. Returns the number of calls that succeeded, or `None` for a bad
-/// script or out of memory.
+/// Opens the heap with the numbers of the line `first`, its pages, the bytes of a page and the quantum, and
+/// makes the calls of the lines `calls`. Returns the number of lines whose calls succeeded, or `None` for a
+/// bad script or out of memory.
 pub(crate) fn run(
     alloc: Global,
     first: Line,

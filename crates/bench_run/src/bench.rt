@@ -62,7 +62,7 @@ pub fn run_bench<H: Manager, K: Sink>(
 }
 
 /// Applies the first `count` commands that the generator makes of the seed, and counts how many of their
-/// replies are good and how many are refusals.
+/// replies are good, `ok` or the bytes of a read, and how many are refusals.
 fn apply_commands<H: Manager>(session: &mut Session, heap: &mut H, seed: u64, count: u64) -> Tally
     requires { IsGoing (run_at session.old (H.state heap.old)) }
     ensures applied { IsAppliedTo (run_at session.old (H.state heap.old)) (generated seed count) (run_at session.new (H.state heap.new))

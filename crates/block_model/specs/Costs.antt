@@ -6,26 +6,26 @@ use Rattle.block_model.specs.Buckets.{FreeLists}
 use Rattle.block_model.specs.FreeOrder.{free_from, free_up_to, last_listed, link_word, no_block}
 use Rattle.block_model.specs.Tiling.{Block, is_free, size_at}
 
--- The steps of finding the first list with a block in the groups of 16 lists from `group` on; none or `list` is what is found. One step reads the bits of the
--- groups, one those of the group found. No group is above 31.
+-- The steps of finding the first list with a block in the groups of 16 lists from `group` on, by the result: `Some list`, or `None` if there is none. One step
+-- reads the bits of the groups, and one those of the group found. The last group is 31, so from 32 on nothing is read.
 abbrev pub group_steps : ℕ → Option ℕ → ℕ
 group_steps group None = if group == 32 then 0 else 1
 group_steps group (Some list) = 2
 
--- The steps of finding the first list with a block from list `start` on; none or `list` is what is found. One step reads the bits of its group, and if these
--- show no list, `group_steps` are added for the groups after it.
+-- The steps of finding the first list with a block from list `start` on, by the result: `Some list`, or `None` if there is none. One step reads the bits of the
+-- group of `start`; if these show no list, `group_steps` are added for the groups after it.
 abbrev pub list_steps : ℕ → Option ℕ → ℕ
 list_steps start None = if start / 16 == 31 then 1 else 2
 list_steps start (Some list) = if list / 16 == start / 16 then 1 else 3
 
--- The steps of finding a free block for a need, with `count` lists; none or the address `at` is what is found. They are those of finding the first list with a
--- block, and one for reading its head. A search that begins past the last list costs none.
+-- The steps of finding a free block for a need, with `count` lists, by the result: `Some at`, the block's address, or `None` if there is none. They are those of
+-- finding the first list with a block, and one for reading its head. A search that begins past the last list costs none.
 abbrev pub find_steps : FreeLists → ℕ → List Block → ℕ → Option ℕ → ℕ
 find_steps rule count blocks need None = if nat_le count (rule.search need) then 0 else list_steps (rule.search need) None
 find_steps rule count blocks need (Some at) = list_steps (rule.search need) (Some (rule.bucket (size_at blocks at))) + 1
 
--- The steps of finding the largest free block, by the free lists. One step reads which groups of lists have a block. If a block is free, one reads which lists of
--- the last such group have one, one reads the head of the last of these lists, and two read each block of that list.
+-- The steps of finding the largest free block, by the free lists. One step reads which groups of lists have a block. If a block is free, a second step reads
+-- which lists of the last such group have a block, a third reads the head of the last of these lists, and two steps read each block of that list.
 abbrev pub largest_steps : List (List ℕ) → ℕ
 largest_steps lists = if length (last_listed lists) == 0 then 1 else 3 + 2 * length (last_listed lists)
 
@@ -96,13 +96,13 @@ next_merge_steps link end more words = (if end == words then 0 else 1) + (if mor
 abbrev pub previous_merge_steps : ℕ → ℕ → ℕ → ℕ → ℕ → ℕ
 previous_merge_steps link at less end words = (if at == 0 then 0 else 1) + (if less == 0 then 0 else join_steps link end words)
 
--- The link (`link`) of the block at `a` once a block with the link `gone` left the list. If `a` was before that block, the next block of `a` is now that
--- block's next one; else the link stays.
+-- The link of the block at `a`, which was `link`, after another block left the list, whose link was `gone`. If the block that left was the next one of `a`,
+-- the next one of `a` is now that block's next one; else the link stays.
 abbrev pub led_link : ℕ → ℕ → ℕ → ℕ
 led_link a link gone = if a == gone / 2 ^ 32 then link_word (gone % 2 ^ 32) (link / 2 ^ 32) else link
 
--- The link (`link`) of the block at `a` once a block with the link `gone` left the list. If `a` was before that block, `led_link` changes it. If `a` was behind
--- it, the previous block of `a` is now that block's previous one.
+-- The link of the block at `a`, which was `link`, after another block left the list, whose link was `gone`: `led_link`, for the case that this block was the
+-- next one of `a`; and if it was the previous one of `a`, the previous one of `a` is now that block's previous one.
 abbrev pub left_link : ℕ → ℕ → ℕ → ℕ
 left_link a link gone = if a == gone % 2 ^ 32 then link_word (led_link a link gone % 2 ^ 32) (gone / 2 ^ 32) else led_link a link gone
 

@@ -6,7 +6,7 @@ use Rattle.cf_lemmas.specs.Lists.{without_number}
 use Rattle.block_model.specs.Buckets.{FreeLists}
 use Rattle.block_model.specs.Tiling.{Block, Demand, is_free, block_at, size_at, carved_at}
 
--- the blocks of a region, and for each bucket its free list: the addresses of its free blocks, the next one to be used first
+-- the blocks of a region, and for each bucket its free list: the addresses of its free blocks, in the order in which they are used
 pub record BlocksWithLists : Type 0 where
   pub blocks : List Block
   pub lists : List (List ℕ)
@@ -44,7 +44,7 @@ abbrev pub last_listed : List (List ℕ) → List ℕ
 last_listed [] = []
 last_listed (xs ∷ lists) = later_or xs (last_listed lists)
 
--- the next block for a need: the first block of the first list that is not empty, from the list on that the rule searches first
+-- the next block for a need: the first block of the first list that is not empty; the rule says from which list on (`search`)
 abbrev pub next_block : FreeLists → List (List ℕ) → ℕ → Option ℕ
 next_block rule lists need = first_listed (drop (rule.search need) lists)
 

@@ -71,9 +71,9 @@ pub fn the_words_show_the_blocks()
         → HaveHeaders words blocks 0 → HaveTags words blocks → read_blocks count words 0 count ≡ blocks }
 {}
 
-/// The used block `b` at `place` can get other contents, `now` in place of `content`, while every
-/// word outside of it stays. Then the new words represent the same blocks. `content q i` is word
-/// `i` of the contents of owner `q`.
+/// The used block `b` at `place` can get other contents, while every word outside of it stays. Then
+/// the new words represent the same blocks. `content q i` is word `i` of the contents of owner `q`
+/// before, `now q i` after; for the owner of every other block the two agree.
 pub fn a_block_gets_other_contents()
     ensures { (content now : ℕ → ℕ → ℕ) (count : ℕ) (blocks : List Block) (words : List ℕ) (place : ℕ) (b : Block) (h : ℕ)
         → IsTiling count blocks → AreTilingWords content blocks words → length words ≡ count

@@ -1,4 +1,4 @@
--- What contracts say of the bytes and the faults of any source or sink. Bytes that are not observable are none.
+-- What contracts say of the bytes and the faults of any source or sink. Its bytes are `None` if it isn't observable.
 use Rattle.std.specs.Prelude.{◌≡◌, ◌≤◌, ◌+◌, ◌⊎◌, ◌++◌, ℕ, Bool, true, List, [], min, Option, option_map, IfSome, Result, Ok, Err}
 use Rattle.cf_base.specs.declared.answers.Failed.{Failed}
 

@@ -8,7 +8,7 @@ pub record MemSink : Type 0 where
   pub room : ℕ
   pub schedule : Schedule
 
--- an empty sink with room for `room` bytes, before its first call, with the schedule of these cuts and failing calls
+-- an empty sink with room for `room` bytes, before its first call: the calls in `fails` fail, and `cuts` limits the bytes of the first calls (`Schedule`)
 abbrev pub mem_sink : ℕ → List ℕ → List ℕ → MemSink
 mem_sink room cuts fails = record { written = []; room = room; schedule = planned cuts fails }
 

@@ -26,7 +26,7 @@ pub record LoopSource : Type 0 where
 abbrev pub sure_source : List ℕ → SureSource
 sure_source bytes = record { left = bytes; given = 0; calls = 0 }
 
--- a source of these bytes, before its first call, with the schedule of these cuts and failing calls
+-- a source of these bytes, before its first call: the calls in `fails` fail, and `cuts` limits the bytes of the first calls (`Schedule`)
 abbrev pub mem_source : List ℕ → List ℕ → List ℕ → MemSource
 mem_source bytes cuts fails = record { left = bytes; given = 0; schedule = planned cuts fails }
 

@@ -84,8 +84,8 @@ impl<T: Read> Source for StdSource<T> {
 }
 
 /// A sink that writes to a writer of std, and flushes after each write. Its bytes written are not
-/// observable. A call fails if the write or the flush fails, or if the writer takes none of one or
-/// more bytes.
+/// observable. A call fails if the write or the flush fails, or if there are bytes and the writer takes
+/// none.
 #[derive(Drop)]
 pub struct StdSink<T> {
     writer: T,
@@ -108,8 +108,8 @@ impl<T> StdSink<T> {
     }
 }
 
-/// Makes one write of the bytes, then flushes. Returns how many bytes the writer took. Returns none
-/// if the write or the flush fails, or if the writer takes none of one or more bytes.
+/// Makes one write of the bytes, then flushes. Returns how many bytes the writer took; `None` if the
+/// write or the flush fails, or if there are bytes and the writer takes none.
 fn write_and_flush<T: Write>(writer: &mut T, bytes: &[u8]) -> Option<usize>
     ensures within { IfSome result (λ n. n ≤ length bytes.now) }
     ensures some { 0 < length bytes.now → IfSome result (λ n. 0 < n) }

@@ -55,8 +55,8 @@ impl Model for MemSink {
 }
 
 impl MemSink {
-    /// An empty sink with room for `room` bytes, whose calls fail and are cut by `fails` and
-    /// `cuts`. All its memory is allocated here; fails only if memory runs out.
+    /// An empty sink with room for `room` bytes. The calls in `fails` fail, and `cuts` limits the
+    /// bytes of the first calls. All its memory is allocated here; fails only if memory runs out.
     pub fn new(
         alloc: Global,
         room: usize,

@@ -98,8 +98,8 @@ impl Model for MemSource {
 }
 
 impl MemSource {
-    /// A source of these bytes, before its first call, whose calls fail and are cut by `fails` and
-    /// `cuts`.
+    /// A source of these bytes, before its first call. The calls in `fails` fail, and `cuts` limits
+    /// the bytes of the first calls.
     pub fn new(bytes: Vec<u8>, cuts: Vec<usize>, fails: Vec<u64>) -> MemSource
         ensures { result ≡ mem_source bytes.items cuts.items fails.items }
     {
@@ -147,8 +147,8 @@ impl Source for MemSource {
 }
 
 /// A source that fills each buffer with its pattern, over and over, and never fails. `at` is the
-/// index of the pattern's byte that is next. Its input never ends, so no list is its bytes left,
-/// and they are not observable.
+/// index of the pattern's byte that is next. Its input never ends, so no list holds its bytes
+/// left, and they are not observable.
 #[derive(Drop)]
 pub struct LoopSource {
     pattern: Vec<u8>,

@@ -20,12 +20,13 @@ use Rattle.cf_model.specs.State.{HeapState, paging_in, region_words}
 abbrev pub place_of : HeapState → ℕ → Option ℕ
 place_of s h = option_map (λ (x : Placed). x.place) (get s.held h)
 
--- the physical block of block i of an object's slot, in which blocks of four words are counted from 0; none if there is no object, or its slot has no block i
+-- The number of the physical block that holds block i of an object's slot. Blocks have four words, and i counts from 0. None if there is no object, or its slot
+-- has no block i.
 abbrev pub block_of_object : HeapState → Option Placed → ℕ → Option ℕ
 block_of_object s None i = None
 block_of_object s (Some x) i = if nat_lt i (slot_for (paging_in s) (length x.bytes) / 4) then Some (block_of s.frames x.place i) else None
 
--- the physical block of block i of the slot of object h, if h is live and its slot has that block; always none for the kinds without a block table
+-- `block_of_object` for object h; always none for the kinds without a block table
 abbrev pub block_in : Kind → HeapState → ℕ → ℕ → Option ℕ
 block_in Moving s h i = None
 block_in NonMoving s h i = block_of_object s (get s.held h) i

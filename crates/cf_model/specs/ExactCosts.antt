@@ -47,8 +47,8 @@ free_cost s o h (Err e) = 1
 abbrev pub tail_steps : Kind → ℕ → ℕ → ℕ → ℕ
 tail_steps kind a n m = if nat_lt n m then word_steps kind + run_steps kind (a + 2 + n / 8) ((m + 7) / 8 - n / 8 - 1) else 0
 
--- Copying an object of m bytes to another slot, where it has n bytes: copying the words that hold the bytes of both lengths, clearing their bytes from n on,
--- writing the header, and changing the proxy.
+-- Copying an object of m bytes to another slot, where it has n bytes: copying the words that hold its first m or n bytes, whichever are fewer,
+-- clearing the bytes from n on in the last of these words, writing the header, and changing the proxy.
 abbrev pub carrying_cost : Kind → ℕ → ℕ → ℕ
 carrying_cost kind m n = copy_steps kind 1 ((min m n + 7) / 8) + tail_steps kind 0 n (8 * ((min m n + 7) / 8)) + word_steps kind + 1
 

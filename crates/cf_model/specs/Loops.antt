@@ -1,5 +1,5 @@
--- What a loop over a list does to its items, for `open_all`: `xs` is the list before the loop, `ys` the list after it or so far. The defaults d and e don't
--- matter.
+-- What a loop over a list does to its items, for `open_all`, which opens every manager of a list: `xs` is the list before the loop, `ys` the list after it or
+-- so far. d and e are the defaults of `slice_index_or`, which no position here uses.
 use Rattle.std.specs.Prelude.{◌≡◌, ℕ, ◌<◌, ◌≤◌, List, length, slice_index_or}
 use Rattle.cf_base.specs.declared.settings.Settings.{Settings}
 use Rattle.cf_model.specs.Rules.{KeepsRules}

@@ -75,7 +75,7 @@ opening_tiling kind p = elim (family_of kind) [ paged ↦ [] | tiled ↦ one_fre
 abbrev pub IsOpeningWords : Kind → Profile → List ℕ → Type 0
 IsOpeningWords kind p words = elim (family_of kind) [ paged ↦ words ≡ replicate (region_words p) 0 | tiled ↦ ⊤ ]
 
--- the state of an open heap without objects, with the settings p, these words, and no order
+-- the state of an open heap without objects, with the settings p and these words, of a manager that promises no order
 abbrev pub empty_heap : Kind → Profile → List ℕ → HeapState
 empty_heap kind p words = record {
   kind = kind;
@@ -91,7 +91,7 @@ empty_heap kind p words = record {
   cost = 0;
 }
 
--- the state of an open heap without objects, with the settings p, these words, and this order or none
+-- the state of an open heap without objects, with the settings p, these words, and this order; `None` if the manager promises no order
 abbrev pub ordered_heap : Kind → Profile → List ℕ → Option Order → HeapState
 ordered_heap kind p words order = record (empty_heap kind p words) { order = order }
 
@@ -106,7 +106,7 @@ opening_order kind p = elim (family_of kind) [
   }
 ]
 
--- a heap that opens has no order, or the opening order
+-- a heap that opens has the opening order; nothing is claimed if the manager promises no order (`None`)
 abbrev pub IsOpeningOrder : Kind → Profile → Option Order → Type 0
 IsOpeningOrder kind p None = ⊤
 IsOpeningOrder kind p (Some order) = order ≡ opening_order kind p
@@ -221,12 +221,12 @@ abbrev pub IsFreeStep : HeapState → ℕ → Result Freed NotLive → HeapState
 IsFreeStep old h (Ok freed) new = FreesObject old h freed new
 IsFreeStep old h (Err e) new = (get old.held h ≡ None) × ChangesCost old new
 
--- a part of an object to read or write: the object's number, and the part's first byte, counted from 0
+-- where a read or a write begins: the object's number, and a byte of the object, counted from 0
 pub record Position : Type 0 where
   pub number : ℕ
   pub from : ℕ
 
--- the object of the part is live, but the part, of `count` bytes, goes beyond its end
+-- the object is live, but the `count` bytes from the position on go beyond its end
 pub record PassesEnd (s : HeapState) (position : Position) (count : ℕ) : Type 0 where
   pub object : Placed
   pub found : get s.held position.number ≡ Some object
@@ -244,7 +244,7 @@ StaysOutside kind old x new = elim (family_of kind) [
   | tiled ↦ (w : ℕ) → IsOutside x.place (size_at old.tiling x.place) w → slice_index new.words w ≡ slice_index old.words w
 ]
 
--- A write succeeds: the object of the part gets these bytes from byte `position.from` on. Besides this object only words may change.
+-- A write succeeds: object `position.number` gets these bytes from byte `position.from` on. Besides this object only words may change.
 pub record WritesBytes (old : HeapState) (position : Position) (bytes : List ℕ) (new : HeapState) : Type 0 where
   pub object : Placed
   pub found : get old.held position.number ≡ Some object
@@ -252,20 +252,20 @@ pub record WritesBytes (old : HeapState) (position : Position) (bytes : List ℕ
   pub outside : StaysOutside old.kind old object new
   pub whole : new ≡ record old { held = insert old.held position.number (record object { bytes = written object.bytes position.from bytes }); words = new.words }
 
--- a write of `bytes` to the part: with `Ok` it replaces bytes of the object; with `Err` it is refused for this cause, and changes nothing
+-- a write of `bytes` at the position: with `Ok` it replaces bytes of the object; with `Err` it is refused for this cause, and changes nothing
 abbrev pub IsWriteStep : HeapState → Position → List ℕ → Result Unit AccessFault → HeapState → Type 0
 IsWriteStep old position bytes (Ok u) new = WritesBytes old position bytes new
 IsWriteStep old position bytes (Err e) new = IsFault old position (length bytes) e × (new ≡ old)
 
--- a read succeeds: the object of the part is live, and `bytes` are its `count` bytes from byte `position.from` on
+-- a read succeeds: object `position.number` is live, and `bytes` are its `count` bytes from byte `position.from` on
 pub record ReadsBytes (s : HeapState) (position : Position) (count : ℕ) (bytes : List ℕ) : Type 0 where
   pub object : Placed
   pub found : get s.held position.number ≡ Some object
   pub within : position.from + count ≤ length object.bytes
   pub value : bytes ≡ take count (drop position.from object.bytes)
 
--- a read into a buffer that holds `room` before and `out` after it: with `Ok` it fills the buffer with the part's bytes; with `Err` it is refused for this
--- cause, and leaves the buffer unchanged
+-- a read into a buffer that holds `room` before and `out` after it: with `Ok` it fills the buffer with the object's bytes from the position on; with `Err` it is
+-- refused for this cause, and leaves the buffer unchanged
 abbrev pub IsReadAnswer : HeapState → Position → List ℕ → Result Unit AccessFault → List ℕ → Type 0
 IsReadAnswer s position room (Ok u) out = ReadsBytes s position (length room) out
 IsReadAnswer s position room (Err e) out = IsFault s position (length room) e × (out ≡ room)

@@ -33,9 +33,10 @@ use block_model::free_order::lists_stay_lists_of_the_blocks;
 
 /// The state of a heap that was just opened keeps the rules (`KeepsRules`). With pages its words
 /// are zeros, and it has no order or the opening one (clause `pages`). With blocks word 0 is the
-/// header of the one free block, and the words from 2 on are zeros; word 1 is any word without an
-/// order (`blocks`), and with the opening order links the block with no other (`linked`). So each
-/// kind has such words, without an order (`there`) and with the opening one (`ordered`).
+/// header of the one free block, and the words from 2 on are zeros. Word 1 may be any word if the
+/// state has no order (`blocks`). If it has the opening order, word 1 links the block with no other
+/// (`linked`). So each kind has such words, without an order (`there`) and with the opening one
+/// (`ordered`).
 pub fn an_empty_heap_keeps_the_rules()
     ensures pages { (kind : Kind) (p : Profile) (order : Option Order) → IsPaged kind → AreInRange p → IsOpeningOrder kind p order
         → KeepsRules (ordered_heap kind p (replicate (region_words p) 0) order) }

@@ -91,8 +91,8 @@ pub trait Manager: Drop {
 
     /// Writes bytes into an object from byte `at` on, and changes nothing else. Refused, in this
     /// order: `Unknown` if the handle isn't live; `Range` if the bytes pass the end of the object.
-    /// A refusal changes nothing. At most 16 steps plus three times the words that hold one of the
-    /// bytes.
+    /// A refusal changes nothing. At most 16 steps plus three for each word that holds at least one
+    /// of the bytes.
     fn write(
         &mut self,
         h: Handle,
@@ -108,7 +108,8 @@ pub trait Manager: Drop {
         ensures bound { RoseAtMost steps.old steps.new (access_bound at (length bytes.now)) };
 
     /// Fills `out` with the bytes of an object from byte `at` on. Refused as `write` is; then `out`
-    /// stays unchanged. At most 16 steps plus three times the words that hold one of the bytes.
+    /// stays unchanged. At most 16 steps plus three for each word that holds at least one of the
+    /// bytes.
     fn read(&self, h: Handle, at: u32, out: &mut [u8], steps: &mut Steps) -> Result<(), AccessFault>
         requires open { IsTrue (state self.now).is_open }
         requires room { steps.old ≤ 2 ^ 63 }
@@ -146,15 +147,15 @@ pub trait Manager: Drop {
         ensures bound { state self.new ≡ with_bound (state self.old) (class_with (state self.old).kind (state self.old) slot_words) k }
         ensures rules { KeepsRules (state self.new) };
 
-    /// The address of the object: the index in the region of the first word of its slot or block,
-    /// with a block table of the virtual word; none if the handle isn't live.
+    /// The address of the object: the index of the first word of its slot or block in the region or,
+    /// with a block table, among the virtual words. None if the handle isn't live.
     fn place(&self, h: Handle, steps: &mut Steps) -> Option<u32>
         requires { IsTrue (state self.now).is_open }
         ensures value { result ≡ place_of (state self.now) h.0 }
         ensures rises { steps.old ≤ steps.new };
 
-    /// The word of the region at the index `word`, with a block table the virtual word; none beyond
-    /// its end.
+    /// The word of the region at the index `word`; none if that is beyond the region's end. With a
+    /// block table the index counts virtual words.
     fn peek(&self, word: u32, steps: &mut Steps) -> Option<u64>
         requires { IsTrue (state self.now).is_open }
         ensures value { result ≡ slice_get (state self.now).words word }

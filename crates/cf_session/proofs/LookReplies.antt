@@ -31,7 +31,7 @@ pub written : (lead begun line text : List ℕ) (outcome : Outcome) → begun �
     → SaidOn (lines_at lead line) text (reply.Written outcome)
 written lead begun line text outcome begins is short shows = (is ∙ ap (λ (l : List ℕ). l ++ text) begins, short, shows)
 
--- the text for a part that the object has, and for one that passes its end
+-- the reply to a read of bytes that the object has, and of bytes that pass its end
 pub read_within : (x : Placed) (from count : ℕ) → from + count ≤ length x.bytes
     → read_text (Some x) from count ≡ codes "=" ++ encode_lower (take count (drop from x.bytes))
 read_within x from count le = rw (le-leb _ _ le) refl

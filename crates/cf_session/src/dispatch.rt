@@ -21,9 +21,9 @@ use script_reader::CommandRef;
 use step_ledger::Steps;
 
 /// Does command `c` and writes its reply to `out`. Each line begins with `lead` and is written in one call of
-/// the sink. If the sink fails, the result is `Failed`: the command has taken effect, and a prefix of its reply
-/// was written. `line`, `buffer` and `text` are scratch: `line` for replies of one line, and, for `r` alone,
-/// `buffer` for the bytes read and `text` for the line of the reply.
+/// the sink. Returns how the command ended, by its reply. If the sink fails, the result is `Failed`: the command
+/// has taken effect, and a prefix of its reply was written. `line`, `buffer` and `text` are scratch: `line` for
+/// replies of one line, and, for `r` alone, `buffer` for the bytes read and `text` for the line of the reply.
 // All commands are in one match: where a caller's command is known, the compiler inlines its branch alone.
 pub(crate) fn answer<H: Manager, K: Sink>(
     records: &mut Records,

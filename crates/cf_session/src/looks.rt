@@ -66,7 +66,8 @@ pub(crate) fn read<H: Manager, K: Sink>(
 }
 
 /// Reads bytes of object `h` from byte `at` on until `buffer` is full, and writes them to the sink in
-/// hexadecimal, as a line built in `text`; writes `range` if they would pass the end of the object.
+/// hexadecimal, as a line built in `text`; writes `range`, built in `line`, if they would pass the end of the
+/// object. Fails if the sink fails; else returns how the command ended.
 fn read_part<H: Manager, K: Sink>(
     heap: &H,
     h: Handle,

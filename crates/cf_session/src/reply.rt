@@ -1,5 +1,5 @@
-//! Writing a reply of one line to the sink. Every result is the outcome of the reply, or `Failed` if the sink
-//! failed.
+//! Writing a reply of one line to the sink. If the sink fails, the result is `Failed`, and a prefix of the
+//! reply was written.
 ghost use Rattle.std.specs.Prelude.{◌≤◌, List, ℕ, OnErr, length, OnOk, ◌≡◌};
 ghost use Rattle.cf_io.specs.Feeds.{Puts, FailsLast};
 ghost use Rattle.cf_session.specs.Apply.{IsEnded};

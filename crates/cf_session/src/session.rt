@@ -130,14 +130,14 @@ impl Session {
         )
     }
 
-    /// How many times a call moved an object to another's slot since the start; it stays at `2^64 - 1`.
+    /// How many times a call moved an object to another's slot since the start; saturates at `2^64 - 1`.
     pub fn moves(&self) -> u64
         ensures { result ≡ self.now.moves }
     {
         self.records.counters.moves
     }
 
-    /// The words of the slots of these moves; the sum stays at `2^64 - 1`.
+    /// The words of all slots to which calls moved an object since the start; saturates at `2^64 - 1`.
     pub fn words(&self) -> u64
         ensures { result ≡ self.now.words }
     {

@@ -1,5 +1,5 @@
 //! Tests of the whole program: `cf_main` on sources and sinks in memory, in every mode. Here are the helpers
-//! that its modules share, and the tests of mode `run` with worked scripts.
+//! that its modules share, and the tests of mode `run` with scripts whose replies were worked out by hand (`rows`).
 mod damage;
 mod faults;
 mod keeping;
@@ -200,8 +200,8 @@ fn is_answered_so(
     Ok(got.is(status, text))
 }
 
-/// Returns the name of the first row whose script has another outcome than the row says; empty if there is
-/// none.
+/// Returns the name of the first row whose script ends with another status or prints another text than the row
+/// has; empty if there is no such row.
 fn first_other(rt: &HostRuntime, rows: &[Row]) -> Result<&'static str, Fail> {
     for row in rows {
         let (shows, script, status, text) = *row;
@@ -219,13 +219,13 @@ fn each_script_prints_its_replies(rt: HostRuntime) -> Result<(), Fail> {
     Ok(())
 }
 
-/// Returns the number that is all of `text` between these two texts; `None` if there is something else.
+/// Returns the number of a `text` that is `before`, a number and `after`; `None` if it is something else.
 fn number_between(text: &[u8], before: &[u8], after: &[u8]) -> Option<u32> {
     number_of(text.strip_prefix(before)?.strip_suffix(after)?)
 }
 
-/// Returns the number that a script prints between these two texts; `None` if it prints something else or
-/// does not end with `Done`.
+/// Returns the number of a script whose whole output is `before`, a number and `after`; `None` if the output is
+/// something else or the script does not end with `Done`.
 fn number_shown(
     rt: &HostRuntime,
     words: &[&str],
@@ -334,7 +334,7 @@ fn a_page_of_131072_bytes_has_4096_slots(rt: HostRuntime) -> Result<(), Fail> {
     Ok(())
 }
 
-/// Arguments that are rejected end with `Words`, and nothing is printed.
+/// With arguments that it rejects, `cf_main` returns `Words` and prints nothing.
 #[test]
 fn words_that_are_not_taken_read_nothing(rt: HostRuntime) -> Result<(), Fail> {
     let refused: [&[&str]; 6] = [

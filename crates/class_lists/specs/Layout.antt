@@ -29,7 +29,7 @@ IsLinked next previous start (node ∷ nodes) end =
 abbrev pub list_at : List (List ℕ) → ℕ → List ℕ
 list_at lists k = slice_index_or lists k []
 
--- The links represent these lists: the ring of each begins and ends at the list's own node, and `lens` has its length.
+-- The links represent these lists: the ring of list number k begins and ends at the list's own node, `pages + k`, and `lens` has the length of each list.
 pub record AreRings (next previous lens : List ℕ) (pages : ℕ) (lists : List (List ℕ)) : Type 0 where
   pub as_many : length lists ≡ length lens
   pub linked : (k : ℕ) → k < length lens → IsLinked next previous (pages + k) (list_at lists k) (pages + k)

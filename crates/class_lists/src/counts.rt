@@ -7,7 +7,8 @@ use std::alloc::{AllocError, Global};
 use std::marker::Model;
 
 /// The lengths of the lists: for each class that of its list of full pages, and that of its list of
-/// partly full ones. Contracts see one list of counts, by the number of a list.
+/// partly full ones. Contracts see one list of counts, in which each class has two neighbouring
+/// entries: first that of its full pages, then that of its partly full ones (`list_number`).
 #[derive(Drop)]
 pub(crate) struct Counts {
     /// By class, the number of full pages.

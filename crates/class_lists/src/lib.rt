@@ -126,10 +126,12 @@ impl ClassLists {
         let pages = self.pages;
         let list = number_of(c, which);
         let node = pages + list;
+        // The list's node gets the page as its next, and the page gets the old next: two steps.
         let first = self
             .links
             .next
             .pass(node as usize, page, page as usize, steps);
+        // The previous of the page is the list's node, and that of `first` the page: two steps.
         self.links
             .previous
             .set_both(page as usize, node, first as usize, page, steps);

@@ -1,5 +1,6 @@
 -- Which choice the arguments of the command line make, and when they are refused, by the definitions of the crate `clap`. In this file `words` are the
--- arguments; the first is the program's name.
+-- arguments; the first is the program's name. For a value that "never occurs" the function returns a default: the command of `clap` (`cf_command`) refuses such
+-- a value, and an option that is not named has its own default.
 use Rattle.std.specs.Prelude.{◌≡◌, ◌≢◌, ⊤, ℕ, List, [], Option, Some, None, Result, Ok, Err, codes, false, if◌then◌else◌}
 use Rattle.std.specs.Str.{bytes_eq}
 use Rattle.std.specs.Str.Parse.{digits_value, without_leading_plus}
@@ -15,7 +16,7 @@ use Rattle.command_line.specs.declared.choice.Mode.TheVariants.{Run, Compare, Be
 use Rattle.command_line.specs.declared.choice.ArgumentsFault.{ArgumentsFault}
 use Rattle.command_line.specs.declared.choice.ArgumentsFault.TheVariants.{Refused, OutOfMemory}
 
--- the mode with this name; `Run` for any other name or none, which the command never lets through
+-- the mode with this name; `Run` for any other name or none, which never occurs
 abbrev pub mode_named : Option Text → Mode
 mode_named None = Run
 mode_named (Some name) = if bytes_eq name (mode_name Compare) then Compare
@@ -25,18 +26,18 @@ mode_named (Some name) = if bytes_eq name (mode_name Compare) then Compare
     else (if bytes_eq name (mode_name Load) then Load
     else (if bytes_eq name (mode_name Slice) then Slice else (if bytes_eq name (mode_name Quota) then Quota else Run))))))
 
--- the kind with this name; `Moving` for any other name or none, which the command never lets through
+-- the kind with this name; `Moving` for any other name or none, which never occurs
 abbrev pub kind_named : Option Text → Kind
 kind_named None = Moving
 kind_named (Some name) = if bytes_eq name (kind_name NonMoving) then NonMoving
     else (if bytes_eq name (kind_name Tlsf) then Tlsf else (if bytes_eq name (kind_name HalfFit) then HalfFit else Moving))
 
--- the number that a text spells, as `clap` reads a number of 64 bits; 0 for any other text or none, which the command never lets through
+-- the number that a text spells, as `clap` reads a number of 64 bits; 0 for any other text or none, which never occurs
 abbrev pub u64_in : Option Text → ℕ
 u64_in None = 0
 u64_in (Some text) = if accepts false any_u64 text then digits_value 10 (without_leading_plus text) else 0
 
--- the quantum that a text spells, from 1 to 16,384; 16 for any other text or none, which the command never lets through
+-- the quantum that a text spells, from 1 to 16,384; 16 for any other text or none, which never occurs
 abbrev pub quantum_in : Option Text → ℕ
 quantum_in None = 16
 quantum_in (Some text) = if accepts false quantum_parser text then digits_value 10 (without_leading_plus text) else 16
@@ -51,8 +52,8 @@ choice_of rows = record {
   quantum = quantum_in (one_of (codes "quantum") rows);
 }
 
--- The command `app` finds no fault in the arguments. Here and below `app` is any command with our arguments; they differ only in the addresses of names,
--- and all read alike.
+-- The command `app` finds no fault in the arguments. Here and below `app` is any command of `clap` with the arguments of this crate (`IsCfApp`). Such commands
+-- differ only in the addresses of the names, so all find the same faults and values.
 pub record AreAccepted (words : List Text) : Type 0 where
   pub app : App
   pub is_app : IsCfApp app

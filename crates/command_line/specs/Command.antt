@@ -40,7 +40,7 @@ manager_names = kind_name Moving ∷ kind_name NonMoving ∷ kind_name Tlsf ∷ 
 abbrev pub mode_rule : NameList → Rule
 mode_rule names = record (new_rule (codes "mode")) { parser = Some (Names names); defaults = mode_name Run ∷ [] }
 
--- an option with this name, of which the parser reads the value, and with the default `given`
+-- the option with this name: `parser` reads its value, and `given` is its default
 abbrev pub option_rule : Text → ValueParser → Text → Rule
 option_rule name parser given = record (new_rule name) { long = Some name; parser = Some parser; defaults = given ∷ [] }
 
@@ -68,14 +68,14 @@ quantum_parser = Unsigned 1 16384
 abbrev pub quantum_rule : Rule
 quantum_rule = option_rule (codes "quantum") quantum_parser (codes "16")
 
--- the command with our five arguments, if `modes` and `managers` are its references to the names
+-- the command with our five arguments; `modes` and `managers` are the borrowed lists of names that its rules keep
 abbrev pub cf_app : NameList → NameList → App
 cf_app modes managers =
     with_rule (with_rule (with_rule (with_rule (with_rule (new_app (codes "cf_tool")) (mode_rule modes)) (manager_rule managers)) seed_rule) count_rule)
     quantum_rule
 
--- The command is ours, with any references to its names that show the right texts. A rule keeps the references themselves, and the logic doesn't know the
--- address of a static.
+-- `app` is `cf_app` for some borrowed lists with the names of the modes and of the managers. Which lists isn't said: a rule keeps the references themselves, and
+-- the logic doesn't know the address of a static.
 pub record IsCfApp (app : App) : Type 0 where
   pub modes : NameList
   pub managers : NameList

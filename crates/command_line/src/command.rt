@@ -85,7 +85,7 @@ fn quantum_arg<'a>(alloc: Global) -> Arg<'a>
 }
 
 /// Returns the command of `clap` with the arguments MODE, `--manager`, `--seed`, `--count` and `--quantum`,
-/// and no others of our own. Fails if out of memory.
+/// and no others but those that `clap` adds to every command, as `--help`. Fails if out of memory.
 pub fn cf_command<'a>(alloc: Global) -> Result<Command<'a>, AllocError>
     ensures { IfOk result (λ command. IsCfApp (app_of command)) }
 {

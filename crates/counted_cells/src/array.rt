@@ -56,7 +56,7 @@ impl<T: Copy, const N: usize> CellArray<T, N> {
 
 impl<const N: usize> CellArray<u64, N> {
     /// Sets bit `bit` of cell `i` if `on`, else clears it. Costs one step: the word is read and
-    /// written at once. Returns the new word.
+    /// written in one access. Returns the new word.
     pub fn write_bit(&mut self, i: usize, bit: u32, on: bool, steps: &mut Steps) -> u64
         requires cell { i < N }
         requires bit { bit < 64 }
@@ -72,7 +72,7 @@ impl<const N: usize> CellArray<u64, N> {
     }
 
     /// Sets the lowest clear bit of cell `i`, which must have a clear bit. Costs one step: the word
-    /// is read and written at once. Returns the position of the bit, and the new word.
+    /// is read and written in one access. Returns the position of the bit, and the new word.
     pub fn set_least_clear(&mut self, i: usize, steps: &mut Steps) -> (u32, u64)
         requires cell { i < N }
         requires clear { slice_index self.old i + 1 < 2 ^ 64 }

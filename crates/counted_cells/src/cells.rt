@@ -117,7 +117,7 @@ impl<T: Copy> Cells<T> {
 
 impl Cells<u32> {
     /// Exchanges the `n` cells from `a` on with the `n` cells from `b` on, pair by pair. Costs n
-    /// steps: each pair is exchanged at once.
+    /// steps, one for each pair.
     pub fn exchange(&mut self, a: usize, b: usize, n: usize, steps: &mut Steps)
         requires a_in_range { a + n ≤ length self.old }
         requires b_in_range { b + n ≤ length self.old }

@@ -50,7 +50,7 @@ impl WordCell {
     }
 
     /// Sets bit `bit` of the word if `on`, else clears it. Costs one step: the word is read and
-    /// written at once.
+    /// written in one access.
     pub fn write_bit(&mut self, bit: u32, on: bool, steps: &mut Steps)
         requires { bit < 64 }
         ensures written { WritesBit 64 self.old self.new bit on }
@@ -60,7 +60,7 @@ impl WordCell {
         self.word = with_bit(self.word, bit, on);
     }
 
-    /// Lends the word, so that the caller reads and writes it at once. Costs one step.
+    /// Lends the word, which the caller may then read and write. Costs one step in all.
     pub fn lend(&mut self, steps: &mut Steps) -> &mut u64
         ensures* writes_back { sem 𝓛 (Lends the_row u64 self.entry result (λ w. w)) }
         ensures value { result.now ≡ self.old }

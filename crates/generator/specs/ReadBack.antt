@@ -1,4 +1,4 @@
--- For the laws of this crate: of which commands the written lines are read as the same commands, and the scripts that such lines make.
+-- For the laws of this crate: the commands whose written lines are read back as the same commands (`IsCommand`), and the scripts that such lines make.
 use Rattle.std.specs.Prelude.{◌≡◌, ◌≤◌, ⊤, ℕ, false, ◌++◌, List, [], ◌∷◌, None, codes}
 use Rattle.cf_base.specs.Settings.{setting_fault}
 use Rattle.hex.specs.Hex.{IsBytes}

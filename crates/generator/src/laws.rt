@@ -10,7 +10,7 @@ ghost use Rattle.script_reader.specs.Lines.{lines};
 ghost use Rattle.script_reader.specs.declared.command.Command.{Command};
 
 /// The line that is written for a command `c` is one line, whatever bytes follow it, and by the grammar it
-/// means `c`. After a `heap` line it is the script's one command.
+/// means `c`. So a script of a `heap` line and this line has `c` as its one command.
 pub fn commands_are_read_back()
     ensures line { (c : Command) (rest : List ℕ) (ended : Bool) → IsCommand c
         → lines (line_of c ++ rest) ended ≡ spaced (tokens_of c) ∷ lines rest ended }
@@ -19,16 +19,16 @@ pub fn commands_are_read_back()
         → items (heap_line pages page_bytes k proxies ++ line_of c) true ≡ starts (profile_from pages page_bytes k proxies) ∷ asks c ∷ [] }
 {}
 
-/// A script of a `heap` line, with settings in range, and then the lines written for these commands, none of
-/// them `k`, has as its items the `heap` line and these commands.
+/// A script begins with a `heap` line whose settings are in range, and goes on with the lines that are written
+/// for a list of commands, none of which is the command `k`. Its items are the `heap` line and these commands.
 pub fn scripts_are_read_back()
     ensures { (pages page_bytes k proxies : ℕ) (commands : List Command) → CanOpen pages page_bytes k proxies → ArePlain commands
         → items (heap_line pages page_bytes k proxies ++ lines_of commands) true
         ≡ starts (profile_from pages page_bytes k proxies) ∷ map (λ c. asks c) commands }
 {}
 
-/// A script of a `heap` line, with settings in range, and then the lines written for the first `count` commands
-/// of a seed has as its items the `heap` line and these commands.
+/// A script begins with a `heap` line whose settings are in range, and goes on with the lines that are written
+/// for the first `count` commands of a seed. Its items are the `heap` line and these commands.
 pub fn generated_scripts_are_read_back()
     ensures { (pages page_bytes k proxies seed count : ℕ) → CanOpen pages page_bytes k proxies
         → items (heap_line pages page_bytes k proxies ++ lines_of (generated seed count)) true

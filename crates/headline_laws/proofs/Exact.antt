@@ -43,7 +43,7 @@ use Rattle.transcript_laws.specs.AtOne.{classes_in_use, figures_at_one, totals_a
 use Rattle.transcript_laws.specs.ById.{ById, begun}
 use Rattle.transcript_laws.specs.Replies.{after_by_id, bounds_with, class_bounded, free_said, malloc_fault, malloc_leaves, malloc_said, ok_or, passes_pages}
 use Rattle.transcript_laws.specs.Replies.{put_unless, read_said, reply_by_id, resize_fault, resize_leaves, resize_said, write_leaves, write_said}
-use Rattle.transcript_laws.specs.Transcripts.{ArePlaceless, IsAtOne, IsPlaceless, StaysAtOne, ShowsNoPlace, IsItemAtOne, after_at, replies_from, reply_at, transcript}
+use Rattle.transcript_laws.specs.Transcripts.{ArePlaceless, IsAtOne, AsksForNoAddress, StaysAtOne, ShowsNoPlace, IsItemAtOne, after_at, replies_from, reply_at, transcript}
 use Rattle.transcript_laws.proofs.CallerLemmas.{figures_are, totals_are}
 use Rattle.transcript_laws.proofs.CallerLemmas.{said_alike}
 use Rattle.headline_laws.specs.Headline.{Answers, Frees, IsAnswer, Mallocs, MeetsHeadline, Opens, RefitsElsewhere, RefitsInPlace, Resizes, Writes}
@@ -307,7 +307,7 @@ module _ (kind : Kind) (is_paged : IsPaged kind) where
   abbrev pub view_in : Option ShownHeap → Option ById
   view_in t = option_map view t
 
-  pub item_is : (t : Option ShownHeap) (item : Item) (reply : Reply) (after : Option ShownHeap) → IsInOrder t → IsItemAtOne (view_in t) item → IsPlaceless item
+  pub item_is : (t : Option ShownHeap) (item : Item) (reply : Reply) (after : Option ShownHeap) → IsInOrder t → IsItemAtOne (view_in t) item → AsksForNoAddress item
       → PlayStep (Opens kind) Answers t item reply after
       → (reply ≡ reply_at (view_in t) item) × (view_in after ≡ after_at kind (view_in t) item) × IsInOrder after
   item_is t (starts p) reply after order ones none step =

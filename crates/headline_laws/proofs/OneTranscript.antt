@@ -19,7 +19,7 @@ use Rattle.run_model.specs.Runs.{Run}
 use Rattle.run_model.specs.Sessions.{IsGoing, RunState}
 use Rattle.run_model.specs.Texts.{Reply}
 use Rattle.transcript_laws.specs.Histories.{AreAlike, AreFurther, IsFurther, bytes_of}
-use Rattle.transcript_laws.specs.Transcripts.{ArePlaceless, AskForOne, AsksForOne, IsPlaceless, StaysAtOne, replies_from, transcript}
+use Rattle.transcript_laws.specs.Transcripts.{ArePlaceless, AskForOne, AsksForOne, AsksForNoAddress, StaysAtOne, replies_from, transcript}
 use Rattle.transcript_laws.proofs.CallerLemmas.{stays_at_one}
 use Rattle.headline_laws.proofs.After.{view}
 use Rattle.headline_laws.proofs.Claims.{headline_met, run_met, shown_at}
@@ -33,7 +33,7 @@ pub one_shown : (kind : Kind) (items : List Item) (replies : List Reply) (last :
 one_shown kind items replies last paged ones less run = headline_is_transcript kind items replies paged ones less (headline_met kind items replies last run)
 
 -- what may follow asks for no bound, and no address
-further_command : (c : Command) → IsFurther (asks c) → AsksForOne (asks c) × IsPlaceless (asks c)
+further_command : (c : Command) → IsFurther (asks c) → AsksForOne (asks c) × AsksForNoAddress (asks c)
 further_command (Bound words k) may = absurd may
 further_command (Place id) may = absurd may
 further_command (Block id i) may = absurd may
@@ -41,7 +41,7 @@ further_command (Peek word) may = absurd may
 further_command Steps may = absurd may
 further_command _ may = (tt, tt)
 
-further_item : (item : Item) → IsFurther item → AsksForOne item × IsPlaceless item
+further_item : (item : Item) → IsFurther item → AsksForOne item × AsksForNoAddress item
 further_item (starts p) may = absurd may
 further_item (asks c) may = further_command c may
 further_item (bad n) may = (tt, tt)

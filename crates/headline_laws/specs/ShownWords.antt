@@ -30,6 +30,6 @@ pub record ShowsBlockWord (s : ShownHeap) (word value : ℕ) : Type 0 where
       → word ≡ x.place + 1 + i → IsWordOf s id x i value
   pub zero : (a : ℕ) (b : Block) (i : ℕ) → block_at s.heap.tiling a ≡ Some b → b.owner ≡ None → 2 ≤ i → i < b.size → word ≡ a + i → value ≡ 0
 
--- `value` is as required of word `word` of the region
+-- word number `word` of the region may have the value `value`
 abbrev pub ShowsWord : ShownHeap → ℕ → ℕ → Type 0
 ShowsWord s word value = elim (family_of s.heap.kind) [ paged ↦ ShowsPageWord s word value | tiled ↦ ShowsBlockWord s word value ]

@@ -18,8 +18,8 @@ ghost use Rattle.transcript_laws.specs.Transcripts.{ArePlaceless, StaysAtOne, tr
 ghost use Rattle.headline_laws.specs.Headline.{MeetsHeadline};
 ghost use Rattle.headline_laws.specs.OneOutput.{BeginNone, BeginOnce, IsOrdered};
 
-/// The replies of every run over a script meet the headline: there is exactly one for each item, and it
-/// follows from the item and a heap that the lines and replies before it show.
+/// The replies of every run over a script meet the headline: there is exactly one for each item, and it is
+/// one that the item may get (`Answers`) in the heap as the lines and replies before it show it (`ShownHeap`).
 pub fn the_headline()
     ensures { (kind : Kind) (items : List Item) (replies : List Reply) (end : Option RunState)
         → Run kind None items replies end → MeetsHeadline kind items replies }
@@ -41,14 +41,14 @@ pub fn at_bound_one_the_headline_is_the_transcript()
         → MeetsHeadline kind items replies → replies ≡ transcript kind items }
 {}
 
-/// Wrong replies do not meet the headline, so it isn't empty. Each clause has a script on two pages of 64
-/// words and wrong replies to it. To a malloc that fits while there is room: `refused space` (`room`),
-/// `refused size` (`size`), a reply without a line (`silent`), no reply (`missing`), or a reply more than
-/// there are items (`over`). In `walk`: a page more than the object needs (`pages`), and a total that isn't
-/// the sum of the lines above it (`total`). More steps than a malloc may take, with pages (`steps`) and with
-/// TLSF (`blocks`). `ok` to a free of an id that isn't live (`unknown`). The same address for two objects
-/// (`shared`). A new address of an object, though nothing was freed or resized (`moved`). A word other than 0
-/// in a heap without objects (`word`).
+/// Some wrong replies, none of which meets the headline: so it rules something out. Each clause has a script
+/// on two pages of 64 words and wrong replies to it. To a malloc that fits while there is room:
+/// `refused space` (`room`), `refused size` (`size`), a reply without a line (`silent`), no reply (`missing`), or a
+/// reply more than there are items (`over`). In `walk`: a page more than the object needs (`pages`), and a
+/// total that isn't the sum of the lines above it (`total`). More steps than a malloc may take, with pages
+/// (`steps`) and with TLSF (`blocks`). `ok` to a free of an id that isn't live (`unknown`). The same address
+/// for two objects (`shared`). A new address of an object, though nothing was freed or resized (`moved`). A
+/// word other than 0 in a heap without objects (`word`).
 pub fn wrong_replies_fall_short()
     ensures room { ¬ MeetsHeadline Moving (items (codes "heap 2 512 1 8\nm 1 176\n") true)
         (said (codes "ok") ∷ said (codes "refused space") ∷ []) }

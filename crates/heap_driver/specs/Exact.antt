@@ -1,4 +1,4 @@
--- When the steps that the tests' driver computes from the reference implementation are those of a heap's call: both have the same pages and objects.
+-- The conditions under which the tests' driver computes the exact steps of a heap's call: the reference implementation has the same pages and objects.
 use Rattle.std.specs.Prelude.{◌≡◌, ◌↔◌, ℕ, ◌<◌, IsTrue, Option, Some, is_some, length}
 use Rattle.std.specs.FinMap.{get}
 use Rattle.cf_base.specs.declared.answers.Handle.{Handle}
@@ -21,8 +21,8 @@ pub record IsObject (a : Arranged) (w n : ℕ) (x : Placed) : Type 0 where
   pub bytes : length x.bytes ≡ n
   pub class : class_for a.paging n < classes a.paging
 
--- in the arrangement a the object x has number h, and some class holds it; other is the handle of an object that moves, and is there if and only if a free
--- of number h must move one
+-- In the arrangement a the object x has number h, and some class holds it. `other` is the handle of the object that a free of number h must move; it is `None`
+-- if and only if the free moves none.
 pub record IsFreed (a : Arranged) (h : ℕ) (x : Placed) (other : Option Handle) : Type 0 where
   pub found : get a.held h ≡ Some x
   pub class : class_for a.paging (length x.bytes) < classes a.paging

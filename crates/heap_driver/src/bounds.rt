@@ -42,7 +42,7 @@ fn set_bound<H: Manager>(heap: &mut H, slot_words: u32, k: u32) -> Result<bool, 
     ensures { IsOpenedEmpty (H.state heap.new) }
 {
     if k < 1 || 64 < k {
-        return Err(Wrong::Line);
+        return Err(Wrong::OutOfRange);
     }
     Ok(heap.set_bound(slot_words, k))
 }

@@ -21,12 +21,12 @@ use page_reference::order::ReferenceOrder;
 use page_reference::steps::{copy_steps, run_steps, slot_steps, wipe_steps, word_steps};
 
 /// What the steps of a call depend on, as it is before the call. `kind` is moving or non-moving: a non-moving
-/// heap also takes a step to look up a block. `plain` has the objects on their pages, and `order` the pages,
+/// heap also takes a step to look up a block. `reference` has the objects on their pages, and `order` the pages,
 /// slots and numbers that are used next.
 #[derive(Clone, Copy)]
 pub(crate) struct Exact<'a> {
     pub(crate) kind: Kind,
-    pub(crate) plain: &'a ReferencePages,
+    pub(crate) reference: &'a ReferencePages,
     pub(crate) order: &'a ReferenceOrder,
 }
 
@@ -34,14 +34,14 @@ impl<'a> Exact<'a> {
     /// The steps of a malloc of `bytes` bytes. `is_given` is whether it succeeds: a refused one takes one
     /// step, whatever the cause.
     pub(crate) fn malloc_steps(&self, bytes: u32, is_given: bool) -> u64
-        ensures given { (s : HeapState) (h : Handle) → HasPages self.now.kind self.now.plain.now s → IsTrue is_given
-            → class_for self.now.plain.now.paging bytes < classes self.now.plain.now.paging
+        ensures given { (s : HeapState) (h : Handle) → HasPages self.now.kind self.now.reference.now s → IsTrue is_given
+            → class_for self.now.reference.now.paging bytes < classes self.now.reference.now.paging
             → result ≡ malloc_cost s (order_of self.now.order.now) bytes (Ok h) }
         ensures refused { (s : HeapState) (e : Refusal) → is_given ≡ false → result ≡ malloc_cost s (order_of self.now.order.now) bytes (Err e) }
     {
-        let class = self.plain.class_for(bytes);
-        if is_given && class < self.plain.classes() {
-            3 + word_steps(self.kind) + self.order.steps_to_take(self.plain, class)
+        let class = self.reference.class_for(bytes);
+        if is_given && class < self.reference.classes() {
+            3 + word_steps(self.kind) + self.order.steps_to_take(self.reference, class)
         } else {
             1
         }
@@ -49,14 +49,14 @@ impl<'a> Exact<'a> {
 
     /// The steps of a free of the object with this number; 1 if no object has it.
     pub(crate) fn free_steps(&self, number: u16) -> u64
-        ensures live { (s : HeapState) (x : Placed) (freed : Freed) → HasPages self.now.kind self.now.plain.now s
-            → IsFreed self.now.plain.now number x freed.moved → result ≡ free_cost s (order_of self.now.order.now) number (Ok freed) }
-        ensures refused { (s : HeapState) (e : NotLive) → map.get self.now.plain.now.held number ≡ None
+        ensures live { (s : HeapState) (x : Placed) (freed : Freed) → HasPages self.now.kind self.now.reference.now s
+            → IsFreed self.now.reference.now number x freed.moved → result ≡ free_cost s (order_of self.now.order.now) number (Ok freed) }
+        ensures refused { (s : HeapState) (e : NotLive) → map.get self.now.reference.now.held number ≡ None
             → result ≡ free_cost s (order_of self.now.order.now) number (Err e) }
     {
-        match self.plain.object(number) {
+        match self.reference.object(number) {
             Some((place, length)) => {
-                let moves = self.plain.must_move(number);
+                let moves = self.reference.must_move(number);
                 5 + word_steps(self.kind) + self.leaving_steps(place, length, moves)
             }
             None => 1,
@@ -67,38 +67,38 @@ impl<'a> Exact<'a> {
     /// another object moves into it, and that object's slot becomes free. Else the slot itself is cleared and
     /// becomes free. 0 if no class holds `length` bytes.
     fn leaving_steps(&self, place: u32, length: u32, moves: bool) -> u64
-        ensures value { (s : HeapState) (x : Placed) (moved : Option Handle) → HasPages self.now.kind self.now.plain.now s
-            → IsObject self.now.plain.now place length x → is_some moved ≡ moves
+        ensures value { (s : HeapState) (x : Placed) (moved : Option Handle) → HasPages self.now.kind self.now.reference.now s
+            → IsObject self.now.reference.now place length x → is_some moved ≡ moves
             → result ≡ leaving_cost s (order_of self.now.order.now) x moved }
         ensures few { result ≤ 32786 }
     {
-        let class = self.plain.class_for(length);
-        if self.plain.classes() <= class {
+        let class = self.reference.class_for(length);
+        if self.reference.classes() <= class {
             return 0;
         }
-        let words = self.plain.slot_words(class);
+        let words = self.reference.slot_words(class);
         if moves {
             1 + word_steps(self.kind)
                 + slot_steps(self.kind, words)
-                + self.order.steps_to_fill(self.plain, class)
+                + self.order.steps_to_fill(self.reference, class)
         } else {
-            let page = self.plain.page_of(place);
-            wipe_steps(self.kind, words) + self.plain.steps_to_drop(class, page)
+            let page = self.reference.page_of(place);
+            wipe_steps(self.kind, words) + self.reference.steps_to_drop(class, page)
         }
     }
 
     /// The steps of a resize of the object with this number to `bytes` bytes. `fault` is why it is refused,
     /// or `None` if it succeeds. 0 if it is to succeed but no object has this number.
     pub(crate) fn resize_steps(&self, number: u16, bytes: u32, fault: Option<ResizeFault>) -> u64
-        ensures done { (s : HeapState) (x : Placed) (done : Resized) → HasPages self.now.kind self.now.plain.now s → fault ≡ None
-            → IsFreed self.now.plain.now number x done.moved → class_for self.now.plain.now.paging bytes < classes self.now.plain.now.paging
+        ensures done { (s : HeapState) (x : Placed) (done : Resized) → HasPages self.now.kind self.now.reference.now s → fault ≡ None
+            → IsFreed self.now.reference.now number x done.moved → class_for self.now.reference.now.paging bytes < classes self.now.reference.now.paging
             → result ≡ resize_cost s (order_of self.now.order.now) (record { number = number; length = bytes }) (Ok done) }
         ensures refused { (s : HeapState) (e : ResizeFault) → s.kind ≡ self.now.kind → fault ≡ Some e
             → result ≡ resize_cost s (order_of self.now.order.now) (record { number = number; length = bytes }) (Err e) }
     {
-        match (fault, self.plain.object(number)) {
+        match (fault, self.reference.object(number)) {
             (None, Some((place, length))) => {
-                self.resized_steps(place, length, bytes, self.plain.must_move(number))
+                self.resized_steps(place, length, bytes, self.reference.must_move(number))
             }
             (Some(ResizeFault::Unknown), _) => 1,
             (Some(ResizeFault::Size), _) => 2,
@@ -111,17 +111,17 @@ impl<'a> Exact<'a> {
     /// bytes. If its class changes and `moves` is true, another object moves into its old slot. 0 if no
     /// class holds `bytes` bytes.
     fn resized_steps(&self, place: u32, length: u32, bytes: u32, moves: bool) -> u64
-        ensures { (s : HeapState) (x : Placed) (moved : Option Handle) → HasPages self.now.kind self.now.plain.now s
-            → IsObject self.now.plain.now place length x → is_some moved ≡ moves
-            → class_for self.now.plain.now.paging bytes < classes self.now.plain.now.paging
+        ensures { (s : HeapState) (x : Placed) (moved : Option Handle) → HasPages self.now.kind self.now.reference.now s
+            → IsObject self.now.reference.now place length x → is_some moved ≡ moves
+            → class_for self.now.reference.now.paging bytes < classes self.now.reference.now.paging
             → result ≡ resized_cost s (order_of self.now.order.now) bytes x moved }
     {
-        let class = self.plain.class_for(bytes);
-        if class == self.plain.class_for(length) {
+        let class = self.reference.class_for(bytes);
+        if class == self.reference.class_for(length) {
             3 + 2 * word_steps(self.kind) + self.tail_steps(bytes, u64::from(length))
-        } else if class < self.plain.classes() {
+        } else if class < self.reference.classes() {
             4 + word_steps(self.kind)
-                + self.order.steps_to_take(self.plain, class)
+                + self.order.steps_to_take(self.reference, class)
                 + self.carrying_steps(length, bytes)
                 + self.leaving_steps(place, length, moves)
         } else {
@@ -129,8 +129,8 @@ impl<'a> Exact<'a> {
         }
     }
 
-    /// The steps to cut the `most` bytes of a slot to the first `bytes`: those of the word with the first
-    /// byte that is cut, and those of clearing the words after it; 0 if nothing is cut.
+    /// The steps to cut the payload of an object from `most` bytes to its first `bytes`: one access to the
+    /// word with the first byte that is cut, and those of clearing the words after it; 0 if nothing is cut.
     fn tail_steps(&self, bytes: u32, most: u64) -> u64
         requires { most ≤ 4294967303 }
         ensures value { result ≡ tail self.now.kind 0 bytes most }

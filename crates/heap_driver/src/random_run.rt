@@ -69,7 +69,8 @@ pub struct RandomRun<H: Manager> {
 }
 
 impl<H: Manager> RandomRun<H> {
-    /// Prepares runs on this heap, whose slots have sizes of this layout. Each run opens it anew.
+    /// Prepares runs on this heap, whose slots have sizes of this layout. Each run opens it anew. Fails only if
+    /// out of memory.
     pub fn new(alloc: Global, heap: H, layout: Layout, meter: Meter) -> Result<RandomRun<H>, Wrong>
         ensures kept { IfOk result (λ run. run.calls.heap ≡ heap) }
     {
@@ -169,7 +170,7 @@ impl<H: Manager> RandomRun<H> {
                 Layout::Words => Kind::Moving,
                 Layout::Blocks => Kind::NonMoving,
             },
-            plain: &self.reference,
+            reference: &self.reference,
             order: &self.order,
         }
     }
@@ -377,7 +378,7 @@ impl<H: Manager> RandomRun<H> {
     }
 }
 
-/// The number of an object in the 16 bits that the reference has for it. Fails if it doesn't fit.
+/// The number of an object in 16 bits, as the reference implementation takes it. Fails if it doesn't fit.
 fn number_of(number: u32) -> Result<u16, Wrong> {
     match u16::try_from(number) {
         Ok(number) => Ok(number),

@@ -133,6 +133,6 @@ decoded bytes =
 abbrev pub IsImage : List ℕ → Type 0
 IsImage bytes = (decoded bytes).broken ≡ None
 
--- the bytes aren't a heap image: at this offset the first field begins that breaks a rule or is cut, or the image has ended and more bytes follow
+-- the bytes aren't a heap image; this is the offset of the first field that breaks a rule or is cut, or of the first byte past the image
 abbrev pub IsBroken : List ℕ → ℕ → Type 0
 IsBroken bytes at = (decoded bytes).broken ≡ Some at

@@ -13,9 +13,9 @@ use Rattle.heap_image.specs.declared.objects_in.Entry.{Entry}
 abbrev pub reached_in : RunState → ℕ → ℕ → Reached
 reached_in s next at = record { next = next; objects = objects_of s; at = at }
 
--- What reading one entry did, by the result. `reading` decodes the bytes from there on, and `go` those after the entry; r is how far the load had
--- come; `had` and `left` are the source before and after, `old` and `new` the run. `Ok e`: an entry with the id and the length of e was read, and
--- the heap holds its object, the bytes v, besides those of r. `Err f`: the reading stopped with the fault f, and the heap holds the objects of r.
+-- What reading one entry did, by the result. `reading` decodes the bytes from the entry on, and `go` those after it. r is how far the load had come before
+-- the entry. `had` and `left` are the source before and after, `old` and `new` the run. `Ok e`: an entry with the id and the length of e was read, and the
+-- heap holds its object, the bytes v, besides those of r. `Err f`: the reading stopped with the fault f, and the heap holds the objects of r alone.
 abbrev pub ReadsEntry : (List ℕ → Decoded) → (Reached → List ℕ → Decoded) → RunState → Reached → Feed → Result Entry LoadFault → Feed → RunState → Type 0
 ReadsEntry reading go old r had (Ok e) left new = (v : List ℕ) × (length v ≡ e.length) × (r.next ≤ e.id) × WholeFields reading had left (go (passed r e.id v))
     × LeadsTo old new (insert r.objects e.id v)

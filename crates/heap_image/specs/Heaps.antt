@@ -24,7 +24,7 @@ image_under p objects = image_of p.pages (8 * p.page_words) p.proxies objects
 abbrev pub heap_image : RunState → List ℕ
 heap_image s = image_under s.heap.profile (objects_of s)
 
--- The settings p with the bound 1, and objects by id that a heap of kind Moving with these settings may hold at once: they have an image.
+-- The settings p and the objects by id have an image: the bound is 1, and a heap of kind Moving with these settings can hold all the objects at once.
 pub record HaveImage (p : Profile) (objects : Objects) : Type 0 where
   pub settings : AreInRange p
   pub one : p.k ≡ 1

@@ -23,8 +23,8 @@ pub record LastBreaks (reading : List ℕ → Decoded) (taken : List ℕ) : Type
   pub are : taken ≡ before ++ (last ∷ [])
   pub sound : BreaksNoRule (reading before)
 
--- No byte was taken past the broken field. If the end cuts this field (`true`), no bytes `more` follow those taken; else the last byte taken was the
--- first by which the field is known to break a rule.
+-- No byte was taken past the broken field. If the end cuts this field (`true`), no bytes `more` follow those taken. Else the field breaks a rule, and the last
+-- byte taken is the first that shows it: the bytes before it break none.
 abbrev pub TakesNoMore : List ℕ → List ℕ → Bool → Type 0
 TakesNoMore taken more true = more ≡ []
 TakesNoMore taken more false = LastBreaks decoded taken

@@ -51,7 +51,7 @@ pub record TakesFewer (room : ℕ) (had left : Feed) : Type 0 where
   pub short : length taken < room
   pub took : TakesBytes taken had left
 
--- what `fill` did, by its result: the buffer holds the bytes taken; or the source ended before it was full; or it failed before
+-- what `fill` did, by its result: the buffer is full of the bytes taken; or the source ended before the buffer was full; or the source failed before that
 abbrev pub FillsBuffer : Feed → List ℕ → Filled → Feed → Type 0
 FillsBuffer had buffer filled.Whole left = TakesBytes buffer had left
 FillsBuffer had buffer filled.Cut left = TakesFewer (length buffer) had left × IsSpent left.rest

@@ -58,9 +58,9 @@ pub fn load<S: Source, H: Manager>(
     }
 }
 
-/// Reads the number of objects at byte 16 of the image, which is at most `proxies`, then that many entries,
-/// and makes their objects in an open heap without objects. Checks that the source then ends. Fails as
-/// `load` does.
+/// Reads the number of objects at byte 16 of the image, then that many entries, and makes their objects in an
+/// open heap without objects. Checks that the source then ends. Fails as `load` does; a number of objects
+/// above `proxies` is `Bad`.
 fn load_objects<S: Source, H: Manager>(
     source: &mut S,
     heap: &mut H,

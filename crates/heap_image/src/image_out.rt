@@ -105,6 +105,7 @@ pub fn length_of<H: Manager>(heap: &H, h: Handle, meter: &mut Meter) -> u32
     requires live { (x : Placed) × (map.get (H.state heap.now).held h.0 ≡ Some x) }
     ensures { (x : Placed) → map.get (H.state heap.now).held h.0 ≡ Some x → result ≡ length x.bytes }
 {
+    // For its contract: an open heap keeps its rules.
     let _open = heap.is_open();
     meter.lap();
     let Some(place) = heap.place(h, meter.steps()) else {

@@ -35,7 +35,7 @@ pub(crate) struct Entry {
 /// offset of the entry in the image, and `buffer` takes up to 4,096 bytes of the object at a time. Fails
 /// with `Bad` or `Read` as `load` does, and then the heap holds the same objects as before.
 ///
-/// In clause `entry`, `go` is any decoding of the bytes after the entry.
+/// In clause `entry`, `go` is any function that decodes the bytes after the entry.
 pub(crate) fn read_entry<S: Source, H: Manager>(
     source: &mut S,
     heap: &mut H,

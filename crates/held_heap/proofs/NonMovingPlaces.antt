@@ -1,4 +1,4 @@
--- For the proofs of `Place`: its machine value is its address; how to put it together, and take it apart into the address and the heap there.
+-- For the proofs of `HeapBlock`: its machine value is its address; how to put it together, and take it apart into the address and the heap there.
 use Rattle.std.proofs.Common.{◌≡◌, ℕ, List, [], ◌∷◌, ◌++◌, refl, subst, Option, Some, None, IsSome, sym}
 use seplogic.Ra.Ura.{Ura}
 use mathlib.Core.Bool.{true≢false}
@@ -17,15 +17,15 @@ use denote.Struct.Owning.{shape}
 use Rattle.std.specs.contracts.prelude.GlobalAllocator.TheImpl.{ghosts}
 use Rattle.held_heap.specs.HeldState.{HeldState}
 use Rattle.held_heap.specs.NonMoving.{open_heap}
-use Rattle.held_heap.specs.Place.{lies_in_block, place_owns}
-use Rattle.held_heap.specs.contracts.nonmoving.Place as P
+use Rattle.held_heap.specs.HeapBlock.{lies_in_block, place_owns}
+use Rattle.held_heap.specs.contracts.nonmoving.HeapBlock as P
 
--- the machine value of a place with the address p
+-- the machine value of a `HeapBlock` with the address p
 abbrev pub place_val : Ptr → Val
 place_val p = vstruct (of_list (ptr_val p ∷ []))
 
 module _ {M : Type 1} {𝓤 : Ura M} {𝓛 : Logic 𝓤} {K : Type 0} {Γ : List (Item 𝓤)} {G : Goal 𝓤 𝓛.H} where
-  -- who owns what a place with the address p owns may own that place
+  -- who owns what a `HeapBlock` with the address p owns may own that `HeapBlock`
   pub place_in : K → (p : Ptr) (h : Option HeldState)
       → Step K 𝓛 (‵ (P.the_row.own_val (record { at = p; held = h }) (place_val p ∷ [])) ∷ Γ) G (‵ (place_owns open_heap p h) ∷ Γ) G
   place_in t p h = step (λ s.
@@ -49,7 +49,7 @@ module _ {M : Type 1} {𝓤 : Ura M} {𝓛 : Logic 𝓤} {K : Type 0} {Γ : List
   place_case t d vs (Some x) e some k = place_some t d vs x e (k x e)
   place_case t d vs None e some k = absurd (true≢false (sym some))
 
-  -- who owns a place that has a heap may own the heap at its address instead
+  -- who owns a `HeapBlock` that has a heap may own the heap at its address instead
   pub place_out : K → (d : P.the_row.Denot) (vs : List Val) → IsSome d.held
       → ((x : HeldState) → d.held ≡ Some x → (b o : ℕ) → d.at ≡ block_ptr b o → vs ≡ place_val (block_ptr b o) ∷ []
       → Seq K 𝓛 (‵ (lies_in_block open_heap (block_ptr b o) x) ∷ Γ) G)

@@ -1,4 +1,4 @@
--- For `Unboxed` and each `Place`: the machine value of an `Unboxed` is its allocator and then its address; how to take it apart and put it together.
+-- For `Unboxed` and each `HeapBlock`: the machine value of an `Unboxed` is its allocator and then its address; how to take it apart and put it together.
 use Rattle.std.proofs.Common.{◌≡◌, ℕ, List, [], ◌∷◌, ◌++◌, refl, subst, ap}
 use mathlib.Core.Bool.{true, ◌&&◌}
 use lib.Dec.{T}

@@ -1,4 +1,4 @@
--- For the trait `ExportedManager`: what each call of a manager does, with how many steps it takes: at most a bound, for a read and a write exactly a number.
+-- For the trait `ExportedManager`: what each call of a manager does, and the most steps that it takes; for a read and a write the exact number of steps.
 -- Below, `old` and `new` are the heap before and after a call, `answer` is its result, and `from` and `to` are the ledger's steps before and after it.
 use Rattle.std.specs.Prelude.{◌≡◌, ℕ, ◌+◌, IsTrue, List, Option, Result, length}
 use Rattle.step_ledger.specs.Counting.{RoseAtMost, RoseBy}

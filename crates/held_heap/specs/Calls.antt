@@ -149,7 +149,7 @@ pub record IsTotalsCall (most : Bounds) (old : HeldState) (code : ℤ) (after : 
   pub kept : new.heap ≡ old.heap
   pub bound : RoseAtMost 0 new.steps (most.totals (totals_in old.heap.kind old.heap))
 
--- a call for the steps of the last call that counts steps; it changes nothing
+-- a call of `last_steps`: it returns the steps of the last other call, but for `figures`, and changes nothing
 pub record IsStepsCall (old : HeldState) (code : ℤ) (after : ℕ) (new : HeldState) : Type 0 where
   pub by_code : code ≡ pos 0
   pub by_steps : after ≡ old.steps

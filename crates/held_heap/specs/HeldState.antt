@@ -3,7 +3,7 @@ use Rattle.std.specs.Prelude.{ℕ, refl}
 use Rattle.std.specs.Coded.{Coded, code_by, coded×, coded_ℕ}
 use Rattle.cf_model.specs.State.{HeapState, state_code}
 
--- the state of the heap, and the steps of the last call that counts steps
+-- the state of the heap, and the steps of the last call, but for `figures` and `last_steps`, which count none
 pub record HeldState : Type 0 where
   pub heap : HeapState
   pub steps : ℕ

@@ -4,7 +4,7 @@ pub mod Codes
 pub mod HeldState
 pub mod Calls
 pub mod AtPlace
-pub mod Place
+pub mod HeapBlock
 pub mod Moving
 pub mod MovingLoan
 pub mod MovingPlace

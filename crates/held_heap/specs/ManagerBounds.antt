@@ -6,8 +6,8 @@ use Rattle.held_heap.specs.Bounds.{Bounds}
 use Rattle.paged_heap.specs.Costs as pages
 use Rattle.tag_heap.specs.Costs as blocks
 
--- the steps of a call for a length with pages, by its result: one for the proxy and, if the handle is live, those of the header, which the non-moving kind
--- finds through the block table
+-- the steps of a call of `length` on a kind with pages, by its result: one for the proxy and, if the handle is live, those of the header, which the non-moving
+-- kind finds through the block table
 abbrev pub length_steps : Kind → Option ℕ → ℕ
 length_steps kind (Some n) = 1 + word_steps kind
 length_steps kind None = 1
@@ -24,7 +24,8 @@ page_bounds kind = record {
   totals = λ totals. 0;
 }
 
--- the most steps of each call of a kind with blocks; a resize is always refused, after at most 1 step, and the totals take 2 steps for each free block
+-- the most steps of each call of a kind with blocks; a resize is always refused, after at most 1 step, and the totals take at most 3 steps and 2 for each
+-- free block
 abbrev pub block_bounds : Bounds
 block_bounds = record {
   malloc = blocks.malloc_steps;

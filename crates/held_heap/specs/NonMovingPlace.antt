@@ -11,6 +11,7 @@ use Rattle.held_heap.specs.contracts.nonmoving.NphHeap.{the_row}
 abbrev pub held_in : NphHeap → Option HeldState
 held_in n = n.place.held
 
--- s is the borrow of the struct, r that of its heap: when r ends, the struct is open, and has the heap as r leaves it
+-- s is the borrow of the struct, r that of its heap: when r ends, the struct is open, and has the heap as r leaves it. `Lends` of the standard library states
+-- this: its last argument computes the struct from the state h in which r leaves the heap. `the_row` is the type of the struct.
 abbrev pub LendsHeap : MutBor NphHeap → MutBor HeldState → Fml
 LendsHeap s r = Lends the_row open_heap s r (λ h. record { place = with_heap s.now.place h; is_open = true; shown = refl })

@@ -1,15 +1,17 @@
--- For `Place::lend` of `tlsf.rt`: what the place is when the borrow of its heap ends.
+-- For `HeapBlock::lend` of `tlsf.rt`: what the `HeapBlock` is when the borrow of its heap ends. A `HeapBlock` is the address of the block in which an open heap
+-- lies, with the state of that heap; or null, with none.
 use Rattle.std.specs.Prelude.{Some}
 use Rattle.std.specs.Borrow.{Fml, Lends, MutBor}
 use Rattle.held_heap.specs.HeldState.{HeldState}
 use Rattle.held_heap.specs.Tlsf.{open_heap}
-use Rattle.held_heap.specs.declared.tlsf.Place.{Place}
-use Rattle.held_heap.specs.contracts.tlsf.Place.{the_row}
+use Rattle.held_heap.specs.declared.tlsf.HeapBlock.{HeapBlock}
+use Rattle.held_heap.specs.contracts.tlsf.HeapBlock.{the_row}
 
--- the place p, with its address, if its heap has the state h
-abbrev pub with_heap : Place → HeldState → Place
+-- the `HeapBlock` p, at the same address, after the heap there got the state h
+abbrev pub with_heap : HeapBlock → HeldState → HeapBlock
 with_heap p h = record { at = p.at; held = Some h }
 
--- s is the borrow of the place, r that of its heap: when r ends, the place has its address still, and the heap as r leaves it
-abbrev pub LendsPlace : MutBor Place → MutBor HeldState → Fml
+-- s is the borrow of the `HeapBlock`, r that of the heap there: when r ends, the `HeapBlock` has the same address, and the heap has the state in which r leaves
+-- it. `Lends` of the standard library states this: its last argument computes the `HeapBlock` from the state in which r leaves the heap. `the_row` is its type.
+abbrev pub LendsPlace : MutBor HeapBlock → MutBor HeldState → Fml
 LendsPlace s r = Lends the_row open_heap s r (with_heap s.now)

@@ -24,7 +24,8 @@ pub trait ExportedManager: Manager {
     /// The kind of this manager.
     ghost of_kind: { Kind };
 
-    /// For each call the most steps that it takes, as a function of its result.
+    /// For each call the most steps that it takes, as a function of its result; for a read, a write
+    /// (`access`) and a `length` the exact number.
     ghost most: { Bounds };
 
     /// Returns a closed manager, which will take its memory from this allocator and has taken none yet.
@@ -104,7 +105,8 @@ pub trait ExportedManager: Manager {
         ensures bound { RoseAtMost steps.old steps.new (most.totals result) };
 }
 
-// Each function makes the call of the moving heap that has its name without `_within`.
+// Each function calls the function of the moving heap whose name is the same without `_within`; `new_closed` calls `closed`,
+// and `room_within` calls `has_room`.
 impl ExportedManager for MovingHeap {
     ghost of_kind = { Moving };
 
@@ -164,7 +166,8 @@ impl ExportedManager for MovingHeap {
     }
 }
 
-// Each function makes the call of the non-moving heap that has its name without `_within`.
+// Each function calls the function of the non-moving heap whose name is the same without `_within`; `new_closed` calls `closed`,
+// and `room_within` calls `has_room`.
 impl ExportedManager for NonMovingHeap {
     ghost of_kind = { NonMoving };
 
@@ -224,7 +227,8 @@ impl ExportedManager for NonMovingHeap {
     }
 }
 
-// Each function makes the call of the heap with blocks that has its name without `_within`.
+// Each function calls the function of the heap with blocks whose name is the same without `_within`; `new_closed` calls `closed`,
+// and `room_within` calls `has_room`.
 impl<B: FitPolicy> ExportedManager for TagHeap<B> {
     ghost of_kind = { B.kind };
 

@@ -11,8 +11,9 @@ use std::marker::Model;
 use std::rt::Memory;
 use step_ledger::Meter;
 
-/// An open heap, and the steps of the last call that counts steps. Each such call makes a ledger of its
-/// own from `memory`, so that the compiler keeps the count in a register.
+/// An open heap, and the steps of its last call. Only `figures` and `last_steps` count none, and leave this
+/// number unchanged. Each other call makes a ledger of its own from `memory`, so that the compiler keeps the
+/// count in a register.
 #[derive(Drop)]
 pub struct Held<H: ExportedManager> {
     heap: H,
@@ -214,8 +215,8 @@ impl<H: ExportedManager> Held<H> {
         DONE
     }
 
-    /// Writes the steps of the last call that counts steps into `steps`; counts none itself. Always returns
-    /// `DONE`.
+    /// Writes the steps of the last call into `steps`; 0 if there was none. `figures` and this call count
+    /// none, and leave that number unchanged. Always returns `DONE`.
     pub fn last_steps(&mut self, steps: &mut u64) -> i32
         ensures { IsStepsCall self.old result steps.new self.new }
     {

@@ -5,7 +5,7 @@ ghost use Rattle.std.specs.Borrow.{sem};
 ghost use Rattle.std.specs.Coded.{coded_option};
 ghost use Rattle.held_heap.specs.HeldState.{HeldState, held_code};
 ghost use Rattle.held_heap.specs.Tlsf.{open_heap};
-ghost use Rattle.held_heap.specs.Place.{place_owns};
+ghost use Rattle.held_heap.specs.HeapBlock.{place_owns};
 
 use crate::codes::{DONE, MEMORY, OPEN, of_setting};
 use crate::held::Held;
@@ -20,41 +20,41 @@ use tlsf_heap::TlsfHeap;
 /// The open heap in the block whose address C has.
 type Open = Held<TlsfHeap>;
 
-/// The address of the block of an open heap, and then the place owns that block; or null, and it owns
+/// The address of the block of an open heap, and then the `HeapBlock` owns that block; or null, and it owns
 /// nothing. `held` is the state of that heap, `None` with null.
 #[repr(C)]
 #[derive(Drop)]
-pub struct Place {
+pub struct HeapBlock {
     at: *mut Sealed,
     pub(crate) ghost held: { Option HeldState } by { coded_option held_code },
 }
 
-impl Model for Place {
+impl Model for HeapBlock {
     ghost also_owns = { λ p. place_owns open_heap p.at p.held };
 }
 
-unsafe impl Send for Place {}
+unsafe impl Send for HeapBlock {}
 
-impl Place {
+impl HeapBlock {
     ghost use Rattle.held_heap.specs.TlsfLoan.{LendsPlace};
 
-    /// Returns the place with the null pointer, for a closed heap.
-    fn nowhere() -> Place
+    /// Returns the `HeapBlock` with the null pointer, for a closed heap.
+    fn nowhere() -> HeapBlock
         ensures { result.held ≡ None }
     {
-        Place {
+        HeapBlock {
             at: std::ptr::null_mut(),
         }
     }
 
-    /// Returns a place that owns the block of this box.
-    fn of(b: Box<Open>) -> Place
+    /// Returns a `HeapBlock` that owns the block of this box.
+    fn of(b: Box<Open>) -> HeapBlock
         ensures { result.held ≡ Some b.value }
     {
         place_of(Unboxed::new(b))
     }
 
-    /// Returns the box of the open heap; dropping the box frees the block.
+    /// Returns the box of the open heap, with `alloc` as its allocator; dropping the box frees the block.
     fn into_box(self, alloc: Global) -> Box<Open>
         requires { IsSome self.held }
         ensures { self.held ≡ Some result.value }
@@ -62,7 +62,8 @@ impl Place {
         unboxed_of(self, alloc).boxed()
     }
 
-    /// Borrows the open heap. When the borrow ends, the heap as it then is belongs to the place again.
+    /// Borrows the open heap. When the borrow ends, the heap as it then is belongs to the `HeapBlock` again
+    /// (`writes_back`, a clause on the time after the borrow).
     fn lend(&mut self) -> &mut Open
         requires { IsSome self.old.held }
         ensures* writes_back { sem 𝓛 (LendsPlace self.entry result) }
@@ -72,22 +73,23 @@ impl Place {
     }
 }
 
-/// Returns a place that owns the block of an unboxed heap.
-fn place_of(u: Unboxed<Open, Global>) -> Place
+/// Returns a `HeapBlock` that owns the block of a heap whose box was taken apart (`Unboxed`).
+fn place_of(u: Unboxed<Open, Global>) -> HeapBlock
     ensures { result.held ≡ Some u.value }
 {
     let Unboxed { alloc: _, at } = u;
-    Place {
+    HeapBlock {
         at: at as *mut Sealed,
     }
 }
 
-/// Returns the heap of a place as an unboxed value, whose block this allocator may free.
-fn unboxed_of(p: Place, alloc: Global) -> Unboxed<Open, Global>
+/// Returns the heap of a `HeapBlock` as the parts of a box (`Unboxed`): the block's address, and this allocator,
+/// which may free the block.
+fn unboxed_of(p: HeapBlock, alloc: Global) -> Unboxed<Open, Global>
     requires { IsSome p.held }
     ensures { p.held ≡ Some result.value }
 {
-    let Place { at } = p;
+    let HeapBlock { at } = p;
     Unboxed {
         alloc,
         at: at as *mut Open,
@@ -95,11 +97,11 @@ fn unboxed_of(p: Place, alloc: Global) -> Unboxed<Open, Global>
 }
 
 /// A heap, open or closed, in memory of a caller in C. `shown` says that the flag is true if and only if the
-/// place has a heap. Call `close` before it is dropped: a drop does not free the memory of an open heap.
+/// `HeapBlock` has a heap. Call `close` before it is dropped: a drop does not free the memory of an open heap.
 #[repr(C)]
 #[derive(Drop)]
 pub struct NphHeap {
-    place: Place,
+    place: HeapBlock,
     is_open: bool,
     ghost shown: { is_open ≡ is_some place.held },
 }
@@ -138,7 +140,7 @@ impl NphHeap {
             Err(fault) => of_setting(fault),
             Ok(s) => match Held::open(memory, &s) {
                 Some(heap) => {
-                    self.place = Place::of(heap);
+                    self.place = HeapBlock::of(heap);
                     self.is_open = true;
                     DONE
                 }
@@ -155,7 +157,7 @@ impl NphHeap {
             return;
         }
         self.is_open = false;
-        let place = std::mem::replace(&mut self.place, Place::nowhere());
+        let place = std::mem::replace(&mut self.place, HeapBlock::nowhere());
         drop(place.into_box(Global::new(memory)));
     }
 }

@@ -4,7 +4,7 @@ use Rattle.cf_base.specs.Settings.{Profile}
 use Rattle.page_model.specs.Held.{Objects}
 use Rattle.heap_image.specs.Heaps.{HaveImage, image_under}
 
--- the bytes are the image of these objects by id under the settings `p`, and objects and settings are ones that have an image
+-- the bytes are the image of these objects by id under the settings `p`, and these objects and settings have an image (`HaveImage`)
 pub record IsImageOf (bytes : List ℕ) (p : Profile) (objects : Objects) : Type 0 where
   pub have : HaveImage p objects
   pub are : bytes ≡ image_under p objects

@@ -32,7 +32,7 @@ pub fn load_script<H: Manager, S: Source, K: Sink>(
         result
         (source_at (S.rest source.new) (S.given source.new) (S.faults source.new) (S.last_failed source.new))
         (sink_at (K.written sink.new) (K.faults sink.new) (K.last_failed sink.new))) (run_at session.new (H.state heap.new)) }
-    // The causes, also if the source isn't observable.
+    // The causes of each status, also if the source isn't observable.
     ensures source_same { result ≢ Status.ReadFault → S.faults source.new ≡ S.faults source.old }
     ensures read_fault { result ≡ Status.ReadFault → FailsLast (S.faults source.old) (S.faults source.new) (S.last_failed source.new) }
     ensures sink_same { result ≢ Status.WriteFault → K.faults sink.new ≡ K.faults sink.old }

@@ -16,8 +16,9 @@ use script_loop::{WithSettings, play_script};
 use step_ledger::Meter;
 
 /// Runs a script on a closed manager of kind Moving, drops its replies, and writes the image of the live
-/// objects at its end; nothing if the script has no `heap` line. Returns the status of the script, or
-/// `WriteFault` after a prefix of the image. With another status than these two and `Done` nothing is written.
+/// objects at its end; nothing if the script has no `heap` line. Returns `Done` after that, or `WriteFault` if
+/// the sink failed, after a prefix of the image. If the script doesn't end with `Done`, writes nothing and
+/// returns its status.
 pub fn save_script<H: Manager, S: Source, K: Sink>(
     rt: &HostRuntime,
     mode_handler: &mut WithSettings<Session>,
@@ -36,7 +37,7 @@ pub fn save_script<H: Manager, S: Source, K: Sink>(
         (source_at (S.rest source.new) (S.given source.new) (S.faults source.new) (S.last_failed source.new))
         (sink_at (K.written sink.new) (K.faults sink.new) (K.last_failed sink.new))) (run_at mode_handler.new.mode_handler (H.state heap.new)) }
     ensures promise { KeepsPromise (H.state heap.old) (H.state heap.new) }
-    // The causes, also if the source isn't observable.
+    // The causes of each status, also if the source isn't observable.
     ensures causes { HasCauses
         (source_at (S.rest source.old) (S.given source.old) (S.faults source.old) (S.last_failed source.old))
         (sink_at (K.written sink.old) (K.faults sink.old) (K.last_failed sink.old))

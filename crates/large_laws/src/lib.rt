@@ -23,13 +23,13 @@ pub fn the_large_headline()
         → MeetsLarge kind items replies → MeetsLarge kind items others → others ≡ replies }
 {}
 
-/// Wrong replies violate the claim, so it isn't empty. The script, on eight pages of 512 bytes: a malloc of
-/// 600 bytes; a write of two bytes across the end of a part; a malloc of 90 bytes; a read of the two bytes;
-/// `walk`; `frag`; and a malloc of 4,000 bytes, which needs more pages than are free. The claim holds for the
-/// right replies (`right`). It fails for `refused size` to a malloc that fits (`size`), for no replies at all
-/// (`silent`), for a reply too few (`missing`) or too many (`over`), for a read of zeros (`other`), for a
-/// `walk` that counts the long object as one object (`whole`), for a `frag` without the bytes of the spine
-/// (`spine`) or of its slot (`slots`), and for `ok` to the last malloc (`pages`).
+/// Some wrong replies, each of which violates the claim: so it rules something out. The script, on eight pages
+/// of 512 bytes: a malloc of 600 bytes; a write of two bytes across the end of a part; a malloc of 90 bytes; a
+/// read of the two bytes; `walk`; `frag`; and a malloc of 4,000 bytes, which needs more pages than are free.
+/// The claim holds for the right replies (`right`). It fails for `refused size` to a malloc that fits
+/// (`size`), for no replies at all (`silent`), for a reply too few (`missing`) or too many (`over`), for a read
+/// of zeros (`other`), for a `walk` that counts the long object as one object (`whole`), for a `frag` without
+/// the bytes of the spine (`spine`) or of its slot (`slots`), and for `ok` to the last malloc (`pages`).
 pub fn wrong_large_replies_fall_short()
     ensures right { MeetsSmall (small_replies (codes "ok") (codes "=aabb") small_walk
         (codes "frag asked 698 taken 752 held 1536") (codes "refused space")) }

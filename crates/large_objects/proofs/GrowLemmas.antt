@@ -18,7 +18,7 @@ use Rattle.page_model.specs.Paging.{Paging, class_for}
 use Rattle.page_model.proofs.CallerLemmas.{length-written, live_added}
 use Rattle.cf_model.specs.State.{HeapState, paging_in}
 use Rattle.large_objects.specs.Growing.{GrowsInner, HasObjectRoom, IsGrowing, NamesPart}
-use Rattle.large_objects.specs.InnerCalls.{GivesInner, HasInner, HasInnerRoom, WritesInner}
+use Rattle.large_objects.specs.InnerCalls.{MakesOneInner, HasInner, HasInnerRoom, WritesInner}
 use Rattle.large_objects.specs.Large.{bytes_in, handle_at, named}
 use Rattle.large_objects.specs.InnerObjects.{in_class, length_sum, inner_lengths, part_length, part_count, spine_bytes}
 use Rattle.large_objects.proofs.Bytes.{handle_other, handle_written}
@@ -308,7 +308,7 @@ module _ (u n : ℕ) (old now : HeapState) (h i : ℕ) (some : 0 < u) (long : u 
   }
 
 -- a spine is made
-pub grows_first : (u n : ℕ) (old new : HeapState) (h : ℕ) → 0 < u → u < n → GivesInner old h (spine_bytes u n) new → GrowsInner u n old h 0 new
+pub grows_first : (u n : ℕ) (old new : HeapState) (h : ℕ) → 0 < u → u < n → MakesOneInner old h (spine_bytes u n) new → GrowsInner u n old h 0 new
 grows_first u n old new h some long given = record {
   stays = given.stays;
   growing = subst (λ (o : Objects). IsGrowing (paging_in old) u n (objects old.held) h 0 o) (sym given.left)
@@ -316,7 +316,7 @@ grows_first u n old new h some long given = record {
 }
 
 -- a part is made, and then its handle is written
-pub part_named : (old made new : HeapState) (h i n q : ℕ) → GivesInner old q n made → (v : List ℕ) → get (objects old.held) h ≡ Some v
+pub part_named : (old made new : HeapState) (h i n q : ℕ) → MakesOneInner old q n made → (v : List ℕ) → get (objects old.held) h ≡ Some v
     → WritesInner made h (4 * i) (to_le_bytes w32 q) new → NamesPart old h i n new
 part_named old made new h i n q given v found wrote =
     let there = (stays_there (objects old.held) q (replicate n 0) given.unused h v found).1 in
@@ -334,7 +334,7 @@ part_named old made new h i n q given v found wrote =
     }
 
 -- an object keeps its bytes when another inner object is made
-pub inner_beside : (old made : HeapState) (h q n at count : ℕ) → GivesInner old q n made → HasInner old h at count → HasInner made h at count
+pub inner_beside : (old made : HeapState) (h q n at count : ℕ) → MakesOneInner old q n made → HasInner old h at count → HasInner made h at count
 inner_beside old made h q n at count given has = record {
   bytes = has.bytes;
   found = ap (λ (o : Objects). get o h) given.left ∙ (stays_there (objects old.held) q (replicate n 0) given.unused h has.bytes has.found).1;

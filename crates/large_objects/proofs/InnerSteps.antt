@@ -22,7 +22,7 @@ use Rattle.cf_model.specs.State.{HeapState, layout_of, paging_in}
 use Rattle.cf_model.specs.Steps.{AddsObject, IsFault, IsFreeStep, IsReadAnswer, IsRefusedBy, IsWriteStep, KeepsSettings, LacksRoomIn, Position}
 use Rattle.cf_model.proofs.CallerLemmas.{pages_kept}
 use Rattle.run_model.proofs.CallerLemmas.{bytes_held, bytes_missing, held_of_bytes}
-use Rattle.large_objects.specs.InnerCalls.{FreesInner, GivesInner, HasInner, HasInnerRoom, IsReady, StaysReady, WritesInner}
+use Rattle.large_objects.specs.InnerCalls.{FreesInner, MakesOneInner, HasInner, HasInnerRoom, IsReady, StaysReady, WritesInner}
 
 -- a ready manager keeps the rules of its pages
 pub keeps_pages : (s : HeapState) → IsReady s → KeepsPages s
@@ -75,7 +75,7 @@ inner_not_refused s n r room refusal.Space cause =
     let pages = room.pages in omega arith
 
 pub inner_given : (old new : HeapState) (asked : Request) → IsReady old → AddsObject old asked new → KeepsRules new
-    → GivesInner old asked.number asked.length new
+    → MakesOneInner old asked.number asked.length new
 inner_given old new asked r given rules = record {
   stays = stays_ready old new r (record {
     kind = ap (λ (s : HeapState). s.kind) given.whole;

@@ -21,7 +21,7 @@ use Rattle.script_reader.specs.declared.command.Command.TheVariants.{Malloc, Fre
 use Rattle.run_model.specs.Sessions.{AreTied, CostsAtMost, IsGoing, RunState, SessionState}
 use Rattle.run_model.specs.Steps.{Frees, Mallocs, Stays, Writes}
 use Rattle.run_laws.proofs.CallerLemmas.{turn_there}
-use Rattle.large_objects.specs.InnerCalls.{FreesInner, GivesInner, HasInner, HasInnerRoom, IsReady, WritesInner}
+use Rattle.large_objects.specs.InnerCalls.{FreesInner, MakesOneInner, HasInner, HasInnerRoom, IsReady, WritesInner}
 use Rattle.run_model.proofs.CallerLemmas.{held_of_bytes}
 use Rattle.large_objects.proofs.InnerSteps.{inner_freed, inner_given, inner_not_refused, inner_written}
 
@@ -94,7 +94,7 @@ module _ (s : HeapState) (ready : IsReady s) where
   going = record { opened = ready.opened; rules = ready.rules; tied = tied }
 
   -- an inner object is made, if there is room
-  pub gives_there : (n : ℕ) → HasInnerRoom s n → (q : ℕ) × (new : HeapState) × GivesInner s q n new
+  pub gives_there : (n : ℕ) → HasInnerRoom s n → (q : ℕ) × (new : HeapState) × MakesOneInner s q n new
   gives_there n room =
       let t = turn_there run (Malloc s.profile.proxies n) going (record { formed = tt; bytes = tt }) in
       let m = of_free t.0 t.1 (get ids s.profile.proxies) (id_is s.profile.proxies ∙ own_past s.profile.proxies (omega arith)) t.2.step in
@@ -106,7 +106,7 @@ module _ (s : HeapState) (ready : IsReady s) where
       of_free reply new None none m = m
       of_free reply new (Some h) none m = absurd (let z : ◌≡◌ {A = Option ℕ} (Some h) None = none in cc)
 
-      by_answer : (new : HeapState) (r : Result Handle Refusal) → IsMallocStep s n r new → KeepsRules new → (q : ℕ) × (new : HeapState) × GivesInner s q n new
+      by_answer : (new : HeapState) (r : Result Handle Refusal) → IsMallocStep s n r new → KeepsRules new → (q : ℕ) × (new : HeapState) × MakesOneInner s q n new
       by_answer new (Ok h) given rules = (h.0, new, inner_given s new (record { number = h.0; length = n }) ready given rules)
       by_answer new (Err e) (cause, same) rules = absurd (inner_not_refused s n ready room e cause)
 

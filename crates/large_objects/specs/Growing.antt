@@ -1,5 +1,6 @@
 -- An inner manager in the middle of a malloc of a long object: some of its parts are made. In all definitions u is the bytes of a whole part, and n
--- those of the object; h is the handle of its spine. No public clause cites this module.
+-- those of the object; h is the handle of its spine. A *ready* inner manager is open, keeps its rules, has pages, and has every bound 1 (`IsReady`). No public
+-- clause cites this module.
 use Rattle.std.specs.Prelude.{◌≡◌, ◌≢◌, ℕ, ◌+◌, ◌*◌, ◌^◌, ◌≤◌, ◌<◌, ◌⊎◌, List, Some, None, length, take, replicate, sum_by}
 use Rattle.std.specs.FinMap.{get, insert, len}
 use Rattle.std.specs.Int.{to_le_bytes, w32}
@@ -39,7 +40,7 @@ pub record IsGrowing (p : Paging) (u n : ℕ) (old : Objects) (h i : ℕ) (now :
   pub all : len now ≡ len old + (1 + i)
   pub sums_now : (f : ℕ → ℕ) → length_sum f now ≡ length_sum f old + sum_by f (take (1 + i) (inner_lengths u n))
 
--- `IsGrowing` of the objects of an inner manager before the malloc (`old`) and now; it keeps its settings and is ready now
+-- `IsGrowing` for the objects that an inner manager has before the malloc (`old`) and now; the manager has the same settings and is ready
 pub record GrowsInner (u n : ℕ) (old : HeapState) (h i : ℕ) (now : HeapState) : Type 0 where
   pub stays : StaysReady old now
   pub growing : IsGrowing (paging_in old) u n (objects old.held) h i (objects now.held)

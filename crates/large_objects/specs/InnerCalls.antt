@@ -31,7 +31,7 @@ pub record HasInnerRoom (s : HeapState) (n : ℕ) : Type 0 where
   pub pages : pages_needed_with (paging_in s) (objects s.held) n ≤ s.profile.pages
 
 -- a malloc made the inner object q, of n zero bytes
-pub record GivesInner (old : HeapState) (q n : ℕ) (new : HeapState) : Type 0 where
+pub record MakesOneInner (old : HeapState) (q n : ℕ) (new : HeapState) : Type 0 where
   pub stays : StaysReady old new
   pub unused : get (objects old.held) q ≡ None
   pub below : q < 2 ^ 32

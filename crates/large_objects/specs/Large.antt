@@ -1,4 +1,4 @@
--- The state of a heap of large objects, and the rules that its inner objects keep.
+-- The state of a heap of long objects, and the rules that its inner objects keep.
 use Rattle.std.specs.Prelude.{◌≡◌, ℕ, Bool, IsTrue, ◌*◌, ◌<◌, ◌≤◌, List, [], Option, Some, None, length, take, drop, refl}
 use Rattle.std.specs.Coded.{Coded, code_by, coded×, coded_ℕ, coded_list, coded_bool}
 use Rattle.std.specs.FinMap as map
@@ -12,13 +12,13 @@ use Rattle.cf_model.specs.Rules.{KeepsRules}
 use Rattle.cf_model.specs.State.{HeapState, paging_in, state_code}
 use Rattle.large_objects.specs.InnerObjects.{inner_count, inner_live, inner_sum, length_sum, whole_part_bytes, part_count, spine_bytes}
 
--- a heap of large objects: whether it is open, its objects as a map from handles to bytes, and the state of its inner manager
+-- a heap of long objects: whether it is open, its objects as a map from handles to bytes, and the state of its inner manager
 pub record LargeState : Type 0 where
   pub is_open : Bool
   pub objects : Objects
   pub inner : HeapState
 
--- the state as nested pairs, since the type's `Model` needs a coded value
+-- the encoding of the state as nested pairs, which the trait `Model` requires
 abbrev pub large_code : Coded LargeState
 large_code = code_by (Bool × (Objects × HeapState)) (coded× coded_bool (coded× (map.code coded_ℕ (coded_list coded_ℕ)) state_code))
     (λ s. (s.is_open, (s.objects, s.inner))) (λ q. record { is_open = q.0; objects = q.1.0; inner = q.1.1 }) (λ _. refl)
@@ -71,7 +71,7 @@ pub record AreCounted (p : Paging) (u : ℕ) (large inner : Objects) : Type 0 wh
   pub each : (c : ℕ) → live p inner c ≡ inner_live p u large c
   pub sums : (f : ℕ → ℕ) → length_sum f inner ≡ inner_sum f u large
 
--- What an open heap of large objects keeps: its inner manager is open, with pages, and each of its classes has the bound 1; and the inner objects are those
+-- What an open heap of long objects keeps: its inner manager is open, with pages, and each of its classes has the bound 1; and the inner objects are those
 -- of its objects.
 pub record KeepsParts (s : LargeState) : Type 0 where
   pub opened : IsTrue s.inner.is_open

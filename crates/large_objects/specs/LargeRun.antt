@@ -1,4 +1,4 @@
--- A session over a heap of large objects: its state, and for each command the reply and the state after it.
+-- A session over a heap of long objects: its state, and for each command the reply and the state after it.
 use Rattle.std.specs.Prelude.{◌≡◌, ℕ, IsTrue, ◌+◌, ◌++◌, List, Option, Some, None, Result, codes, length, take, drop, nat_le, if◌then◌else◌}
 use Rattle.std.specs.Option.{MatchOption}
 use Rattle.std.specs.FinMap.{get, remove}
@@ -28,7 +28,7 @@ pub record LargeRun : Type 0 where
 abbrev pub large_run : Ids → LargeState → LargeRun
 large_run ids heap = record { ids = ids; heap = heap }
 
--- a state of a run: the heap is open and keeps its parts, and the ids name its objects, each once
+-- a state of a run: the heap is open, its inner manager holds exactly the inner objects of its objects (`KeepsParts`), and the ids name these objects, each once
 pub record IsGoingLarge (s : LargeRun) : Type 0 where
   pub opened : IsTrue s.heap.is_open
   pub parts : KeepsParts s.heap

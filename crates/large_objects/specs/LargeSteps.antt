@@ -1,4 +1,4 @@
--- What each call of a heap of large objects does: `old` is its state before the call, `new` after it. A `position` names an object by its handle (`number`)
+-- What each call of a heap of long objects does: `old` is its state before the call, `new` after it. A `position` names an object by its handle (`number`)
 -- and the byte from which the call reads or writes (`from`).
 use Rattle.std.specs.Prelude.{◌≡◌, ℕ, ◌+◌, ◌*◌, ◌≤◌, ◌<◌, ◌⊎◌, true, false, List, Some, None, Result, Ok, Err, length, take, drop, replicate}
 use Rattle.std.specs.FinMap.{get, insert, remove, empty}

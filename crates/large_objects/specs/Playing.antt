@@ -1,4 +1,4 @@
--- Mode `large` for the script loop: how a run over a heap of large objects begins, its runs over a script, and what is left if an allocation fails.
+-- Mode `large` for the script loop: how a run over a heap of long objects begins, its runs over a script, and what is left if an allocation fails.
 use Rattle.std.specs.Prelude.{◌≡◌, true, List, Option, codes}
 use Rattle.std.specs.FinMap.{empty}
 use Rattle.cf_base.specs.Settings.{Profile, at_bound_one}
@@ -44,7 +44,7 @@ pub record LacksLarge (old new : LargeRun) : Type 0 where
   pub heap : IsShutLarge old.heap new.heap
   pub ids : new.ids ≡ old.ids
 
--- mode `large` for the script loop; the plan is the kind of the inner manager
+-- The relations of mode `large` for the script loop. The plan, which no item changes, is the kind of the inner manager.
 abbrev pub large_heap : Semantics LargeRun Kind
 large_heap = record {
   plan = λ s. s.heap.inner.kind;

@@ -27,7 +27,7 @@ pub record HasParts (u n : ℕ) (o : Objects) (h : ℕ) : Type 0 where
   pub not_spine : (j : ℕ) → j < part_count u n → named o h j ≢ h
   pub apart : (j k : ℕ) → j < part_count u n → k < part_count u n → named o h j ≡ named o h k → j ≡ k
 
--- `IsShrinking` of the objects of an inner manager before the free (`old`) and now; it keeps its settings and is ready now
+-- `IsShrinking` for the objects that an inner manager has before the free (`old`) and now; the manager has the same settings and is ready (`IsReady`)
 pub record Shrinks (u n : ℕ) (old : HeapState) (h i : ℕ) (now : HeapState) : Type 0 where
   pub stays : StaysReady old now
   pub shrinking : IsShrinking (paging_in old) u n (objects old.held) h i (objects now.held)

@@ -1,4 +1,4 @@
-//! The commands `m`, `f`, `w` and `r` of a session over large objects, where a script names objects by ids.
+//! The commands `m`, `f`, `w` and `r` of a session over long objects, where a script names objects by ids.
 //! The first three return their reply; `r` builds its reply in `line`.
 ghost use Rattle.std.specs.Prelude.{◌≡◌, ◌<◌, ◌≤◌, [], IsTrue, length};
 ghost use Rattle.cf_io.specs.Lines.{line_room};

@@ -3,7 +3,7 @@
 ghost use Rattle.std.specs.Prelude.{◌≡◌, ℕ, List, Some, length, take, drop};
 ghost use Rattle.std.specs.FinMap.{get};
 ghost use Rattle.page_model.specs.Held.{objects};
-ghost use Rattle.large_objects.specs.InnerCalls.{FreesInner, GivesInner, HasInner, HasInnerRoom, IsReady, WritesInner};
+ghost use Rattle.large_objects.specs.InnerCalls.{FreesInner, MakesOneInner, HasInner, HasInnerRoom, IsReady, WritesInner};
 
 use cf_base::Handle;
 use cf_model::Manager;
@@ -13,7 +13,7 @@ use step_ledger::Meter;
 pub(crate) fn make_inner<H: Manager>(inner: &mut H, bytes: u32, meter: &mut Meter) -> Handle
     requires ready { IsReady (H.state inner.old) }
     requires room { HasInnerRoom (H.state inner.old) bytes }
-    ensures { GivesInner (H.state inner.old) result.0 bytes (H.state inner.new) }
+    ensures { MakesOneInner (H.state inner.old) result.0 bytes (H.state inner.new) }
 {
     meter.lap();
     match inner.malloc(bytes, meter.steps()) {

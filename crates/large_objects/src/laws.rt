@@ -1,4 +1,4 @@
-//! Laws of large objects. The functions do nothing: their clauses are the laws.
+//! Laws of long objects. The functions do nothing: their clauses are the laws.
 ghost use Rattle.std.specs.Prelude.{◌≡◌, ◌≢◌, ℕ, ◌+◌, ◌*◌, ◌<◌, ◌≤◌, ◌++◌, Bool, List, [], Option, None, length};
 ghost use Rattle.std.specs.FinMap.{get};
 ghost use Rattle.cf_base.specs.declared.answers.AccessFault.{AccessFault};
@@ -35,7 +35,7 @@ pub fn refusals_come_exactly_by_their_causes()
         → WritesLarge old position bytes new → ¬ IsLargeFault old position (length bytes) e }
 {}
 
-/// In an open heap of large objects, the inner manager uses exactly the pages that the inner objects of all
+/// In an open heap of long objects, the inner manager uses exactly the pages that the inner objects of all
 /// objects need, computed from the lengths of the objects, since every bound is 1.
 pub fn pages_in_use_are_those_of_the_inner_objects()
     ensures { (s : LargeState) → KeepsParts s
@@ -59,8 +59,8 @@ pub fn what_is_written_is_read()
 {}
 
 /// In every list of commands each read returns the bytes last written through its id, however its object
-/// is cut into parts. The bytes depend on the ids in the lines and replies alone: on no address, handle
-/// or part.
+/// is cut into parts. Which bytes these are follows from the lines, their ids and their replies alone: no
+/// address, handle or part matters.
 pub fn reads_give_what_was_written()
     ensures { (kind : Kind) (items : List Item) (replies : List Reply) (new : Option LargeRun)
         → RunsLarge kind None items replies new → AreReadsOf None items replies }

@@ -1,4 +1,4 @@
-//! The mode handler of mode `large`, which runs a script on a heap of large objects.
+//! The mode handler of mode `large`, which runs a script on a heap of long objects.
 ghost use Rattle.std.specs.Prelude.{◌≡◌, IfOk};
 ghost use Rattle.std.specs.FinMap as map;
 ghost use Rattle.cf_base.specs.declared.kind.Kind.{Kind};
@@ -17,7 +17,7 @@ use script_reader::CommandRef;
 use std::alloc::Global;
 use step_ledger::Meter;
 
-/// The mode handler: a session over large objects, the line in which it builds replies, and its ledger.
+/// The mode handler: a session over long objects, the line in which it builds replies, and its ledger.
 #[derive(Drop)]
 pub struct LargeHandler {
     pub session: LargeSession,

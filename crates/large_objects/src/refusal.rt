@@ -1,4 +1,5 @@
-//! Why the heap refuses a malloc, found before it changes anything.
+//! Why the heap refuses a malloc, found before it changes anything. In all functions `part_bytes` is the bytes
+//! of a whole part, the largest object that fits a page.
 ghost use Rattle.std.specs.Prelude.{◌≡◌, ◌+◌, ◌<◌, IsTrue};
 ghost use Rattle.std.specs.Option.{MatchOption};
 ghost use Rattle.page_model.specs.Arrangement.{live, pages_for};
@@ -25,6 +26,7 @@ impl<H: Manager> LargeHeap<H> {
         if !has_spine_that_fits(bytes, self.part_bytes) {
             return Some(Refusal::Size);
         }
+        // `lengths` has an entry for each handle, so as many as there are proxies.
         let live = self.inner.totals(meter.steps()).live as u64;
         if (self.lengths.len() as u64) < live + inner_objects(bytes, self.part_bytes) {
             return Some(Refusal::Proxy);

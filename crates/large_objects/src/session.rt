@@ -1,4 +1,4 @@
-//! A session over a heap of large objects: it maps a script's ids to handles, does each command, and writes
+//! A session over a heap of long objects: it maps a script's ids to handles, does each command, and writes
 //! its reply.
 ghost use Rattle.std.specs.Prelude.{◌≡◌, ◌<◌, ◌≤◌, [], IsTrue, IfOk, OnErr, length, OnOk};
 ghost use Rattle.std.specs.FinMap as map;
@@ -28,7 +28,7 @@ use step_ledger::Meter;
 /// The most bytes that one `r` reads.
 const MOST_READ: usize = 4_096;
 
-/// The ids of a script with the handles that they name in one heap of large objects, and a buffer.
+/// The ids of a script with the handles that they name in one heap of long objects, and a buffer.
 #[derive(Drop)]
 pub struct LargeSession {
     ids: IdTable,
@@ -107,8 +107,9 @@ impl LargeSession {
     }
 }
 
-/// Does the command c on the heap and writes its reply to the sink `out`. If the sink fails, the result is
-/// `Failed`: the command has taken effect, and a prefix of its reply was written.
+/// Does the command c on the heap, writes its reply to the sink `out`, and returns how the command ended
+/// (`Outcome`). `buffer` gets the bytes of a read, and `line` the text of each line of the reply. If the sink
+/// fails, the result is `Failed`: the command has taken effect, and a prefix of its reply was written.
 fn answer<H: Manager, K: Sink>(
     ids: &mut IdTable,
     heap: &mut LargeHeap<H>,
@@ -143,8 +144,8 @@ fn answer<H: Manager, K: Sink>(
     }
 }
 
-/// Does a command that is no report (`walk` or `frag`), and builds the text of its reply in `line`. The reply
-/// to a command of another mode is `none`.
+/// Does a command other than `walk` and `frag`, and builds the text of its reply in `line`. `buffer` gets the
+/// bytes of a read. The reply to a command of another mode is `none`.
 fn build_reply<H: Manager>(
     ids: &mut IdTable,
     heap: &mut LargeHeap<H>,

@@ -1,4 +1,5 @@
--- What a call of each mode of this crate did. A record for each mode relates what the call worked on before (`old`), its status, and the same after (`new`).
+-- What a call of each mode of this crate did. A record for each mode relates three things: the source, the sink and the
+-- managers before the call (`old`), its status, and the same devices and managers after it (`new`).
 use Rattle.std.specs.Prelude.{◌≡◌, ◌≢◌, ◌<◌, ◌+◌, ◌⊎◌, Bool, IsSome, List, None, is_some, map}
 use Rattle.cf_base.specs.declared.kind.Kind.{Kind}
 use Rattle.cf_base.specs.declared.kind.Kind.TheVariants.{Moving}
@@ -51,7 +52,7 @@ abbrev pub effects_of : CallState → Status → CallState → Effects
 effects_of old status new = effects old.source old.sink status new.source new.sink
 
 -- Mode `run`: the script ran on the first manager of the kind, which is now in the last state `end` of the run; no other manager changes. If none is of the
--- kind, it ran on a manager made for it. `promise`: the manager has an order at the end if and only if it had one before; one made for the script has one.
+-- kind, it ran on a manager made for it. `promise`: the manager promises an order at the end if and only if it did before; one made for the script does.
 pub record Runs (kind : Kind) (old : CallState) (status : Status) (new : CallState) : Type 0 where
   pub end : RunState
   pub outcome : MeetsOutcome one_manager (run_at fresh_session (chosen_manager kind old.managers)) (effects_of old status new) end

@@ -14,7 +14,8 @@ use std::alloc::Global;
 use tlsf_heap::TlsfHeap;
 
 /// Makes a closed manager of the chosen kind, runs the generated script of the chosen seed and count on
-/// it, and prints the counts. It reads nothing and touches no other manager.
+/// it, and prints the counts. It reads nothing and touches no other manager. Returns the status, `OutOfMemory`
+/// also if the session can't be allocated.
 pub fn bench_seed<K: Sink>(rt: &HostRuntime, alloc: Global, choice: Choice, sink: &mut K) -> Status
     ensures { (source : SourceState) → EndsBeside (Benches choice)
         source (sink_seen K.Sink sink.old) result source (sink_seen K.Sink sink.new) }

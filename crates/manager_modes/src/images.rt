@@ -1,6 +1,7 @@
 //! Mode `save` runs a script and writes an image of the live objects; mode `load` reads an image and prints
-//! a script that makes its objects. Each makes its own manager behind a box, like those that the caller hands
-//! in. So only mode `bench` instantiates a session over an unboxed manager, and the compiler inlines it there.
+//! a script that makes its objects. Each mode makes a moving manager in a box (`Boxed`), the type that modes
+//! `run` and `compare` use too. So the compiler makes the session's code for an unboxed manager only in mode
+//! `bench`, and inlines it there.
 ghost use Rattle.std.specs.Prelude.{◌≡◌};
 ghost use Rattle.cf_base.specs.declared.kind.Kind.TheVariants.{Moving};
 ghost use Rattle.cf_model.specs.State.{closed_state};
@@ -17,7 +18,8 @@ use script_loop::WithSettings;
 use std::alloc::Global;
 
 /// Runs a script on a moving manager that is made for it, and writes the image of the objects that are
-/// live at its end in place of the replies.
+/// live at its end in place of the replies. Returns the status, `OutOfMemory` also if manager or session
+/// can't be allocated.
 pub fn save_image<S: Source, K: Sink>(
     rt: &HostRuntime,
     alloc: Global,
@@ -57,7 +59,7 @@ fn save_on<H: Manager, S: Source, K: Sink>(
 }
 
 /// Loads an image into a moving manager that is made for it, and writes the script that makes its
-/// objects.
+/// objects. Returns the status, `OutOfMemory` also if manager or session can't be allocated.
 pub fn load_image<S: Source, K: Sink>(
     rt: &HostRuntime,
     alloc: Global,

@@ -7,7 +7,8 @@ use large_objects::{LargeHandler, LargeHeap, run_large};
 use moving_heap::MovingHeap;
 use std::alloc::Global;
 
-/// Runs a script whose objects may be larger than a page, on a moving manager that is made for it.
+/// Runs a script whose objects may be larger than a page, on a moving manager that is made for it. Returns the
+/// status, `OutOfMemory` also if the session can't be allocated.
 pub fn play_large<S: Source, K: Sink>(
     rt: &HostRuntime,
     alloc: Global,

@@ -73,6 +73,7 @@ impl Manager for MovingHeap {
 
     // Returns the kind `Moving`.
     fn kind(&self) -> Kind {
+        // For the proof: reading a field brings in the invariant of the type.
         let _inner = &self.inner;
         Kind::Moving
     }
@@ -138,7 +139,8 @@ impl Manager for MovingHeap {
         }
     }
 
-    // Writes bytes into an object, as the trait says. Costs exactly `access_steps` steps.
+    // Writes bytes into an object, as the trait says. Costs exactly 2 + t steps if the bytes are in t
+    // words (`access_steps`); 1 or 2 if refused.
     fn write(
         &mut self,
         h: Handle,
@@ -160,7 +162,8 @@ impl Manager for MovingHeap {
         }
     }
 
-    // Reads bytes of an object, as the trait says. Costs exactly `access_steps` steps.
+    // Reads bytes of an object, as the trait says. Costs exactly 2 + t steps if the bytes are in t
+    // words (`access_steps`); 1 or 2 if refused.
     fn read(&self, h: Handle, at: u32, out: &mut [u8], steps: &mut Steps) -> Result<(), AccessFault>
         requires open { IsTrue self.now.is_open }
         requires room { steps.old ≤ 2 ^ 63 }
@@ -175,7 +178,9 @@ impl Manager for MovingHeap {
         }
     }
 
-    // Changes the length of an object, as the trait says. Costs at most `resize_steps` steps.
+    // Changes the length of an object, as the trait says. Costs at most 34 + s + t steps if the class
+    // changes, for an old slot of s words and t words of the smaller slot; fewer in the same slot, and
+    // at most 5 if refused (`resize_steps`).
     fn resize(&mut self, h: Handle, bytes: u32, steps: &mut Steps) -> Result<Resized, ResizeFault>
         requires open { IsTrue self.old.is_open }
         requires room { steps.old ≤ 2 ^ 63 }
@@ -194,8 +199,8 @@ impl Manager for MovingHeap {
         }
     }
 
-    // Sets the bound of a class. Returns false, and changes nothing, if no class has this slot
-    // size.
+    // Sets the bound of the class whose slots have `slot_words` words to `k`, as the trait says.
+    // Returns false, and changes nothing, if there is no such class.
     fn set_bound(&mut self, slot_words: u32, k: u32) -> bool {
         match &mut self.inner {
             Some(open) => open.set_bound::<Direct>(slot_words, k),
@@ -234,6 +239,7 @@ impl Manager for MovingHeap {
         ensures rises { steps.old ≤ steps.new }
         ensures steps { steps.new ≡ steps.old }
     {
+        // For its contract: a moving heap has no block table.
         let _open = self.open();
         None
     }

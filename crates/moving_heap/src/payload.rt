@@ -27,8 +27,8 @@ pub(crate) fn payload<'a>(heap: &'a OpenHeap, h: Handle, steps: &mut Steps) -> O
     Some(heap.region.payload(place + 1, count, steps))
 }
 
-/// Lends the whole words of an object for writing, after a flag that is true if the handle is live; no
-/// words if it is not.
+/// Returns whether the handle is live, and lends the whole words of its object for writing; no words if
+/// it is not live.
 fn payload_mut<'a>(heap: &'a mut OpenHeap, h: Handle, steps: &mut Steps) -> (bool, &'a mut [u64])
     requires kept { Holds Moving heap.old }
     ensures* writes_back { sem 𝓛 (LendsPayloadOf heap.entry h.0 result.1) }

@@ -74,6 +74,7 @@ impl Manager for NonMovingHeap {
 
     // Returns the kind `NonMoving`.
     fn kind(&self) -> Kind {
+        // For the proof: reading a field brings in the invariant of the type.
         let _inner = &self.inner;
         Kind::NonMoving
     }
@@ -141,7 +142,8 @@ impl Manager for NonMovingHeap {
         }
     }
 
-    // Writes bytes into an object, as the trait says. Costs exactly `access_steps` steps.
+    // Writes bytes into an object, as the trait says. Costs exactly 3 + t steps if the bytes are in t
+    // words, and one for each block that these are in (`access_steps`); 1 or 3 if refused.
     fn write(
         &mut self,
         h: Handle,
@@ -163,7 +165,8 @@ impl Manager for NonMovingHeap {
         }
     }
 
-    // Reads bytes of an object, as the trait says. Costs exactly `access_steps` steps.
+    // Reads bytes of an object, as the trait says. Costs exactly 3 + t steps if the bytes are in t
+    // words, and one for each block that these are in (`access_steps`); 1 or 3 if refused.
     fn read(&self, h: Handle, at: u32, out: &mut [u8], steps: &mut Steps) -> Result<(), AccessFault>
         requires open { IsTrue self.now.state.is_open }
         requires room { steps.old ≤ 2 ^ 63 }
@@ -179,7 +182,9 @@ impl Manager for NonMovingHeap {
     }
 
     // Changes the length of an object, as the trait says. The physical words of the other objects
-    // stay (clause `others`). Costs at most `resize_steps` steps.
+    // stay (clause `others`). Costs at most 38 + 3(s + t)/2 steps if the class changes, for an old slot
+    // of s words and t words of the smaller slot; fewer in the same slot, and at most 6 if refused
+    // (`resize_steps`).
     fn resize(&mut self, h: Handle, bytes: u32, steps: &mut Steps) -> Result<Resized, ResizeFault>
         requires open { IsTrue self.old.state.is_open }
         requires room { steps.old ≤ 2 ^ 63 }
@@ -199,8 +204,8 @@ impl Manager for NonMovingHeap {
         }
     }
 
-    // Sets the bound of a class. Returns false, and changes nothing, if no class has this slot
-    // size.
+    // Sets the bound of the class whose slots have `slot_words` words to `k`, as the trait says.
+    // Returns false, and changes nothing, if there is no such class.
     fn set_bound(&mut self, slot_words: u32, k: u32) -> bool {
         match &mut self.inner {
             Some(open) => open.set_bound::<Mapped>(slot_words, k),
@@ -342,6 +347,7 @@ impl NonMovingHeap {
         ensures kind { self.now.state.kind ≡ NonMoving }
         ensures words { IsMappedByItsTable self.now }
     {
+        // For its contract: the open heap keeps its invariant.
         let _open = self.open();
     }
 

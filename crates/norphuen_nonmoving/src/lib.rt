@@ -15,7 +15,9 @@ use held_heap::{CLOSED, NphClass, NphFreed, NphHeapTotals, NphResized};
 use std::rt::Memory;
 
 /// Opens the heap with these settings; `page_bytes` are the bytes of a page, `k` bounds
-/// the partly full pages of each class (`NphHeap::open`).
+/// the partly full pages of each class, and at most `proxies` objects are live at a time (`NphHeap::open`).
+/// `memory`, here and in `nph_close`, is the kit's value for the memory of the process; a caller in C passes
+/// none.
 #[unsafe(no_mangle)]
 pub extern "C" fn nph_open(
     heap: &mut NphHeap,
@@ -161,7 +163,8 @@ pub extern "C" fn nph_totals(heap: &mut NphHeap, totals: &mut NphHeapTotals) -> 
     }
 }
 
-/// Writes the steps of the last call that counts steps into `steps` (`Held::last_steps`).
+/// Writes the steps of the last call into `steps` (`Held::last_steps`). `nph_figures` and this call count
+/// none, and leave that number unchanged.
 #[unsafe(no_mangle)]
 pub extern "C" fn nph_last_steps(heap: &mut NphHeap, steps: &mut u64) -> i32
     ensures { IsCallOnOpen (held_in heap.old) result (held_in heap.new) (steps.new ≡ steps.old)

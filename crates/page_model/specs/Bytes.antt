@@ -15,7 +15,7 @@ byte_of (suc j) w = byte_of j (w / 256)
 unfoldable pub bytes_at : List ℕ → ℕ → List ℕ
 bytes_at words a = map (λ i. byte_of (i % 8) (slice_index words (a + 1 + i / 8))) (range_with_len 0 (slice_index words a / 2 ^ 32))
 
--- the objects by number that have these addresses by number (`places`), each with the bytes that the words hold there
+-- the objects of a region: `places` has the address of each by its number, and the words at that address hold its bytes
 abbrev pub held_at : List ℕ → FinMap nat_cmp ℕ → Held
 held_at words places = map_values (λ a. record { place = a; bytes = bytes_at words a }) places
 

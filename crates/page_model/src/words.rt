@@ -12,8 +12,8 @@ ghost use Rattle.page_model.specs.Steps.{IsFreePlace, MayFill, MustMove, resized
 
 /// The objects determine the words: two lists `u` and `v` of one length that are right for the same
 /// objects `m` are equal (`one`). The words of an empty region of `n` words are zeros (`empty`).
-/// Words that are right for whole slots (`IsSlotImage`) are right for the objects without the rest
-/// of their slots (`own`).
+/// Words that are an image of the objects' whole slots (`IsSlotImage`) are also an image of the
+/// objects alone (`IsImage`; clause `own`).
 pub fn objects_determine_words()
     ensures one { (m : Held) (u v : List ℕ) → length u ≡ length v → IsImage m u → IsImage m v
         → u ≡ v }
@@ -23,8 +23,9 @@ pub fn objects_determine_words()
 {}
 
 /// Let `h` be a number that no object of `m` has, and `a` an address at which an object of `n`
-/// bytes may be placed. The words of that slot are zeros. A malloc writes the object's header at
-/// `a`, and no other word.
+/// bytes may be placed. The words of that slot are zeros (`zeros`). A malloc writes the object's
+/// header at `a`, and no other word; then the words are those of the objects with the new one
+/// (`header`).
 pub fn words_after_a_malloc()
     ensures zeros { (p : Paging) (m : Held) (words : List ℕ) (h n a : ℕ) → IsPaging p → IsSound p m
         → IsSlotImage p m words → get m h ≡ None → IsFreePlace p m n a
@@ -78,8 +79,9 @@ pub fn words_after_a_free()
 
 /// A resize of object `h`, which is `x`, to another class writes the new slot, at `a`, while the
 /// old one is still there: `mid` are the words in between. Then it clears the old slot (`still`),
-/// or moves the words of the slot of object `q`, which is `y`, there (`moved`). `spare` is any
-/// number that no object has: in between, the copy is an object of this number.
+/// or moves the words of the slot of object `q`, which is `y`, there (`moved`). Then the words,
+/// `new`, are those of the objects after the resize. `spare` is any number that no object has: in
+/// between, the copy is an object of this number.
 pub fn words_after_a_resize()
     ensures still { (p : Paging) (m : Held) (old mid new : List ℕ) (h a spare : ℕ) (x : Placed)
         (bytes : List ℕ)

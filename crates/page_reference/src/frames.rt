@@ -60,8 +60,8 @@ fn partner_of(a: u32, b: u32, n: u32, v: u32) -> u32
     }
 }
 
-/// The physical block of block `i` of the object at address `place`, in words, by the table
-/// `frames`.
+/// The number of the physical block that holds block `i` of the object at address `place`, in words,
+/// by the table `frames`.
 pub fn block_of(frames: &[u32], place: u32, i: u32) -> u32
     requires { place / 4 + i < length frames.now }
     ensures { result ≡ physical_block frames.now place i }

@@ -195,8 +195,9 @@ impl ReferenceOrder {
         Ok(Some(reference_pages.address_of(c, page, slot)))
     }
 
-    /// Updates the list of class `c` after a slot of `page`, the first page of the list, is taken
-    /// in the heap `reference_pages`: if that fills the page, it leaves the list.
+    /// Updates the list of the partly full pages of class `c` when a slot of `page`, the first of
+    /// them, is taken: if that fills the page, it leaves the list. `reference_pages` is the heap
+    /// before: the slot is still free there.
     fn use_slot(
         &mut self,
         alloc: Global,

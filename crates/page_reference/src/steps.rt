@@ -1,5 +1,5 @@
 //! The steps of the parts of a call, by slow code for tests: the reference implementation of
-//! `page_model`'s rules of cost.
+//! `page_model`'s rules of cost. The numbers for slots are those of `page_model/specs/Order`.
 ghost use Rattle.std.specs.Prelude.{◌≡◌, ◌*◌, ◌<◌, ◌≤◌};
 ghost use Rattle.page_model.specs.Order.{open_steps as opening, steps_to_drop as dropping, steps_to_fill as filling, steps_to_take as taking, word_steps as word};
 ghost use Rattle.page_model.specs.Arrangement.{objects_on};

@@ -9,7 +9,7 @@ ghost use Rattle.page_reference.specs.Words.{HasWord, IsWordAt, IsNoWordOf};
 use crate::object::Object;
 use cf_base::need_of;
 
-/// Byte `i` of an object; 0 behind its end.
+/// Byte `i` of an object; 0 past its end.
 fn byte_at(object: &Object, i: u64) -> u8
     ensures { result ≡ slice_index (placed object.now).bytes i }
 {
@@ -21,7 +21,7 @@ fn byte_at(object: &Object, i: u64) -> u8
 }
 
 /// The eight bytes of an object from byte `from` on as a word, the least significant first. Bytes
-/// behind its end count as 0.
+/// past its end count as 0.
 fn eight_bytes(object: &Object, from: u64) -> u64
     requires { from ≤ 2 ^ 40 }
     ensures { result ≡ word_of_bytes (take 8 (drop from (placed object.now).bytes)) }

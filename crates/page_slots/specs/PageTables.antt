@@ -12,7 +12,7 @@ use Rattle.page_slots.specs.declared.page_tables.PageTables.{PageTables}
 abbrev pub tables_with : PageTables → PageLists → Tables
 tables_with t lists = tables t.maps.items lists t.pool
 
--- the shared tables of a new heap: every page is free
+-- the shared tables of a new heap: every page is free, and the map of each has one free slot, since no class uses the page yet
 pub record AreFirst (s : Settings) (layout : Layout) (t : PageTables) : Type 0 where
   pub classes : t.classes ≡ table_of s.page_words layout
   pub maps : t.maps.items ≡ replicate s.pages (replicate 1 false)

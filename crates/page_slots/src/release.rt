@@ -1,5 +1,5 @@
 //! Frees a used slot of a page; or chooses the object that moves into it, and frees that object's
-//! slot.
+//! slot. `lists` has for each class the pages that one owner uses.
 ghost use Rattle.std.specs.Prelude.{◌≡◌, ◌≢◌, ℕ, ◌<◌, ◌≤◌, [], ◌↔◌, IsTrue, length, false, true, slice_get, slice_index_or};
 ghost use Rattle.std.specs.List.{Contains, position};
 ghost use Rattle.step_ledger.specs.Counting.{RoseAtMost, RoseBy};

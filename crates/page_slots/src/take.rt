@@ -1,4 +1,4 @@
-//! Takes a free slot of a class.
+//! Takes a free slot of a class. `lists` has for each class the pages that one owner uses.
 ghost use Rattle.std.specs.Prelude.{◌≡◌, ◌≢◌, ◌<◌, [], if◌then◌else◌, is_some, length, nat_eq, not, false, true, slice_get, slice_set};
 ghost use Rattle.std.specs.List.{Contains, position};
 ghost use Rattle.step_ledger.specs.Counting.{RoseAtMost, RoseBy};

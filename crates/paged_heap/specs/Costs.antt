@@ -1,4 +1,4 @@
--- The most steps of each call, each reached; those of reads and writes are exact.
+-- The most steps of each call; for each there is a call that takes as many. Those of reads and writes are exact.
 use Rattle.std.specs.Prelude.{ℕ, ◌+◌, ◌-◌, ◌*◌, ◌/◌, Result, Ok, Err, if◌then◌else◌, min, nat_eq}
 use Rattle.cf_base.specs.declared.answers.AccessFault.{AccessFault}
 use Rattle.cf_base.specs.declared.answers.AccessFault.TheVariants as access
@@ -23,8 +23,8 @@ abbrev pub free_steps : Kind → Result Freed NotLive → ℕ
 free_steps kind (Ok freed) = 18 + 2 * word_steps kind + slot_steps kind freed.slot_words
 free_steps kind (Err e) = 1
 
--- a resize to n bytes that stays in its slot of s words: 6 moving, 9 non-moving, and those of the words after the one that byte n is in,
--- with a block table also of their blocks
+-- a resize to n bytes that stays in its slot of s words: 6 moving, 9 non-moving, and one for each word after the one that byte n is in; non-moving also
+-- one for each block of these words
 -- (the proxy, two classes, two headers, the word of byte n, and the words after it)
 abbrev pub stay_steps : Kind → ℕ → ℕ → ℕ
 stay_steps kind n s = 3 + 3 * word_steps kind + run_steps kind (2 + n / 8) (s - 2 - n / 8)

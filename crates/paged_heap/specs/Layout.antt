@@ -75,7 +75,7 @@ pub record IsValid (h : Heap) : Type 0 where
   pub image : IsSlotImage (paging_at h) (held_in h) h.words
   -- the arrangement is sound: each object is in a slot of its class, and no class has more partly full pages than its bound
   pub sound : IsSound (paging_at h) (held_in h)
-  -- the tables are for these pages and classes
+  -- the tables have the heap's pages and classes, and no page is foreign
   pub serve : FitPages (paging_at h) (tables_in h)
   -- the used slots of the tables are those of the objects
   pub occupied : Occupies (paging_at h) (held_in h) (tables_in h)
@@ -92,7 +92,7 @@ pub record IsValid (h : Heap) : Type 0 where
   pub asked_all : h.asked ≡ asked_bytes (objects (held_in h))
   pub taken_all : h.taken ≡ taken_bytes (paging_at h) (objects (held_in h))
 
--- the invariant of an open heap in memory: its region and block table fit its kind, and the `Heap` of it keeps the invariant
+-- the invariant of an open heap in memory: its region and block table fit its kind, and as definitions see it (`Heap`) it keeps `IsValid`
 pub record Holds (kind : Kind) (h : OpenHeap) : Type 0 where
   pub laid : FitTable kind h.blocks h.region
   pub kept : IsValid (seen kind h)

@@ -63,7 +63,7 @@ impl OpenHeap {
         Ok(OpenHeap::empty::<A>(s, region, blocks, tables, lists, proxies))
     }
 
-    /// Puts these parts, each without objects, together to an open heap.
+    /// Makes an open heap of these parts, each without objects.
     fn empty<A: Mapping>(
         s: &Settings,
         region: Region,

@@ -129,9 +129,9 @@ impl OpenHeap {
         }
     }
 
-    /// Of the first `bytes` bytes of an object, clears those from byte `keep` on, and the rest of
-    /// their last word. The object's header is the word `place`. Does nothing if `keep` is `bytes`
-    /// or more.
+    /// Clears the bytes of an object from byte `keep` on, up to the end of the word that has its byte
+    /// `bytes - 1`. The object's header is the word `place`. Does nothing if `keep` is `bytes` or
+    /// more.
     pub(crate) fn zero_tail<A: Mapping>(
         &mut self,
         place: u32,

@@ -136,9 +136,9 @@ impl OpenHeap {
         })
     }
 
-    /// Takes a slot of the new class, copies the object there, and returns the new address; the old
-    /// slot stays used in the tables. Returns none if no slot of this class is free; then nothing
-    /// changes.
+    /// Begins the resize `x`: takes a slot of the new class, copies the object there, and returns the
+    /// new address; the old slot stays used in the tables. Returns none if no slot of this class is
+    /// free; then nothing changes.
     fn enter_class<A: Mapping>(&mut self, x: Change, steps: &mut Steps) -> Option<u32>
         requires kept { Holds A.kind self.old }
         requires change { IsChange (seen A.kind self.old) x }
@@ -161,9 +161,9 @@ impl OpenHeap {
         Some(to)
     }
 
-    /// Copies the kept bytes of the object to the slot at the address `to`, whose words are zeros,
-    /// clears their words in the old slot, writes a header with the new length at `to`, and changes
-    /// the address in the proxy. The caller clears or fills the old slot.
+    /// Copies the bytes that the resize `x` keeps to the slot at the address `to`, whose words are
+    /// zeros, clears their words in the old slot, writes a header with the new length at `to`, and
+    /// changes the address in the proxy. The caller clears or fills the old slot.
     fn copy_to_slot<A: Mapping>(&mut self, x: Change, to: u32, steps: &mut Steps)
         requires laid { FitTable A.kind self.old.blocks self.old.region }
         requires live { IsSome (map.get self.old.proxies.places x.handle.0) }

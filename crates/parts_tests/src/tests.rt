@@ -1,4 +1,4 @@
-//! The tests, a module for each part or for what it does.
+//! The tests: each module tests one part, or one thing that a part does.
 mod admitted;
 mod arrangements;
 mod bytes_in_words;

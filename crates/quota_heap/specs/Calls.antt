@@ -1,5 +1,5 @@
--- What a call of one task does to the pages that tasks share, and to the task: g and x are both before the call, g' and x' after it. No public clause
--- cites this module.
+-- What a call of one task does to the pages that tasks share, and to the task: g are these pages and x is the task before the call, g' and x' after it. No
+-- public clause cites this module.
 use Rattle.std.specs.Prelude.{◌≡◌, ℕ, ◌+◌, ◌-◌, ◌<◌, ◌≤◌, Option, Some, None, Result, Ok, Err, length, slice_get, slice_index, slice_set}
 use Rattle.std.specs.FinMap.{get}
 use Rattle.class_lists.specs.PageLists.{pages_in}

@@ -37,7 +37,7 @@ tables_of g x = tables_with g.tables x.lists
 abbrev pub held_of : SharedPages → Task → Held
 held_of g x = held_at g.region x.proxies.places
 
--- a task's live objects by number, by their bytes alone
+-- a task's live objects by number, each as its bytes alone
 abbrev pub objects_of : SharedPages → Task → Objects
 objects_of g x = objects (held_of g x)
 

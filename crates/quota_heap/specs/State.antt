@@ -11,7 +11,8 @@ use Rattle.quota_model.specs.Parts.{part_of}
 use Rattle.quota_model.specs.Refusals.{task_paging}
 use Rattle.quota_model.specs.Shared.{AreQuotas, IsShared}
 
--- whether it is open, its settings, the quota of each task in pages, the objects of all tasks by their keys, and the words of the region
+-- Whether the heap is open, its settings, the quota of each task in pages, the objects of all tasks, and the words of the region. The key of an object in
+-- `held` is its task times 65,536, plus its number in that task (`key_of`).
 pub record QuotaState : Type 0 where
   pub is_open : Bool
   pub profile : Profile

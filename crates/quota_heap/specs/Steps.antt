@@ -25,7 +25,8 @@ use Rattle.quota_heap.specs.State.{QuotaState, held_by, objects_by, quota_of}
 abbrev pub with_held : QuotaState → Held → List ℕ → QuotaState
 with_held s m words = record s { held = m; words = words }
 
--- to set the quota of a task to n pages: it is set, and nothing else changes, if there is no refusal; else the call fails with the refusal and changes nothing
+-- a call that sets the quota of a task to n pages: if no cause of refusal holds, it sets the quota and changes nothing else; if one holds, it fails with this
+-- cause and changes nothing
 abbrev pub IsQuotaStep : QuotaState → ℕ → ℕ → Result Unit QuotaFault → QuotaState → Type 0
 IsQuotaStep old task n (Ok done) new = (quota_refusal old.profile old.quotas task n (objects_by old task) ≡ None)
     × (new ≡ record old { quotas = slice_set old.quotas task n })
@@ -85,7 +86,8 @@ pub record ReadsOfTask (s : QuotaState) (task : ℕ) (position : Position) (coun
   pub within : position.from + count ≤ length object.bytes
   pub value : out ≡ take count (drop position.from object.bytes)
 
--- a read makes the caller's bytes `old` the bytes `out` of the task's object, or fails for its cause and leaves them unchanged
+-- a read into a buffer that holds `old` before and `out` after it: it fills the buffer with bytes of the task's object, or fails for its cause and leaves the
+-- buffer unchanged
 abbrev pub IsReadAnswer : QuotaState → ℕ → Position → List ℕ → Result Unit AccessFault → List ℕ → Type 0
 IsReadAnswer s task position old (Ok done) out = ReadsOfTask s task position (length old) out
 IsReadAnswer s task position old (Err e) out = IsFault s task position (length old) e × (out ≡ old)

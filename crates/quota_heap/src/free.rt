@@ -12,9 +12,9 @@ use step_ledger::Steps;
 use word_bytes::Header;
 
 impl SharedPages {
-    /// Frees object `h` of task `t`, which `object` found as `x`. If its page was full and the task has a
-    /// partly full page of the class, moves an object of that page to the freed slot. Returns the words of
-    /// the slot, and which object moved.
+    /// Frees object `h` of `task`, task number `t`; `x` is the object's address, length and class. If its
+    /// page was full and the task has a partly full page of the class, moves an object of that page to the
+    /// freed slot. Returns the words of the slot, and which object moved.
     pub(crate) fn free_inner(
         &mut self,
         task: &mut Task,
@@ -42,8 +42,8 @@ impl SharedPages {
         }
     }
 
-    /// Does what `free_inner` does when no other object must move: frees and clears the slot, and releases
-    /// the proxy.
+    /// Does what `free_inner` does, with the same parameters, when no other object must move: frees and
+    /// clears the slot, and releases the proxy.
     fn free_alone(
         &mut self,
         task: &mut Task,
@@ -75,8 +75,9 @@ impl SharedPages {
         }
     }
 
-    /// Does what `free_inner` does when another object must move: moves the object at the lowest used slot
-    /// of the task's first partly full page of the class to the freed slot, and frees the slot it leaves.
+    /// Does what `free_inner` does, with the same parameters, when another object must move: moves the object
+    /// at the lowest used slot of the task's first partly full page of the class to the freed slot, and frees
+    /// the slot it leaves.
     fn free_and_fill(
         &mut self,
         task: &mut Task,
@@ -101,6 +102,7 @@ impl SharedPages {
         let from = self.tables.fill_slot(&mut task.lists, x.class, steps);
         task.pages = task.pages + left - self.tables.pool.left();
         let header = Header::unpack(self.region.read(from, steps));
+        // The header of object h of task t has the number 65,536 t + h.
         let other = Handle(header.handle.0 - t * 65536);
         shift(&mut self.region, from, x.place, slot_words, steps);
         task.proxies.release(h, steps);

@@ -45,6 +45,7 @@ impl SharedPages {
         let Some(number) = task.proxies.bind(place, steps) else {
             unreachable!();
         };
+        // The header of object h of task t has the number 65,536 t + h.
         let header = Header {
             handle: Handle(t * 65536 + number.0),
             length: bytes,

@@ -97,8 +97,8 @@ impl OpenTasks {
         self.shared_pages.settings.pages - self.granted
     }
 
-    /// Sets the quota of task `t` to `pages` pages, and the field `granted` to the parameter, which must be
-    /// the sum of all quotas then.
+    /// Sets the quota of task `t` to `pages` pages, and the field `granted` to the parameter `granted`: the
+    /// sum of all quotas after the call.
     fn grant(&mut self, t: u32, pages: u32, granted: u32)
         requires kept { IsValid self.old }
         requires sixteen { t < 16 }

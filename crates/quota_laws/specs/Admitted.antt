@@ -1,4 +1,5 @@
--- What `admit` promises a task: if its mallocs stay within the needs that it declared, none is refused.
+-- What the reply `yes` to `admit` promises a task: if its mallocs stay within the needs that it declared, none is refused. In this file `admitted` is the state
+-- in which `admit` was asked, and `now` the state before a later item.
 use Rattle.std.specs.Prelude.{◌≡◌, ⊤, ◌⊎◌, ℕ, ◌≤◌, List, [], ◌∷◌, Option, Some, None, codes, replicate, slice_index}
 use Rattle.std.specs.FinMap.{get, insert}
 use Rattle.quota_model.specs.Admission.{declared, live_of}
@@ -13,8 +14,8 @@ abbrev pub states_in : Option TaskState → List Item → Option TaskState
 states_in s [] = s
 states_in s (item ∷ rest) = states_in (state_in s item) rest
 
--- A malloc of n bytes stays within the needs declared in state `admitted`. The task's quota is no smaller than then. For each length m, the number of the
--- task's live objects of m bytes, with the new one, is at most the number that it had declared.
+-- A malloc of n bytes for the id stays within the needs of the task in `admitted`: the task's quota is at least its quota in `admitted`; and for each length m,
+-- its live objects of m bytes, with the new one, are at most as many as the task had declared in `admitted`.
 pub record IsMallocWithin (admitted now : TaskState) (task id n : ℕ) : Type 0 where
   pub quota : slice_index admitted.tasks.quotas task ≤ slice_index now.tasks.quotas task
   pub declared : (m : ℕ) → live_of (insert (now.tasks.objects task) id (replicate n 0)) m ≤ declared (admitted.needs task) m
@@ -31,7 +32,7 @@ abbrev pub StayWithin : TaskState → ℕ → Option TaskState → List Item →
 StayWithin admitted task now [] = ⊤
 StayWithin admitted task now (item ∷ rest) = StaysWithin admitted task now item × StayWithin admitted task (state_in now item) rest
 
--- if the item is a malloc while the task is present, its reply is `ok` or `live`, and so no refusal; other items may have any reply
+-- if the item is a malloc while the task is present, its reply is `ok`, or `live` if its id is live, but no refusal; other items may have any reply
 abbrev pub IsServed : ℕ → ℕ → Item → Reply → Type 0
 IsServed task present (asks (Malloc id n)) reply = present ≡ task → (reply ≡ said (codes "ok")) ⊎ (reply ≡ said (codes "live"))
 IsServed task present item reply = ⊤

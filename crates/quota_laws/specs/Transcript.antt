@@ -37,9 +37,9 @@ admission_text Proxies = codes "proxies"
 admission_text (No nth) = with_number (codes "no ") nth
 admission_text Yes = codes "yes"
 
--- The result of `admit`, by the results of three tests. `entry` is the first entry that declares objects longer than a page: then `Size`. `exceeds`: more
--- objects are declared than there are proxies: then `Proxies`. `short` is the first of the declared mallocs, made in order and counted from 1, that is refused
--- for space: then `No`. Else `Yes`.
+-- The result of `admit`, by the results of three tests. It is `Size` if there is an `entry`, the first that declares objects longer than a page. Else it is
+-- `Proxies` if `exceeds`: more objects are declared than there are proxies. Else it is `No` if one of the declared mallocs, made in order, is refused for space;
+-- `short` is the number of the first such malloc, counted from 1. Else it is `Yes`.
 abbrev pub admission_by : Option ℕ → Bool → Option ℕ → Admission
 admission_by (Some entry) exceeds short = Size entry
 admission_by None true short = Proxies

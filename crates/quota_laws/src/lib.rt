@@ -102,8 +102,9 @@ pub fn wrong_task_replies_fall_short()
         (said (codes "ok") ∷ said (codes "ok") ∷ said (codes "ok") ∷ []) }
 {}
 
-/// If no line sets the quota of a task, the replies to its commands are those of a moving heap of its
-/// own, with its quota as the number of pages and the bound 1 in each class.
+/// If no line sets the quota of a task, and each of its commands is one on its objects (`is_for_task`),
+/// the replies to them are those of a moving heap of its own, with its quota as the number of pages and
+/// the bound 1 in each class.
 pub fn a_task_has_a_heap_of_its_own()
     ensures { (one : Tasks) (task : ℕ) (items : List TaskItem) → LeaveQuota task items
         → AreTaskCommands task items

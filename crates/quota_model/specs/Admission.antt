@@ -115,8 +115,9 @@ pub record CanBeAsked (s : Profile) (needs : List Need) : Type 0 where
   pub none_large : first_large s needs ≡ None
   pub few : declared_in_all needs ≤ s.proxies
 
--- What each result of the test means: `Size`, the first entry whose objects are larger than a page; else `Proxies`, that more objects are declared than
--- there are proxies; else `Yes`, that the quota is enough, or `No`, which of the declared mallocs, in order, is the first that is refused for space.
+-- What each result of the test means. `Size`: this entry is the first whose objects are larger than a page. `Proxies`: there is no such entry, but more objects
+-- are declared than there are proxies. Else `Yes`: the quota is enough; or `No`: if the declared objects are allocated in order, malloc number `nth`, counted
+-- from 1, is the first that is refused for space.
 abbrev pub IsAdmission : Share → List Need → Admission → Type 0
 IsAdmission t needs (Size entry) = first_large t.profile needs ≡ Some entry
 IsAdmission t needs Proxies = (first_large t.profile needs ≡ None) × (t.profile.proxies < declared_in_all needs)

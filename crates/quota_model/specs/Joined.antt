@@ -9,7 +9,7 @@ use Rattle.quota_model.specs.Parts.{key_of}
 abbrev pub keyed : ℕ → List (ℕ × ℕ) → List (ℕ × ℕ)
 keyed task es = map (λ (e : ℕ × ℕ). (key_of task e.0, e.1)) es
 
--- the keys and addresses, as pairs, of the objects of a list of tasks: the first map is that of this task, the next that of the task after it
+-- the keys and addresses, as pairs, of the objects of several tasks: the list has a map for each, from number `task` on
 abbrev pub all_keyed : ℕ → List (FinMap nat_cmp ℕ) → List (ℕ × ℕ)
 all_keyed task [] = []
 all_keyed task (places ∷ rest) = keyed task (entries places) ++ all_keyed (task + 1) rest

@@ -1,5 +1,5 @@
 -- Sixteen tasks on the pages of one region: the rules for their objects and quotas, and what a malloc and a free of one task do. A map m or `old` has the
--- objects of all tasks by their keys.
+-- objects of all tasks by their keys: an object's key is its task times 65,536, plus its number in the task.
 use Rattle.std.specs.Prelude.{◌≡◌, ℕ, ◌<◌, ◌≤◌, List, Option, Some, None, length, option_map, slice_index, sum}
 use Rattle.std.specs.FinMap.{get, insert}
 use Rattle.cf_base.specs.Settings.{Profile}

@@ -19,9 +19,9 @@ pub fn a_quota_is_enough_by_ceilings()
 {}
 
 /// Let the declared objects be allocated one after the other, entry by entry. None is refused for
-/// space if and only if all together need at most the pages of the quota. Malloc number `nth`,
-/// counted from 1, is the first that is refused if and only if the objects before it need at most
-/// the quota's pages, and with its object they need more.
+/// space if and only if all together need at most the pages of the quota. The first that is refused
+/// is number `nth`, counted from 1, if and only if the objects before it need at most the quota's
+/// pages, and with it they need more.
 pub fn the_first_refusal_is_the_first_sum_past_the_quota()
     ensures none { (t : Share) (needs : List Need)
         → CanBeAsked t.profile needs

@@ -26,8 +26,9 @@ pub fn addresses_are_found_by_key()
         → part_of (held_at words (joined all)) task ≡ held_at words (places_at all task) }
 {}
 
-/// If each object's slot holds its words, filled up with zeros, and all other words are zeros
-/// (`IsSlotImage`), then the words are those of the objects, and zeros elsewhere (`IsImage`).
+/// From an image by slots (`IsSlotImage`: each slot holds its object's words and then zeros, all
+/// other words are zeros) to one that does not mention slots (`IsImage`: each object's words are at
+/// its address, all other words are zeros).
 pub fn words_are_those_of_the_objects()
     ensures { (s : Profile) (m : Held) (words : List ℕ) → IsTrue (is_page_size s.page_words)
         → IsShared s m → IsSlotImage (task_paging s) m words → IsImage m words }

@@ -47,7 +47,7 @@ pub record HasSixteen (s : TaskSession) : Type 0 where
   pub few : (task : ℕ) → length (needs_of s task) ≤ 64
   pub present : s.present < 16
 
--- the session as pairs and lists, since the type's `Model` needs a coded value
+-- the encoding of the session as nested pairs and lists, which the trait `Model` requires
 abbrev pub session_code : Coded TaskSession
 session_code = code_by (List Ids × (List (List Need) × ℕ)) (coded× (coded_list ids_code) (coded× (coded_list (coded_list need.the_row.coded)) coded_ℕ))
     (λ s. (s.ids, (s.needs, s.present))) (λ q. record { ids = q.0; needs = q.1.0; present = q.1.1 }) (λ _. refl)

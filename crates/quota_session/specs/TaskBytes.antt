@@ -31,7 +31,8 @@ abbrev pub IsReadOfTasks : Option TaskBytes → Item → Reply → Type 0
 IsReadOfTasks None item reply = ⊤
 IsReadOfTasks (Some m) item reply = IsReadOf (Some (m.bytes m.present)) item reply
 
--- every read among the items has the reply that follows from the lines before it and their replies; `shown` are the bytes before the first item
+-- every read among the items has the reply that follows from the lines before it and their replies; `shown` holds the bytes of
+-- each task's ids before the first item
 abbrev pub AreReadsOfTasks : Option TaskBytes → List Item → List Reply → Type 0
 AreReadsOfTasks shown [] replies = ⊤
 AreReadsOfTasks shown (item ∷ rest) [] = ⊥

@@ -25,7 +25,7 @@ pub struct QuotaHandler {
 
 impl QuotaHandler {
     /// A handler with a new session and without settings. Allocates all memory of the session, and fails with
-    /// `OutOfMemory` if there is none.
+    /// `OutOfMemory` if an allocation fails.
     pub fn start(rt: &HostRuntime, alloc: Global) -> Result<QuotaHandler, OutOfMemory>
         ensures session { IfOk result (λ p. p.session ≡ first_session) }
         ensures settings { IfOk result (λ p. p.settings ≡ None) }

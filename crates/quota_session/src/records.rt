@@ -1,4 +1,5 @@
-//! What a session stores of its sixteen tasks: the ids and the declared needs of each, and which is present.
+//! What a session stores of its sixteen tasks: the ids and the declared needs of each, and the present task,
+//! for which commands that name no task act.
 ghost use Rattle.std.specs.Prelude.{◌≡◌, IfOk, [], replicate};
 ghost use Rattle.std.specs.FinMap as map;
 ghost use Rattle.quota_session.specs.Layout.{session_of};
@@ -12,8 +13,8 @@ use std::alloc::Global;
 /// The number of tasks.
 pub(crate) const TASKS: u32 = 16;
 
-/// For each task, by its number, the table of its live ids with their handles, and its declared needs; and the
-/// number of the present task, 0 to 15.
+/// For each task, by its number, the table of its live ids with their handles, and the needs that its `need`
+/// lines declared; and the number of the present task, 0 to 15.
 #[derive(Drop)]
 pub(crate) struct Records {
     pub(crate) ids: Vec<IdTable>,
@@ -23,7 +24,7 @@ pub(crate) struct Records {
 
 impl Records {
     /// Records in which no id is live, no need is declared, and task 0 is present. Allocates all memory of a
-    /// session, and fails with `OutOfMemory` if there is none.
+    /// session, and fails with `OutOfMemory` if an allocation fails.
     pub(crate) fn new(alloc: Global) -> Result<Records, OutOfMemory>
         ensures { IfOk result (λ r. session_of r ≡ first_session) }
     {

@@ -61,7 +61,7 @@ impl Model for QuotaSession {
 
 impl QuotaSession {
     /// A new session, in which no id is live, no need is declared, and task 0 is present. Allocates all its
-    /// memory, a table of 65,536 ids for each task among it, and fails with `OutOfMemory` if there is none.
+    /// memory, with a table of 65,536 ids for each task. Fails with `OutOfMemory` if an allocation fails.
     pub fn start(alloc: Global) -> Result<QuotaSession, OutOfMemory>
         ensures { IfOk result (λ s. s ≡ first_session) }
     {
@@ -163,9 +163,10 @@ impl QuotaSession {
     }
 }
 
-/// Does the command c on the heap, which is open with the settings `s`, and writes its reply to the sink
-/// `out`. If the sink fails, the result is `Failed`: the command has taken effect, and a prefix of its
-/// reply was written.
+/// Does the command c on the heap, which is open with the settings `s`, writes its reply to the sink
+/// `out`, and returns how the command ended (`Outcome`). `buffer` gets the bytes of a read,
+/// and `line` the text of each line of the reply. If the sink fails, the result is `Failed`: the command
+/// has taken effect, and a prefix of its reply was written.
 fn answer<K: Sink>(
     records: &mut Records,
     heap: &mut QuotaHeap,
@@ -201,8 +202,8 @@ fn answer<K: Sink>(
     }
 }
 
-/// Does a command whose reply is one line, that is, any but `walk`, and builds the text of the reply in
-/// `line`.
+/// Does a command whose reply is one line, that is, any but `walk`, builds the text of the reply in `line`,
+/// and returns its outcome. `buffer` gets the bytes of a read.
 fn build_reply(
     records: &mut Records,
     heap: &mut QuotaHeap,
@@ -242,8 +243,8 @@ fn build_reply(
     }
 }
 
-/// Does a command that names no task, for the present task, and builds the text of its reply in `line`. The
-/// command isn't `walk`.
+/// Does a command that names no task, for the present task, builds the text of its reply in `line`, and
+/// returns its outcome. `buffer` gets the bytes of a read. The command isn't `walk`.
 fn build_reply_present(
     records: &mut Records,
     heap: &mut QuotaHeap,
@@ -271,8 +272,9 @@ fn build_reply_present(
     build_reply_task(ids, heap, task, c, buffer, line, steps)
 }
 
-/// Does a command that names no task, for the task `task`, whose ids are `ids`, and builds the text of its
-/// reply in `line`. The command isn't `walk`; the reply to a command of another mode is `none`.
+/// Does a command that names no task, for the task `task`, whose ids are `ids`, builds the text of its
+/// reply in `line`, and returns its outcome. `buffer` gets the bytes of a read. The command isn't `walk`;
+/// the reply to a command of another mode is `none`.
 fn build_reply_task(
     ids: &mut IdTable,
     heap: &mut QuotaHeap,

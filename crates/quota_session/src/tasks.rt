@@ -31,7 +31,8 @@ pub(crate) fn set_quota(heap: &mut QuotaHeap, task: u32, pages: u32) -> Short
     }
 }
 
-/// `need`: adds an entry to the needs of a task. The reply is `full`, and nothing changes, if it has 64.
+/// `need`: adds an entry to the needs of a task. If the task has 64 entries already, the reply is `full`, and
+/// nothing changes.
 pub(crate) fn declare(records: &mut Records, task: u32, entry: Need) -> Short
     requires sixteen { task < 16 }
     requires kept { HasSixteen (session_of records.old) }

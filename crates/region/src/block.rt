@@ -18,6 +18,7 @@ pub(crate) struct Block {
     ghost small: { len < 2 ^ 32 },
 }
 
+// A block owns its words and the right to free them (`block_owns`). Through a `&` to it the words can be read.
 impl Model for Block {
     ghost also_owns = { λ b. block_owns b.at b.len b.items };
 

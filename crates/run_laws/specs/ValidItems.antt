@@ -14,12 +14,12 @@ abbrev pub HasBytes : Command → Type 0
 HasBytes (Write id at bytes) = AreBytes bytes
 HasBytes command = ⊤
 
--- the command is valid: its numbers are in range, and a write has bytes
+-- the command is valid: its numbers are in range, and a write writes numbers that are bytes (`HasBytes`)
 pub record IsValidCommand (command : Command) : Type 0 where
   pub formed : IsWellFormed command
   pub bytes : HasBytes command
 
--- the item is valid: a `heap` line has settings in range, a command is valid; of a bad line nothing is asked
+-- the item is valid: a `heap` line has settings in range, a command is valid; nothing is required of a bad line
 abbrev pub IsValidItem : Item → Type 0
 IsValidItem (starts p) = AreInRange p
 IsValidItem (asks command) = IsValidCommand command

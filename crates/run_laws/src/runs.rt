@@ -12,7 +12,7 @@ ghost use Rattle.run_model.specs.Texts.{Reply, text_of};
 ghost use Rattle.run_laws.specs.ValidItems.{AreValidItems, IsValidCommand, IsUnderWay};
 
 /// For any settings in range there is a state in which a run begins. In each state of a run in progress, for
-/// every valid command, there are a reply and a next state that make a `IsCommandStep`.
+/// every valid command, there are a reply and a next state that make a step (`IsCommandStep`).
 pub fn a_command_is_always_answered()
     ensures begins { (kind : Kind) (p : Profile) → AreInRange p
         → (new : RunState) × Begins kind p new }
@@ -20,8 +20,8 @@ pub fn a_command_is_always_answered()
         → IsValidCommand command → (reply : Reply) × (new : RunState) × IsCommandStep old command reply new }
 {}
 
-/// The grammar lets through valid items only: those of any input have settings and numbers in range, and
-/// writes of bytes. `ended`: no more input follows.
+/// The grammar lets through valid items only: in those of any input all settings and numbers are in range, and
+/// what a write writes is bytes, numbers below 256. `ended`: no more input follows.
 pub fn items_are_valid()
     ensures { (given : List ℕ) (ended : Bool) → AreValidItems (items given ended) }
 {}
@@ -56,7 +56,8 @@ pub fn a_run_can_always_go_on()
 
 /// What was written before a sink failed is a prefix of the output of a run over the whole script. `front`:
 /// if `written` is a prefix of the text of a run over `done`, the first items, then also of the text of some
-/// run over all items. `joined`: the text of two lists of replies in turn is their texts in turn.
+/// run over all items. `joined`: the text of two lists of replies, one after the other, is the text of the
+/// first and then that of the second.
 pub fn what_was_written_is_a_prefix()
     ensures joined { (lead : List ℕ) (replies more : List Reply)
         → text_of lead (replies ++ more) ≡ text_of lead replies ++ text_of lead more }

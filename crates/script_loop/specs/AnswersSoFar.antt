@@ -1,5 +1,5 @@
--- What it has done to feed some bytes to the reader and to answer the items that they complete, for each of the four ways in which this ends (`MeetsChunkOutcome`). `m` is
--- the semantics of the mode handler.
+-- Some bytes were fed to the reader, and the items that they complete were answered: what that did, by the four ways in which it may end (`MeetsChunkOutcome`).
+-- `m` is the semantics of the mode handler.
 use Rattle.std.specs.Prelude.{◌≡◌, ◌≤◌, ◌+◌, ◌++◌, ℕ, Bool, true, false, List, [], ◌∷◌, length, Option, Some, None}
 use Rattle.cf_io.specs.Feeds.{appended}
 use Rattle.script_reader.specs.Items.{Item}

@@ -1,4 +1,5 @@
--- What applying a command does, for the session of any mode handler. `m` is the handler's semantics.
+-- What applying a command does, for the session of any mode handler. `m` is the handler's semantics (`Semantics`), S the type of its states, and P that of
+-- their plans. A `Snapshot` is a state with the bytes written by then. A *turn* is one command with its reply and the state after it.
 use Rattle.std.specs.Prelude.{◌≡◌, ◌<◌, ◌++◌, ℕ, List, [], Result, Ok, Err, length}
 use Rattle.cf_base.specs.declared.answers.Failed.{Failed}
 use Rattle.cf_io.specs.Lines.{line_room}

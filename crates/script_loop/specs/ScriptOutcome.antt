@@ -17,13 +17,13 @@ MOST_BYTES = 268435455
 abbrev pub MOST_CHUNK : ℕ
 MOST_CHUNK = 4096
 
--- whether an item is a line that isn't in the grammar
+-- whether an item is a line that isn't in the grammar at its place
 abbrev pub is_bad : Item → Bool
 is_bad (starts settings) = false
 is_bad (asks command) = false
 is_bad (bad n) = true
 
--- whether some item is a line that isn't in the grammar
+-- whether some item is a line that isn't in the grammar at its place
 abbrev pub has_bad : List Item → Bool
 has_bad = list_any is_bad
 

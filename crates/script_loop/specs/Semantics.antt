@@ -11,9 +11,10 @@ use Rattle.run_model.specs.Texts.{Reply, led}
 use Rattle.script_loop.specs.declared.mode_handler.OpenFault.{OpenFault}
 use Rattle.script_loop.specs.declared.mode_handler.OpenFault.TheVariants as fault
 
--- `S` is the type of the states of a run, `P` that of their plan, which no item changes. `is_fresh`: a `heap` line may come. `is_going`: a command may come.
--- `begins plan settings reply new`: the `heap` line may get this reply and lead to `new`. `turns old command reply new`: so may the command. `turns_in_part old
--- command out new`: it led to `new`, but the sink cut its reply after the bytes `out`. `lacks old new`: an allocation failed at the `heap` line.
+-- `S` is the type of the states of a run. `P` is the type of their plan: what of a state the effect of a `heap` line depends on; no item changes it.
+-- `is_fresh`: in this state the handler can answer a `heap` line. `is_going`: in this state it can answer a command. `begins plan settings reply new`: the
+-- `heap` line may get this reply and lead to `new`. `turns old command reply new`: the command may get this reply and lead to `new`. `turns_in_part old command
+-- out new`: the command led to `new`, but the sink cut its reply after the bytes `out`. `lacks old new`: an allocation failed at the `heap` line.
 pub record Semantics (S P : Type 0) : Type 1 where
   pub plan : S → P
   pub is_fresh : S → Type 0

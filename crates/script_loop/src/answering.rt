@@ -1,5 +1,5 @@
-//! Two inner loops: one passes each whole item that the reader holds to the mode handler, the other feeds a chunk
-//! to the reader in between.
+//! Two inner loops. `answer_chunk` feeds a chunk to the reader in one call of `feed` or more. After each it calls
+//! `answer_pending_items`, which passes each whole item that the reader holds to the mode handler.
 ghost use Rattle.std.specs.Prelude.{◌≡◌, ◌≤◌, ◌+◌, [], length, false, None, ◌≢◌};
 ghost use Rattle.cf_io.specs.Feeds.{FailsLast};
 ghost use Rattle.script_reader.specs.Reading.{MOST_FED};

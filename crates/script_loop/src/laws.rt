@@ -53,7 +53,8 @@ pub fn cuts_never_matter()
 {}
 
 /// The handler that also keeps the settings (`WithSettings`, of mode `save`) writes what a session alone may
-/// write for the same script. If its run began, the run is in progress, and its manager has the kept settings.
+/// write for the same script. If a `heap` line began the run, then at the end the manager is open, and has the
+/// settings that the handler kept.
 pub fn settings_are_kept()
     ensures { (from to : Settled RunState) (wanted : List Item) (call : Effects)
         (w : Wrote (with_settings one_manager) from wanted call to)

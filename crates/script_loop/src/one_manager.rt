@@ -14,6 +14,7 @@ use cf_model::Manager;
 use cf_session::Session;
 use script_reader::CommandRef;
 
+// The plan is the manager's kind, and whether it promises an order.
 impl<H: Manager> ModeHandler<H> for Session {
     ghost State = { RunState };
 

@@ -24,7 +24,7 @@ abbrev pub IsInRange : Next → Type 0
 IsInRange (next.Command command) = IsWellFormed command
 IsInRange _ = Unit {0}
 
--- the meaning of a line, from what the code found: whether the line is in the grammar, and then the result n with its item
+-- the meaning of a line, computed from what the code found: whether the line is in the grammar, and if it is, the reader's result n, which has the item
 abbrev pub saying_if : Bool → Next → LineMeaning
 saying_if true n = item_or_wrong (item_answered n)
 saying_if false n = wrong

@@ -242,7 +242,7 @@ settings_in args = do
   proxies ← number_in p.3
   settings_if (setting_fault pages page_bytes k proxies) (profile_from pages page_bytes k proxies)
 
--- The fields of the command are in the ranges of the grammar. Only those fields are named whose types allow more.
+-- The fields of the command are in the ranges of the grammar. Only the fields whose types allow more are listed.
 abbrev pub IsWellFormed : Command → Type 0
 IsWellFormed (Write id at bytes) = (1 ≤ length bytes) × (length bytes ≤ 4096)
 IsWellFormed (Read id at len) = len ≤ 4096

@@ -73,7 +73,7 @@ pub data Verdict : Type 0 where
   gives : Item → Stage → Verdict
   breaks : Verdict
 
--- the verdict on an item, from the stage after it; `breaks` if there is none, since the item isn't allowed
+-- the verdict on an item, computed from the stage after it; `breaks` if no stage is given, since the item isn't allowed then
 abbrev pub gives_or_breaks : Item → Option Stage → Verdict
 gives_or_breaks i None = breaks
 gives_or_breaks i (Some next) = gives i next
@@ -84,7 +84,8 @@ verdict stage nothing = passes
 verdict stage wrong = breaks
 verdict stage (item i) = gives_or_breaks i (stage_after stage i)
 
--- the items from line n + 1 on, from the verdict on that line at this stage; `after` is the items of the later lines as a function of the stage after it
+-- the items from line n + 1 on, computed from the verdict on that line at this stage; `after` has the items of the later lines, as a function of the stage
+-- after that line
 abbrev pub items_by : Verdict → ℕ → Stage → (Stage → List Item) → List Item
 items_by passes n stage after = after stage
 items_by (gives i next) n stage after = i ∷ after next

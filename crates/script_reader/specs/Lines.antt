@@ -9,7 +9,7 @@ LONGEST = 8999
 abbrev pub is_too_long : List ℕ → Bool
 is_too_long line = nat_lt LONGEST (length line)
 
--- the texts, of which the first one gets the byte x as its new first byte; if there is no text, x alone is one
+-- the texts, with the byte x put before the first one; if there is none, one text of the byte x alone
 abbrev pub onto_first : ℕ → List (List ℕ) → List (List ℕ)
 onto_first x [] = (x ∷ []) ∷ []
 onto_first x (text ∷ rest) = (x ∷ text) ∷ rest

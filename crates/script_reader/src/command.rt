@@ -33,7 +33,7 @@ pub enum Command {
     Resize { id: u16, bytes: u32 },
     /// `s`: does one slice of pending work.
     Slice,
-    /// `t TASK`: makes this task, from 0 to 15, the present one, for which the following lines are.
+    /// `t TASK`: makes this task, from 0 to 15, the present one: the following lines are calls of it.
     Task { task: u32 },
     /// `quota TASK PAGES`: sets how many pages the task may use.
     Quota { task: u32, pages: u32 },

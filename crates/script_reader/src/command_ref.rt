@@ -81,7 +81,7 @@ impl Command {
 }
 
 impl<'a> CommandRef<'a> {
-    /// Returns the same command, with a copy of the bytes of a write.
+    /// Returns the same command, with a copy of the bytes of a write, which must be 1 to 4,096.
     pub fn to_command(self) -> Command
         requires { IsWellFormed (owned_command self) }
         ensures { result ≡ owned_command self.entry }

@@ -212,8 +212,8 @@ pub fn id_number_and_length(args: &[u8]) -> Option<(u16, u32, u16)>
     Some((id, n, len))
 }
 
-/// The two tokens of the text, as a number of 32 bits and a text as it is. `None` if the text is anything
-/// else.
+/// The two tokens of the text: the first as a number of 32 bits, the second unread. `None` if the text is
+/// anything else.
 #[inline(always)]
 fn number_and_text(args: &[u8]) -> Option<(u32, &[u8])>
     ensures { two_by number_in Some (tokens args.now) ≡ option_map (λ p. (p.0, p.1.now)) result }
@@ -223,8 +223,8 @@ fn number_and_text(args: &[u8]) -> Option<(u32, &[u8])>
     Some((n, text))
 }
 
-/// The three tokens of the text, as an id, a number of 32 bits, and a text as it is. `None` if the text is
-/// anything else.
+/// The three tokens of the text: the first as an id, the second as a number of 32 bits, the third unread.
+/// `None` if the text is anything else.
 #[inline(always)]
 pub fn id_number_and_text(args: &[u8]) -> Option<(u16, u32, &[u8])>
     ensures { grammar.id_number_and_text (tokens args.now) ≡ option_map (λ p. (p.0, p.1, p.2.now)) result }

@@ -239,8 +239,9 @@ fn steps(args: &[u8], next: &mut NextRef) -> bool
     is_done(args)
 }
 
-/// Reads `args`, the text after the word of a line, if the word is one letter, and puts the command into
-/// `next`. False if no command has this letter, or the text isn't in the grammar.
+/// Reads `args`, the text after the word of a line, if the word is one letter. Puts the command into `next`,
+/// and the bytes of a write into `payload`. False if no command has this letter, or the text isn't in the
+/// grammar.
 fn letter_command<'a>(
     letter: u8,
     args: &[u8],

@@ -91,7 +91,8 @@ fn first_gap_in_long(text: &[u8]) -> Option<usize>
     memchr2(b' ', b'\t', text)
 }
 
-/// The first token, and the text after it. `None` if the text has no token.
+/// The first token, and the text after it, with or without the space or tab that ends the token. `None` if the
+/// text has no token.
 #[inline(always)]
 pub fn split_token(text: &[u8]) -> Option<(&[u8], &[u8])>
     ensures value { MatchOption result (tokens text.now ≡ []) (λ p. tokens text.now ≡ p.0.now ∷ tokens p.1.now) }
@@ -101,6 +102,7 @@ pub fn split_token(text: &[u8]) -> Option<(&[u8], &[u8])>
     if text.len() == 0 {
         return None;
     }
+    // Most commands are one letter, and need no search for the end of the token.
     if let Some(rest) = past_token(&text[1..]) {
         return Some((&text[..1], rest));
     }

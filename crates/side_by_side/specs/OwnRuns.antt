@@ -1,4 +1,4 @@
--- A run of many managers side by side, as a run of each manager of its own, whose replies are interleaved. A list of kinds is that of the managers.
+-- A run of many managers side by side as separate runs, one for each manager, whose replies are interleaved. A list of kinds has the kind of each manager.
 use Rattle.std.specs.Prelude.{◌≡◌, ◌++◌, ◌⊎◌, ⊤, ℕ, List, [], ◌∷◌, Option, Some, None, map}
 use Rattle.script_reader.specs.Items.{Item, asks, bad, starts}
 use Rattle.script_reader.specs.declared.command.Command.{Command}
@@ -54,7 +54,7 @@ MeetHeadlines [] items replies = replies ≡ map bare_reply items
 MeetHeadlines (kind ∷ kinds) items replies = (owns : List Reply) × (others : List Reply)
     × MeetsHeadline kind items owns × MeetHeadlines kinds items others × (replies ≡ interleaved_replies kind items owns others)
 
--- Each manager has a run over the items `before` and `replies` interleaves their replies; then only the prefix `front` of the reply to the command c was
+-- Each manager has a run over the items `before`, and `replies` interleaves their replies; then only the prefix `front` of the reply to the command c was
 -- written. The managers up to the one whose reply was cut have done c, the later ones have not; `news` are the states of all.
 abbrev pub OwnRunsUpTo : List Kind → List Item → Command → List Reply → List ℕ → List RunState → Type 0
 OwnRunsUpTo [] before c replies front news = ⊥

@@ -7,7 +7,7 @@ use Rattle.run_model.specs.Sessions.{RunState}
 use Rattle.run_model.specs.Runs.{IsCommandStep}
 use Rattle.side_by_side.specs.SideBySide.{EachTurn, named_lines}
 
--- one manager does a command with its own reply, and `reply` has the name of its kind before each line of that
+-- one manager does a command with its own reply; `reply` is that reply with the name of the manager's kind before each line
 pub record TurnNamed (old : RunState) (c : Command) (reply : Reply) (new : RunState) : Type 0 where
   pub own : Reply
   pub turn : IsCommandStep old c own new

@@ -1,4 +1,5 @@
--- Managers side by side, each with its session: how they begin, do one command, and are cut. It ends with the mode handler's relations (`many_managers`).
+-- Managers side by side, each with its session: how they begin, do one command, and stop if the sink cuts a reply. It ends with the mode handler's relations
+-- (`many_managers`).
 use Rattle.std.specs.Prelude.{◌≡◌, ◌++◌, ◌⊎◌, ℕ, Bool, List, [], ◌∷◌, codes, is_some, length, map}
 use Rattle.std.specs.List.{All}
 use Rattle.run_model.specs.Texts.{Reply, led}
@@ -24,7 +25,7 @@ pub record SideBySide : Type 0 where
 abbrev pub side_by_side_at : List SessionState → List HeapState → SideBySide
 side_by_side_at sessions heaps = record { sessions = sessions; heaps = heaps }
 
--- the runs of a list of sessions on a list of managers: for each index that of the session there on the manager there
+-- the runs of a list of sessions on a list of managers: for each index the run of the session on the manager with this index
 abbrev pub zipped : List SessionState → List HeapState → List RunState
 zipped [] heaps = []
 zipped (s ∷ ss) [] = []

@@ -37,6 +37,7 @@ impl Sessions {
     }
 }
 
+// The plan is each manager's kind, and whether it promises an order.
 impl<H: Manager> ModeHandler<Vec<H>> for Sessions {
     ghost State = { SideBySide };
 

@@ -7,7 +7,7 @@ use Rattle.script_reader.specs.Items.{Item, asks, bad, starts}
 use Rattle.script_reader.specs.declared.command.Command.{Command}
 use Rattle.script_reader.specs.declared.command.Command.TheVariants.{Peek}
 use Rattle.slice_laws.specs.ShownSlices.{ShownSlices, slices_opened}
-use Rattle.slice_laws.specs.SliceHeadline.{Answers, AreNoPeeks, IsNoPeek, MeetsSliced, Opens, after, line_of}
+use Rattle.slice_laws.specs.SliceHeadline.{Answers, AreNoPeeks, AsksForNoWord, MeetsSliced, Opens, after, line_of}
 
 -- the reply to an item, and the heap after it
 abbrev pub reply_at : Option ShownSlices → Item → Reply
@@ -27,12 +27,12 @@ module _ (quantum : ℕ) where
   replies_from t [] = []
   replies_from t (item ∷ rest) = reply_at t item ∷ replies_from (after_at t item) rest
 
-  command_shown : (old : ShownSlices) (c : Command) (reply : Reply) (new : ShownSlices) → IsNoPeek (asks c) → Answers old c reply new
+  command_shown : (old : ShownSlices) (c : Command) (reply : Reply) (new : ShownSlices) → AsksForNoWord (asks c) → Answers old c reply new
       → (reply ≡ said (line_of old c)) × (new ≡ after old c)
   command_shown old (Peek word) reply new no' a = absurd no'
   command_shown old c reply new no' a = a
 
-  item_shown : (old : Option ShownSlices) (item : Item) (reply : Reply) (new : Option ShownSlices) → IsNoPeek item
+  item_shown : (old : Option ShownSlices) (item : Item) (reply : Reply) (new : Option ShownSlices) → AsksForNoWord item
       → PlayStep (Opens quantum) Answers old item reply new → (reply ≡ reply_at old item) × (new ≡ after_at old item)
   item_shown old (starts p) reply new no' step = (step.1.0, step.2 ∙ ap (λ t. Some t) step.1.1)
   item_shown None (asks c) reply new no' step = step
@@ -47,11 +47,11 @@ module _ (quantum : ℕ) where
       let more = run_shown rest run.0 run.2 new no'.1 run.5 in
       run.4 ∙ (λ i. one.0 i ∷ more i) ∙ ap (λ t. reply_at old item ∷ replies_from t rest) one.1
 
-  command_there : (old : ShownSlices) (c : Command) → IsNoPeek (asks c) → Answers old c (said (line_of old c)) (after old c)
+  command_there : (old : ShownSlices) (c : Command) → AsksForNoWord (asks c) → Answers old c (said (line_of old c)) (after old c)
   command_there old (Peek word) no' = absurd no'
   command_there old c no' = (refl, refl)
 
-  item_there : (old : Option ShownSlices) (item : Item) → IsNoPeek item → PlayStep (Opens quantum) Answers old item (reply_at old item) (after_at old item)
+  item_there : (old : Option ShownSlices) (item : Item) → AsksForNoWord item → PlayStep (Opens quantum) Answers old item (reply_at old item) (after_at old item)
   item_there old (starts p) no' = (slices_opened quantum p, (refl, refl), refl)
   item_there None (asks c) no' = (refl, refl)
   item_there (Some old) (asks c) no' = (after old c, command_there old c no', refl)

@@ -55,7 +55,8 @@ words_of_job t (Some job) = slot_words (paging_shown t) job.class - job.done
 abbrev pub words_left : ShownSlices → ℕ
 words_left t = words_of_job t t.job
 
--- the job after a malloc or a free: if the taken slots of its class now fill whole pages, the page of its slot is full, and the job records it
+-- The job after a malloc or a free: `filled` becomes true if the taken slots of its class now fill whole pages (`are_full`), since the page of the job's slot is
+-- full then.
 abbrev pub job_noted : ShownSlices → Option ShownJob → Option ShownJob
 job_noted t None = None
 job_noted t (Some job) = Some (record job { filled = job.filled || are_full t job.class })

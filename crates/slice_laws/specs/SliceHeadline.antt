@@ -102,11 +102,11 @@ abbrev pub MeetsSliced : ℕ → List Item → List Reply → Type 0
 MeetsSliced quantum items replies = (end : Option ShownSlices) × PlayRun (Opens quantum) Answers None items replies end
 
 -- the item isn't `p`, which prints a word of the region
-abbrev pub IsNoPeek : Item → Type 0
-IsNoPeek (asks (Peek word)) = ⊥
-IsNoPeek item = ⊤
+abbrev pub AsksForNoWord : Item → Type 0
+AsksForNoWord (asks (Peek word)) = ⊥
+AsksForNoWord item = ⊤
 
 -- none of the items asks for a word of the region
 abbrev pub AreNoPeeks : List Item → Type 0
 AreNoPeeks [] = ⊤
-AreNoPeeks (item ∷ rest) = IsNoPeek item × AreNoPeeks rest
+AreNoPeeks (item ∷ rest) = AsksForNoWord item × AreNoPeeks rest

@@ -36,7 +36,7 @@ job_slot Idle = None
 job_slot (Clear k) = Some k
 job_slot (Move h k) = Some k
 
--- the same job when d words of its slot are done in all
+-- the same job with d words of its slot done in all
 abbrev pub advanced : Job → ℕ → Job
 advanced Idle d = Idle
 advanced (Clear k) d = Clear (record k { done = d })

@@ -1,4 +1,4 @@
--- The words of the region of a sliced heap, also while a job is half done.
+-- The words of the region of a sliced heap, also while a pending job has changed only some of its slot.
 use Rattle.std.specs.Prelude.{◌≡◌, ◌≢◌, ℕ, ◌+◌, ◌-◌, ◌/◌, ◌%◌, ◌<◌, List, Some, ⊤, length, slice_index, if◌then◌else◌, nat_eq, nat_le, ◌&&◌}
 use Rattle.std.specs.FinMap.{get}
 use Rattle.page_model.specs.Held.{Held, Placed}

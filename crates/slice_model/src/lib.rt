@@ -1,6 +1,6 @@
 //! The model of the sliced heap, in which a free leaves its long work (clearing a slot, or moving
 //! an object) as a job, done in slices of a quantum of words. It defines the state, the calls, the
-//! words while a job is half done, and the calls of several tasks. The public functions do nothing:
+//! words while a job is pending, and the calls of several tasks. The public functions do nothing:
 //! each one's contract is a law of these definitions.
 #![tactic(auto)]
 

@@ -15,9 +15,10 @@ ghost use Rattle.slice_model.specs.Steps.{AddsObject, IsRefusedBy, IsSlice, Remo
 ghost use Rattle.slice_model.specs.declared.answers.SliceFault.{SliceFault};
 ghost use Rattle.slice_model.specs.declared.answers.SliceRefusal.{SliceRefusal};
 
-/// The order determines what a call does. If the same call is made twice on the heap `old`, and
-/// follows the order `was` both times, it has the same result, and leaves the same objects, job,
-/// words (also those of a job that is half done) and order.
+/// The order determines what a call does. If the same call is made twice on the heap `old`, follows
+/// the order `was` both times, and both times leaves a region of the same length, it has the same
+/// result, and leaves the same objects, job, words (also while a job has done only some of its
+/// words) and order.
 pub fn an_order_leaves_no_choice_beside_a_job()
     ensures malloc { (plan : Plan) (old : HeapWithWords) (bytes : ℕ) (a b : Result Handle SliceRefusal) (new other : HeapWithWords) (was now next : Order)
         → IsPlan plan → IsConsistent plan old → length new.words ≡ length other.words

@@ -1,4 +1,4 @@
-//! Laws on the words of the region, also while a job is half done.
+//! Laws on the words of the region, also while a pending job has changed only some of its slot.
 ghost use Rattle.std.specs.Prelude.{ℕ, ◌≡◌, ◌+◌, ◌/◌, ◌%◌, ◌<◌, ◌≤◌, ◌↔◌, List, Some, length, min, slice_index};
 ghost use Rattle.std.specs.FinMap.{get, insert};
 ghost use Rattle.page_model.specs.Bytes.{AreBytes, written};
@@ -52,9 +52,9 @@ pub fn words_after_each_call()
         (record old { held = insert old.held h (record { place = x.place; bytes = written x.bytes at bytes }) }) after }
 {}
 
-/// Reading byte k of object h returns the object's byte, also if a job is moving the object:
-/// `byte_read` reads the word at the object's address if it is moved already, else in the job's
-/// slot.
+/// Reading byte k of object h returns the object's byte, also if a job is moving the object.
+/// `byte_read` reads the word that has the byte: at the object's address or, if the job has still
+/// to move this word there, in the job's slot.
 pub fn bytes_are_read_where_they_stand()
     ensures { (plan : Plan) (s : Sliced) (words : List ℕ) (h : ℕ) (x : Placed) (k : ℕ) → IsPlan plan → IsKept plan s
         → HasWords plan.paging s words → get s.held h ≡ Some x → AreBytes x.bytes → k < length x.bytes

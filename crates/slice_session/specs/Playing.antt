@@ -1,5 +1,5 @@
--- Mode `slice` for the script loop: how a run over a sliced heap begins, its runs over a script, and what is left if an allocation fails; first of a session
--- (`sliced`), then of the mode handler, which knows its quantum besides (`slices`).
+-- Mode `slice` for the script loop: how a run over a sliced heap begins, its runs over a script, and what is left if an allocation fails. `sliced` is the
+-- semantics of a session; `slices` is that of the mode handler, which holds a session and the quantum.
 use Rattle.std.specs.Prelude.{◌≡◌, ◌≤◌, ◌*◌, ℕ, true, List, Option, codes, replicate}
 use Rattle.std.specs.FinMap.{empty}
 use Rattle.cf_base.specs.Settings.{Profile}

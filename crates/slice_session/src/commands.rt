@@ -1,5 +1,5 @@
 //! The commands of a session over a sliced heap, where a script names objects by ids. `m`, `f` and `w` return
-//! their reply; `r`, `s` and `p` build their reply in `line`.
+//! their reply; `r`, `s` and `p` build their reply in `line`, and return how the command ended.
 ghost use Rattle.std.specs.Prelude.{◌≡◌, ◌+◌, ◌<◌, ◌≤◌, [], IsTrue, Err, Some, length, slice_get};
 ghost use Rattle.cf_io.specs.Lines.{line_room};
 ghost use Rattle.cf_io.specs.Texts.{said};

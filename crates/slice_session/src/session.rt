@@ -61,9 +61,9 @@ impl SliceSession {
         })
     }
 
-    /// Resets the ledger to 0, does the command c on the heap, and writes its reply to the sink `out`. If
-    /// the sink fails, the result is `Failed`: the command has taken effect, and a prefix of its reply was
-    /// written.
+    /// Resets the ledger to 0, does the command c on the heap, and writes its reply to the sink `out`.
+    /// Returns how the command ended, by its reply. If the sink fails, the result is `Failed`: the command
+    /// has taken effect, and a prefix of its reply was written.
     pub fn apply<K: Sink>(
         &mut self,
         heap: &mut SlicedHeap,
@@ -143,8 +143,9 @@ impl SliceSession {
     }
 }
 
-/// Does the command c on the heap and writes its reply to the sink `out`. If the sink fails, the result is
-/// `Failed`: the command has taken effect, and a prefix of its reply was written.
+/// Does the command c on the heap and writes its reply to the sink `out`. `buffer` gets the bytes of a read,
+/// and `line` the text of the reply. Returns how the command ended, by its reply. If the sink fails, the result
+/// is `Failed`: the command has taken effect, and a prefix of its reply was written.
 fn answer<K: Sink>(
     ids: &mut IdTable,
     heap: &mut SlicedHeap,
@@ -168,8 +169,9 @@ fn answer<K: Sink>(
     ended(put_line(line, out), outcome)
 }
 
-/// Does the command c on the heap and builds the text of its reply in `line`, but writes it to no sink. The
-/// reply to a command of another mode is `none`.
+/// Does the command c on the heap and builds the text of its reply in `line`, but writes it to no sink.
+/// `buffer` gets the bytes of a read. Returns how the command ended, by its reply. The reply to a command of
+/// another mode is `none`.
 fn build_reply(
     ids: &mut IdTable,
     heap: &mut SlicedHeap,

@@ -1,4 +1,4 @@
--- For `read_part` and `write_part`: bytes of an object whose words lie side by side.
+-- For `read_half` and `write_half`: bytes of an object whose words lie side by side.
 use Rattle.std.proofs.Common.{◌≡◌, ◌≢◌, ℕ, ◌+◌, ◌-◌, ◌*◌, ◌/◌, ◌%◌, ◌^◌, ◌<◌, ◌≤◌, List, length, get_or, arith, refl, sym, ◌∙◌, ap, subst, inl, inr}
 use Rattle.std.proofs.lemmas.Bool.{cases_lt}
 use Rattle.page_model.specs.Bytes.{byte_of}

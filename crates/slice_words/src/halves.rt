@@ -5,7 +5,7 @@ ghost use Rattle.step_ledger.specs.Counting.{RoseAtMost, RoseBy};
 ghost use Rattle.slice_words.specs.Halves.{AreApart, byte_in, first_bytes, place_of_word};
 ghost use Rattle.slice_words.specs.Writes.{WritesBytes};
 
-use crate::parts::{read_part, write_part};
+use crate::parts::{read_half, write_half};
 use region::Region;
 use step_ledger::Steps;
 
@@ -58,8 +58,8 @@ pub fn read_halves(region: &Region, s: Halves, at: u32, out: &mut [u8], steps: &
 {
     let first = first_bytes(s, at, out.len());
     let (low, high) = out.split_at_mut(first);
-    read_part(region, s.to, at, low, steps);
-    read_part(region, s.from, at + first as u32, high, steps);
+    read_half(region, s.to, at, low, steps);
+    read_half(region, s.from, at + first as u32, high, steps);
 }
 
 /// Writes `bytes` over the bytes from byte `at` on of the object whose halves are `s`, each in the half that
@@ -76,6 +76,6 @@ pub fn write_halves(region: &mut Region, s: Halves, at: u32, bytes: &[u8], steps
 {
     let first = first_bytes(s, at, bytes.len());
     let (low, high) = bytes.split_at(first);
-    write_part(region, s.to, at, low, steps);
-    write_part(region, s.from, at + first as u32, high, steps);
+    write_half(region, s.to, at, low, steps);
+    write_half(region, s.from, at + first as u32, high, steps);
 }

@@ -11,13 +11,14 @@ ghost use Rattle.slice_words.specs.Writes.{WritesBytes};
 
 /// While any job is pending, word `i` of the object is in its halves at the address that it has in the model.
 /// So byte `k` in its halves is the one that the model reads.
-pub fn halves_are_where_the_words_stand()
+pub fn halves_are_where_the_words_are()
     ensures words { (j : Job) (h : ℕ) (x : Placed) (i : ℕ) → place_of_word (halves_of j h x.place) i ≡ word_at j h x i }
     ensures bytes { (j : Job) (h : ℕ) (x : Placed) (words : List ℕ) (k : ℕ) → byte_in (halves_of j h x.place) words k ≡ byte_read j words h x k }
 {}
 
-/// If each word of the object is at its present address, and `bytes` are then written in its halves from byte
-/// `at` on, the words that hold these bytes are those of the object with the bytes, and no other word changes.
+/// Suppose that each word of the object is at the address that it has in the model (`word_at`), and `bytes` are
+/// written in its halves from byte `at` on. Then the words that hold a written byte are those of the object with
+/// its new bytes, and no other word changes.
 pub fn written_bytes_are_those_of_the_object()
     ensures { (j : Job) (h : ℕ) (x : Placed) (old new : List ℕ) (at : ℕ) (bytes : List ℕ)
         → h < 2 ^ 32 → length x.bytes < 2 ^ 32 → AreBytes x.bytes → AreBytes bytes → at + length bytes ≤ length x.bytes

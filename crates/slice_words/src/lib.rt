@@ -10,4 +10,4 @@ mod parts;
 
 pub use halves::{Halves, read_halves, read_word, write_halves};
 pub use jobs::{clear_next, move_next, words_of_slice};
-pub use laws::{halves_are_where_the_words_stand, written_bytes_are_those_of_the_object};
+pub use laws::{halves_are_where_the_words_are, written_bytes_are_those_of_the_object};

@@ -1,4 +1,6 @@
-//! Reads and writes bytes of one half of an object: words of the region that lie side by side.
+//! Reads and writes bytes of one half of an object, whose words are consecutive in the region. In a call
+//! `place` is the address of the slot that has the half: the object's address or its old one. `at` counts from
+//! the object's first byte for both halves.
 ghost use Rattle.std.specs.Prelude.{◌≡◌, ℕ, ◌+◌, ◌/◌, ◌^◌, ◌<◌, ◌≤◌, length, slice_index};
 ghost use Rattle.cf_model.specs.Costs.{words_touched};
 ghost use Rattle.step_ledger.specs.Counting.{RoseAtMost};
@@ -9,9 +11,9 @@ use region::Region;
 use step_ledger::Steps;
 use word_bytes::{read_run, words_with, write_run};
 
-/// Fills `out` with the bytes from byte `at` on of an object whose header is, or would be, word `place` of the
-/// region. Costs at most one step for each word that holds one of them.
-pub(crate) fn read_part(region: &Region, place: u32, at: u32, out: &mut [u8], steps: &mut Steps)
+/// Fills `out` with the bytes from byte `at` on of an object whose header is word `place` of the region, or was
+/// before a job moved it. Costs at most one step for each word that holds one of the bytes.
+pub(crate) fn read_half(region: &Region, place: u32, at: u32, out: &mut [u8], steps: &mut Steps)
     requires small { length region.now < 2 ^ 32 }
     requires within { place + 1 + (at + length out.old + 7) / 8 ≤ length region.now }
     ensures bytes { (j : ℕ) → j < length out.new → slice_index out.new j ≡ byte_from region.now (place + 1) (at + j) }
@@ -27,9 +29,9 @@ pub(crate) fn read_part(region: &Region, place: u32, at: u32, out: &mut [u8], st
     read_run(region, place + 1 + at / 8, count, from, out, steps);
 }
 
-/// Writes `bytes` over the bytes from byte `at` on of an object whose header is, or would be, word `place` of
-/// the region. Costs at most one step for each word that holds one of them.
-pub(crate) fn write_part(region: &mut Region, place: u32, at: u32, bytes: &[u8], steps: &mut Steps)
+/// Writes `bytes` over the bytes from byte `at` on of an object whose header is word `place` of the region, or was
+/// before a job moved it. Costs at most one step for each word that holds one of the bytes.
+pub(crate) fn write_half(region: &mut Region, place: u32, at: u32, bytes: &[u8], steps: &mut Steps)
     requires small { length region.old < 2 ^ 32 }
     requires within { place + 1 + (at + length bytes.now + 7) / 8 ≤ length region.old }
     ensures bytes { WritesBytes region.old region.new (word_from place) at bytes.now }

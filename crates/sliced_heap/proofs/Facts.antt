@@ -17,7 +17,7 @@ use Rattle.size_classes.specs.Table.{ClassTable, IsClassTable}
 use Rattle.slice_model.specs.State.{IsPlan}
 use Rattle.sliced_heap.specs.declared.open_heap.OpenHeap.{OpenHeap}
 use Rattle.sliced_heap.specs.Heap.{Heap, seen}
-use Rattle.sliced_heap.specs.Layout.{IsValid, completed, paging_at, plan_of, profile_at, state_of, tables_in}
+use Rattle.sliced_heap.specs.Layout.{IsValid, words_after_job, paging_at, plan_of, profile_at, state_of, tables_in}
 
 module _ (h : Heap) (k : IsValid h) where
   pub paging_ok : IsPaging (paging_at h)
@@ -50,20 +50,20 @@ module _ (h : Heap) (k : IsValid h) where
 
   -- the objects' addresses are those of the proxies; a number without one has no object
   pub places_are : h.proxies.places ≡ places (state_of h).held
-  places_are = sym (places-held_at (completed (paging_at h) h.job h.proxies.places h.words) h.proxies.places)
+  places_are = sym (places-held_at (words_after_job (paging_at h) h.job h.proxies.places h.words) h.proxies.places)
 
   pub held_is_at : (q : ℕ) → get (state_of h).held q
-      ≡ option_map (λ a. record { place = a; bytes = bytes_at (completed (paging_at h) h.job h.proxies.places h.words) a }) (get h.proxies.places q)
-  held_is_at q = get-map_values (λ a. record { place = a; bytes = bytes_at (completed (paging_at h) h.job h.proxies.places h.words) a }) h.proxies.places q
+      ≡ option_map (λ a. record { place = a; bytes = bytes_at (words_after_job (paging_at h) h.job h.proxies.places h.words) a }) (get h.proxies.places q)
+  held_is_at q = get-map_values (λ a. record { place = a; bytes = bytes_at (words_after_job (paging_at h) h.job h.proxies.places h.words) a }) h.proxies.places q
 
   pub no_place : (q : ℕ) → get h.proxies.places q ≡ None → get (state_of h).held q ≡ None
   no_place q e = held_is_at q
-      ∙ ap (option_map (λ a. record { place = a; bytes = bytes_at (completed (paging_at h) h.job h.proxies.places h.words) a })) e
+      ∙ ap (option_map (λ a. record { place = a; bytes = bytes_at (words_after_job (paging_at h) h.job h.proxies.places h.words) a })) e
 
   pub has_place : (q a : ℕ) → get h.proxies.places q ≡ Some a → (x : Placed) × (get (state_of h).held q ≡ Some x) × (x.place ≡ a)
   has_place q a e = (
-    record { place = a; bytes = bytes_at (completed (paging_at h) h.job h.proxies.places h.words) a },
-    held_is_at q ∙ ap (option_map (λ a. record { place = a; bytes = bytes_at (completed (paging_at h) h.job h.proxies.places h.words) a })) e,
+    record { place = a; bytes = bytes_at (words_after_job (paging_at h) h.job h.proxies.places h.words) a },
+    held_is_at q ∙ ap (option_map (λ a. record { place = a; bytes = bytes_at (words_after_job (paging_at h) h.job h.proxies.places h.words) a })) e,
     refl,
   )
 
@@ -72,10 +72,10 @@ module _ (h : Heap) (k : IsValid h) where
       ∙ ap (option_map (λ (y : Placed). y.place)) there
 
   pub held_len : len (state_of h).held ≡ len h.proxies.places
-  held_len = len-map_values (λ a. record { place = a; bytes = bytes_at (completed (paging_at h) h.job h.proxies.places h.words) a }) h.proxies.places
+  held_len = len-map_values (λ a. record { place = a; bytes = bytes_at (words_after_job (paging_at h) h.job h.proxies.places h.words) a }) h.proxies.places
 
   pub held_bytes : (q : ℕ) (x : Placed) → get (state_of h).held q ≡ Some x → AreBytes x.bytes
-  held_bytes q x there = held_at_bytes (completed (paging_at h) h.job h.proxies.places h.words) h.proxies.places q x there
+  held_bytes q x there = held_at_bytes (words_after_job (paging_at h) h.job h.proxies.places h.words) h.proxies.places q x there
 
 -- the heap h with other tables and page lists; if the classes are the same, no other field of it changes
 abbrev pub seen_with : OpenHeap → PageTables → PageLists → Heap

@@ -19,7 +19,7 @@ use Rattle.slice_model.proofs.CallerLemmas.{job_within, kept_apart, object_slot,
 use Rattle.slice_model.proofs.CallerLemmas as model
 use Rattle.slice_words.proofs.CallerLemmas.{part_apart}
 use Rattle.word_bytes.proofs.CallerLemmas.{cleared_clears, moved_moves}
-use Rattle.sliced_heap.specs.Layout.{completed, rest_moved}
+use Rattle.sliced_heap.specs.Layout.{words_after_job, words_after_move}
 
 -- the address that the map of addresses has for an object is the object's
 pub place_there : (m : Held) (at : FinMap nat_cmp ℕ) → at ≡ places m → (q : ℕ) (x : Placed) → get m q ≡ Some x → get at q ≡ Some x.place
@@ -79,7 +79,7 @@ parts_apart plan ok m q k kept x there class n le =
 -- if the words left of the job are done too, the words of the region are right for the objects without a job
 pub completed_words : (plan : Plan) → IsPlan plan → (m : Held) (j : Job) → IsKept plan (record { held = m; job = j }) → (at : FinMap nat_cmp ℕ) → at ≡ places m
     → (words : List ℕ) → length words ≡ plan.paging.pages * plan.paging.page_words → HasWords plan.paging (record { held = m; job = j }) words
-    → HasWords plan.paging (record { held = m; job = Idle }) (completed plan.paging j at words)
+    → HasWords plan.paging (record { held = m; job = Idle }) (words_after_job plan.paging j at words)
 completed_words plan ok m Idle kept at e words long has = has
 completed_words plan ok m (Clear k) kept at e words long has =
     let some = kept.job.under_way in
@@ -97,15 +97,15 @@ completed_words plan ok m (Move q k) kept at e words long has =
     let moves = moved_moves words (k.address + k.done) (o.0.place + k.done) (slot_words plan.paging k.class - k.done) (omega arith) (omega arith) far in
     let ended = moved_all plan ok m k words (moved words (k.address + k.done) (o.0.place + k.done) (slot_words plan.paging k.class - k.done))
     (slot_words plan.paging k.class - k.done) (omega arith) q o.0 o.1 o.2 kept has moves in
-    subst (λ z. HasWords plan.paging (record { held = m; job = Idle }) (rest_moved plan.paging k z words)) (sym there) ended.idle
+    subst (λ z. HasWords plan.paging (record { held = m; job = Idle }) (words_after_move plan.paging k z words)) (sym there) ended.idle
 
 module _ (plan : Plan) (ok : IsPlan plan) (m : Held) (j : Job) (kept : IsKept plan (record { held = m; job = j })) (at : FinMap nat_cmp ℕ) (e : at ≡ places m)
     (words : List ℕ) (long : length words ≡ plan.paging.pages * plan.paging.page_words) (has : HasWords plan.paging (record { held = m; job = j }) words)
     (good : AreStorable m) where
   abbrev whole : List ℕ
-  whole = completed plan.paging j at words
+  whole = words_after_job plan.paging j at words
 
-  pub held_shown : held_at (completed plan.paging j at words) at ≡ m
+  pub held_shown : held_at (words_after_job plan.paging j at words) at ≡ m
   held_shown = equal_maps _ _ (λ q. get-map_values (λ a. record { place = a; bytes = bytes_at whole a }) at q
       ∙ ap (λ p. option_map (λ a. record { place = a; bytes = bytes_at whole a }) (get p q)) e
       ∙ ap (option_map (λ a. record { place = a; bytes = bytes_at whole a })) (get-map_values (λ (x : Placed). x.place) m q) ∙ go q (get m q) refl)

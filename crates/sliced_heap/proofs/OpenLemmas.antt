@@ -27,7 +27,7 @@ use Rattle.page_slots.proofs.CallerLemmas.{first_occupied, first_table, new_serv
 use Rattle.slice_model.specs.State.{Sliced, IsKept, Idle, occupied}
 use Rattle.slice_model.specs.Words.{HasWords}
 use Rattle.sliced_heap.specs.Heap.{Heap}
-use Rattle.sliced_heap.specs.Layout.{IsNew, IsValid, completed, order_in, paging_at, paging_for, plan_of, profile_at, state_of, tables_in}
+use Rattle.sliced_heap.specs.Layout.{IsNew, IsValid, words_after_job, order_in, paging_at, paging_for, plan_of, profile_at, state_of, tables_in}
 
 -- the fields of a heap that was just opened
 pub record IsFirst (s : Settings) (n : ℕ) (h : Heap) : Type 0 where
@@ -51,9 +51,9 @@ module _ (s : Settings) (n : ℕ) (h : Heap) (f : IsFirst s n h) where
 
   state_is : state_of h ≡ first
   state_is =
-      ap (λ (x : Proxies). record { held = held_at (completed (paging_at h) h.job x.places h.words) x.places; job = h.job }) f.proxies
+      ap (λ (x : Proxies). record { held = held_at (words_after_job (paging_at h) h.job x.places h.words) x.places; job = h.job }) f.proxies
       ∙ ap (λ m. record { held = m; job = h.job })
-      (map_values-empty (λ a. record { place = a; bytes = bytes_at (completed (paging_at h) h.job empty h.words) a }))
+      (map_values-empty (λ a. record { place = a; bytes = bytes_at (words_after_job (paging_at h) h.job empty h.words) a }))
       ∙ ap (λ j. record { held = empty; job = j }) f.job
 
   objects_are : objects (state_of h).held ≡ empty

@@ -38,22 +38,23 @@ paging_at h = paging_for h.settings
 abbrev pub plan_of : Heap → Plan
 plan_of h = record { paging = paging_for h.settings; proxies = h.settings.proxies; quantum = h.quantum }
 
--- the words as they will be after those of slot k that are not yet moved are moved to the moving object's address a; unchanged if it has no address
-abbrev pub rest_moved : Paging → JobSlot → Option ℕ → List ℕ → List ℕ
-rest_moved p k None words = words
-rest_moved p k (Some a) words = moved words (k.address + k.done) (a + k.done) (slot_words p k.class - k.done)
+-- the words as they will be when the move from slot k is done: the words of the slot that are yet to move are at the moving object's address a; unchanged if
+-- it has no address
+abbrev pub words_after_move : Paging → JobSlot → Option ℕ → List ℕ → List ℕ
+words_after_move p k None words = words
+words_after_move p k (Some a) words = moved words (k.address + k.done) (a + k.done) (slot_words p k.class - k.done)
 
--- the words as they will be after the rest of the job is done, with pages and classes p, if `places` has the objects' addresses by number
-abbrev pub completed : Paging → Job → FinMap nat_cmp ℕ → List ℕ → List ℕ
-completed p Idle places words = words
-completed p (Clear k) places words = cleared words (k.address + k.done) (slot_words p k.class - k.done)
-completed p (Move q k) places words = rest_moved p k (get places q) words
+-- the words as they will be when the job is done; p holds the pages and the classes, and `places` the objects' addresses by number
+abbrev pub words_after_job : Paging → Job → FinMap nat_cmp ℕ → List ℕ → List ℕ
+words_after_job p Idle places words = words
+words_after_job p (Clear k) places words = cleared words (k.address + k.done) (slot_words p k.class - k.done)
+words_after_job p (Move q k) places words = words_after_move p k (get places q) words
 
 -- the model's state: the objects, whose bytes are read as if the rest of the job were done, and the job
 abbrev pub state_of : Heap → Sliced
-state_of h = record { held = held_at (completed (paging_at h) h.job h.proxies.places h.words) h.proxies.places; job = h.job }
+state_of h = record { held = held_at (words_after_job (paging_at h) h.job h.proxies.places h.words) h.proxies.places; job = h.job }
 
--- the model's state, and the words as they are now, with the job half done
+-- the model's state, and the words as they are now: a pending job has changed only some of those of its slot
 abbrev pub working_of : Heap → HeapWithWords
 working_of h = record { state = state_of h; words = h.words }
 
@@ -71,7 +72,9 @@ opens m n = if nat_eq (n % m) 0 then 1 else 0
 
 -- The invariant of an open heap h. `kept`: the objects and the job keep the rules of the model. `words`: each word of the region is as the objects and the
 -- job determine it. `serve` and `occupied`: the tables have the used slots of the objects and of the job, and no others. `counted` and `needed`: the counts
--- are those of the objects. The others: the tables and the region have the sizes of the settings, and the quantum is at least one word.
+-- are those of the objects, and the pages needed are no more than there are (`within`); `live` has 128 entries, more than any heap has classes. The others:
+-- the tables and the region have the sizes of the settings, each number, live or free, is below the number of proxies (`handles`), and the quantum is at least
+-- one word.
 pub record IsValid (h : Heap) : Type 0 where
   pub table : h.classes ≡ table_of h.settings.page_words Words
   pub quantum : 1 ≤ h.quantum

@@ -65,14 +65,15 @@ pub record KeepsRules (s : SlicedState) : Type 0 where
   pub region : length s.words ≡ s.profile.pages * s.profile.page_words
   pub order : IsOrderBeside (plan_in s) (working_in s).state s.order
 
--- from `old` to `new` it stays the same whether the heap is open, and so do its settings, its quantum and the number of its words
+-- a heap that was in the state `old` is in the state `new`: it is open if and only if it was, and has the same settings, quantum and number
+-- of words
 pub record StaysOpen (old new : SlicedState) : Type 0 where
   pub is_open : new.is_open ≡ old.is_open
   pub profile : new.profile ≡ old.profile
   pub quantum : new.quantum ≡ old.quantum
   pub region : length new.words ≡ length old.words
 
--- the state that contracts show of a heap: the closed one if there is no open heap in it
+-- the state that contracts show of a `SlicedHeap` with this open heap in it; the closed state if there is none
 abbrev pub shown : Option OpenHeap → SlicedState
 shown None = closed_state
 shown (Some h) = record {

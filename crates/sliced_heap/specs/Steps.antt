@@ -34,8 +34,8 @@ pub record StartsClearing (old : Heap) (q : ℕ) (k : JobSlot) (new : Heap) : Ty
   pub quantum : new.quantum ≡ old.quantum
   pub order : order_in new ≡ record (order_in old) { spare = q ∷ (order_in old).spare }
 
--- What `fill` does with slot k if it must be filled: the object that the order lists next to move, on another page of the class, a partly full one, gets
--- the slot's address, and the new job moves it there. No word of the region changes.
+-- What `fill` does with slot k if it must be filled. The object that the order lists next to move is on another page of the class, a partly full one. It
+-- gets the slot's address, and the new job moves it there. No word of the region changes.
 pub record IsFilled (old : Heap) (k : JobSlot) (new : Heap) : Type 0 where
   pub must : MustMove (paging_at old) (occupied (plan_of old) (state_of old)) (placeholder (paging_at old) k)
   pub object : ℕ
@@ -69,7 +69,7 @@ pub record StartsMove (old : Heap) (k : JobSlot) (new : Heap) : Type 0 where
     job = Move (slice_index old.words from % 2 ^ 32) (fresh_slot from k.class);
   }
 
--- the page of slot k isn't full; it is claimed as a cost: freeing a slot of the page costs at most 10 steps
+-- freeing a slot of the page of slot k costs at most 10 steps, as it does if the page isn't full
 abbrev pub IsCheapToFree : Heap → JobSlot → Type 0
 IsCheapToFree h k = steps_to_drop (tables_in h) (page_at h.classes k.address) ≤ 10
 

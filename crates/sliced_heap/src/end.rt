@@ -14,8 +14,9 @@ use slice_model::JobSlot;
 use step_ledger::Steps;
 
 impl OpenHeap {
-    /// Ends the job with slot `k`, whose words are now all zero. If the slot must be filled (`fill`), the
-    /// next job moves an object into it; else the slot becomes free, and no job is pending.
+    /// Ends the job with slot `k`, whose words are now all zero. The caller has made it a `Clear` job with
+    /// `done` 0, also if it moved an object. If the slot must be filled (`fill`), the next job moves an object
+    /// into it; else the slot becomes free, and no job is pending.
     pub(crate) fn end(&mut self, k: JobSlot, steps: &mut Steps)
         requires kept { IsValid (seen self.old) }
         requires job { job_of self.old.job ≡ Clear k }

@@ -44,7 +44,7 @@ impl OpenHeap {
     }
 
     /// Chooses the object at the lowest used slot of the class's first partly full page. Sets its proxy
-    /// to the address of slot `k`, and makes it the job to move the object's words there.
+    /// to the address of slot `k`. The pending job is then to move the object's words there.
     fn move_to(&mut self, k: JobSlot, steps: &mut Steps)
         requires tables { AreTables self.old.tables.classes (tables_with self.old.tables self.old.lists) }
         requires class { k.class < length self.old.tables.classes.sizes }

@@ -40,7 +40,8 @@ impl OpenHeap {
         Ok(())
     }
 
-    /// Frees the live object `h`, whose address is `place`, while no job is pending.
+    /// Frees the live object `h`, whose address is `place`, while no job is pending: starts the job that
+    /// clears its slot, or in place of it one that moves another object in, and does the job's first slice.
     fn free_live(&mut self, h: Handle, place: u32, steps: &mut Steps)
         requires kept { IsValid (seen self.old) }
         requires idle { job_of self.old.job ≡ Idle }
@@ -53,12 +54,14 @@ impl OpenHeap {
         ensures steps { RoseAtMost steps.old steps.new (11 + words_steps self.old.quantum (words_of (plan_of (seen self.old)) (state_of (seen self.old)) h.0) 11) }
     {
         let k = self.start_clearing(h, place, steps);
+        // Whether another object moves in makes no difference here.
         let _filled = self.fill(k, steps);
         self.slice(steps);
     }
 
-    /// Removes the live object `h`, whose address is `place`: releases its proxy, counts it no more, and
-    /// makes it the job to clear its slot. Returns that slot. No word of the region changes yet.
+    /// Removes the live object `h`, whose address is `place`: releases its proxy, takes it out of the counts
+    /// of live objects and needed pages, and starts the job that clears its slot. Returns that slot. No word
+    /// of the region changes yet.
     fn start_clearing(&mut self, h: Handle, place: u32, steps: &mut Steps) -> JobSlot
         requires kept { IsValid (seen self.old) }
         requires idle { job_of self.old.job ≡ Idle }

@@ -74,8 +74,8 @@ impl SlicedHeap {
 
     /// Makes an object of `bytes` bytes, all zero, under a handle that wasn't live. Fails with `Size` if
     /// it needs more than a page, else with `Proxy` if every proxy is in use, else with `Space` if the
-    /// objects with it would need more pages than the heap has, else with `Busy` if the slot of the
-    /// pending job leaves no free slot for it. A refusal changes nothing. The object gets the next number
+    /// objects with it would need more pages than the heap has, else with `Busy` if there is no slot for
+    /// it as long as the pending job holds its own. A refusal changes nothing. The object gets the next number
     /// of the order. It gets the lowest free slot of its class's first partly full page; if the class has
     /// no such page, slot 0 of the first free page. The slot of a pending job counts as used.
     pub fn malloc(&mut self, bytes: u32, steps: &mut Steps) -> Result<Handle, SliceRefusal>

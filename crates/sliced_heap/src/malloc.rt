@@ -20,7 +20,8 @@ use word_bytes::Header;
 impl OpenHeap {
     /// Makes an object of `bytes` bytes, all zero, and returns its handle. Refused, with nothing changed,
     /// in this order: `Size` if it is larger than a page, `Proxy` if all proxies are in use, `Space` if
-    /// the objects with it need too many pages, `Busy` if the job's slot leaves no free slot for it.
+    /// the objects with it need more pages than the heap has, `Busy` if there is no slot for it as long
+    /// as the job holds its own.
     pub fn malloc(&mut self, bytes: u32, steps: &mut Steps) -> Result<Handle, SliceRefusal>
         requires { IsValid (seen self.old) }
         ensures step { Happens (plan_of (seen self.old)) (working_of (seen self.old)) (Malloc bytes result) (working_of (seen self.new)) }

@@ -17,8 +17,8 @@ use slice_words::{clear_next, move_next, words_of_slice};
 use step_ledger::Steps;
 
 impl OpenHeap {
-    /// Does one slice of the job, if one is pending. Does what `slice` does, with the clauses of the
-    /// public call; `free` calls `slice` itself.
+    /// Does one slice of the job, if one is pending. Calls `slice` and does no more, but its contract
+    /// states the clauses of the public call `step`. `free` calls `slice` directly.
     pub fn step(&mut self, steps: &mut Steps)
         requires { IsValid (seen self.old) }
         ensures step { Happens (plan_of (seen self.old)) (working_of (seen self.old)) Step (working_of (seen self.new)) }

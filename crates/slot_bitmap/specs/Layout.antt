@@ -15,7 +15,7 @@ slots_in_words words n = map (is_used words) (range_with_len 0 n)
 abbrev pub bits_in : ℕ → ℕ → ℕ
 bits_in n j = min (n - 64 * j) 64
 
--- whether word j, of n slots in all, has a free slot
+-- whether word j has a free slot, if there are n slots in all
 abbrev pub has_free : List ℕ → ℕ → ℕ → Bool
 has_free words n j = not (slice_index words j + 1 == 2 ^ bits_in n j)
 

@@ -12,7 +12,7 @@ pub record HoldsBytesAt (h : Heap) (position : Position) (count place : ℕ) : T
   pub found : get (held_in h) position.number ≡ Some (record { place = place; bytes = bytes_at h.tagged.words (place + 1) })
   pub within : position.from + count ≤ length (bytes_at h.tagged.words (place + 1))
 
--- what `find` returns for `count` bytes of the part: the address of the object, or the fault of the call
+-- what `find` returns for `count` bytes of object `position.number` from byte `position.from` on: the object's address, or the fault of the call
 abbrev pub IsFound : Kind → Heap → Position → ℕ → Result ℕ AccessFault → Type 0
 IsFound kind h position count (Ok place) = HoldsBytesAt h position count place
 IsFound kind h position count (Err e) = IsFault (state_of kind h) position count e

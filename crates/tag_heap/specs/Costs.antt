@@ -32,8 +32,8 @@ abbrev pub search_steps : HeapState → ℕ → Result ℕ Refusal → ℕ
 search_steps s bytes (Ok place) = find_steps (free_lists_of s.kind) (list_count_of s.kind) s.tiling (block_need bytes) (Some place)
 search_steps s bytes (Err e) = block_malloc_cost s bytes (Err e) s
 
--- The steps of `has_room` for `bytes` bytes, by its result: those of the search for the next block, or those of the refused malloc. The free lists are those of the
--- heap's order, which a heap of blocks always has.
+-- The steps of `has_room` for `bytes` bytes, by its result. If a malloc would succeed, they are those of the search for its block. If it would be refused, they
+-- are those of the malloc. The free lists are those of the heap's order, which a heap of blocks always has.
 abbrev pub has_room_steps : HeapState → Option Order → ℕ → Result Unit Refusal → ℕ
 has_room_steps s None bytes answer = 0
 has_room_steps s (Some order) bytes (Ok done) =

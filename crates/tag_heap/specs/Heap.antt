@@ -18,8 +18,8 @@ use Rattle.cf_model.specs.ReadObjects.{read_objects}
 use Rattle.cf_model.specs.Rules.{AreOwned, KeepsRules, content_word}
 use Rattle.cf_model.specs.State.{HeapState, block_code, closed_state}
 
--- An open heap as definitions see it: its settings; its words, blocks and free lists (`tagged`); the addresses by number (`proxies`); the bytes of all
--- objects; the words of all used blocks; and the steps of the last malloc or free.
+-- An open heap as definitions see it: its settings; its words, blocks and free lists (`tagged`); the addresses by number (`proxies`); how many
+-- bytes all objects have together (`asked`), and how many words all used blocks; and the steps of the last malloc or free (`cost`).
 pub record Heap : Type 0 where
   pub settings : Settings
   pub tagged : Tagged

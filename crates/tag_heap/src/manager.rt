@@ -94,6 +94,7 @@ impl<B: FitPolicy> Manager for TagHeap<B> {
 
     // Returns the kind of the fit policy.
     fn kind(&self) -> Kind {
+        // For the proof: reading a field brings in the invariant of the type.
         let _inner = &self.inner;
         B::kind()
     }
@@ -209,6 +210,7 @@ impl<B: FitPolicy> Manager for TagHeap<B> {
 
     // Returns false, since there are no size classes.
     fn set_bound(&mut self, _slot_words: u32, _k: u32) -> bool {
+        // For the proof: reading a field brings in the invariant of the type.
         let _inner = &self.inner;
         false
     }
@@ -244,12 +246,14 @@ impl<B: FitPolicy> Manager for TagHeap<B> {
         ensures rises { _steps.old ≤ _steps.new }
         ensures steps { _steps.new ≡ _steps.old }
     {
+        // For its contract: a heap with blocks has no block table.
         let _open = self.open();
         None
     }
 
     // Returns 0, since there are no size classes.
     fn classes(&self) -> u32 {
+        // For its contract: a heap with blocks has no size classes.
         let _open = self.open();
         0
     }

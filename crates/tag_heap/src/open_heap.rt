@@ -60,7 +60,7 @@ impl<B: FitPolicy> OpenHeap<B> {
         Ok(OpenHeap::empty(s, blocks, proxies))
     }
 
-    /// Puts these parts, each without objects, together to an open heap.
+    /// Makes an open heap of these parts, each without objects.
     fn empty(s: &Settings, blocks: TagBlocks<B>, proxies: ProxyTable) -> OpenHeap<B>
         requires blocks { blocks.blocks ≡ one_free_block (s.now.pages * s.now.page_words) }
         requires words { length blocks.words ≡ s.now.pages * s.now.page_words }

@@ -34,7 +34,7 @@ impl BlockReference {
         for _size in sizes.iter() {
             lists.push(Vec::new(alloc))?;
         }
-        let mut plain = BlockReference {
+        let mut reference = BlockReference {
             blocks: Vec::new(alloc),
             lists,
             sizes,
@@ -44,9 +44,9 @@ impl BlockReference {
             size: words,
             owner: None,
         };
-        plain.blocks.push(whole)?;
-        plain.list(whole)?;
-        Ok(plain)
+        reference.blocks.push(whole)?;
+        reference.list(whole)?;
+        Ok(reference)
     }
 
     /// The words of the block with this address; 0 if none begins there.
@@ -64,10 +64,10 @@ impl BlockReference {
         self.blocks.as_slice()
     }
 
-    /// Takes the block that was listed last in the first list that isn't empty, from the first list on
-    /// whose blocks all have `need` words. Its first `need` words become a used block of the object
-    /// `owner`. A rest of two words or more becomes a free block; one of one word stays with the used
-    /// block. Returns the block's address; none if no such list has a block.
+    /// Searches the lists whose blocks all have at least `need` words, from the smallest sizes up, and
+    /// takes the last block of the first that isn't empty. The block's first `need` words become a used
+    /// block of the object `owner`. A rest of two words or more becomes a free block; a rest of one word
+    /// stays with the used block. Returns the block's address; none if all these lists are empty.
     pub fn carve(&mut self, need: u32, owner: u32) -> Result<Option<u32>, Wrong> {
         for list in first_for(self.sizes.as_slice(), need)..self.lists.len() {
             let taken = match self.lists.get_mut(list) {
@@ -91,8 +91,8 @@ impl BlockReference {
             .all(|addresses| addresses.is_empty())
     }
 
-    /// Frees the block at this address, and coalesces it with the free block after it, and with the one
-    /// before it. The whole is the next to be taken of its list. Does nothing if no block begins there.
+    /// Frees the block at this address, and coalesces it with the blocks behind it and before it, if they
+    /// are free. The resulting block is taken next from its list. Does nothing if no block begins there.
     pub fn release(&mut self, address: u32) -> Result<(), Wrong> {
         let Some(mut at) = self.index_of(address) else {
             return Ok(());
@@ -131,8 +131,8 @@ impl BlockReference {
         (words, used, free, largest)
     }
 
-    /// Word 1 of a free block, its link: in the lower half the address of the block that came into its list
-    /// before it, in the upper half that of the one after it.
+    /// Word 1 of a free block, its link: in the lower half the address of the block that was added to its list
+    /// just before it, in the upper half that of the one added just after it.
     pub fn link(&self, block: Block) -> u64 {
         let list = list_of(self.sizes.as_slice(), block.size);
         let Some(addresses) = self.lists.get(list) else {
@@ -156,7 +156,7 @@ impl BlockReference {
         self.blocks.get(at).is_some_and(|b| b.owner.is_none())
     }
 
-    /// Adds the block to its free list, as the next to be taken.
+    /// Adds the block to its free list, from which it is taken next.
     fn list(&mut self, block: Block) -> Result<(), Wrong> {
         let list = list_of(self.sizes.as_slice(), block.size);
         if let Some(addresses) = self.lists.get_mut(list) {
@@ -201,7 +201,7 @@ impl BlockReference {
         self.list(rest)
     }
 
-    /// Coalesces the block with the index `at` with the one behind it, if that one is free.
+    /// Coalesces the block with the index `at` with the one after it, if that one is free.
     fn take_in_next(&mut self, at: usize) {
         let after = at.saturating_add(1);
         if !self.is_free(after) {

@@ -17,7 +17,7 @@ pub struct BlockRun<H: Manager> {
     /// The manager, with the ledger of its calls.
     calls: ManagerUnderTest<H>,
     /// The expected blocks and free lists.
-    plain: BlockReference,
+    reference: BlockReference,
     /// The expected objects by number, each with the address of its block and its bytes.
     objects: Objects<u32>,
     /// The words of a page: no object may be longer, with its header.
@@ -47,7 +47,7 @@ impl<H: Manager> BlockRun<H> {
         let words = pages.wrapping_mul(settings.page_words);
         Ok(BlockRun {
             calls: ManagerUnderTest { heap, meter },
-            plain: BlockReference::new(alloc, sizes, words)?,
+            reference: BlockReference::new(alloc, sizes, words)?,
             objects: Objects::none(alloc, proxies)?,
             page_words: settings.page_words,
             words,
@@ -80,9 +80,9 @@ impl<H: Manager> BlockRun<H> {
         Ok(self.totals()?.largest)
     }
 
-    /// Makes an object of `bytes` bytes. Fails unless the heap refuses it for the cause that the plain list
-    /// computes, or places it where the list does; and shows the same figures then. Returns the heap's
-    /// result.
+    /// Makes an object of `bytes` bytes, and returns the heap's result. Fails unless the heap refuses it for
+    /// the cause that the plain list computes, or places it where the list does. Also fails if the heap then
+    /// shows other figures than the list.
     pub fn malloc(&mut self, bytes: u32) -> Result<Result<Handle, Refusal>, Wrong>
         ensures step { IfOk result (λ given. IsMallocStep (H.state self.old.calls.heap) bytes given (H.state self.new.calls.heap)) }
     {
@@ -90,7 +90,7 @@ impl<H: Manager> BlockRun<H> {
         let given = self.calls.malloc(bytes)?;
         hold(given.err() == want, Wrong::Malloc(given))?;
         if let Ok(handle) = given {
-            let place = self.plain.carve(block_need(bytes), handle.0)?;
+            let place = self.reference.carve(block_need(bytes), handle.0)?;
             self.calls.compare_place(handle, place)?;
             self.objects.add(handle.0, place.unwrap_or(0), bytes)?;
         }
@@ -106,11 +106,11 @@ impl<H: Manager> BlockRun<H> {
             return hold(freed.is_err(), Wrong::Free(freed));
         };
         let want = Freed {
-            slot_words: self.plain.size_at(object.place),
+            slot_words: self.reference.size_at(object.place),
             moved: None,
         };
         hold(freed == Ok(want), Wrong::Free(freed))?;
-        self.plain.release(object.place)?;
+        self.reference.release(object.place)?;
         self.calls.compare_place(handle, None)?;
         self.totals()?;
         Ok(())
@@ -122,7 +122,7 @@ impl<H: Manager> BlockRun<H> {
         ensures shown { IfOk result (λ totals. totals ≡ totals_in (H.state self.new.calls.heap).kind (H.state self.new.calls.heap)) }
         ensures heap { self.new.calls.heap ≡ self.old.calls.heap }
     {
-        let (words, used, free, largest) = self.plain.figures();
+        let (words, used, free, largest) = self.reference.figures();
         let live = self.objects.count();
         let mut asked: u64 = 0;
         let lengths = self.objects.lengths_at(|_place| true)?;
@@ -143,7 +143,8 @@ impl<H: Manager> BlockRun<H> {
         Ok(totals)
     }
 
-    /// Compares each word of the region, and the address of each object; a number without one must have none.
+    /// Compares each word of the region, and the address of each object. For a number without an object the
+    /// heap must return no address.
     pub fn compare_all(&mut self) -> Result<(), Wrong> {
         self.compare_words()?;
         for number in 0..self.proxies {
@@ -156,10 +157,11 @@ impl<H: Manager> BlockRun<H> {
         Ok(())
     }
 
-    /// Compares each word of the region with that of its block. The heap must show no word past the end.
+    /// Compares each word of the region with the one that its expected block has there. The heap must show no
+    /// word past the end.
     fn compare_words(&mut self) -> Result<(), Wrong> {
         let mut before = 0;
-        for i in 0..self.plain.blocks().len() {
+        for i in 0..self.reference.blocks().len() {
             let block = self.block(i)?;
             for word in 0..block.size {
                 let want = self.word_of(block, before, word);
@@ -203,7 +205,7 @@ impl<H: Manager> BlockRun<H> {
             Some(Refusal::Size)
         } else if self.objects.count() == self.proxies {
             Some(Refusal::Proxy)
-        } else if self.plain.lacks(block_need(bytes)) {
+        } else if self.reference.lacks(block_need(bytes)) {
             Some(Refusal::Space)
         } else {
             None
@@ -242,21 +244,22 @@ impl<H: Manager> BlockRun<H> {
 
     /// Block i of the plain list, in order of address.
     fn block(&self, i: usize) -> Result<Block, Wrong> {
-        match self.plain.blocks().get(i) {
+        match self.reference.blocks().get(i) {
             Some(block) => Ok(*block),
             None => Err(Wrong::Differs("the number of blocks")),
         }
     }
 
     /// The value that word `word` of the block must have, if the block before it has `before` words. Word 0
-    /// has the block's size, `before` in the upper half, and bit 31 if the block is used. Then a used block
-    /// has the words of its object, and a free one its link in the free list and zeros.
+    /// has the block's size in the lower half, with bit 31 set if the block is used, and `before` in the upper
+    /// half. The other words of a used block are those of its object. A free block has its link in the free
+    /// list in word 1, then zeros. 0 if the block is used and its object isn't among the expected ones.
     fn word_of(&self, block: Block, before: u32, word: u32) -> u64 {
         let header = u64::from(block.size) | u64::from(before) << 32;
         let Some(owner) = block.owner else {
             return match word {
                 0 => header,
-                1 => self.plain.link(block),
+                1 => self.reference.link(block),
                 _ => 0,
             };
         };

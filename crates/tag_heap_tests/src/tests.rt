@@ -1,5 +1,5 @@
-//! Tests of TLSF and Half-Fit: long runs of random calls, drawn from a seed and compared with plain lists
-//! of blocks, and the steps and results of `has_room` and `length`.
+//! Tests of TLSF and Half-Fit: long runs of random calls, drawn from a seed and compared with the reference
+//! (`BlockRun`), which keeps plain lists of blocks; and the steps and results of `has_room` and `length`.
 mod coalesced;
 mod costs;
 mod tlsf;
@@ -16,8 +16,10 @@ use tlsf_heap::TlsfHeap;
 /// The settings of the long runs: 16 pages of 512 bytes, which are 1,024 words, and 48 proxies.
 const CHURNED: [u32; 3] = [16, 512, 48];
 
-/// Makes 10,000 drawn calls, and compares the heap with the plain lists after each hundred. Then frees all
-/// objects, and returns the words of the largest free block. Fails if a comparison does.
+/// Makes 10,000 drawn calls on the closed `heap`, which it opens with the settings `CHURNED`, and compares
+/// the heap with the plain lists after each hundred. `sizes` has for each free list of the heap's kind the
+/// least size of a block in it, in words. Then frees all objects, and returns the words of the largest free
+/// block. Fails if the heap and the lists differ.
 fn churn<H: Manager>(rt: &HostRuntime, heap: H, sizes: Vec<u32>) -> Result<u32, Fail> {
     let alloc = rt.alloc();
     let mut run = BlockRun::new(alloc, heap, Meter::new(rt), sizes, CHURNED)?;
@@ -30,7 +32,7 @@ fn churn<H: Manager>(rt: &HostRuntime, heap: H, sizes: Vec<u32>) -> Result<u32, 
 // In 10,000 drawn calls `TlsfHeap` returns what the plain lists compute, and has the same words. After all
 // objects are freed, the whole region of 1,024 words is one free block.
 #[test]
-fn tlsf_agrees_with_plain_blocks(rt: HostRuntime) -> Result<(), Fail> {
+fn tlsf_agrees_with_the_reference(rt: HostRuntime) -> Result<(), Fail> {
     let largest = churn(&rt, TlsfHeap::closed(rt.alloc()), tlsf_sizes(rt.alloc())?)?;
     assert_eq!(rt; largest, 1024);
     Ok(())
@@ -39,7 +41,7 @@ fn tlsf_agrees_with_plain_blocks(rt: HostRuntime) -> Result<(), Fail> {
 // In 10,000 drawn calls `HalfFitHeap` returns what the plain lists compute by its own rule for free lists,
 // and has the same words. After all objects are freed, the whole region of 1,024 words is one free block.
 #[test]
-fn half_fit_agrees_with_plain_blocks(rt: HostRuntime) -> Result<(), Fail> {
+fn half_fit_agrees_with_the_reference(rt: HostRuntime) -> Result<(), Fail> {
     let largest = churn(
         &rt,
         HalfFitHeap::closed(rt.alloc()),

@@ -119,7 +119,7 @@ impl<H: Manager> ManagerUnderTest<H> {
         hold(word == want, Wrong::Word(w, word))
     }
 
-    /// Compares the physical block of an object's block `i` with `want`.
+    /// Compares the number of the physical block that holds block `i` of an object with `want`.
     pub fn compare_block(&mut self, h: Handle, i: u32, want: Option<u32>) -> Result<(), Wrong>
         ensures same { OnOk result (block_in (H.state self.new.heap).kind (H.state self.new.heap) h.0 i ≡ want) }
         ensures heap { self.new.heap ≡ self.old.heap }

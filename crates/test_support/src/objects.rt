@@ -42,7 +42,7 @@ pub fn header(number: u32, length: u32) -> u64 {
     u64::from(number) | u64::from(length) << 32
 }
 
-/// The objects by number, the handle's number in the heap under test.
+/// The objects, each under the number of its handle in the heap under test.
 #[derive(Drop)]
 pub struct Objects<P: Drop> {
     alloc: Global,
@@ -145,7 +145,7 @@ impl<P: Drop> Objects<P> {
     }
 
     /// Sets the length of the object with this number, if there is one: its first bytes stay, and added
-    /// bytes are zeros.
+    /// bytes are zeros. Fails only if memory runs out.
     pub fn resize(&mut self, number: u32, length: u32) -> Result<(), Wrong> {
         if let Some(Some(object)) = self.entries.get_mut(number as usize) {
             object.bytes.resize(length as usize, 0)?;
@@ -164,9 +164,9 @@ impl<P: Drop> Objects<P> {
         }
     }
 
-    /// Takes over a write to the heap under test, of these bytes from byte `at` on: fails if its result
-    /// `done` is not what it must be. Else the object of the model gets the bytes, unless the write was
-    /// refused.
+    /// Does in the model a write that the heap under test has done, of these bytes from byte `at` on, with
+    /// the result `done`. Fails if that is not the result that it must have. Else the object of the model
+    /// gets the bytes, unless the write was refused.
     pub fn written(
         &mut self,
         number: u32,
@@ -189,9 +189,9 @@ impl<P: Drop> Objects<P> {
         Ok(Vec::from_elem(self.alloc, UNREAD, count as usize)?)
     }
 
-    /// Compares a read of the heap under test, from byte `at` on, with the model: its result `done`, and what
-    /// its buffer then has, the object's bytes or, if the read was refused, `UNREAD` alone. Fails if one
-    /// differs.
+    /// Compares a read of the heap under test, from byte `at` on, with the model. Fails if its result `done`
+    /// differs, or if `buffer` doesn't have the object's bytes. After a refused read each byte of `buffer`
+    /// must be `UNREAD`.
     pub fn read(
         &self,
         number: u32,

@@ -10,8 +10,8 @@ use std::alloc::{AllocError, AllocFailed};
 /// Why a test fails: a call returned this result instead of the wanted one, or there was no call.
 #[derive(Debug, Drop)]
 pub enum Wrong {
-    /// A line isn't a call, or has a number out of range.
-    Line,
+    /// A number, an index or a length is out of range.
+    OutOfRange,
     /// The settings are out of range.
     Settings(SettingFault),
     /// A bound was to be set, and no class has slots of that size.
@@ -28,11 +28,11 @@ pub enum Wrong {
     Resize(Result<Resized, ResizeFault>),
     /// What a read or a write returned.
     Access(Result<(), AccessFault>),
-    /// The address of an object.
+    /// What `place` returned: the address of an object.
     Place(Option<u32>),
-    /// The physical block of a block of an object.
+    /// What `block` returned: the number of the physical block that holds a block of an object.
     Block(Option<u32>),
-    /// The address of a word, and the word.
+    /// The address of a word, and what `peek` returned for it.
     Word(u32, Option<u64>),
     /// The figures of a class.
     Class(Option<Figures>),

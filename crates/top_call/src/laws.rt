@@ -1,5 +1,5 @@
-//! Theorems on calls of `cf_main`: when two calls print the same bytes, and that on a manager with an order a
-//! call prints the replies of a run in that order.
+//! Theorems on calls of `cf_main`: when two calls print the same bytes. On a manager with an order, a call
+//! prints the replies of a run in that order.
 ghost use Rattle.std.specs.Prelude.{◌≡◌, ℕ, IsSome, List, Option, map};
 ghost use Rattle.clap.specs.Words.{Text};
 ghost use Rattle.cf_base.specs.declared.kind.Kind.{Kind};
@@ -40,8 +40,8 @@ pub fn a_run_in_order_is_printed()
         → PrintsReplies (IsRunInOrder choice.kind) all call }
 {}
 
-/// Managers that were never open, of any kinds, leave no choice in any mode. So two calls of the tool
-/// on one script print the same.
+/// Managers that were never open promise an order, whatever their kinds. So they have no choice in any
+/// mode (`LeavesNoChoice`), and two calls of the tool on one script print the same.
 pub fn closed_managers_leave_no_choice()
     ensures { (mode : Mode) (choice : Choice) (kinds : List Kind)
         → LeavesNoChoice mode choice (map closed_state kinds) }

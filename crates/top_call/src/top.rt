@@ -16,9 +16,9 @@ use std::alloc::Global;
 
 /// Parses the arguments, the first of them the program's name, and runs the mode that they choose.
 ///
-/// In mode `run` the first of `managers` of the chosen kind runs a script of at most 268,435,455 bytes; if there
-/// is none of the kind, a closed one that is made for it. The `heap` line opens the manager, and the reply to
-/// each command is written before the next chunk is taken from the source. No other manager is touched. In mode
+/// In mode `run` the first of `managers` of the chosen kind, or a closed one made for the call if there is none,
+/// runs a script of at most 268,435,455 bytes. The `heap` line opens the manager, and the reply to each command
+/// is written before the next chunk is taken from the source. No other manager is touched. In mode
 /// `compare` every given manager runs the script, in order: each line of its replies begins with the name of
 /// its kind; `bad line` is printed once and without a name. Mode `bench` reads nothing: it runs generated
 /// commands on a manager made for them, and prints counts. Mode `save` prints no reply, but at the end the live
@@ -26,9 +26,9 @@ use std::alloc::Global;
 /// `BadImage`. In the modes `large`, `slice` and `quota` a heap that is made for it runs the script.
 ///
 /// The call returns `Done` at the end of the input; `BadScript` at a line that the grammar does not allow at its
-/// place; `TooLong` if the script has more bytes; `ReadFault` if the source failed; `WriteFault` if the sink
-/// did; and `OutOfMemory`, before any reply, if an allocation failed. It returns `Words` if and only if `clap`
-/// refuses the arguments for another cause than memory.
+/// place; `TooLong` if the script has more than 268,435,455 bytes; `ReadFault` if the source failed; `WriteFault`
+/// if the sink did; and `OutOfMemory`, before any reply, if an allocation failed. It returns `Words` if and only
+/// if `clap` refuses the arguments for another cause than memory.
 pub fn cf_main<H: Manager, S: Source, K: Sink>(
     rt: &HostRuntime,
     alloc: Global,
@@ -49,10 +49,12 @@ pub fn cf_main<H: Manager, S: Source, K: Sink>(
     // A manager promises an order afterwards if it did before.
     ensures orders { map (λ h. is_some h.order) (map (λ m. H.state m) managers.new.items)
         ≡ map (λ h. is_some h.order) (map (λ m. H.state m) managers.old.items) }
+    // If the arguments choose a mode, the input is right for it, and neither device fails, the call returns `Done`
+    // or `OutOfMemory`.
     ensures complete { HasRightInput (map (λ word. string_bytes word) words.now) (S.rest source.old)
         → ¬ FailsLast (S.faults source.old) (S.faults source.new) (S.last_failed source.new)
         → ¬ FailsLast (K.faults sink.old) (K.faults sink.new) (K.last_failed sink.new) → EndsWhole result }
-    // The causes, over every source and sink.
+    // The causes of each status, over every source and sink.
     ensures source_same { result ≢ Status.ReadFault → S.faults source.new ≡ S.faults source.old }
     ensures read_fault { result ≡ Status.ReadFault → FailsLast (S.faults source.old) (S.faults source.new) (S.last_failed source.new) }
     ensures sink_same { result ≢ Status.WriteFault → K.faults sink.new ≡ K.faults sink.old }

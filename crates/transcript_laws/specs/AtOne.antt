@@ -1,5 +1,5 @@
--- The replies to `walk` and `frag` on a heap with pages if every bound is 1. Then each class uses as few pages as possible, so they are computed from the
--- objects without their addresses. `p` is the pages and classes, `objects` the bytes of each object.
+-- The reply to `walk`, and the totals that the reply to `frag` shows, on a heap with pages if every bound is 1. Then each class uses as few pages as possible,
+-- so they are computed from the objects without their addresses. `p` is the pages and classes, `objects` the bytes of each object.
 use Rattle.std.specs.Prelude.{ℕ, ◌-◌, ◌*◌, ◌%◌, List, ◌++◌, filter, map, if◌then◌else◌, nat_eq, not}
 use Rattle.std.specs.List.{range_with_len}
 use Rattle.std.specs.FinMap.{len}

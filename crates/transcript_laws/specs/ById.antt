@@ -8,7 +8,7 @@ use Rattle.page_model.specs.Paging.{Paging, paging_of}
 use Rattle.cf_model.specs.State.{layout_of}
 use Rattle.cf_model.specs.Steps.{opening_bounds}
 
--- The kind, the settings, the bounds of the classes, and `objects`: the bytes of the object of each live id. There are no handles, addresses, words and costs.
+-- The kind, the settings, the bounds of the classes, and `objects`: the bytes of the object of each live id. There are no handles, addresses, words or costs.
 pub record ById : Type 0 where
   pub kind : Kind
   pub profile : Profile

@@ -54,26 +54,27 @@ abbrev pub ok_or : {E : Type 0} → (E → List ℕ) → Option E → List ℕ
 ok_or text None = codes "ok"
 ok_or text (Some e) = text e
 
--- the reply to `m`, from the bytes that the id names, if it is live
+-- the reply to `m`; the first argument holds the bytes of the id's object, `None` if the id isn't live
 abbrev pub malloc_said : Option (List ℕ) → ById → ℕ → List ℕ
 malloc_said (Some v) t bytes = codes "live"
 malloc_said None t bytes = ok_or (λ e. malloc_text (Err e)) (malloc_fault t bytes)
 
--- the reply to `f`, from the bytes that the id names, if it is live
+-- the reply to `f`; the argument holds the bytes of the id's object, `None` if the id isn't live
 abbrev pub free_said : Option (List ℕ) → List ℕ
 free_said (Some v) = codes "ok"
 free_said None = codes "unknown"
 
--- the reply to `w` of `count` bytes from byte `at` on, from the bytes that the id names, if it is live
+-- the reply to `w` of `count` bytes from byte `at` on; the first argument holds the bytes of the id's object, `None` if the id isn't live
 abbrev pub write_said : Option (List ℕ) → ℕ → ℕ → List ℕ
 write_said (Some v) at count = ok_or (λ e. write_text (Err e)) (write_fault v at count)
 write_said None at count = codes "unknown"
 
--- the reply to `r`, from the bytes that the id names, if it is live; it doesn't depend on the address, for which 0 is used
+-- the reply to `r` of `count` bytes from byte `at` on; `found` holds the bytes of the id's object, `None` if the id isn't live. The reply doesn't depend on
+-- the address, for which 0 is used.
 abbrev pub read_said : Option (List ℕ) → ℕ → ℕ → List ℕ
 read_said found at count = read_text (option_map (λ v. record { place = 0; bytes = v }) found) at count
 
--- the reply to `z`, from the bytes that the id names, if it is live
+-- the reply to `z`; the first argument holds the bytes of the id's object, `None` if the id isn't live
 abbrev pub resize_said : Option (List ℕ) → ById → ℕ → List ℕ
 resize_said (Some v) t bytes = ok_or (λ e. resize_text (Err e)) (resize_fault t v bytes)
 resize_said None t bytes = codes "unknown"
@@ -100,12 +101,14 @@ abbrev pub put_unless : {E : Type 0} → Option E → Objects → ℕ → List �
 put_unless (Some e) objects id v = objects
 put_unless None objects id v = insert objects id v
 
--- the objects after a malloc of `asked.length` bytes for the id `asked.number`, from the bytes that the id names, if it is live
+-- the objects after a malloc of `asked.length` bytes for the id `asked.number`; the first argument holds the bytes of the id's object, `None` if the id isn't
+-- live
 abbrev pub malloc_leaves : Option (List ℕ) → ById → Request → Objects
 malloc_leaves (Some v) t asked = t.objects
 malloc_leaves None t asked = put_unless (malloc_fault t asked.length) t.objects asked.number (replicate asked.length 0)
 
--- the objects after a resize of the id `asked.number` to `asked.length` bytes, from the bytes that the id names, if it is live
+-- the objects after a resize of the id `asked.number` to `asked.length` bytes; the first argument holds the bytes of the id's object, `None` if the id isn't
+-- live
 abbrev pub resize_leaves : Option (List ℕ) → ById → Request → Objects
 resize_leaves (Some v) t asked = put_unless (resize_fault t v asked.length) t.objects asked.number (resized v asked.length)
 resize_leaves None t asked = t.objects
@@ -116,7 +119,7 @@ pub record Writing : Type 0 where
   pub at : ℕ
   pub bytes : List ℕ
 
--- the objects after the write `w`, from the bytes that its id names, if it is live
+-- the objects after the write `w`; the first argument holds the bytes of the object of its id, `None` if the id isn't live
 abbrev pub write_leaves : Option (List ℕ) → Objects → Writing → Objects
 write_leaves (Some v) objects w = put_unless (write_fault v w.at (length w.bytes)) objects w.id (written v w.at w.bytes)
 write_leaves None objects w = objects

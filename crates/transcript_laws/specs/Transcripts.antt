@@ -68,11 +68,11 @@ ShowsNoPlace Steps = ⊥
 ShowsNoPlace command = ⊤
 
 -- the item is not a command that asks for an address or a cost
-abbrev pub IsPlaceless : Item → Type 0
-IsPlaceless (asks command) = ShowsNoPlace command
-IsPlaceless item = ⊤
+abbrev pub AsksForNoAddress : Item → Type 0
+AsksForNoAddress (asks command) = ShowsNoPlace command
+AsksForNoAddress item = ⊤
 
 -- none of the items asks for an address or a cost
 abbrev pub ArePlaceless : List Item → Type 0
 ArePlaceless [] = ⊤
-ArePlaceless (item ∷ rest) = IsPlaceless item × ArePlaceless rest
+ArePlaceless (item ∷ rest) = AsksForNoAddress item × ArePlaceless rest

@@ -190,7 +190,7 @@ fn play(rt: &HostRuntime, way: usize, script: &[u8], cuts: Vec<usize>) -> Result
     })
 }
 
-/// Returns the text before its last line, which is `bad line N`, and N; `None` if it is another line.
+/// If the last line of the text is `bad line N`, returns the text before that line, and N; else `None`.
 fn bad_line_of(text: &[u8]) -> Option<(&[u8], usize)> {
     let mut begin: usize = 0;
     for (i, byte) in text.iter().enumerate() {
@@ -205,8 +205,8 @@ fn bad_line_of(text: &[u8]) -> Option<(&[u8], usize)> {
 }
 
 /// For a script that printed `text` and ended at a bad line: returns whether the last line of `text` is
-/// `bad line N`, and the first N - 1 lines alone, in these chunks, print the rest of `text` and end with
-/// `Done`.
+/// `bad line N`, and the first N - 1 lines alone, run by `play` with the same `way` and `cuts`, print the rest of
+/// `text` and end with `Done`, and the managers keep their rules.
 fn names_first_bad(
     rt: &HostRuntime,
     way: usize,
@@ -223,8 +223,8 @@ fn names_first_bad(
     Ok(good.keeps && good.status == Status::Done && good.sink.written() == before)
 }
 
-/// For a script that printed `text` and ended with `Done`: returns whether, with a bad line behind it and in
-/// these chunks, it prints `text` and then the number of that line.
+/// For a script that printed `text` and ended with `Done`: runs it once more by `play`, with a bad line behind
+/// it. Returns whether it then prints `text` and the number of that line, and the managers keep their rules.
 fn names_one_more(
     rt: &HostRuntime,
     way: usize,
@@ -282,6 +282,7 @@ fn damaged_script(rt: &HostRuntime, draws: &mut Draws) -> Result<Vec<u8>, Fail> 
 fn is_seed_answered(rt: &HostRuntime, seed: u64) -> Result<bool, Fail> {
     let mut draws = Draws { state: seed };
     let script = damaged_script(rt, &mut draws)?;
+    // Each kind alone is drawn twice as often as mode `compare`, the last way.
     let way = draws.below(9) / 2;
     let chunk = 1 + draws.below(9);
     is_answered(rt, way, script.as_slice(), chunk)

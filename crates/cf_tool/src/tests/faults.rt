@@ -129,7 +129,7 @@ const ANSWERS: [Answers; 5] = [
 const LINES: [usize; 16] = [0, 0, 0, 1, 2, 3, 4, 5, 6, 6, 8, 9, 11, 12, 13, 14];
 
 /// Returns the state of a manager; `None` if it is closed.
-fn stand_of(rt: &HostRuntime, manager: &Boxed) -> Option<ManagerState> {
+fn state_of_manager(rt: &HostRuntime, manager: &Boxed) -> Option<ManagerState> {
     let mut meter = Meter::new(rt);
     if manager.is_open() {
         let live = manager.totals(meter.steps()).live;
@@ -139,9 +139,11 @@ fn stand_of(rt: &HostRuntime, manager: &Boxed) -> Option<ManagerState> {
     }
 }
 
-/// A call that fails, and what is left then. `take` is the number of the source's call, which returns 7 bytes,
-/// `put` that of the sink's, which takes at most 5 bytes. `written` counts the bytes written, and `lines` the
-/// lines that have taken effect, on the managers behind number `cut`, whose reply was cut, one line less.
+/// A call that fails, and what is left then. If a call of the source fails, `take` is its number; if a call of
+/// the sink fails, `put` is its number. Both count from 0. Each call of the source that doesn't fail returns 7
+/// bytes, or fewer at the end, and each such call of the sink takes at most 5. `written` counts the bytes
+/// written, and `lines` the lines that have taken effect. If a reply was cut, it was that of manager number
+/// `cut`, counted from 0; on the managers after it one line less has taken effect.
 #[derive(Clone, Copy, Debug)]
 struct Fault {
     take: Option<u64>,
@@ -163,21 +165,22 @@ fn failing(alloc: Global, call: Option<u64>) -> Result<Vec<u64>, AllocError> {
 
 /// Returns whether each manager has the state that the lines before the fault lead to. The `heap` line opens all
 /// managers before the first reply.
-fn stand_so(rt: &HostRuntime, answers: &Answers, managers: &Vec<Boxed>, fault: &Fault) -> bool {
+fn have_states(rt: &HostRuntime, answers: &Answers, managers: &Vec<Boxed>, fault: &Fault) -> bool {
     for (i, manager) in managers.iter().enumerate() {
         let late = i > fault.cut && fault.lines > 1;
         let lines = fault.lines.saturating_sub(late as usize);
         let Some(wanted) = answers.stands.get(i).and_then(|stands| stands.get(lines)) else {
             return false;
         };
-        if stand_of(rt, manager) != *wanted {
+        if state_of_manager(rt, manager) != *wanted {
             return false;
         }
     }
     true
 }
 
-/// Runs `MOVE` while a call fails. Returns whether status, output and managers are then as `fault` says.
+/// Runs the script `MOVE` with a source or a sink of which one call fails, the one that `fault` names. Returns
+/// whether status, output and managers are then as `fault` says.
 fn leaves_so(rt: &HostRuntime, answers: &Answers, fault: &Fault) -> Result<bool, Fail> {
     let alloc = rt.alloc();
     let (chunks, parts) = (vec![in alloc; 7; 16]?, vec![in alloc; 5; 128]?);
@@ -187,7 +190,11 @@ fn leaves_so(rt: &HostRuntime, answers: &Answers, fault: &Fault) -> Result<bool,
     let mut managers = closed_managers(rt, answers.kinds)?;
     let status = answer_on(rt, answers.words, &mut managers, &mut source, &mut sink)?;
     let text = answers.text.get(..fault.written).ok_or("a shorter text")?;
-    Ok(status == fault.status && sink.written() == text && stand_so(rt, answers, &managers, fault))
+    Ok(
+        status == fault.status
+            && sink.written() == text
+            && have_states(rt, answers, &managers, fault),
+    )
 }
 
 /// Returns the length in bytes of the first `count` lines of a text.
@@ -204,7 +211,7 @@ fn length_of_lines(text: &[u8], count: usize) -> usize {
     text.len()
 }
 
-/// Returns the outcome if no call fails because the script ends before the calls with these numbers.
+/// Returns the outcome if the script ends before the calls with these numbers, so that no call fails.
 fn whole(answers: &Answers, take: Option<u64>, put: Option<u64>) -> Fault {
     Fault {
         take,

@@ -208,7 +208,8 @@ fn long_script(rt: &HostRuntime) -> Result<Vec<u8>, Fail> {
     Ok(script)
 }
 
-/// Returns whether mode `save` ends with `Done` on a script, and mode `load` prints this script of its image.
+/// Returns whether mode `save` ends with `Done` on a script, and mode `load` prints the same script for the image
+/// that `save` wrote.
 fn is_loaded_again(rt: &HostRuntime, script: &[u8]) -> Result<bool, Fail> {
     let saved = answered(rt, &["save"], script)?;
     let image = saved.sink.written();

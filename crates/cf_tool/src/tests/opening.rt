@@ -36,7 +36,8 @@ fn opens_in_two<H: Manager>(
     heap.cost() == 0 && fills_once(rt, heap, page)
 }
 
-/// Returns whether an open manager has space for one object of `page` bytes, and not for a second one.
+/// Makes an object of `page` bytes on an open manager, then tries to make a second one. Returns whether the
+/// first malloc succeeds and the second is refused.
 fn fills_once<H: Manager>(rt: &HostRuntime, heap: &mut H, page: u32) -> bool
     requires { IsTrue (H.state heap.old).is_open }
 {

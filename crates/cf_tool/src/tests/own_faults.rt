@@ -198,8 +198,9 @@ fn line_lengths(rt: &HostRuntime, script: &[u8]) -> Result<Vec<usize>, Fail> {
     Ok(lengths)
 }
 
-/// Returns whether each line of a script that arrives line by line gets `replies` lines of output before the
-/// next line is read, and the script is run to its end.
+/// Runs `cf_main` with the arguments `words` and closed managers of these kinds, on a script that arrives line
+/// by line. Returns whether each line gets `replies` lines of output before the next line is read, and the script
+/// is run to its end.
 fn is_in_turn(
     rt: &HostRuntime,
     words: &[&str],

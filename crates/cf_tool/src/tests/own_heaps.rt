@@ -15,8 +15,8 @@ pub type Row = (
 
 /// Calls in mode `slice`; the last one in mode `run`, to compare.
 pub const SLICES: [Row; 4] = [
-    // An object in motion is read in the right half. Meanwhile another free is `busy`, and so is a malloc that
-    // only the slot of the job could serve.
+    // A read of an object in motion takes each byte from the half that has it. While the job is pending, another
+    // free is `busy`, and so is a malloc that only the slot of the job could serve.
     (
         &["slice", "--quantum", "8"],
         b"heap 2 512 1 8\nm 1 176\nm 2 176\nm 3 176\nm 4 176\nw 2 0 a1\nw 2 175 b2\nf 1\nf 3\ns\ns\nf 3\nr 2 0 1\nr 2 175 1\nm 6 504\ns\ns\nm 6 504\nr 2 175 1\n",

@@ -1,5 +1,5 @@
-//! Tests with a padded manager: each of its calls ticks until it has taken its step bound less a slack, and
-//! `steps` must print just this count.
+//! Tests with a padded manager: each of its mallocs, frees and resizes counts extra steps until it has its
+//! step bound less a slack. The command `steps` must print just this count.
 ghost use Rattle.std.specs.Prelude.{◌≡◌, ◌≤◌, ◌+◌, ◌^◌, None};
 ghost use Rattle.step_ledger.specs.Counting.{RoseAtMost};
 ghost use Rattle.cf_base.specs.declared.kind.Kind.TheVariants.{Moving};
@@ -19,8 +19,8 @@ use std::alloc::{AllocError, Global};
 use std::test::Fail;
 use step_ledger::Steps;
 
-/// A moving manager whose mallocs, frees and resizes, refused or not, each tick until they have added their
-/// bound for mode `run` less `slack` steps. `cost` is the steps of the last of them. It promises no order,
+/// A moving manager whose mallocs, frees and resizes, refused or not, each count steps until they have added
+/// their bound for mode `run` less `slack` steps. `cost` is the steps of the last of them. It promises no order,
 /// because an order fixes the cost of each call.
 #[derive(Drop)]
 struct PaddedHeap {
@@ -52,8 +52,8 @@ fn resize_steps(answer: &Result<Resized, ResizeFault>) -> u64
     }
 }
 
-/// Ticks until the call that began when the count was `began` has added `bound - slack` steps, and returns
-/// how many steps it has added.
+/// Adds steps until the call that began when the count was `began` has added `bound - slack` of them, unless
+/// it has added more already. Returns how many steps it has added.
 fn pad(bound: u64, slack: u64, began: u64, steps: &mut Steps) -> u64
     requires low { bound ≤ 2 ^ 36 }
     requires early { began ≤ 2 ^ 63 }
@@ -168,7 +168,7 @@ fn led(rt: &HostRuntime, lead: &[u8], text: &[u8]) -> Result<Vec<u8>, Fail> {
     Ok(all)
 }
 
-/// Returns a list of one closed padded manager, in a box.
+/// Returns a list of one closed padded manager with this slack, in a box.
 fn padded_managers(alloc: Global, slack: u64) -> Result<Vec<Boxed>, AllocError> {
     let padded = PaddedHeap {
         heap: MovingHeap::closed(alloc),
@@ -182,7 +182,7 @@ fn padded_managers(alloc: Global, slack: u64) -> Result<Vec<Boxed>, AllocError> 
     Ok(managers)
 }
 
-/// Runs a script on a padded manager, in this mode, and returns the status.
+/// Runs a script on a padded manager with this slack, in this mode, and returns the status.
 fn answer_padded(
     rt: &HostRuntime,
     mode: &str,
@@ -194,7 +194,8 @@ fn answer_padded(
     answer_on(rt, &[mode], &mut managers, source, sink)
 }
 
-/// Returns whether a script on a padded manager, in this mode, is run to its end and prints this text.
+/// Returns whether a script on a padded manager with this slack, in this mode, is run to its end and prints this
+/// text.
 fn prints_in(
     rt: &HostRuntime,
     mode: &str,
@@ -208,15 +209,15 @@ fn prints_in(
     Ok(status == Status::Done && sink.written() == text)
 }
 
-/// Returns whether a script on a padded manager prints this text in mode `run`, and in mode `compare` the same
-/// with the manager's name before each line.
+/// Returns whether a script on a padded manager with this slack prints this text in mode `run`, and in mode
+/// `compare` the same with the manager's name before each line.
 fn prints_padded(rt: &HostRuntime, slack: u64, script: &[u8], text: &[u8]) -> Result<bool, Fail> {
     let beside = led(rt, b"cf ", text)?;
     let is_beside = prints_in(rt, "compare", slack, script, beside.as_slice())?;
     Ok(is_beside && prints_in(rt, "run", slack, script, text)?)
 }
 
-/// `steps` prints exactly the steps that the manager passed in has ticked, and their bound.
+/// The reply to `steps` has exactly the steps that the padded manager added, and their bound.
 #[test]
 fn each_steps_line_shows_the_steps_of_the_manager_handed_in(rt: HostRuntime) -> Result<(), Fail> {
     for (slack, calls, resizes) in PADDED {

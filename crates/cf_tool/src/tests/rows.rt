@@ -1,5 +1,5 @@
-//! Worked scripts of mode `run`, with the status and the replies of each, and scripts whose replies have counts
-//! of steps.
+//! Scripts of mode `run`, with the status and the replies of each, worked out by hand; and scripts whose replies
+//! have counts of steps, on heaps of this repository and on the padded managers of `padded`.
 
 use cf_base::Status;
 
@@ -186,7 +186,7 @@ pub static ROWS: [Row; 30] = [
         b"ok\nok\nok\nok\n=01020304050607080000000000000000\nok\nok\n=0102030400000000\n",
     ),
     (
-        "refused resizes, and a word of a later mode",
+        "refused resizes, and a command of another mode",
         b"heap 1 512 1 8\nm 1 8\nz 1 176\nz 1 24\nz 1 505\nz 2 8\ns\n",
         Status::Done,
         b"ok\nok\nrefused space\nok\nrefused size\nunknown\nnone\n",
@@ -194,8 +194,9 @@ pub static ROWS: [Row; 30] = [
 ];
 
 /// Scripts whose output contains a count of steps: the arguments, the script, the text before the count, its
-/// least and its greatest value, and the text after it. The first and the third script clear a slot of 23
-/// words, and the last one a slot of 24 words, at a step a word.
+/// least and its greatest value, and the text after it. The last call of the first and of the third script
+/// clears a slot of 23 words, that of the last script a slot of 24 words: at least a step a word. The greatest
+/// value is the step bound.
 pub const STEPS: [(&[&str], &[u8], &[u8], u32, u32, &[u8]); 4] = [
     (
         &[],
@@ -241,10 +242,10 @@ pub const PADDED_CALLS: &[u8] =
 pub const PADDED_RESIZES: &[u8] =
     b"heap 3 512 1 8\nm 1 176\nm 2 176\nm 3 176\nz 1 504\nsteps\nz 2 175\nsteps\nz 1 505\nsteps\n";
 
-/// The slack of a padded manager, how many steps below its bound each call stops, and what the two scripts
-/// print then. A malloc has
-/// a bound of 64 steps; a free of a slot of 23 words 142; a resize to 64 words 352, one within 23
-/// words 229, a refused one 160.
+/// In each row: the slack of a padded manager, what `PADDED_CALLS` prints on it, and what `PADDED_RESIZES`
+/// prints. Each call stops the slack's number of steps below its bound. The bounds are 64 for a malloc; 142
+/// for a free of a slot of 23 words; 352 for a resize to 64 words, 229 for one within 23 words, and 160 for a
+/// refused one.
 pub const PADDED: [(u64, &[u8], &[u8]); 4] = [
     (
         0,

@@ -21,7 +21,7 @@ const ENTRY: u64 = 6 + 32_760;
 const TOTAL: u64 = 20 + 2_048 * ENTRY;
 
 /// The byte of the image at offset `at`. Entry e has the id 31 e, the length 32,760 (0x7ff8), and bytes
-/// that depend on e and on their place.
+/// that depend on e and on their offset.
 fn byte_at(at: u64) -> u8 {
     if at < 20 {
         return HEADER[at as usize];

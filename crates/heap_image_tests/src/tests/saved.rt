@@ -16,7 +16,7 @@ use std::alloc::Global;
 use std::test::Fail;
 use test_support::Wrong;
 
-/// An image, and the heap of which it must be saved.
+/// An image, and the settings and commands that make the heap from which it must be saved.
 pub struct Row {
     /// What is special in the image.
     pub shows: &'static str,

@@ -20,7 +20,7 @@ fn texts(alloc: Global, words: &[&str]) -> Result<Vec<String>, AllocError> {
 // words. An option may be before or after the mode, with `=` or a space before its value. A number may have
 // a `+` and leading zeros.
 #[test]
-fn words_are_taken(rt: HostRuntime) -> Result<(), Fail> {
+fn arguments_are_taken(rt: HostRuntime) -> Result<(), Fail> {
     for (words, mode, kind, seed, count) in [
         ([].as_slice(), Mode::Run, Kind::Moving, 0, 1_000),
         (["run"].as_slice(), Mode::Run, Kind::Moving, 0, 1_000),
@@ -142,7 +142,7 @@ fn a_quantum_is_taken_in_each_mode(rt: HostRuntime) -> Result<(), Fail> {
 // (upper and lower case differ); a second mode; an option that is unknown, given twice, or without a value;
 // and a number that is malformed or out of range.
 #[test]
-fn words_are_refused(rt: HostRuntime) -> Result<(), Fail> {
+fn arguments_are_refused(rt: HostRuntime) -> Result<(), Fail> {
     for words in [
         ["--help"].as_slice(),
         ["-h"].as_slice(),

@@ -10,8 +10,9 @@ use std::io::{Read, Write};
 use std::process::Abort;
 use std::test::Fail;
 
-/// Calls `take` once for each entry of `wanted`: the length of the buffer, the result, and what four bytes,
-/// which were all `.` before and of which the buffer is the first ones, hold then.
+/// Calls `take` once for each entry of `wanted`: `room`, `answer` and `held`. Its buffer is the first `room`
+/// bytes of an array of four, which are all `.` before the call. Tests that the call returns `answer`, and
+/// that the array is `held` after it.
 fn takes_each<S: Source + Drop>(
     rt: &impl Abort,
     mut source: S,
@@ -24,7 +25,7 @@ fn takes_each<S: Source + Drop>(
     }
 }
 
-/// Calls `put` once for each entry of `wanted`: the bytes, and the result.
+/// Calls `put` once for each entry of `wanted`, with its bytes, and tests that the call returns its result.
 fn puts_each<K: Sink>(rt: &impl Abort, sink: &mut K, wanted: &[(&[u8], Result<usize, Failed>)]) {
     for (bytes, answer) in wanted {
         assert_eq!(rt; sink.put(bytes), *answer);

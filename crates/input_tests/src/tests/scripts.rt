@@ -7,7 +7,7 @@ use std::alloc::{AllocError, Global};
 use std::test::Fail;
 
 /// Scripts, each with the items that the reader must return, as `shown` writes them. `bad` has the number
-/// of the first line that isn't in the grammar, after which nothing is read.
+/// of the first line that isn't in the grammar or isn't allowed at its place; after it nothing is read.
 static SCRIPTS: [(&str, &str); 60] = [
     ("", "end;"),
     (

@@ -74,13 +74,14 @@ impl<H: Manager> Churn<H> {
         Ok(())
     }
 
-    /// Draws a byte of the object with this handle, or one a little past its end.
+    /// Draws the index of a byte of the object with this handle, or one a little past its end.
     fn place(&mut self, h: Handle) -> u32 {
         let length = self.both.objects.length(h.0).unwrap_or(0).min(100_000);
         self.draw.below(length + 9)
     }
 
-    /// Writes up to 1,200 drawn bytes, which may pass the end of the object.
+    /// Writes up to 1,200 drawn bytes into object `h`, from a drawn byte on; they may pass its end. Fails
+    /// if the heap's result isn't the expected one.
     fn write(&mut self, h: Handle) -> Result<(), Wrong> {
         let at = self.place(h);
         let count = self.draw.below(1_201) as usize;
@@ -88,7 +89,8 @@ impl<H: Manager> Churn<H> {
         self.both.write(h, at, &bytes[..count])
     }
 
-    /// Reads up to 1,200 bytes, which may pass the end of the object.
+    /// Reads up to 1,200 bytes of object `h`, from a drawn byte on; they may pass its end. Fails if the
+    /// heap's result isn't the expected one.
     fn read(&mut self, h: Handle) -> Result<(), Wrong> {
         let at = self.place(h);
         let count = self.draw.below(1_201);
@@ -96,8 +98,9 @@ impl<H: Manager> Churn<H> {
     }
 }
 
-/// Makes 2,000 drawn calls on a heap over this manager, and compares everything after each 50. Fails at the
-/// first difference, or if a cause of a refusal, or a free of a part, occurred too seldom.
+/// Makes 2,000 drawn calls on a heap over the manager `inner`, whose slot sizes are those of `layout`, and
+/// compares everything after each 50. Fails at the first difference, or if a cause of a refusal, or a free of a
+/// part, occurred too seldom.
 fn play<H: Manager>(alloc: Global, inner: H, meter: Meter, layout: Layout) -> Result<(), Wrong>
     requires { IsPaged (H.state inner).kind }
 {

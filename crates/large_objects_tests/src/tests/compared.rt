@@ -101,9 +101,9 @@ impl<H: Manager> Compared<H> {
         Ok(answer)
     }
 
-    /// Frees this handle in the heap, and removes the expected object. Fails unless the heap refuses the
-    /// free exactly if no object has the handle. A long object has the handle of its spine; those of its
-    /// parts name no object.
+    /// Frees this handle in the heap, and removes the expected object. The heap must refuse the free if and
+    /// only if no object has the handle; else this fails. A long object has the handle of its spine; those of
+    /// its parts name no object.
     pub fn free(&mut self, h: Handle) -> Result<(), Wrong> {
         let is_part = self.is_part(h)?;
         let answer = self.driver.free(h)?;
@@ -142,8 +142,9 @@ impl<H: Manager> Compared<H> {
         self.objects.read(h.0, at, buffer.as_slice(), answer)
     }
 
-    /// Reads every object whole. Then fails unless the manager below has as many inner objects and as many
-    /// pages in use as the expected objects need.
+    /// Fails unless a read of every expected object returns all its bytes, and an empty read of every other
+    /// handle is refused. Then fails unless the manager below has as many inner objects and as many pages in
+    /// use as the expected objects need.
     pub fn compare(&mut self) -> Result<(), Wrong> {
         for number in 0..self.shape.proxies {
             let length = self.objects.length(number).unwrap_or(0);
@@ -165,11 +166,11 @@ impl<H: Manager> Compared<H> {
 
 /// Adds the lengths of the inner objects that an object of `bytes` bytes has, if a full part has
 /// `part_bytes`. An object of at most one part is its own inner object. A longer one has its parts, and
-/// at last its spine, with four bytes for each part. Returns the length that was added last, so that of
+/// at last its spine, with four bytes for each part. Returns the length that was added last, which is that of
 /// the spine if there is one. Fails if `part_bytes` is 0.
 fn push_inner(lengths: &mut Vec<u32>, part_bytes: u32, bytes: u32) -> Result<u32, Wrong> {
     if part_bytes == 0 {
-        return Err(Wrong::Line);
+        return Err(Wrong::OutOfRange);
     }
     let parts = bytes.div_ceil(part_bytes);
     let mut last = bytes;

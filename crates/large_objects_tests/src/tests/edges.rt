@@ -17,6 +17,8 @@ static PAGES: [(u32, u32); 3] = [(512, 504), (4_096, 4_088), (131_072, 131_064)]
 
 /// Makes an object of five parts and seven bytes on pages of this size, and reads and writes around each
 /// edge and over several parts. Fails if a result differs from that of a plain list of bytes (`Compared`).
+/// `inner` is the manager that holds the parts, `page` a row of `PAGES`, and `layout` the slot sizes that the
+/// manager has: `Words` for the moving one, `Blocks` for the non-moving one.
 fn across_edges<H: Manager>(
     alloc: Global,
     inner: H,
@@ -27,8 +29,9 @@ fn across_edges<H: Manager>(
     requires { IsPaged (H.state inner).kind }
 {
     let (page_bytes, part_bytes) = page;
+    // Never so for the sizes of `PAGES`. This proves the preconditions of the functions below.
     if part_bytes < 16 || 1_000_000 < part_bytes {
-        return Err(Wrong::Line);
+        return Err(Wrong::OutOfRange);
     }
     let shape = Shape {
         pages: 16,
@@ -38,6 +41,7 @@ fn across_edges<H: Manager>(
         layout,
     };
     let mut both = Compared::open(alloc, inner, meter, shape)?;
+    // The pages are enough, so a refusal is an error of the test.
     let Ok(h) = both.malloc(5 * part_bytes + 7)? else {
         return Err(Wrong::Closed);
     };

@@ -35,7 +35,7 @@ fn bytes_at(table: &[u8], at: u32) -> Result<&[u8], Wrong> {
     let left = BYTES.saturating_sub(at) as usize;
     match table.get(from..from + CHUNK.min(left)) {
         Some(bytes) => Ok(bytes),
-        None => Err(Wrong::Line),
+        None => Err(Wrong::OutOfRange),
     }
 }
 
@@ -61,7 +61,7 @@ fn written_and_read<H: Manager>(
     read_edges(&mut driver, h, &table, part_bytes)
 }
 
-/// Writes the whole object, chunk by chunk.
+/// Writes the whole object, chunk by chunk, with the bytes that `bytes_at` takes from `table`.
 fn write_chunks<H: Manager>(driver: &mut Driver<H>, h: Handle, table: &[u8]) -> Result<(), Wrong> {
     for i in 0..BYTES.div_ceil(CHUNK as u32) {
         let at = i * CHUNK as u32;
@@ -70,21 +70,22 @@ fn write_chunks<H: Manager>(driver: &mut Driver<H>, h: Handle, table: &[u8]) -> 
     Ok(())
 }
 
-/// Reads the whole object, chunk by chunk, and fails if a byte differs.
+/// Reads the whole object, chunk by chunk, and fails if a byte differs from that of `bytes_at`.
 fn read_chunks<H: Manager>(driver: &mut Driver<H>, h: Handle, table: &[u8]) -> Result<(), Wrong> {
     let mut room = [0; CHUNK];
     for i in 0..BYTES.div_ceil(CHUNK as u32) {
         let at = i * CHUNK as u32;
         let want = bytes_at(table, at)?;
         let Some(out) = room.get_mut(..want.len()) else {
-            return Err(Wrong::Line);
+            return Err(Wrong::OutOfRange);
         };
         driver.read_equals(h, at, out, want)?;
     }
     Ok(())
 }
 
-/// Reads eight bytes across each edge of the parts, four on each side, and fails if a byte differs.
+/// Reads eight bytes across each edge between two parts of `part_bytes` bytes, four on each side, and fails if a
+/// byte differs from that of `bytes_at`.
 fn read_edges<H: Manager>(
     driver: &mut Driver<H>,
     h: Handle,
@@ -95,7 +96,7 @@ fn read_edges<H: Manager>(
     let mut at = part_bytes.saturating_sub(4);
     for _i in 1..BYTES.div_ceil(part_bytes.max(1)) {
         let Some(want) = bytes_at(table, at)?.get(..8) else {
-            return Err(Wrong::Line);
+            return Err(Wrong::OutOfRange);
         };
         driver.read_equals(h, at, &mut out, want)?;
         at = at.saturating_add(part_bytes);

@@ -6,8 +6,8 @@ use moving_heap::MovingHeap;
 use std::test::Fail;
 use step_ledger::Meter;
 
-/// The number of free pages and of the pages of all classes together. None if the heap is closed, or if the
-/// counts of a class differ from its figures.
+/// The sum of the free pages and of the pages of all classes. None if the heap is closed, or if
+/// `pages_of` or `not_full` of a class returns another number than the figures of the class have.
 fn pages_shown(heap: &MovingHeap) -> Option<u32> {
     if !heap.is_open() {
         return None;

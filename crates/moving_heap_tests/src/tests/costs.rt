@@ -12,16 +12,18 @@ use step_ledger::Meter;
 ///
 /// A malloc reads the entry of its class (1) and the front of the class's list (1). On a free page it takes
 /// the page (1), renews its bitmap (2), sets a slot (3) and links the page (4). On a partly full page it
-/// takes the lowest free slot (3) and counts it (1). If that page is full then, it is unlinked and linked
-/// again (8). At last a malloc takes a proxy (2) and writes the header (1).
+/// takes the lowest free slot (3) and reads how many slots are used (1). If that page is full then, it is
+/// unlinked and linked again (8). At last a malloc takes a proxy (2) and writes the header (1).
 ///
 /// A free reads the proxy (1), the header (1), the class (1) and the count of the page (1), and returns the
 /// proxy (2). If no object moves, it clears the slot (23), finds the page's list (1), frees the slot (3) and
-/// counts it (1). Then it unlinks the page, and links it again (8) or returns it to the pool (5).
+/// reads how many slots of the page are still used (1). Then it unlinks the page, and links it again (8) or
+/// returns it to the pool (5).
 ///
-/// If another object moves into the freed slot, the free finds that object (3), frees its slot (3) and
-/// counts it (1). It unlinks the page, which is empty now, and returns it to the pool (5). It reads the
-/// object's header (1), moves the slot's words (23), and changes the object's proxy (1).
+/// If another object moves into the freed slot, the free finds that object (3), frees its slot (3) and reads
+/// how many slots of its page are still used (1). It unlinks the page, which is empty now, and returns it to
+/// the pool (5). It reads the object's header (1), moves the slot's words (23), and changes the object's
+/// proxy (1).
 const CALLS: [(Call, u64); 20] = [
     (Call::Malloc(176), 15),
     (Call::Malloc(176), 17),
@@ -56,11 +58,13 @@ const CALLS: [(Call, u64); 20] = [
 /// three to a page.
 ///
 /// A resize reads the proxy (1), the class of the new length (1), the header (1) and its class (1). If the
-/// object stays in its slot, it cuts a word (1), clears the words after it (2), and writes the header (1).
+/// object stays in its slot, it clears the bytes after the new end in the last word (1), clears the words after
+/// it (2), and writes the header (1).
 ///
-/// A resize to another class counts the page (1) and takes a slot, the last one of its page (13). It copies
-/// the words that stay (19), cuts the last of them (1), and writes the header (1) and the proxy (1). Then
-/// another object moves into the old slot, as in a free, and the page that it leaves is returned (37).
+/// A resize to another class reads how many slots of the page are used (1), and takes a slot, the last one of
+/// its page (13). It copies the words that stay (19), clears the bytes after the new end in the last of them
+/// (1), and writes the header (1) and the proxy (1). Then another object moves into the old slot, as in a free,
+/// and the page that it leaves is returned (37).
 const RESIZES: [(Call, u64); 15] = [
     (Call::Malloc(176), 15),
     (Call::Malloc(176), 17),

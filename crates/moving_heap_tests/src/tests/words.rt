@@ -79,8 +79,8 @@ fn write_words(heap: &mut MovingHeap, h: Handle, words: &[u64], meter: &mut Mete
     true
 }
 
-/// Whether the objects of 21 and 7 bytes have the whole words `TWO` and none, and `THREE` are written into
-/// that of 24 bytes.
+/// Checks that the object of 21 bytes has the whole words `TWO` and that of 7 bytes none, then writes `THREE`
+/// into that of 24 bytes; `handles` are those of the three, in this order. Returns whether all of this succeeds.
 fn words_agree(heap: &mut MovingHeap, handles: [Handle; 3], meter: &mut Meter) -> bool {
     let [long, short, whole] = handles;
     has_words(heap, long, Some(&TWO), meter)

@@ -1,5 +1,5 @@
-//! A test that names each field of `NonMovingHeap` and of its open heap, with its type: none is a
-//! list of the objects.
+//! A test that names each field of `NonMovingHeap` and of its open heap, with its type. So the heap
+//! keeps its objects in the region alone: no field is a list of them.
 use super::NonMovingHeap;
 use block_table::BlockTable;
 use cf_base::Settings;
@@ -15,7 +15,8 @@ use slot_bitmap::SlotMap;
 use std::alloc::Global;
 use std::test::Fail;
 
-/// Returns the field that holds the open heap, and lists both fields with their types.
+/// Returns the field that holds the open heap. The pattern names both fields, and the lines after it give
+/// each its type: so this compiles only while there is no other field.
 fn inner_of(heap: &NonMovingHeap) -> &Option<OpenHeap> {
     let NonMovingHeap { alloc, inner } = heap;
     let _alloc: &Global = alloc;
@@ -23,7 +24,7 @@ fn inner_of(heap: &NonMovingHeap) -> &Option<OpenHeap> {
     inner
 }
 
-/// Returns the block table of an open heap, and lists all its fields with their types: numbers, arrays
+/// Returns the block table of an open heap, and names all its fields with their types: numbers, arrays
 /// of a number for each class, the region, tables, and a map for each page. None is a list of objects.
 fn blocks_of(open: &OpenHeap) -> &Option<BlockTable> {
     let OpenHeap {

@@ -13,17 +13,18 @@ use step_ledger::Meter;
 ///
 /// A malloc reads the entry of its class (1) and the front of the class's list (1). On a free page it takes
 /// the page (1), renews its bitmap (2), sets a slot (3) and links the page (4). On a partly full page it
-/// takes the lowest free slot (3) and counts it (1). If that page is full then, it is unlinked and linked
-/// again (8). At last a malloc takes a proxy (2) and writes the header (2).
+/// takes the lowest free slot (3) and reads how many slots are used (1). If that page is full then, it is
+/// unlinked and linked again (8). At last a malloc takes a proxy (2) and writes the header (2).
 ///
 /// A free reads the proxy (1), the header (2), the class (1) and the count of the page (1), and returns the
 /// proxy (2). If no object moves, it clears the slot (30), finds the page's list (1), frees the slot (3) and
-/// counts it (1). Then it unlinks the page, and links it again (8) or returns it to the pool (5).
+/// reads how many slots of the page are still used (1). Then it unlinks the page, and links it again (8) or
+/// returns it to the pool (5).
 ///
-/// If another object moves into the freed slot, the free finds that object (3), frees its slot (3) and
-/// counts it (1). It unlinks the page, which is empty now, and returns it to the pool (5). It reads the
-/// object's header (2), moves the slot's 24 words with two look-ups for each block (36), and changes the
-/// object's proxy (1).
+/// If another object moves into the freed slot, the free finds that object (3), frees its slot (3) and reads
+/// how many slots of its page are still used (1). It unlinks the page, which is empty now, and returns it to
+/// the pool (5). It reads the object's header (2), moves the slot's 24 words with two look-ups for each block
+/// (36), and changes the object's proxy (1).
 const CALLS: [(Call, u64); 22] = [
     (Call::Malloc(176), 16),
     (Call::Malloc(176), 18),
@@ -32,8 +33,9 @@ const CALLS: [(Call, u64); 22] = [
     // Refused for space, and for size.
     (Call::Malloc(176), 1),
     (Call::Malloc(505), 1),
-    // The proxy (1), the header (2), and two words of one block (3). Then the address, and a word of the
-    // region; word 128 is past its end.
+    // The write and the read each take the proxy (1), the header (2), and two words of one block (3). `Place`
+    // takes the proxy (1). `Peek` takes the entry of the word's block (1) and the word (1), and nothing for
+    // word 128, which is past the end of the region.
     (Call::Write(Handle(0)), 6),
     (Call::Read(Handle(0)), 6),
     (Call::Place(Handle(0)), 1),
@@ -62,13 +64,13 @@ const CALLS: [(Call, u64); 22] = [
 /// three to a page.
 ///
 /// A resize reads the proxy (1), the class of the new length (1), the header (2) and its class (1). If the
-/// object stays in its slot, it cuts a word (2), clears the three words after it, which are in one block (4),
-/// and writes the header (2).
+/// object stays in its slot, it clears the bytes after the new end in the last word (2), clears the three words
+/// after it, which are in one block (4), and writes the header (2).
 ///
-/// A resize to another class counts the page (1) and takes a slot, the last one of its page (13). It copies
-/// the 19 words that stay, with two look-ups for each of five blocks (29), and cuts the last of them (2). It
-/// writes the header (2) and the proxy (1). Then another object moves into the old slot, as in a free, and
-/// the page that it leaves is returned (51).
+/// A resize to another class reads how many slots of the page are used (1), and takes a slot, the last one of
+/// its page (13). It copies the 19 words that stay, with two look-ups for each of five blocks (29), and clears
+/// the bytes after the new end in the last of them (2). It writes the header (2) and the proxy (1). Then another
+/// object moves into the old slot, as in a free, and the page that it leaves is returned (51).
 const RESIZES: [(Call, u64); 15] = [
     (Call::Malloc(184), 16),
     (Call::Malloc(184), 18),

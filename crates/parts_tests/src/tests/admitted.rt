@@ -54,15 +54,16 @@ fn each_answer_comes_by_its_cause(rt: HostRuntime) -> Result<(), Fail> {
     Ok(())
 }
 
-// The pages that the objects need, of which `live` counts those of 8, of 176 and of 504 bytes: 16, 2 and 1 of
-// them fit a page of 64 words.
+// How many pages the live objects need. `live` has the numbers of those of 8, of 176 and of 504 bytes; a page
+// of 64 words holds 16, 2 or 1 of these.
 fn pages_of(live: &[u32; 3]) -> u64 {
     live[0].div_ceil(16) as u64 + live[1].div_ceil(2) as u64 + live[2] as u64
 }
 
-// Searches all lists of at most `calls` mallocs and frees that start with the live objects and never have
-// more than the declared ones; `live` and `declared` count those of 8, of 176 and of 504 bytes. Returns
-// whether some list has a malloc that is refused for space: the objects would need more than `quota` pages.
+// Searches all lists of at most `calls` mallocs and frees that begin with the live objects and never make
+// more than the declared ones. `live` and `declared` have the numbers of those of 8, of 176 and of 504 bytes.
+// Returns whether some list has a malloc that is refused for space: the objects would need more than `quota`
+// pages.
 fn runs_short(quota: u64, declared: &[u32; 3], live: &[u32; 3], calls: u32) -> bool {
     if calls == 0 {
         return false;

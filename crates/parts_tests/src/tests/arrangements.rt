@@ -303,8 +303,8 @@ static FREES: [(u32, u32, &[Entry], u16, bool); 13] = [
     (2, 1, &[(0, 0, 505)], 0, false),
 ];
 
-/// The reference implementation with `pages` pages of 64 words, in which each class has bound k, and with
-/// these objects, whose bytes are zeros.
+/// The reference implementation with `pages` pages of 64 words, the slot sizes of `layout`, the bound k in each
+/// class, and these objects, whose bytes are zeros.
 fn reference_with(
     rt: &impl Abort,
     alloc: Global,
@@ -316,16 +316,16 @@ fn reference_with(
     let Ok(settings) = Settings::check(pages, 512, k, 8) else {
         panic!(rt; "{pages} pages");
     };
-    let mut plain = ReferencePages::new(alloc, &settings, layout)?;
+    let mut reference = ReferencePages::new(alloc, &settings, layout)?;
     for (number, place, length) in objects {
-        plain.put(alloc, *number, *place, *length, &[])?;
+        reference.put(alloc, *number, *place, *length, &[])?;
     }
-    Ok(plain)
+    Ok(reference)
 }
 
-/// Whether the figures of a class are these: the words of a slot, the slots of a page, its live objects, its
-/// pages, and the partly full ones.
-fn has_figures(plain: &ReferencePages, class: u32, want: [u32; 5]) -> bool {
+/// Whether the figures of a class are those of `want`: the words of a slot, the slots of a page, its live
+/// objects, its pages, and the partly full ones.
+fn has_figures(reference: &ReferencePages, class: u32, want: [u32; 5]) -> bool {
     let [slot_words, slots, live, pages, not_full] = want;
     let want = Figures {
         slot_words,
@@ -334,11 +334,11 @@ fn has_figures(plain: &ReferencePages, class: u32, want: [u32; 5]) -> bool {
         pages,
         not_full,
     };
-    class < plain.classes() && plain.figures(class) == want
+    class < reference.classes() && reference.figures(class) == want
 }
 
 /// Whether the figures of the whole heap are those of `want`.
-fn has_totals(plain: &ReferencePages, want: &WantedNumbers) -> bool {
+fn has_totals(reference: &ReferencePages, want: &WantedNumbers) -> bool {
     let [live, used, free, largest] = want.totals;
     let [asked, taken, held] = want.in_bytes;
     let want = Totals {
@@ -350,22 +350,22 @@ fn has_totals(plain: &ReferencePages, want: &WantedNumbers) -> bool {
         free,
         largest,
     };
-    plain.totals() == want
+    reference.totals() == want
 }
 
-/// Whether the reference implementation computes these numbers for its objects.
-fn has_numbers(plain: &ReferencePages, want: &WantedNumbers) -> bool {
-    let class = plain.class_for(want.bytes);
-    has_figures(plain, class, want.figures)
-        && has_totals(plain, want)
-        && plain.pages_needed() == want.needed[0]
-        && plain.pages_needed_with(want.bytes) == want.needed[1]
-        && class < plain.classes()
-        && plain.lacks_room(class) == want.lacks
+/// Whether the reference implementation computes the numbers of `want` for its objects.
+fn has_numbers(reference: &ReferencePages, want: &WantedNumbers) -> bool {
+    let class = reference.class_for(want.bytes);
+    has_figures(reference, class, want.figures)
+        && has_totals(reference, want)
+        && reference.pages_needed() == want.needed[0]
+        && reference.pages_needed_with(want.bytes) == want.needed[1]
+        && class < reference.classes()
+        && reference.lacks_room(class) == want.lacks
 }
 
-/// The index of the first case for which other numbers are computed, with bound 1; none if there is no such
-/// case.
+/// The index of the first case for which the reference implementation, with bound 1, computes other numbers
+/// than those that the case has; none if there is no such case.
 fn first_wrong(
     rt: &impl Abort,
     alloc: Global,
@@ -373,8 +373,8 @@ fn first_wrong(
     cases: &[Case],
 ) -> Result<Option<usize>, Fail> {
     for i in 0..cases.len() {
-        let plain = reference_with(rt, alloc, layout, cases[i].0, 1, cases[i].1)?;
-        if !has_numbers(&plain, &cases[i].2) {
+        let reference = reference_with(rt, alloc, layout, cases[i].0, 1, cases[i].1)?;
+        if !has_numbers(&reference, &cases[i].2) {
             return Ok(Some(i));
         }
     }
@@ -399,9 +399,9 @@ fn worked_arrangements_have_their_numbers(rt: HostRuntime) -> Result<(), Fail> {
 fn a_free_moves_an_object_where_it_must(rt: HostRuntime) -> Result<(), Fail> {
     let alloc = rt.alloc();
     for (pages, k, objects, number, moves) in FREES.iter() {
-        let plain = reference_with(&rt, alloc, Layout::Words, *pages, *k, objects)?;
+        let reference = reference_with(&rt, alloc, Layout::Words, *pages, *k, objects)?;
         assert_eq!(rt;
-            plain.must_move(*number),
+            reference.must_move(*number),
             *moves,
             "{number} of {pages} pages"
         );
@@ -414,11 +414,11 @@ fn a_free_moves_an_object_where_it_must(rt: HostRuntime) -> Result<(), Fail> {
 #[test]
 fn what_was_put_and_removed_again_is_as_nothing(rt: HostRuntime) -> Result<(), Fail> {
     let objects = [(0, 0, 504), (1, 64, 504)];
-    let mut plain = reference_with(&rt, rt.alloc(), Layout::Words, 2, 1, &objects)?;
+    let mut reference = reference_with(&rt, rt.alloc(), Layout::Words, 2, 1, &objects)?;
     for number in [0, 1, 7] {
-        plain.remove(number);
+        reference.remove(number);
     }
-    assert!(rt; plain.count() == 0 && plain.used_pages() == 0);
+    assert!(rt; reference.count() == 0 && reference.used_pages() == 0);
     Ok(())
 }
 
@@ -427,24 +427,24 @@ fn what_was_put_and_removed_again_is_as_nothing(rt: HostRuntime) -> Result<(), F
 #[test]
 fn an_object_that_moves_leaves_its_page(rt: HostRuntime) -> Result<(), Fail> {
     let objects = [(1, 23, 176), (3, 87, 176), (5, 151, 176)];
-    let mut plain = reference_with(&rt, rt.alloc(), Layout::Words, 3, 1, &objects)?;
+    let mut reference = reference_with(&rt, rt.alloc(), Layout::Words, 3, 1, &objects)?;
     for number in [3, 4, 7] {
-        plain.move_to(number, 128);
+        reference.move_to(number, 128);
     }
-    let standing = [0, 1, 2].map(|page| plain.count_on(page));
-    assert!(rt; plain.count() == 3 && standing == [1, 0, 2]);
+    let standing = [0, 1, 2].map(|page| reference.count_on(page));
+    assert!(rt; reference.count() == 3 && standing == [1, 0, 2]);
     Ok(())
 }
 
-/// Whether the image that `plain` computes for the region has `count` words, and these among them. Each of
+/// Whether the image that `reference` computes for the region has `count` words, and these among them. Each of
 /// `wants` is the number of a word, and its value.
 fn has_words(
     alloc: Global,
-    plain: &ReferencePages,
+    reference: &ReferencePages,
     count: usize,
     wants: &[(usize, u64)],
 ) -> Result<bool, AllocError> {
-    let words = plain.image(alloc)?;
+    let words = reference.image(alloc)?;
     Ok(words.len() == count && are_words(&words, wants))
 }
 
@@ -464,8 +464,8 @@ fn are_words(words: &[u64], wants: &[(usize, u64)]) -> bool {
 #[test]
 fn words_are_headers_and_bytes_and_zeros(rt: HostRuntime) -> Result<(), Fail> {
     let alloc = rt.alloc();
-    let mut plain = reference_with(&rt, alloc, Layout::Words, 2, 1, &[(3, 87, 176)])?;
-    plain.put(alloc, 1, 64, 176, &[0xa1, 0xb2])?;
+    let mut reference = reference_with(&rt, alloc, Layout::Words, 2, 1, &[(3, 87, 176)])?;
+    reference.put(alloc, 1, 64, 176, &[0xa1, 0xb2])?;
     let wants = [
         (0, 0),
         (23, 0),
@@ -475,7 +475,7 @@ fn words_are_headers_and_bytes_and_zeros(rt: HostRuntime) -> Result<(), Fail> {
         (87, 0x0000_00b0_0000_0003),
         (127, 0),
     ];
-    assert!(rt; has_words(alloc, &plain, 128, &wants)?);
+    assert!(rt; has_words(alloc, &reference, 128, &wants)?);
     Ok(())
 }
 
@@ -483,10 +483,10 @@ fn words_are_headers_and_bytes_and_zeros(rt: HostRuntime) -> Result<(), Fail> {
 #[test]
 fn bytes_past_the_length_dont_count(rt: HostRuntime) -> Result<(), Fail> {
     let alloc = rt.alloc();
-    let mut plain = reference_with(&rt, alloc, Layout::Words, 1, 1, &[])?;
-    plain.put(alloc, 0, 0, 3, b"abcd")?;
+    let mut reference = reference_with(&rt, alloc, Layout::Words, 1, 1, &[])?;
+    reference.put(alloc, 0, 0, 3, b"abcd")?;
     let wants = [(0, 0x0000_0003_0000_0000), (1, 0x0063_6261), (63, 0)];
-    assert!(rt; has_words(alloc, &plain, 64, &wants)?);
+    assert!(rt; has_words(alloc, &reference, 64, &wants)?);
     Ok(())
 }
 
@@ -497,9 +497,9 @@ fn bytes_past_the_length_dont_count(rt: HostRuntime) -> Result<(), Fail> {
 fn a_resized_object_keeps_its_first_bytes(rt: HostRuntime) -> Result<(), Fail> {
     let alloc = rt.alloc();
     let objects = [(1, 23, 176), (2, 64, 176)];
-    let mut plain = reference_with(&rt, alloc, Layout::Words, 3, 1, &objects)?;
-    plain.put(alloc, 0, 128, 504, &[0xa1, 0xb2])?;
-    plain.move_to(2, 0);
+    let mut reference = reference_with(&rt, alloc, Layout::Words, 3, 1, &objects)?;
+    reference.put(alloc, 0, 128, 504, &[0xa1, 0xb2])?;
+    reference.move_to(2, 0);
     let wants = [
         (0, 0x0000_00b0_0000_0002),
         (23, 0x0000_00b0_0000_0001),
@@ -508,7 +508,7 @@ fn a_resized_object_keeps_its_first_bytes(rt: HostRuntime) -> Result<(), Fail> {
         (129, 0xb2a1),
         (130, 0),
     ];
-    assert!(rt; has_words(alloc, &plain, 192, &wants)?);
+    assert!(rt; has_words(alloc, &reference, 192, &wants)?);
     Ok(())
 }
 
@@ -541,6 +541,7 @@ fn an_object_that_moves_keeps_its_blocks(rt: HostRuntime) -> Result<(), Fail> {
     let alloc = rt.alloc();
     let frames = new_frames(alloc, 32)?;
     assert!(rt; has_blocks(&frames, 24, &six_from(6)));
+    // The slot of 24 words at word 24, and that at word 64: the last argument is the blocks of a slot.
     let frames = exchange(alloc, &frames, 24 / 4, 64 / 4, 24 / 4)?;
     let free = [(0, 0), (5, 5), (6, 16), (11, 21), (12, 12), (15, 15)];
     assert!(rt;
@@ -557,15 +558,15 @@ fn an_object_that_moves_keeps_its_blocks(rt: HostRuntime) -> Result<(), Fail> {
 fn an_object_that_fills_a_hole_leaves_zeros(rt: HostRuntime) -> Result<(), Fail> {
     let alloc = rt.alloc();
     let objects = [(1, 24, 176), (2, 64, 176), (3, 88, 176)];
-    let mut plain = reference_with(&rt, alloc, Layout::Blocks, 2, 1, &objects)?;
-    assert!(rt; plain.must_move(2));
-    plain.remove(2);
-    plain.move_to(1, 64);
+    let mut reference = reference_with(&rt, alloc, Layout::Blocks, 2, 1, &objects)?;
+    assert!(rt; reference.must_move(2));
+    reference.remove(2);
+    reference.move_to(1, 64);
     let wants = [
         (24, 0),
         (64, 0x0000_00b0_0000_0001),
         (88, 0x0000_00b0_0000_0003),
     ];
-    assert!(rt; has_words(alloc, &plain, 128, &wants)?);
+    assert!(rt; has_words(alloc, &reference, 128, &wants)?);
     Ok(())
 }

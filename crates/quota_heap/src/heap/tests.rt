@@ -1,4 +1,5 @@
-//! Tests by name and type of each field that the heap has no list of its objects.
+//! A test that names each field of `QuotaHeap` and of its open heap, with its type. So the heap keeps its
+//! objects in the region alone: no field is a list of them.
 use super::QuotaHeap;
 use crate::open_tasks::OpenTasks;
 use crate::shared_pages::SharedPages;
@@ -14,7 +15,8 @@ use slot_bitmap::SlotMap;
 use std::alloc::Global;
 use std::test::Fail;
 
-/// Returns the field that holds the open heap, and lists both fields with their types.
+/// Returns the field that holds the open heap. The pattern names both fields, and the lines after it give
+/// each its type: so this compiles only while there is no other field.
 fn inner_of(heap: &QuotaHeap) -> &Option<OpenTasks> {
     let QuotaHeap { alloc, inner } = heap;
     let _alloc: &Global = alloc;
@@ -35,7 +37,7 @@ fn parts_of(open: &OpenTasks) -> (&SharedPages, &Vec<Task>) {
     (shared_pages, tasks)
 }
 
-/// Returns the region that the tasks share, and lists the tables of its pages with their types.
+/// Returns the region that the tasks share, and names the tables of its pages with their types.
 fn region_of(shared_pages: &SharedPages) -> &Region {
     let SharedPages {
         settings,

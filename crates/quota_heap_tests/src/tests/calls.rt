@@ -50,7 +50,8 @@ pub fn text_of_result(
     }
 }
 
-/// Sets the quota: `ok`, `sum` if the quotas would exceed the region, or `used` if the task uses more.
+/// Makes `pages` pages the quota of a task. Returns `ok`; `sum` if the quotas of all tasks would then exceed
+/// the pages of the region; or `used` if the task already uses more.
 fn quota(heap: &mut QuotaHeap, task: u32, pages: u32) -> &'static str
     requires opened { IsTrue heap.old.is_open }
     requires sixteen { task < 16 }

@@ -105,8 +105,8 @@ impl Drawn {
         self.objects.written(number, 0, part, done)
     }
 
-    /// Frees this number of the task in the heap, and removes the expected object. Fails unless the heap
-    /// refuses the free exactly if there is no such object.
+    /// Frees the task's object with this number in the heap, and removes the expected one. Fails unless the
+    /// heap refuses the free exactly if no object is expected.
     fn free(&mut self, task: u32, number: u32) -> Result<(), Wrong>
         requires task { task < 16 }
         requires number { number < 8 }
@@ -117,8 +117,8 @@ impl Drawn {
         hold(freed.is_ok() == object.is_some(), Wrong::Free(freed))
     }
 
-    /// Reads all bytes of this number of the task, and compares them. The read must be refused if there is
-    /// no such object.
+    /// Reads all bytes of the task's object with this number, and compares them with the expected ones. The
+    /// read must be refused if no object is expected.
     fn read(&mut self, task: u32, number: u32) -> Result<(), Wrong>
         requires task { task < 16 }
         requires number { number < 8 }

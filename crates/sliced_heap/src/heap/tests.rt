@@ -1,4 +1,5 @@
-//! Tests by name and type of each field that the heap has no list of its objects.
+//! A test that names each field of `SlicedHeap` and of its open heap, with its type. So the heap keeps its
+//! objects in the region alone: no field is a list of them.
 use super::SlicedHeap;
 use crate::open_heap::{CLASSES, OpenHeap, Pending};
 use cf_base::Settings;
@@ -12,7 +13,8 @@ use slot_bitmap::SlotMap;
 use std::alloc::Global;
 use std::test::Fail;
 
-/// Returns the field that holds the open heap, and lists both fields with their types.
+/// Returns the field that holds the open heap. The pattern names both fields, and the lines after it give
+/// each its type: so this compiles only while there is no other field.
 fn inner_of(heap: &SlicedHeap) -> &Option<OpenHeap> {
     let SlicedHeap { alloc, inner } = heap;
     let _alloc: &Global = alloc;
@@ -20,7 +22,7 @@ fn inner_of(heap: &SlicedHeap) -> &Option<OpenHeap> {
     inner
 }
 
-/// Returns the region of an open heap, and lists all its fields with their types: numbers, a number for
+/// Returns the region of an open heap, and names all its fields with their types: numbers, a number for
 /// each class, one job, tables, and a map for each page. No other field holds a word of an object, and none
 /// is a list of objects.
 fn region_of(open: &OpenHeap) -> &Region {

@@ -210,6 +210,7 @@ impl Churn {
         if self.slow.awaited().is_some() {
             self.seen.follows = self.seen.follows.saturating_add(1);
         }
+        // `left` needs an open heap.
         self.start()?;
         hold(
             self.heap.left() == self.slow.left(),

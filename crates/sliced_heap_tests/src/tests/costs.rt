@@ -88,7 +88,7 @@ const CALLS: [(Call, u64); 30] = [
     (Call::Malloc(504), 1),
     // A job that moves object 2 into the freed slot begins.
     (Call::Free(0), 22),
-    // Refused: no object has the number 7, and a job is pending.
+    // Two refused frees: of an unknown handle, and of a live one while a job is pending.
     (Call::Free(7), 1),
     (Call::Free(1), 1),
     // Object 2 is in motion: all of its words; two words, one in its new slot and one in the old; a byte
@@ -97,8 +97,8 @@ const CALLS: [(Call, u64); 30] = [
     (Call::Write(2, 68, 8), 4),
     (Call::Read(2, 232, 1), 2),
     (Call::Write(6, 0, 1), 1),
-    // Refused until the job ends; and, while it is pending, an object in the last free slot of the job's
-    // page.
+    // While the job is pending: a malloc that is refused until the job ends, and one that gets the last free
+    // slot of the job's page.
     (Call::Malloc(504), 3),
     (Call::Malloc(232), 17),
     (Call::Step, 11),

@@ -15,7 +15,7 @@ enum Call {
     Malloc(u32, Result<Handle, SliceRefusal>),
     /// A free of this object, with its result.
     Free(u32, Result<(), SliceFault>),
-    /// A step, with the number of words that the job has left after it.
+    /// A call of `step`, with the number of words that the job has left after it.
     Step(u32),
     /// A write of one byte that succeeds: the object, the byte's place in it, and its value.
     Write(u32, u32, u8),

@@ -176,8 +176,8 @@ impl SliceReference {
     }
 
     /// Whether a malloc may place an object in the slot of `words` words at this address. `usable` is
-    /// whether the heap has a usable slot of this size. If so, this slot must be usable; else it must be
-    /// on a free page.
+    /// whether the heap has a slot of this size that a new object could use without a free page
+    /// (`is_usable`). If so, the slot at this address must be such a slot; else it must be on a free page.
     pub fn is_place(&self, words: u32, place: u32, usable: bool) -> bool {
         if usable {
             self.is_usable(words, place)

@@ -4,8 +4,9 @@ use counted_cells::{CellArray, Cells};
 use std::test::Fail;
 use step_ledger::Meter;
 
-/// Names each field with its type, so that no field is added unseen: all are counted cells. List 22
-/// of 24 has a head, so bit 6 of group 1 is set, and bit 1 of the groups.
+/// Names each field with its type, so that no field is added unseen: all are counted cells. Of 24
+/// lists only list 22 has a block. It is list 6 of the 16 in group 1, so bit 6 of `lists[1]` is set,
+/// and bit 1 of `groups[0]`.
 #[test]
 fn the_heads_and_their_bits_are_in_cells(rt: HostRuntime) -> Result<(), Fail> {
     let mut meter = Meter::new(&rt);

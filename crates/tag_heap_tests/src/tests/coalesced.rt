@@ -1,6 +1,6 @@
 //! A free coalesces the block with its free neighbours: what the words of the region hold after it, worked
 //! out by hand.
-use crate::tests::costs::{Call, last_steps};
+use crate::tests::costs::{Call, run_script};
 use cf_base::Settings;
 use cf_model::Manager;
 use half_fit_heap::HalfFitHeap;
@@ -8,8 +8,8 @@ use std::test::Fail;
 use step_ledger::Meter;
 use tlsf_heap::TlsfHeap;
 
-/// The words that are compared. Of a block of 10 words these are words 0 and 1, of one of 12 words after
-/// it words 0 to 3, and of the rest of the region words 0 and 1.
+/// The numbers of the words that are compared. The first row leaves three blocks: words 0 and 1 are of the
+/// block of 10 words, words 10 to 13 of the block of 12 words after it, and words 22 and 23 of the rest.
 const WORDS: [u32; 8] = [0, 1, 10, 11, 12, 13, 22, 23];
 
 /// A script, and the values that those words must have after it.
@@ -18,9 +18,9 @@ struct Row {
     hold: [u64; 8],
 }
 
-/// In the first row object 0 of 64 bytes is freed. In the second row also object 1 of 80 bytes is freed,
-/// between two free blocks: all 64 words are one free block then. Before, byte 7 of object 1 and byte 8
-/// in the next word are written, each with the value 7. Word 0 of a block has its size, the size of the
+/// Object 0 has 64 bytes, object 1 has 80. Bytes 7 and 8 of object 1, which are in two words, get the value
+/// 7. The first row then frees object 0. The second row also frees object 1, between two free blocks: all 64
+/// words are one free block then. Word 0 of a block has its size, the size of the
 /// block before it above, and bit 31 if the block is used. Word 1 of a used block is its tag: the
 /// object's length above its number. Word 1 of a free block is its link: `u64::MAX` if it is the only one
 /// in its list.
@@ -68,8 +68,9 @@ fn holds<H: Manager>(heap: &H, hold: &[u64; 8], meter: &mut Meter) -> bool {
     true
 }
 
-/// Plays each row on one page of 64 words. Returns the index of the first whose words have other values, or
-/// whose heap can't be opened; none if there is no such row.
+/// Runs the script of each row on a heap opened with one page of 64 words. Returns the index of the first
+/// row after which the words have other values than `hold`, or whose heap can't be opened; none if there is
+/// no such row.
 fn first_wrong<H: Manager>(heap: &mut H, meter: &mut Meter) -> Option<usize> {
     for i in 0..2 {
         let Ok(settings) = Settings::check(1, 512, 1, 2) else {
@@ -78,7 +79,8 @@ fn first_wrong<H: Manager>(heap: &mut H, meter: &mut Meter) -> Option<usize> {
         if heap.open_heap(&settings).is_err() {
             return Some(i);
         }
-        last_steps(heap, ROWS[i].script, meter);
+        // Makes the calls of the script; the steps of the last one don't matter here.
+        run_script(heap, ROWS[i].script, meter);
         if !holds(heap, &ROWS[i].hold, meter) {
             return Some(i);
         }
@@ -86,7 +88,8 @@ fn first_wrong<H: Manager>(heap: &mut H, meter: &mut Meter) -> Option<usize> {
     None
 }
 
-// `free` of `TlsfHeap` and of `HalfFitHeap` leaves the words of each row.
+// After the frees of each row the words have the values that the row lists, in `TlsfHeap` and in
+// `HalfFitHeap`.
 #[test]
 fn free_neighbours_are_coalesced(rt: HostRuntime) -> Result<(), Fail> {
     let mut meter = Meter::new(&rt);

@@ -274,7 +274,7 @@ fn steps_of<H: Manager>(heap: &mut H, call: Call, meter: &mut Meter) -> u64 {
 }
 
 /// Makes the calls of a script on an open heap, and returns the steps of the last one.
-pub(super) fn last_steps<H: Manager>(heap: &mut H, script: &[Call], meter: &mut Meter) -> u64 {
+pub(super) fn run_script<H: Manager>(heap: &mut H, script: &[Call], meter: &mut Meter) -> u64 {
     let mut last = 0;
     for call in script.iter() {
         last = steps_of(heap, *call, meter);
@@ -282,7 +282,7 @@ pub(super) fn last_steps<H: Manager>(heap: &mut H, script: &[Call], meter: &mut 
     last
 }
 
-/// Plays each row on a heap that is opened for it. Returns the index of the first whose last call takes
+/// Runs the script of each row on a heap that is opened for it. Returns the index of the first whose last call takes
 /// other steps, or whose heap can't be opened; none if there is no such row.
 fn first_wrong<H: Manager>(heap: &mut H, rows: &[Row], meter: &mut Meter) -> Option<usize> {
     for i in 0..rows.len() {
@@ -293,7 +293,7 @@ fn first_wrong<H: Manager>(heap: &mut H, rows: &[Row], meter: &mut Meter) -> Opt
         if heap.open_heap(&settings).is_err() {
             return Some(i);
         }
-        if last_steps(heap, rows[i].script, meter) != rows[i].steps {
+        if run_script(heap, rows[i].script, meter) != rows[i].steps {
             return Some(i);
         }
     }

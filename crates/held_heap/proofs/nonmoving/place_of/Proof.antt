@@ -1,4 +1,4 @@
--- By hand, the contract of `place_of`: it keeps the address, and the place owns the block there.
+-- By hand, the contract of `place_of`: it keeps the address, and the `HeapBlock` owns the block there.
 -- The proof steps through the compiled body; a comment in brackets lists what is owned at that point, in order.
 use Rattle.std.proofs.Common.{◌≡◌, List, [], ◌∷◌, ◌++◌, refl, Some}
 use Rattle.std.proofs.raw_atomic.Walks.{proved_at, leaves}
@@ -47,6 +47,6 @@ place_of_spec 𝓤 𝓛 𝓜 𝓡 wired =
     returns ! (look_at ! 0 refl) $ free_all ! refl $
     place_in ! (block_ptr b o) (Some u.value) $
     use0 𝓛 (raw (fact 𝓤 (Some u.value ≡ Some u.value))) (fact_i 𝓤 _ (emp 𝓤) refl) $ nothing ! $ nothing ! $ fjoin ! $
-    -- [what is left of the parameter; the clause; the place; the allocator; nothing; the tokens; nothing]
+    -- [what is left of the parameter; the clause; the `HeapBlock`; the allocator; nothing; the tokens; nothing]
     keep ! (5 ∷ 0 ∷ 2 ∷ 1 ∷ []) $
     by ! (leaves 𝓛 f.ended stayed c y (place_val (block_ptr b o)) (record { at = block_ptr b o; held = Some u.value }) (tt, tt) (tt, tt)))))

@@ -1,4 +1,4 @@
--- By hand, the contract of `unboxed_of`: it takes the address out of the place, and the result owns the block there.
+-- By hand, the contract of `unboxed_of`: it takes the address out of the `HeapBlock`, and the result owns the block there.
 -- The proof steps through the compiled body; a comment in brackets lists what is owned at that point, in order.
 use Rattle.std.proofs.Common.{◌≡◌, List, [], ◌∷◌, ◌++◌, refl, Some, IsSome}
 use Rattle.std.proofs.raw_atomic.Walks.{proved_at, leaves}
@@ -22,7 +22,7 @@ use Rattle.std.specs.contracts.alloc.Global.{the_row as Z}
 use Rattle.std.proofs.alloc.Global.TheLaws.{the_row_laws as LZ}
 use Rattle.std.specs.contracts.prelude.GlobalAllocator.TheImpl.{ghosts}
 use Rattle.held_heap.specs.Tlsf.{open_heap as R}
-use Rattle.held_heap.specs.contracts.tlsf.Place.{the_row as P}
+use Rattle.held_heap.specs.contracts.tlsf.HeapBlock.{the_row as P}
 use Rattle.held_heap.proofs.Parts.{allocator_of, parts, parts_fit, put_together}
 use Rattle.held_heap.proofs.TlsfPlaces.{place_val, place_out}
 use Rattle.held_heap.specs.contracts.tlsf.unboxed_of as f

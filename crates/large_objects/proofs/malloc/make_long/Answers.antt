@@ -1,6 +1,6 @@
 use Rattle.std.proofs.Common.{arith, sym, subst, ◌*◌, ◌<◌}
 use Rattle.large_objects.specs.Growing.{NamesPart}
-use Rattle.large_objects.specs.InnerCalls.{GivesInner, HasInnerRoom}
+use Rattle.large_objects.specs.InnerCalls.{MakesOneInner, HasInnerRoom}
 use Rattle.large_objects.specs.InnerObjects.{part_count}
 use Rattle.large_objects.proofs.GrowLemmas.{grows_first, grows_more, place_in_spine, place_is_small, room_for_part, room_for_spine}
 use Rattle.large_objects.proofs.malloc.make_long.Goals as goal
@@ -16,7 +16,7 @@ loop-i-init g c =
     let old = g.H.Manager.state c.args.inner.now in
     let new = g.H.Manager.state c.make_inner-spine.new.inner in
     grows_first c.args.part_bytes c.args.bytes old new c.make_inner-spine.result.0 c.requires.some c.requires.long
-    (subst (λ n. GivesInner old c.make_inner-spine.result.0 (4 * n) new) c.count_parts-count.ensures c.make_inner-spine.ensures)
+    (subst (λ n. MakesOneInner old c.make_inner-spine.result.0 (4 * n) new) c.count_parts-count.ensures c.make_inner-spine.ensures)
 
 pub make_part-requires-clause-room : goal.make_part-requires-clause-room
 make_part-requires-clause-room g c =

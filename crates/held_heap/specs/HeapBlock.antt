@@ -1,4 +1,4 @@
--- For `Place`: the memory that a place owns, a block with an open heap or nothing. R is the type of the heap.
+-- For `HeapBlock`: the memory that a `HeapBlock` owns, a block with an open heap or nothing. R is the type of the heap.
 use base.Fml.{Fml, ftrue}
 use denote.RattleType.{RattleType}
 use denote.RawPtr.{Ptr}
@@ -10,7 +10,7 @@ use Rattle.std.specs.contracts.prelude.GlobalAllocator.TheImpl.{ghosts}
 abbrev pub lies_in_block : (R : RattleType) → Ptr → R.Denot → Fml
 lies_in_block R p x = box_owns (ghosts.dealloc_token (record { memory = record { seal = tt } })) R p x
 
--- what a place with the address p owns: the block with the value x, or nothing
+-- what a `HeapBlock` with the address p owns: the block with the value x, or nothing
 abbrev pub place_owns : (R : RattleType) → Ptr → Option R.Denot → Fml
 place_owns R p (Some x) = lies_in_block R p x
 place_owns R p None = ftrue

@@ -1,5 +1,5 @@
 use Rattle.slice_words.proofs.ObjectBytes.{byte_by_halves, word_by_halves}
-use Rattle.slice_words.proofs.laws.halves_are_where_the_words_stand.Goals as goal
+use Rattle.slice_words.proofs.laws.halves_are_where_the_words_are.Goals as goal
 
 pub returns-clause-words : goal.returns-clause-words
 returns-clause-words c = word_by_halves

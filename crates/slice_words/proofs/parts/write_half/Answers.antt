@@ -1,7 +1,7 @@
 use Rattle.std.proofs.Common.{◌+◌, ◌/◌, ◌%◌, subst}
 use Rattle.word_bytes.specs.Overwriting.{Overwrites}
 use Rattle.slice_words.proofs.OnePart.{part_writes}
-use Rattle.slice_words.proofs.parts.write_part.Goals as goal
+use Rattle.slice_words.proofs.parts.write_half.Goals as goal
 
 pub returns-clause-bytes : goal.returns-clause-bytes
 returns-clause-bytes c =

@@ -1,4 +1,4 @@
--- By hand, the contract of `Place::lend`: it borrows the heap at the address, and the heap as the borrow leaves it is the place's again.
+-- By hand, the contract of `HeapBlock::lend`: it borrows the heap at the address, and the heap as the borrow leaves it is the `HeapBlock`'s again.
 -- The proof steps through the compiled body; a comment in brackets lists what is owned at that point, in order.
 use Rattle.std.proofs.Common.{◌≡◌, ℕ, List, [], ◌∷◌, refl, sym, Some, IsSome, MutBor}
 use Rattle.std.proofs.raw_atomic.Walks.{proved, leaves}
@@ -26,19 +26,19 @@ use denote.Steps.{nothing, opens, heard}
 use denote.Triple.Walked.{Stays, walk_of, stay_dropped, Goes-spent_ref}
 use Rattle.std.specs.contracts.prelude.GlobalAllocator.TheImpl.{ghosts}
 use Rattle.held_heap.specs.HeldState.{HeldState}
-use Rattle.held_heap.specs.Tlsf.{open_heap as T}
-use Rattle.held_heap.specs.TlsfLoan.{with_heap}
-use Rattle.held_heap.specs.contracts.tlsf.Place.{the_row as R}
-use Rattle.held_heap.specs.contracts.tlsf.Place.lend as f
-use Rattle.held_heap.proofs.tlsf.Place.lend.Statement.{statement}
-use Rattle.held_heap.proofs.tlsf.Place.lend.Code as code
-use Rattle.held_heap.proofs.TlsfPlaces.{place_val, place_in, place_out}
+use Rattle.held_heap.specs.Moving.{open_heap as T}
+use Rattle.held_heap.specs.MovingLoan.{with_heap}
+use Rattle.held_heap.specs.contracts.moving.HeapBlock.{the_row as R}
+use Rattle.held_heap.specs.contracts.moving.HeapBlock.lend as f
+use Rattle.held_heap.proofs.moving.HeapBlock.lend.Statement.{statement}
+use Rattle.held_heap.proofs.moving.HeapBlock.lend.Code as code
+use Rattle.held_heap.proofs.MovingPlaces.{place_val, place_in, place_out}
 
--- the rest of the place while its heap is borrowed: the right to free the block, and the address
+-- the rest of the `HeapBlock` while its heap is borrowed: the right to free the block, and the address
 abbrev Rest : ℕ → ℕ → ℕ → ℕ → Fml
 Rest b o rb ro = fsep (ghosts.dealloc_token (record { memory = record { seal = tt } }) (bare (lone T.mir)) (block_ptr b o)) (cell_at full_share R.mir (place_val (block_ptr b o) ∷ []) rb ro)
 
--- any heap can be joined with the rest to a place
+-- any heap can be joined with the rest to a `HeapBlock`
 back : {M : Type 1} {𝓤 : Ura M} (𝓛 : Logic 𝓤) (h : R.Denot) (b o rb ro : ℕ) → h.at ≡ block_ptr b o
     → (w : HeldState) → ent 𝓤 (sep 𝓤 (sem 𝓛 ((mem T).own_at w b o)) (sem 𝓛 (Rest b o rb ro))) (sem 𝓛 ((mem R).own_at (with_heap h w) rb ro))
 unfolding part_of
@@ -66,7 +66,7 @@ lend_spec 𝓤 𝓛 𝓜 𝓡 wired =
     let En = env code.Mir.locals l in
     fsplit3 ! $ move ! (1 ∷ 2 ∷ 3 ∷ []) $ opens ! tt R rb ro (λ vs. move ! (1 ∷ []) $ place_out ! h vs some_held (λ x held b o at is.
     rewrite ! 1 (λ (ws : List Val). ‵ (cell_at full_share R.mir ws rb ro)) is refl $ fsplit ! $
-    -- [the heap; the right to free its block; the place; the open borrow, in three entries]
+    -- [the heap; the right to free its block; the `HeapBlock`; the open borrow, in three entries]
     first ! $ blocks ! $
     sets ! (of_opd ! (load ! (through ! refl (fld ! refl (stop !))) (look_in ! 2 (sub ! 0 refl (whole !))))) refl (tt, tt) $
     sets ! (of_opd ! (get ! refl)) refl (tt, tt) $

@@ -1,16 +1,16 @@
--- For `unsafe impl Send for Place`: the open heap of a place, and so the place, may go to another thread.
+-- For `unsafe impl Send for HeapBlock`: the open heap of a `HeapBlock`, and so the `HeapBlock`, may go to another thread.
 use denote.Param.Send.{AllSend, IsSend, owning_send, sendable, struct_send}
 use denote.Struct.Owning.{fields, shape, to}
 use denote.Struct.Struct.{exits_of}
 use Rattle.std_alloc.proofs.SendSync.{quiet}
 use Rattle.held_heap.proofs.Crosses.{place-Keyless}
-use Rattle.held_heap.specs.Moving.{open_heap}
-use Rattle.held_heap.specs.contracts.moving.Place.{the_row, the_type}
-use Rattle.held_heap.specs.contracts.exported_manager.MovingHeapExportedManager.TheImpl as exported_manager
-use Rattle.moving_heap.specs.contracts.manager.MovingHeap as manager
-use Rattle.moving_heap.specs.contracts.manager.MovingHeapManager.TheImpl as calls
+use Rattle.held_heap.specs.NonMoving.{open_heap}
+use Rattle.held_heap.specs.contracts.nonmoving.HeapBlock.{the_row, the_type}
+use Rattle.held_heap.specs.contracts.exported_manager.NonMovingHeapExportedManager.TheImpl as exported_manager
+use Rattle.nonmoving_heap.specs.contracts.manager.NonMovingHeap as manager
+use Rattle.nonmoving_heap.specs.contracts.manager.NonMovingHeapManager.TheImpl as calls
 use Rattle.held_heap.proofs.held.Held.TheSendSync.{the_send as held}
-use Rattle.moving_heap.proofs.manager.MovingHeap.TheSendSync.{the_send as heap}
+use Rattle.nonmoving_heap.proofs.manager.NonMovingHeap.TheSendSync.{the_send as heap}
 
 heap-send : IsSend open_heap
 heap-send = held manager.the_row exported_manager.ghosts calls.ghosts heap

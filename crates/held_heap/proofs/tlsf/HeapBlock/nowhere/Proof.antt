@@ -1,4 +1,4 @@
--- By hand, the contract of `Place::nowhere`: the place has the null pointer, and owns nothing.
+-- By hand, the contract of `HeapBlock::nowhere`: the `HeapBlock` has the null pointer, and owns nothing.
 -- The proof steps through the compiled body; a comment in brackets lists what is owned at that point, in order.
 use Rattle.std.proofs.Common.{◌≡◌, [], ◌∷◌, refl, Option, None, lit<}
 use Rattle.std.proofs.raw_atomic.Walks.{proved_at, leaves}
@@ -17,10 +17,10 @@ use denote.Signature.{types_at}
 use denote.Steps.{nothing}
 use denote.Triple.Walked.{walk_of}
 use Rattle.held_heap.specs.HeldState.{HeldState}
-use Rattle.held_heap.proofs.NonMovingPlaces.{place_val, place_in}
-use Rattle.held_heap.specs.contracts.nonmoving.Place.nowhere as f
-use Rattle.held_heap.proofs.nonmoving.Place.nowhere.Statement.{statement}
-use Rattle.held_heap.proofs.nonmoving.Place.nowhere.Code as code
+use Rattle.held_heap.proofs.TlsfPlaces.{place_val, place_in}
+use Rattle.held_heap.specs.contracts.tlsf.HeapBlock.nowhere as f
+use Rattle.held_heap.proofs.tlsf.HeapBlock.nowhere.Statement.{statement}
+use Rattle.held_heap.proofs.tlsf.HeapBlock.nowhere.Code as code
 
 pub nowhere_spec : {M : Type 1} → statement M
 nowhere_spec 𝓤 𝓛 𝓜 𝓡 wired =
@@ -33,6 +33,6 @@ nowhere_spec 𝓤 𝓛 𝓜 𝓡 wired =
     returns ! (look_at ! 0 refl) $ free_all ! refl $
     nothing ! $ place_in ! null_ptr none $
     use0 𝓛 (raw (fact 𝓤 (none ≡ none))) (fact_i 𝓤 _ (emp 𝓤) refl) $ nothing ! $
-    -- [nothing is left; the clause; the place; the tokens; nothing]
+    -- [nothing is left; the clause; the `HeapBlock`; the tokens; nothing]
     keep ! (3 ∷ 0 ∷ 2 ∷ 1 ∷ []) $
     by ! (leaves 𝓛 f.ended tt c y (place_val null_ptr) (record { at = null_ptr; held = none }) tt tt)))

@@ -1,11 +1,11 @@
--- For `unsafe impl Send for Place`: the open heap of a place, and so the place, may go to another thread.
+-- For `unsafe impl Send for HeapBlock`: the open heap of a `HeapBlock`, and so the `HeapBlock`, may go to another thread.
 use denote.Param.Send.{AllSend, IsSend, owning_send, sendable, struct_send}
 use denote.Struct.Owning.{fields, shape, to}
 use denote.Struct.Struct.{exits_of}
 use Rattle.std_alloc.proofs.SendSync.{quiet}
 use Rattle.held_heap.proofs.Crosses.{place-Keyless}
 use Rattle.held_heap.specs.Tlsf.{open_heap}
-use Rattle.held_heap.specs.contracts.tlsf.Place.{the_row, the_type}
+use Rattle.held_heap.specs.contracts.tlsf.HeapBlock.{the_row, the_type}
 use Rattle.held_heap.specs.contracts.exported_manager.TagHeapExportedManager.TheImpl as exported_manager
 use Rattle.held_heap.proofs.held.Held.TheSendSync.{the_send as held}
 use Rattle.tag_heap.specs.contracts.manager.TagHeap as tag_heap
