@@ -30,7 +30,7 @@ const COMPARISONS: u32 = 30;
 /// The calls between two comparisons of everything.
 const BETWEEN: u32 = 50;
 
-/// The least number of moves of objects in a run in which objects can move.
+/// The least number of moves that a run must make, if its bounds allow any.
 const MOVES: u32 = 10;
 
 /// The bounds of a run: how many pages of each class may be partly full.
@@ -39,7 +39,7 @@ pub enum Bounds {
     /// Every class has this bound.
     Each(u32),
     /// The classes have the bounds 1, 2 and 3 in turn, by rising size.
-    OfClasses,
+    ByClass,
 }
 
 /// A heap under test, and beside it the reference implementation, which follows each of its calls.
@@ -61,9 +61,9 @@ pub struct RandomRun<H: Manager> {
     pub(crate) bounds: Vec<u32>,
     /// How often a free or a resize of one object has moved another one.
     moves: u32,
-    /// Whether frees are drawn more often than mallocs in this phase.
+    /// Whether the present phase draws frees more often than mallocs, as every second phase does.
     drains: bool,
-    /// The calls that are left of this phase.
+    /// The calls that are left of the present phase.
     phase: u32,
     draw: Draw,
 }
@@ -93,13 +93,14 @@ impl<H: Manager> RandomRun<H> {
     }
 
     /// Makes four runs, each on an empty heap. In the first, second and fourth every class has bound 1, 2
-    /// and 64; in the third the bounds differ by class. Objects must move, but for bound 64: the heap has
-    /// fewer pages, so no class reaches it. Stops at the first run that differs from the reference.
+    /// and 64; in the third the bounds differ by class. In each of the first three at least `MOVES` objects
+    /// must move. In the fourth none can: the heap has 16 pages, so no class reaches the bound 64. Stops at
+    /// the first run that differs from the reference.
     pub fn play(&mut self, alloc: Global) -> Result<(), RunFailure> {
         for bounds in [
             Bounds::Each(1),
             Bounds::Each(2),
-            Bounds::OfClasses,
+            Bounds::ByClass,
             Bounds::Each(64),
         ] {
             let mut call = 0;
@@ -125,24 +126,25 @@ impl<H: Manager> RandomRun<H> {
             }
             self.compare_all(alloc)?;
         }
-        hold(
-            (MOVES <= self.moves) == (bounds != Bounds::Each(64)),
-            Wrong::Moves(self.moves),
-        )
+        let right = match bounds {
+            Bounds::Each(64) => self.moves == 0,
+            _ => MOVES <= self.moves,
+        };
+        hold(right, Wrong::Moves(self.moves))
     }
 
     /// Opens the heap under these bounds and makes a new reference for it, both without objects.
     fn open(&mut self, alloc: Global, bounds: Bounds) -> Result<(), Wrong> {
         let k = match bounds {
             Bounds::Each(k) => k,
-            Bounds::OfClasses => 1,
+            Bounds::ByClass => 1,
         };
         let settings = Settings::check(PAGES, PAGE_BYTES, k, PROXIES)?;
         self.reference = ReferencePages::new(alloc, &settings, self.layout)?;
         self.bounds = Vec::new(alloc);
         let mut own = Vec::new(alloc);
         for c in 0..self.reference.classes() {
-            if bounds == Bounds::OfClasses {
+            if bounds == Bounds::ByClass {
                 own.push((self.reference.slot_words(c), 1 + c % 3))?;
                 self.reference.set_bound(c, 1 + c % 3);
                 self.bounds.push(1 + c % 3)?;
@@ -163,7 +165,7 @@ impl<H: Manager> RandomRun<H> {
         Ok(())
     }
 
-    /// What computes the steps of the next call: the reference, its order, and the kind of the heap.
+    /// What the steps of the next call depend on: the reference, its order, and the kind of the heap.
     fn exact(&self) -> Exact<'_> {
         Exact {
             kind: match self.layout {
@@ -186,8 +188,8 @@ impl<H: Manager> RandomRun<H> {
         self.draw.below(most)
     }
 
-    /// Makes one drawn call. In phases of 20 to 139 calls the heap fills and drains in turn: in the one
-    /// mallocs are drawn more often, in the other frees.
+    /// Makes one drawn call. Phases of 20 to 139 calls alternate: one fills the heap, and draws mallocs more
+    /// often than frees; the next drains it, and draws frees more often than mallocs.
     fn call(&mut self, alloc: Global) -> Result<(), Wrong> {
         if self.phase == 0 {
             self.drains = !self.drains;
@@ -354,8 +356,8 @@ impl<H: Manager> RandomRun<H> {
         }
     }
 
-    /// Writes up to 40 drawn bytes into the object of this number, at a drawn place. They may pass its end,
-    /// and the number may have no object: then the write must be refused, and the object keeps its bytes.
+    /// Writes up to 40 drawn bytes into the object of this number, from a drawn byte on. They may pass its end,
+    /// or the number may have no object: then the write must be refused, and the object keeps its bytes.
     fn write(&mut self, alloc: Global, number: u16) -> Result<(), Wrong> {
         let handle = Handle(u32::from(number));
         let length = self.objects.length(handle.0).unwrap_or(0).min(1_000);

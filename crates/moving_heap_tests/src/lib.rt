@@ -1,4 +1,4 @@
-//! Tests of the moving manager, `MovingHeap`, and of the examples of the library. They have a crate of
+//! Tests of the moving manager, `MovingHeap`, and of the crate `library_example`. They have a crate of
 //! their own, since a crate with tests is proved twice.
 #![tactic(auto)]
 

@@ -1,4 +1,5 @@
-//! The tests: each module tests one part, or one thing that a part does.
+//! The list of the test modules. Each tests one part of heaps or sessions (a table, pool, list, bitmap,
+//! ledger, or words), the reference implementation, or one thing that a part does.
 mod admitted;
 mod arrangements;
 mod bytes_in_words;

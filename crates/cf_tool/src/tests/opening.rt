@@ -53,10 +53,13 @@ fn fills_once<H: Manager>(rt: &HostRuntime, heap: &mut H, page: u32) -> bool
 fn a_heap_opens_again_where_an_allocation_failed(rt: HostRuntime) -> Result<(), Fail> {
     let alloc = rt.alloc();
     let settings = Settings::check(1, 512, 1, 4)?;
-    assert!(rt; opens_in_two(&rt, &mut MovingHeap::closed(alloc), &settings, 504));
-    assert!(rt; opens_in_two(&rt, &mut NonMovingHeap::closed(alloc), &settings, 504));
-    assert!(rt; opens_in_two(&rt, &mut TlsfHeap::closed(alloc), &settings, 496));
-    assert!(rt; opens_in_two(&rt, &mut HalfFitHeap::closed(alloc), &settings, 496));
+    let opened = [
+        opens_in_two(&rt, &mut MovingHeap::closed(alloc), &settings, 504),
+        opens_in_two(&rt, &mut NonMovingHeap::closed(alloc), &settings, 504),
+        opens_in_two(&rt, &mut TlsfHeap::closed(alloc), &settings, 496),
+        opens_in_two(&rt, &mut HalfFitHeap::closed(alloc), &settings, 496),
+    ];
+    assert_eq!(rt; opened, [true; 4]);
     Ok(())
 }
 
@@ -64,11 +67,14 @@ fn a_heap_opens_again_where_an_allocation_failed(rt: HostRuntime) -> Result<(), 
 #[test]
 fn closed_heaps_take_no_memory(rt: HostRuntime) -> Result<(), Fail> {
     let alloc = rt.alloc();
-    assert!(rt; !MovingHeap::closed(alloc).is_open());
-    assert!(rt; !NonMovingHeap::closed(alloc).is_open());
-    assert!(rt; !TlsfHeap::closed(alloc).is_open());
-    assert!(rt; !HalfFitHeap::closed(alloc).is_open());
-    assert!(rt; !SlicedHeap::closed(alloc).is_open());
-    assert!(rt; !QuotaHeap::closed(alloc).is_open());
+    let open = [
+        MovingHeap::closed(alloc).is_open(),
+        NonMovingHeap::closed(alloc).is_open(),
+        TlsfHeap::closed(alloc).is_open(),
+        HalfFitHeap::closed(alloc).is_open(),
+        SlicedHeap::closed(alloc).is_open(),
+        QuotaHeap::closed(alloc).is_open(),
+    ];
+    assert_eq!(rt; open, [false; 6]);
     Ok(())
 }

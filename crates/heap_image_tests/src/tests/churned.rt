@@ -29,9 +29,9 @@ fn length(draw: &mut Draw) -> u32 {
     }
 }
 
-/// Draws a malloc, a free, a resize, or a write of up to 40 of these bytes, for one of 64 ids. Some are
-/// refused: a malloc may be for an id that is live, the others for one that isn't, and a write may pass the
-/// end of the object.
+/// Draws a malloc, a free, a resize, or a write of 1 to 40 of these bytes, for one of 64 ids. Some of these
+/// commands change nothing: a malloc for a live id, another command for an id that isn't live, a write past
+/// the object's end, and a malloc or resize that the heap refuses.
 fn drawn<'a>(draw: &mut Draw, bytes: &'a [u8; 1_200]) -> CommandRef<'a> {
     let id = 1_040 * draw.below(64) as u16;
     match draw.below(8) {
@@ -99,20 +99,29 @@ fn is_saved_again<H: Manager>(
     }
 }
 
+/// Makes an image at bound k, and loads and saves it in chunks of 1, 7 and 4,096 bytes. Returns whether the image
+/// has more than 2,000 bytes, and is the same each time.
+fn is_kept<H: Manager>(rt: &HostRuntime, alloc: Global, heap: &mut H, k: u32) -> Result<bool, Wrong>
+    requires { (H.state heap.old).kind ≡ Moving }
+    ensures { (H.state heap.new).kind ≡ Moving }
+{
+    let saved = churned_image(rt, alloc, heap, k)?;
+    'chunks: for most in [1, 7, 4_096] {
+        if !is_saved_again(rt, alloc, heap, saved.as_slice(), most)? {
+            return Ok(false);
+        }
+    }
+    Ok(2_000 < saved.len())
+}
+
 /// `load` accepts what `save` has written, and the loaded heap has the same image. The heaps that are saved
-/// have bound 1, 2 and 64; an image has no bound, and is loaded at bound 1. It is read in chunks of 1, 7
-/// and 4,096 bytes.
+/// have bound 1, 2 and 64; an image has no bound, and is loaded at bound 1.
 #[test]
 fn what_was_saved_is_loaded_and_saved_again(rt: HostRuntime) -> Result<(), Fail> {
     let alloc = rt.alloc();
     let mut heap = MovingHeap::closed(alloc);
     'bounds: for k in [1, 2, 64] {
-        let saved = churned_image(&rt, alloc, &mut heap, k)?;
-        assert!(rt; 2_000 < saved.len(), "few objects at the bound {k}");
-        'chunks: for most in [1, 7, 4_096] {
-            let same = is_saved_again(&rt, alloc, &mut heap, saved.as_slice(), most)?;
-            assert!(rt; same, "at the bound {k}, by {most} bytes");
-        }
+        assert!(rt; is_kept(&rt, alloc, &mut heap, k)?, "at the bound {k}");
     }
     Ok(())
 }

@@ -1,8 +1,8 @@
-//! The image of the largest region, full of objects. It is loaded from a source that computes its bytes,
+//! The heap image of the largest region, full of objects. It is loaded from a source that computes its bytes,
 //! and saved to a sink that compares them. So its 64 MiB are never kept beside the heap.
 ghost use Rattle.std.specs.Prelude.{◌≡◌, false, None, Ok, length};
 
-use cf_base::Failed;
+use cf_base::{Failed, OutOfMemory};
 use cf_io::{Sink, Source};
 use cf_session::Session;
 use heap_image::{load, save};
@@ -103,23 +103,32 @@ impl Sink for Comparison {
     }
 }
 
+/// Loads the image from the stream into a new heap, and saves that heap to the sink. Returns whether both calls
+/// succeed.
+fn passes(
+    rt: &HostRuntime,
+    stream: &mut Stream,
+    sink: &mut Comparison,
+) -> Result<bool, OutOfMemory> {
+    let alloc = rt.alloc();
+    let mut heap = MovingHeap::closed(alloc);
+    let mut session = Session::start(rt, alloc)?;
+    let Ok(settings) = load(stream, &mut heap, &mut session) else {
+        return Ok(false);
+    };
+    let saved = save(&settings, &heap, &session, sink, &mut Meter::new(rt));
+    Ok(saved.is_ok())
+}
+
 // `load` reads the whole image, and `save` writes the same one of the loaded heap.
 #[test]
 fn the_largest_image_passes_in_a_stream(rt: HostRuntime) -> Result<(), Fail> {
-    let alloc = rt.alloc();
-    let mut heap = MovingHeap::closed(alloc);
-    let mut session = Session::start(&rt, alloc)?;
     let mut stream = Stream { at: 0, calls: 0 };
-    let Ok(settings) = load(&mut stream, &mut heap, &mut session) else {
-        panic!(rt; "an image isn't loaded");
-    };
-    assert_eq!(rt; stream.at, TOTAL);
     let mut sink = Comparison {
         at: 0,
         differs: false,
     };
-    let saved = save(&settings, &heap, &session, &mut sink, &mut Meter::new(&rt));
-    assert_eq!(rt; saved, Ok(()));
-    assert_eq!(rt; (sink.at, sink.differs), (TOTAL, false));
+    assert!(rt; passes(&rt, &mut stream, &mut sink)?);
+    assert_eq!(rt; (stream.at, sink.at, sink.differs), (TOTAL, TOTAL, false));
     Ok(())
 }

@@ -20,7 +20,7 @@ static THREE: [u64; 3] = [
     0xff16_1514_1312_1110,
 ];
 
-/// The bytes that the third object must have then.
+/// The bytes of `THREE`, which the third object must have then.
 static BYTES: [u8; 24] = [
     1, 2, 3, 4, 5, 6, 7, 8, 9, 10, 11, 12, 13, 14, 15, 16, 16, 17, 18, 19, 20, 21, 22, 255,
 ];

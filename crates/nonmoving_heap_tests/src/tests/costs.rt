@@ -1,5 +1,5 @@
-//! The steps of single calls of `NonMovingHeap`, each worked out by hand; the longest of each kind are
-//! among them.
+//! The steps of single calls of `NonMovingHeap`, each worked out by hand. Among them are the longest malloc,
+//! free and resize.
 
 use cf_base::{Handle, Refusal, Settings};
 use cf_model::Manager;
@@ -87,8 +87,10 @@ const RESIZES: [(Call, u64); 15] = [
     (Call::Resize(Handle(0), 8), 6),
     // The longest resize: to another class, with a move into the old slot.
     (Call::Resize(Handle(0), 151), 104),
-    // A resize whose new slot is on the page that has become free. Then accesses that pass the object's new
-    // end.
+    // A resize whose new slot, of 4 words, is on the page that has become free. It reads as above (6), takes the
+    // slot as a malloc does (11), copies a word (3), cuts it (2), and writes the header (2) and the proxy (1). It
+    // clears the old slot of 20 words (25) and frees it on a full page (13). Then accesses that pass the object's
+    // new end: the proxy (1) and the header (2).
     (Call::Resize(Handle(0), 5), 63),
     (Call::Read(Handle(0)), 3),
     (Call::Write(Handle(0)), 3),
@@ -112,27 +114,40 @@ fn each_resize_takes_its_steps(rt: HostRuntime) -> Result<(), Fail> {
     Ok(())
 }
 
+/// Opens the heap with one page of 512 bytes and two proxies, and makes two objects of 176 bytes. Returns what
+/// `has_room` returns for 176 bytes before the first malloc, for 8 bytes after it, and for 176 and 505 bytes
+/// after the second one. `None` if a call fails, or `length` doesn't return 176 for the first object.
+fn rooms(heap: &mut NonMovingHeap, meter: &mut Meter) -> Option<[Result<(), Refusal>; 4]> {
+    let settings = Settings::check(1, 512, 1, 2).ok()?;
+    heap.open_heap(&settings).ok()?;
+    // For the contract of `malloc`: the count is at most 2^63.
+    meter.lap();
+    let empty = heap.has_room(176, meter.steps());
+    let first = heap.malloc(176, meter.steps()).ok()?;
+    if heap.length(first, meter.steps()) != Some(176) {
+        return None;
+    }
+    let other = heap.has_room(8, meter.steps());
+    let _second = heap.malloc(176, meter.steps()).ok()?;
+    let proxies = heap.has_room(176, meter.steps());
+    let size = heap.has_room(505, meter.steps());
+    Some([empty, other, proxies, size])
+}
+
 /// `has_room` returns what a malloc of the same length would: on one page with two proxies, `Ok`; then
 /// `Space` for another class, `Proxy` when both proxies are in use, and `Size` for more than a page. It
 /// takes one step each time. The mallocs take 16 and 18, and `length` three: 41 steps in all.
 #[test]
 fn has_room_says_what_a_malloc_returns(rt: HostRuntime) -> Result<(), Fail> {
     let mut heap = NonMovingHeap::closed(rt.alloc());
-    let settings = Settings::check(1, 512, 1, 2).map_err(|_| "settings")?;
-    heap.open_heap(&settings)?;
     let mut meter = Meter::new(&rt);
-    let steps = meter.steps();
-    assert_eq!(rt; heap.has_room(176, steps), Ok(()));
-    let Ok(first) = heap.malloc(176, steps) else {
-        return Err("the first object".into());
-    };
-    assert_eq!(rt; heap.length(first, steps), Some(176));
-    assert_eq!(rt; heap.has_room(8, steps), Err(Refusal::Space));
-    let Ok(_second) = heap.malloc(176, steps) else {
-        return Err("the second object".into());
-    };
-    assert_eq!(rt; heap.has_room(176, steps), Err(Refusal::Proxy));
-    assert_eq!(rt; heap.has_room(505, steps), Err(Refusal::Size));
+    let want = [
+        Ok(()),
+        Err(Refusal::Space),
+        Err(Refusal::Proxy),
+        Err(Refusal::Size),
+    ];
+    assert_eq!(rt; rooms(&mut heap, &mut meter), Some(want));
     assert_eq!(rt; meter.lap(), 41);
     Ok(())
 }

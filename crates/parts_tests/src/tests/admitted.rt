@@ -60,8 +60,8 @@ fn pages_of(live: &[u32; 3]) -> u64 {
     live[0].div_ceil(16) as u64 + live[1].div_ceil(2) as u64 + live[2] as u64
 }
 
-// Searches all lists of at most `calls` mallocs and frees that begin with the live objects and never make
-// more than the declared ones. `live` and `declared` have the numbers of those of 8, of 176 and of 504 bytes.
+// Searches all lists of at most `calls` mallocs and frees that begin with the live objects and never have more
+// live at once than are declared. `live` and `declared` count the objects of 8, of 176 and of 504 bytes.
 // Returns whether some list has a malloc that is refused for space: the objects would need more than `quota`
 // pages.
 fn runs_short(quota: u64, declared: &[u32; 3], live: &[u32; 3], calls: u32) -> bool {

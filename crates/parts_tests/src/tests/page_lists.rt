@@ -9,28 +9,27 @@ use step_ledger::Meter;
 #[test]
 fn a_page_that_joins_becomes_the_front(rt: HostRuntime) -> Result<(), Fail> {
     let mut meter = Meter::new(&rt);
-    let Ok(mut lists) = ClassLists::new(rt.alloc(), 3, 8) else {
-        panic!(rt; "no memory");
-    };
+    let mut lists = ClassLists::new(rt.alloc(), 3, 8)?;
     lists.push(1, Which::NotFull, 7, meter.steps());
     lists.push(1, Which::NotFull, 0, meter.steps());
     lists.push(1, Which::NotFull, 4, meter.steps());
     lists.push(1, Which::Full, 2, meter.steps());
-    assert_eq!(rt; lists.front(1, Which::NotFull, meter.steps()), Some(4));
+    let mut fronts = [lists.front(1, Which::NotFull, meter.steps()); 4];
     lists.unlink(1, Which::NotFull, 0, meter.steps());
-    assert_eq!(rt; lists.front(1, Which::NotFull, meter.steps()), Some(4));
+    fronts[1] = lists.front(1, Which::NotFull, meter.steps());
     lists.unlink(1, Which::NotFull, 4, meter.steps());
-    assert_eq!(rt; lists.front(1, Which::NotFull, meter.steps()), Some(7));
-    assert_eq!(rt; lists.len(1, Which::NotFull), 1);
+    fronts[2] = lists.front(1, Which::NotFull, meter.steps());
+    let left = lists.len(1, Which::NotFull);
     lists.unlink(1, Which::NotFull, 7, meter.steps());
-    for (c, which, front, len) in [
-        (1, Which::NotFull, None, 0),
-        (1, Which::Full, Some(2), 1),
-        (0, Which::Full, None, 0),
-        (2, Which::NotFull, None, 0),
-    ] {
-        assert_eq!(rt; lists.front(c, which, meter.steps()), front);
-        assert_eq!(rt; lists.len(c, which), len);
-    }
+    fronts[3] = lists.front(1, Which::NotFull, meter.steps());
+    assert_eq!(rt; fronts, [Some(4), Some(4), Some(7), None]);
+    assert_eq!(rt; [left, lists.len(1, Which::NotFull)], [1, 0]);
+    assert_eq!(rt; lists.front(1, Which::Full, meter.steps()), Some(2));
+    let lengths = [
+        lists.len(1, Which::Full),
+        lists.len(0, Which::Full),
+        lists.len(2, Which::NotFull),
+    ];
+    assert_eq!(rt; lengths, [1, 0, 0]);
     Ok(())
 }

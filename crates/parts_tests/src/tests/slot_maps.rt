@@ -2,37 +2,62 @@
 use slot_bitmap::SlotMap;
 use step_ledger::Meter;
 
-// `first_free` and `first_used` return the lowest slot that is free or used. So slots are taken from 0 up
-// until none is free, then freed from 0 up, after which slot 0 is always the first free one. `take_first`
-// finds the lowest free slot and marks it used in one call. `count` is the number of used slots.
+/// Marks the first free slot of a new map used until none is free. Returns whether the slots were 0, 1, and so
+/// on up to `slots - 1`.
+fn fills_in_order(map: &mut SlotMap, slots: u32, meter: &mut Meter) -> bool {
+    if map.first_used(meter.steps()).is_some() {
+        return false;
+    }
+    for next in 0..slots {
+        let Some(slot) = map.first_free(meter.steps()) else {
+            return false;
+        };
+        if slot != next {
+            return false;
+        }
+        map.set(slot, meter.steps());
+    }
+    map.count(meter.steps()) == slots && map.first_free(meter.steps()).is_none()
+}
+
+/// Marks the first used slot of a full map free until none is used. Returns whether the slots were 0, 1, and so
+/// on up to `slots - 1`, and slot 0 was the first free one after each.
+fn empties_in_order(map: &mut SlotMap, slots: u32, meter: &mut Meter) -> bool {
+    for next in 0..slots {
+        let Some(slot) = map.first_used(meter.steps()) else {
+            return false;
+        };
+        if slot != next {
+            return false;
+        }
+        map.unset(slot, meter.steps());
+        if map.first_free(meter.steps()) != Some(0) {
+            return false;
+        }
+    }
+    map.count(meter.steps()) == 0 && map.first_used(meter.steps()).is_none()
+}
+
+/// Does as `fills_in_order`, by `take_first`, which finds the first free slot and marks it used in one call.
+fn takes_in_order(map: &mut SlotMap, slots: u32, meter: &mut Meter) -> bool {
+    for next in 0..slots {
+        if map.take_first(meter.steps()) != Some(next) {
+            return false;
+        }
+    }
+    map.take_first(meter.steps()).is_none() && map.count(meter.steps()) == slots
+}
+
+// `first_free` and `first_used` return the lowest slot that is free or used, and `count` the number of used
+// slots. A map is filled from slot 0 up, emptied from slot 0 up, and filled again.
 #[test]
-fn slots_are_taken_and_given_back_in_order(rt: HostRuntime) {
+fn slots_are_taken_and_returned_in_order(rt: HostRuntime) {
     let mut meter = Meter::new(&rt);
-    let steps = meter.steps();
     for slots in [1, 63, 64, 65, 130, 4096] {
         let mut map = SlotMap::new(slots);
-        assert_eq!(rt; map.first_used(steps), None, "of {slots}");
-        for next in 0..slots {
-            if let Some(i) = map.first_free(steps) {
-                assert_eq!(rt; i, next, "of {slots}");
-                map.set(i, steps);
-            }
-        }
-        assert_eq!(rt; map.count(steps), slots);
-        assert_eq!(rt; map.first_free(steps), None, "of {slots}");
-        for next in 0..slots {
-            if let Some(i) = map.first_used(steps) {
-                assert_eq!(rt; i, next, "of {slots}");
-                map.unset(i, steps);
-                assert_eq!(rt; map.first_free(steps), Some(0), "of {slots}");
-            }
-        }
-        assert_eq!(rt; map.count(steps), 0);
-        assert_eq!(rt; map.first_used(steps), None, "of {slots}");
-        for next in 0..slots {
-            assert_eq!(rt; map.take_first(steps), Some(next), "of {slots}");
-        }
-        assert_eq!(rt; map.take_first(steps), None, "of {slots}");
-        assert_eq!(rt; map.count(steps), slots);
+        let is_right = fills_in_order(&mut map, slots, &mut meter)
+            && empties_in_order(&mut map, slots, &mut meter)
+            && takes_in_order(&mut map, slots, &mut meter);
+        assert!(rt; is_right, "of {slots}");
     }
 }

@@ -5,15 +5,16 @@ ghost use Rattle.std.specs.Prelude.{◌<◌, ◌≤◌, ◌^◌, IsTrue};
 use quota_heap::{Handle, NotLive, QuotaFault, QuotaHeap, Refusal};
 use step_ledger::{Meter, Steps};
 
-/// A call of a task. An object is named by its handle's number, which counts for each task on its own.
+/// A call of a task. An object is named by the number of its handle; each task numbers its own objects.
 #[derive(Clone, Copy)]
 pub enum Call {
     /// A new quota for the task, in pages.
     Quota(u32),
     /// A malloc of this many bytes.
     Malloc(u32),
+    /// A free of the object with this number.
     Free(u32),
-    /// A write of this value to the first byte of the object.
+    /// A write of this value to the first byte of the object with this number.
     Write(u32, u8),
     /// A read of the first byte of the object, and the value that it must have.
     Read(u32, u8),
@@ -24,7 +25,7 @@ pub enum Call {
 }
 
 /// Makes a call of task `task`, and returns its result as a text; `no task` if the number is above 15. Sets
-/// the ledger to 0 before, so that it has the steps of this call afterwards.
+/// the ledger to 0 first, so that afterwards it holds the steps of this call alone.
 pub fn text_of_result(
     heap: &mut QuotaHeap,
     meter: &mut Meter,

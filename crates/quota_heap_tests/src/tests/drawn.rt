@@ -1,5 +1,4 @@
-//! Random calls of all sixteen tasks, drawn from a seed, each compared with a plain table of the expected
-//! objects.
+//! Random calls of all sixteen tasks, drawn from a seed, each compared with a table of the expected objects.
 ghost use Rattle.std.specs.Prelude.{◌≡◌, ◌<◌, IsTrue, OnOk};
 
 use quota_heap::{Handle, QuotaHeap, Refusal, Settings};
@@ -11,8 +10,8 @@ use test_support::{Draw, Objects, Wrong, hold, pages_needed, slot_sizes};
 /// The proxies of each task: no more of its objects are live at a time.
 const PROXIES: u32 = 8;
 
-/// The heap under test, and the table of expected objects: object n of task t has the number 8 t + n there.
-/// Where other tests keep an address, the table has the task. `sizes` has the slot sizes in words.
+/// The heap under test, and in `objects` the expected objects: object n of task t has the number 8 t + n in
+/// this table, which keeps each object's task. `sizes` has the slot sizes in words.
 #[derive(Drop)]
 struct Drawn {
     heap: QuotaHeap,
@@ -135,7 +134,8 @@ impl Drawn {
     }
 }
 
-// In 4,000 drawn calls `QuotaHeap` returns to each task what follows from that task's objects alone.
+// In 4,000 drawn mallocs and frees, each with a read, `QuotaHeap` returns to each task what follows from that
+// task's objects alone.
 #[test]
 fn drawn_calls_of_all_tasks_are_answered_as_by_a_table(rt: HostRuntime) -> Result<(), Fail> {
     let mut drawn = Drawn::open(rt.alloc(), Meter::new(&rt))?;

@@ -5,7 +5,7 @@ use std::test::Fail;
 use step_ledger::Meter;
 
 // Of three pages, task 0 has a quota of two and task 1 of one, so `set_quota` refuses one for task 2: the sum
-// would exceed them. Task 0 frees one of its two pages, but a malloc of task 1 is still refused for space:
+// would be four. Task 0 frees one of its two pages, but a malloc of task 1 is still refused for space:
 // the page stays in the quota of task 0. That quota can't become 0, since task 0 uses a page, but it can
 // become 1. Then task 1 gets a quota of two, and its malloc succeeds.
 #[test]
