@@ -1,4 +1,5 @@
--- For `count_pages`, `admit` and `least_quota`: the counts and pages of the entries so far, after one more entry, and after all.
+-- For `count_pages`, `admit` and `least_quota`: the objects of each class and the pages that they need, after some entries of what a task declares, one more,
+-- and all; a quota of at least these pages is enough.
 use Rattle.std.proofs.Common.{◌≡◌, ◌≢◌, ℕ, false, ◌+◌, ◌-◌, ◌<◌, ◌≤◌, List, [], ◌++◌, Some, None, length, get_or, set, replicate, take}
 use Rattle.std.proofs.Common.{arith, ap, sym, ◌∙◌, inl, inr, refl, subst}
 use Rattle.std.specs.Prelude.{IsTrue, nat_eq, nat_lt}
@@ -21,7 +22,7 @@ use Rattle.admission.specs.Layout.{AreCounted, IsPast}
 use Rattle.admission.proofs.Classes.{tasks_paged}
 use Rattle.admission.proofs.Entries.{ceil_within, count_here, count_other, count_split, in_order_more, pages_next, take_within}
 
--- nothing is counted at first
+-- before the first entry nothing is counted
 pub counted_none : (p : Paging) (quota : ℕ) → AreCounted p quota [] (replicate 67 0) 0 0
 counted_none p quota = record {
   counts_are = λ c lt. zeros 67 c;
@@ -42,7 +43,7 @@ pub within_is_enough : (t : Share) (needs : List Need) → CanBeAsked t.profile 
     → pages ≤ t.quota → IsEnough t needs
 within_is_enough t needs asked pages is within = (enough_iff t needs asked).1 (omega arith)
 
--- and one of fewer isn't
+-- a quota of fewer pages isn't enough
 pub fewer_is_short : (t : Share) (needs : List Need) → CanBeAsked t.profile needs → (pages : ℕ) → pages ≡ pages_of (task_paging t.profile) (in_order needs)
     → t.quota < pages → ¬ IsEnough t needs
 fewer_is_short t needs asked pages is less = λ enough. (let within = (enough_iff t needs asked).0 enough in absurd (omega arith))
@@ -60,7 +61,7 @@ never_short t needs asked wide nth short =
 
 module _ (t : Share) (is_page : IsTrue (is_page_size t.profile.page_words)) (needs : List Need) (asked : CanBeAsked t.profile needs) (i : ℕ) (d : Need)
     (lt : i < length needs) where
-  -- the entry fits a page
+  -- an object of entry i fits a page
   pub entry_fits : need (get_or needs i d).bytes ≤ t.profile.page_words
   entry_fits = elim (cases_lt t.profile.page_words (need (get_or needs i d).bytes)) [
     | inl more ↦ absurd (
@@ -79,7 +80,7 @@ module _ (t : Share) (is_page : IsTrue (is_page_size t.profile.page_words)) (nee
         (class_for (task_paging t.profile) (get_or needs i d).bytes)
     had_is = ap (λ c. get_or counts c 0) is ∙ k.counts_are (class_for (task_paging t.profile) (get_or needs i d).bytes) here
 
-    -- with the entry there are no more mallocs than proxies
+    -- with entry i there are no more mallocs so far than proxies
     pub few_before : before + (get_or needs i d).count ≤ t.profile.proxies
     few_before =
         let a = count_split needs i d lt in
@@ -118,7 +119,7 @@ module _ (t : Share) (is_page : IsTrue (is_page_size t.profile.page_words)) (nee
           let c = k.pages_are in
           omega arith
 
-      -- the pages with j objects of the entry
+      -- the pages that the objects of the entries before i need with j objects of entry i
       pages_at : (j : ℕ) → pages_of (task_paging t.profile) (in_order (take i needs) ++ replicate j (get_or needs i d).bytes)
           ≡ (pages - ceil_div (get_or counts class 0) slots) + ceil_div (get_or counts class 0 + j) slots
       pages_at j =

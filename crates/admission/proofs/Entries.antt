@@ -1,4 +1,5 @@
--- For `count_pages`: one entry of the needs, the pages that its objects add, and which of them is the first past the quota.
+-- For `count_pages`: an entry of what a task declares, some objects of one length, adds only pages of their class; and where its mallocs are in the list of all
+-- declared mallocs.
 use Rattle.std.proofs.Common.{◌≡◌, ◌≢◌, ℕ, suc, ◌+◌, ◌-◌, ◌*◌, ◌<◌, ◌≤◌, List, [], ◌∷◌, ◌++◌, length, get_or, replicate, take, drop}
 use Rattle.std.proofs.Common.{arith, ap, sym, ◌∙◌, inl, inr, refl}
 use Rattle.std.specs.Prelude.{nat_eq}
@@ -54,7 +55,7 @@ module _ (p : Paging) (ok : IsPaging p) (n : ℕ) (fits : need n ≤ p.page_word
       let b : j * one (nat_eq (class_for p n) d) ≡ j * 0 = ap (λ x. j * x) e in
       omega arith
 
-  -- the pages of the class, and those of all classes
+  -- the objects of one class need at most the pages that those of all classes need
   pub ceil_within : ceil_div (count_of_class p pre (class_for p n)) (slots_of p (class_for p n)) ≤ pages_of p pre
   ceil_within = sum_at_least (λ c. ceil_div (count_of_class p pre c) (slots_of p c)) 0 (classes p) (class_for p n) (omega arith)
       (let lt = there_is in omega arith)
@@ -75,7 +76,7 @@ module _ (p : Paging) (ok : IsPaging p) (n : ℕ) (fits : need n ≤ p.page_word
       + ceil_div (count_of_class p pre (class_for p n) + j) (slots_of p (class_for p n))
   pages_next j = (let w = ceil_within in let e = pages_with j in omega arith)
 
--- the mallocs of a list of entries that is cut in two
+-- the mallocs of two lists of entries in a row are those of the first list, then those of the second
 in_order-append : (xs ys : List Need) → in_order (xs ++ ys) ≡ in_order xs ++ in_order ys
 in_order-append [] ys = refl
 in_order-append (x ∷ xs) ys = ap (λ ns. replicate x.count x.bytes ++ ns) (in_order-append xs ys) ∙ sym (append_assoc (replicate x.count x.bytes) (in_order xs)
@@ -95,7 +96,7 @@ module _ (needs : List Need) (i : ℕ) (d : Need) (lt : i < length needs) where
       ap in_order (sym (take-append-drop i needs)) ∙ ap (λ xs. in_order (take i needs ++ xs)) (drop-cons needs i d lt)
       ∙ in_order-append (take i needs) (entry ∷ drop (suc i) needs)
 
-  -- up to the malloc after j of the entry
+  -- the mallocs up to number j of entry i are those of the entries before it, then j of its length
   pub take_within : (j : ℕ) → j ≤ entry.count → take (length (in_order (take i needs)) + j) (in_order needs)
       ≡ in_order (take i needs) ++ replicate j entry.bytes
   take_within j le =

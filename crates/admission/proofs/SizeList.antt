@@ -1,4 +1,4 @@
--- For `fill_sizes`: the slot sizes of a page, written one after the other.
+-- For `fill_sizes`: the slot sizes of a page, each computed from the one before it and written into a table of 67 entries, are those of the model.
 use Rattle.std.proofs.Common.{◌≡◌, ℕ, zero, suc, ◌+◌, ◌*◌, ◌/◌, ◌<◌, ◌≤◌, List, [], ◌∷◌, ◌++◌, length, set, take, arith, ap, sym, ◌∙◌, refl, inl, inr}
 use Rattle.std.specs.Prelude.{IsTrue}
 use Rattle.std.proofs.lemmas.Bool.{cases_lt}

@@ -1,4 +1,5 @@
--- The invariants of the loops of `fill_sizes` and `count_pages`, and what the failure of `pages_with` means (`IsPast`). No public clause cites this module.
+-- The loop invariants of `fill_sizes`, which lists a page's slot sizes, and of `count_pages`, which counts the pages of declared objects; and when the objects
+-- exceed the quota (`IsPast`). No public clause cites this module.
 use Rattle.std.specs.Prelude.{◌≡◌, ℕ, ◌+◌, ◌≤◌, ◌<◌, List, ◌++◌, length, slice_index, take}
 use Rattle.cf_base.specs.Classes.{sizes, sizes_from}
 use Rattle.cf_base.specs.declared.kind.Layout.TheVariants.{Words}
@@ -6,8 +7,8 @@ use Rattle.page_model.specs.Counts.{ceil_div}
 use Rattle.page_model.specs.Paging.{Paging, classes}
 use Rattle.quota_model.specs.Admission.{count_of_class, pages_of}
 
--- The first `count` entries of the table are the slot sizes of a page below `size`, which is the next one, or is past the page and ends the loop. By `left`,
--- a bound on the number of sizes to come, `sizes_from` has the rest of the sizes.
+-- The first `count` entries of the table are the slot sizes of a page below `size`, which is the next one, or is past the page and ends the loop. `left` is a
+-- bound on the number of sizes still to come, with which `sizes_from` computes them.
 pub record IsFilled (page_words : ℕ) (table : List ℕ) (count size : ℕ) : Type 0 where
   pub left : ℕ
   pub some : 1 ≤ size

@@ -1,5 +1,5 @@
 //! The test whether a quota of pages is enough for the objects that a task declares, its `needs`, and
-//! the least quota that is.
+//! the least quota that is enough.
 ghost use Rattle.std.specs.Prelude.{◌≡◌, ℕ, ◌+◌, ◌-◌, ◌^◌, ◌≤◌, ◌<◌, IfErr, IfNone, IfOk, IfSome, Some, length, nat_lt, position};
 ghost use Rattle.std.specs.FinMap.{empty};
 ghost use Rattle.cf_base.specs.Classes.{need, sizes};
@@ -42,8 +42,8 @@ pub fn admit(s: &Settings, quota: u32, needs: &[Need]) -> Admission
 }
 
 /// The least quota, in pages, for which `admit` returns `Yes` with these settings and needs. It may
-/// exceed the pages of the settings. There is none if an entry's object is larger than a page, or
-/// if the counts sum to more than the proxies.
+/// exceed the pages of the settings. `None` if an entry's object is larger than a page, or if the
+/// counts sum to more than the proxies: no quota is enough then.
 pub fn least_quota(s: &Settings, needs: &[Need]) -> Option<u32>
     requires few { length needs.now ≤ 64 }
     ensures enough { IfSome result (λ quota. IsAdmission (record { profile = profile_of s.now; quota = quota }) needs.now Yes) }

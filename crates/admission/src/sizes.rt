@@ -1,5 +1,5 @@
-//! The slot sizes of a page, in a table of fixed size that needs no allocation, and the class of a
-//! request by such a table.
+//! The slot sizes of a page, in a table of fixed size that needs no allocation; and by such a table
+//! the class of an object and the slots of a class on a page.
 ghost use Rattle.std.specs.Prelude.{◌≡◌, ◌≤◌, ◌<◌, IsTrue, length, take};
 ghost use Rattle.cf_base.specs.Classes.{need, sizes};
 ghost use Rattle.cf_base.specs.Limits.{is_page_size};
@@ -48,7 +48,7 @@ pub(crate) fn class_at(s: &Settings, slot_sizes: &[u32], bytes: u32) -> usize
     }
 }
 
-/// How many slots of the class a page has.
+/// How many slots of the class a page has. `slot_sizes` has the words of a slot of each class.
 pub(crate) fn slots_at(s: &Settings, slot_sizes: &[u32], class: usize) -> u32
     requires sized { slot_sizes.now ≡ sizes s.now.page_words Words }
     requires within { class < length slot_sizes.now }

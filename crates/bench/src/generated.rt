@@ -1,4 +1,5 @@
-//! Runs the commands of a generated script on a manager, without a session and without printing replies.
+//! Runs the first commands of the generator with seed 1 (the call `g` of a script) on a manager, without a
+//! session and without printing replies.
 ghost use Rattle.std.specs.Prelude.{IsTrue};
 
 use crate::script::{NONE, Table};
@@ -7,7 +8,8 @@ use generator::Generator;
 use script_reader::CommandRef;
 use step_ledger::Meter;
 
-/// Runs one command of a generated script, and returns whether it succeeded.
+/// Runs one command of a generated script, and returns whether it succeeded. `table` has the handle of each id.
+/// A malloc fails if its id has an object, the others if it has none.
 fn call<H: Manager>(heap: &mut H, c: CommandRef, table: &mut Table, meter: &mut Meter) -> bool
     requires { IsTrue (H.state heap.old).is_open }
     ensures { IsTrue (H.state heap.new).is_open }
@@ -46,7 +48,8 @@ fn call<H: Manager>(heap: &mut H, c: CommandRef, table: &mut Table, meter: &mut 
     }
 }
 
-/// Runs the first `count` commands of the generator with seed 1, and returns whether any succeeded.
+/// Runs the first `count` commands of the generator with seed 1, and returns whether any succeeded. Not inlined,
+/// so that a profile shows it.
 #[inline(never)]
 pub(crate) fn calls<H: Manager>(
     heap: &mut H,

@@ -1,5 +1,5 @@
 //! Makes the calls of a script on a heap of long objects over the moving manager, the heap `l` of a script:
-//! it has the calls `m`, `w` and `r`.
+//! it has the calls `m` (malloc), `w` (write) and `r` (read).
 ghost use Rattle.std.specs.Prelude.{◌≡◌, IsTrue};
 
 use crate::script::{LINE, Line, Table};

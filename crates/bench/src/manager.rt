@@ -1,5 +1,5 @@
-//! Makes the calls of a script on a manager: of the heaps `c`, `n`, `t` and `h` of a script. Each call of the
-//! manager is in a function that is not inlined, so that a profile shows it.
+//! Makes the calls of a script on a manager: the heaps `c` (moving), `n` (non-moving), `t` (TLSF) and `h`
+//! (Half-Fit). Each call of the manager is in a function that is not inlined, so that a profile shows it.
 ghost use Rattle.std.specs.Prelude.{IsTrue};
 
 use crate::generated;

@@ -1,4 +1,5 @@
-//! The lines of a script, and the table of handles and bytes that its calls use.
+//! The lines of this program's own scripts, a letter and three numbers each, and the table of
+//! handles and bytes that the calls use.
 use cf_base::Handle;
 use cf_io::number_of;
 use std::alloc::Global;
@@ -15,7 +16,7 @@ pub(crate) const NONE: u32 = 4_294_967_295;
 /// The most bytes of a read or a write.
 const MOST: usize = 1_000_000;
 
-/// A line: a letter and three numbers. The module `main` says what they mean for each letter.
+/// A line: its letter `op` and its three numbers. The module `main` says what they mean for each letter.
 #[derive(Clone, Copy)]
 pub(crate) struct Line {
     pub(crate) op: u8,
@@ -37,7 +38,7 @@ impl Line {
     }
 }
 
-/// The handle of each id, and the bytes that writes read from and reads fill.
+/// The handle of each id, and one buffer: a write takes its bytes from it, a read puts its bytes there.
 #[derive(Drop)]
 pub(crate) struct Table {
     handles: Vec<u32>,

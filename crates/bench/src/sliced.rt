@@ -1,4 +1,5 @@
-//! Makes the calls of a script on the sliced heap. The module `main` describes the lines of a script.
+//! Makes the calls of a script on the sliced heap, the heap `s` of a script: `m` (malloc), `f` (free), `s`
+//! (one slice of the pending job), and `d` (a number of these, drawn at random).
 ghost use Rattle.std.specs.Prelude.{IsTrue};
 
 use crate::script::{LINE, Line, NONE, Table};
@@ -42,7 +43,7 @@ fn sliced_free(heap: &mut SlicedHeap, h: Handle, meter: &mut Meter) -> bool
     heap.free(h, meter.steps()).is_ok()
 }
 
-/// Does a slice of the pending job.
+/// Does a slice of the pending job, if there is one.
 #[inline(never)]
 fn sliced_step(heap: &mut SlicedHeap, meter: &mut Meter)
     requires { IsTrue heap.old.is_open }
@@ -101,9 +102,9 @@ fn apply(heap: &mut SlicedHeap, line: Line, table: &mut Table, meter: &mut Meter
     }
 }
 
-/// Opens the heap with the numbers of the line `first`, its pages, the bytes of a page and the quantum, and
-/// makes the calls of the lines `calls`. Returns the number of lines whose calls succeeded, or `None` for a
-/// bad script or out of memory.
+/// Opens the heap with the numbers of the line `first`: its pages, the bytes of a page, and the quantum in words,
+/// clamped to 1 to 16,384. Makes the calls of the lines `calls`. Returns the number of lines whose calls
+/// succeeded, or `None` if a line is bad or memory runs out.
 pub(crate) fn run(
     alloc: Global,
     first: Line,

@@ -1,4 +1,5 @@
--- For the loop of `apply_commands`: each turn applies one more command of the seed, and counts its reply.
+-- For the loop of `apply_commands` in mode `bench`: each turn applies one more command that the generator makes of the seed, and counts whether its reply is
+-- good or a refusal.
 use Rattle.std.proofs.Common.{◌≡◌, ◌∙◌, ◌+◌, ◌-◌, ◌<◌, ◌≤◌, ◌++◌, ℕ, suc, cond, List, [], ◌∷◌, map, Option, Some, refl, sym, ap, ap₂, subst, arith}
 use Rattle.std.proofs.Common.{append_assoc, append-nil}
 use Rattle.std.proofs.lemmas.List.{map-append}
@@ -15,7 +16,7 @@ use Rattle.script_reader.specs.Items.{Item, asks}
 use Rattle.script_reader.specs.declared.command.Command.{Command}
 use Rattle.bench_run.specs.Bench.{IsAppliedTo, is_good, is_refusal}
 
--- the generator returned one more command of the seed
+-- if the generator returns one more command of the seed, the commands returned and those still to come are the same list as before
 pub given_more : (all done : List Command) (at next n i : ℕ) (command : Command) → i < n
     → ((m : ℕ) → generated at (suc m) ≡ command ∷ generated next m) → all ≡ done ++ generated at (n - i)
     → all ≡ (done ++ command ∷ []) ++ generated next (n - (i + 1))

@@ -1,2 +1,2 @@
 mod Applied
-mod EndsWithCause
+mod BenchLemmas

@@ -1,4 +1,5 @@
--- For `run_bench`: the run of a bench, the numbers of it, and what the bench prints. `seed` and `count` are those of the generator: it makes `count` commands.
+-- For `run_bench`, one bench of a manager: the run of its generated script, the numbers of that run, and the line that it prints. The generator makes the
+-- first `count` commands of the seed `seed`.
 use Rattle.std.specs.Prelude.{◌≡◌, ◌++◌, ℕ, Bool, true, false, List, [], ◌∷◌, Option, Some, None, map, codes}
 use Rattle.std.specs.List.{count_by}
 use Rattle.bench_run.specs.declared.figures.BenchFigures.{BenchFigures}
@@ -67,7 +68,7 @@ abbrev pub bench_line : BenchFigures → List ℕ
 bench_line f = with_number (codes "bench commands ") f.commands ++ (with_number (codes " ok ") f.ok ++ (with_number (codes " refused ") f.refused
     ++ (with_number (codes " live ") f.live ++ (with_number (codes " pages ") f.pages ++ with_number (codes " moves ") f.moves))))
 
--- the text that such a bench prints: the line of its numbers, with the line feed
+-- the text that a bench with these replies and this end prints: the line of its numbers, with the line feed
 abbrev pub bench_text : ℕ → List Reply → RunState → List ℕ
 bench_text count replies end = led [] (said (bench_line (figures_of count replies end)))
 

@@ -1,4 +1,4 @@
-//! `run_bench`: mode `bench` on one manager, from the opening to the line that it prints.
+//! `run_bench`: mode `bench` on one manager, from opening the manager to the line that the mode prints.
 ghost use Rattle.std.specs.Prelude.{◌≡◌, ◌≤◌, ◌≢◌};
 ghost use Rattle.bench_run.specs.Bench.{EndsBench, IsAppliedTo};
 ghost use Rattle.cf_io.specs.Feeds.{FailsLast};
@@ -16,10 +16,10 @@ use cf_session::Session;
 use generator::Generator;
 use step_ledger::Meter;
 
-/// Opens the manager as `heap 64 16384 1 4096` does, applies the first `count` commands that the generator
-/// makes of the seed, drops their replies, and writes one line with the numbers. Returns `Done`;
-/// `OutOfMemory` if the manager can't be opened, and then nothing is written; or `WriteFault` if the sink
-/// failed, and then a prefix of the line is written.
+/// Opens the manager as `heap 64 16384 1 4096` does, and applies the first `count` commands that the generator
+/// makes of the seed. Drops their replies, and writes one line with the numbers of the bench (`BenchFigures`).
+/// `session` must be fresh. Returns `Done`; `OutOfMemory` if the manager can't be opened, and then nothing is written; or `WriteFault`
+/// if the sink failed, and then a prefix of the line is written.
 pub fn run_bench<H: Manager, K: Sink>(
     rt: &HostRuntime,
     session: &mut Session,
@@ -61,8 +61,8 @@ pub fn run_bench<H: Manager, K: Sink>(
     figures.put(sink)
 }
 
-/// Applies the first `count` commands that the generator makes of the seed, and counts how many of their
-/// replies are good, `ok` or the bytes of a read, and how many are refusals.
+/// Applies the first `count` commands that the generator makes of the seed. Counts how many of their replies
+/// are good, that is `ok` or the bytes of a read, and how many are refusals.
 fn apply_commands<H: Manager>(session: &mut Session, heap: &mut H, seed: u64, count: u64) -> Tally
     requires { IsGoing (run_at session.old (H.state heap.old)) }
     ensures applied { IsAppliedTo (run_at session.old (H.state heap.old)) (generated seed count) (run_at session.new (H.state heap.new))

@@ -1,4 +1,4 @@
-//! The numbers that a bench prints, and the line of them.
+//! The numbers that mode `bench` prints, and the line in which it prints them.
 ghost use Rattle.std.specs.Prelude.{◌≡◌, ◌≤◌, [], ◌≢◌};
 ghost use Rattle.bench_run.specs.Bench.{IsWritten, bench_line};
 ghost use Rattle.cf_io.specs.Feeds.{FailsLast};
@@ -7,8 +7,9 @@ ghost use Rattle.cf_io.specs.Texts.{led, said};
 use cf_base::Status;
 use cf_io::{Line, Sink, push_field, put_line};
 
-/// The numbers of a bench: the commands applied, how many of their replies were good (`ok`) and how many
-/// were refusals, and at the end the live objects, the pages (or blocks) in use, and how many objects moved.
+/// The numbers of a bench: the commands applied, and how many of their replies were good (`ok` or the bytes of
+/// a read) and how many were refusals (`refused`). At the end: the live objects (`live`), the pages or blocks in
+/// use (`pages`), and how many objects moved since the opening (`moves`).
 #[derive(Clone, Copy, Debug, PartialEq, Eq)]
 pub struct BenchFigures {
     pub commands: u64,

@@ -1,5 +1,5 @@
 //! Mode `bench`: applies a generated script to one manager. It prints no replies, but one line that counts
-//! them, the live objects, the pages in use and the objects that moved.
+//! them, the live objects, the pages or blocks in use and the objects that moved.
 #![tactic(auto)]
 
 mod bench;

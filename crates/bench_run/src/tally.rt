@@ -1,4 +1,4 @@
-//! How many commands of a bench succeeded, and how many were refused.
+//! `Tally` counts the commands of mode `bench`: how many succeeded, and how many were refused.
 ghost use Rattle.std.specs.Prelude.{◌≡◌, ◌+◌, ◌<◌, ◌^◌, cond};
 ghost use Rattle.bench_run.specs.Bench.{is_good, is_refusal};
 

@@ -1,4 +1,5 @@
--- For the worked examples (`worked.rt`): if all blocks of a list pass a test, no free block serves a need, or none is of an earlier list.
+-- For the worked examples of mallocs (`worked.rt`): if each block of a list passes a test that can be computed, no free block may serve a need, or none that
+-- may is in an earlier free list.
 use Rattle.std.proofs.Common.{◌≡◌, ℕ, Bool, true, ◌≤◌, List, [], ◌∷◌, Some, None, arith, inl, inr}
 use Rattle.std.specs.Prelude.{◌&&◌, ◌||◌, nat_le, nat_lt, is_some}
 use Rattle.std.proofs.lemmas.Bool.{cases_eq, and_parts as both_pass}

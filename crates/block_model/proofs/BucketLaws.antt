@@ -1,4 +1,5 @@
--- For the law `free_lists_are_lawful`: the free-list rules of TLSF and of Half-Fit are lawful.
+-- The free-list rules of TLSF (336 lists) and Half-Fit (24) are lawful: list numbers don't fall as the size grows, and from the first list that is searched
+-- on, each block has the words that are needed.
 use Rattle.std.proofs.Common.{◌≡◌, ℕ, true, false, ◌+◌, ◌-◌, ◌*◌, ◌/◌, ◌^◌, ◌<◌, ◌≤◌, arith, sym, ◌∙◌, inl, inr, ap, refl, subst}
 use Rattle.std.specs.Prelude.{nat_le, nat_lt}
 use Rattle.std.proofs.lemmas.Bool.{cases_lt}
@@ -16,7 +17,7 @@ pub small_rounded : (s : ℕ) → s < 16 → tlsf_rounded s ≡ s
 unfolding tlsf_rounded
 small_rounded s h = (let yes : nat_lt s 16 ≡ true = grind (arith, nat_tests) in rw yes refl)
 
--- a size of 16 words or more, and its power of two
+-- a size s of 16 words or more, and the exponent f of the greatest power of two that is at most s
 pub record IsPower (s f : ℕ) : Type 0 where
   pub large : 16 ≤ s
   pub low : 2 ^ f ≤ s
@@ -80,7 +81,7 @@ bucket_rises s t le within = elim (cases_lt s 16) [
   | inr large ↦ not_below s (log s) t (power_of s large (omega arith)) le within
 ]
 
--- if the size is at least that at which the next list begins, its list is a later one
+-- a size t is in a later list than s if t is at least s plus the range of sizes of the list of s
 pub next_list : (s f t : ℕ) → IsPower s f → s + 2 ^ (f - 4) ≤ t → t < 2 ^ 32 → tlsf_bucket s < tlsf_bucket t
 next_list s f t is le within =
     let n = s + 2 ^ (f - 4) in

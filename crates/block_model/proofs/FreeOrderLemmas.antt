@@ -1,4 +1,5 @@
--- For the laws of `free_order.rt`: the next free block in the order, and the lists after a carve.
+-- For the laws of the order of free blocks: which block a malloc takes next from the free lists, that there is one if a block may serve, and that the lists
+-- after it contain exactly the free blocks.
 use Rattle.std.proofs.Common.{◌≡◌, ◌≢◌, ℕ, zero, suc, ◌+◌, ◌-◌, ◌^◌, ◌<◌, ◌≤◌, List, [], ◌∷◌, ◌++◌, Option, Some, None, length, drop, replicate, arith, refl, sym, ap, ◌∙◌, inl, inr, subst}
 use Rattle.std.specs.Prelude.{nat_eq}
 use Rattle.std.specs.List.{Contains, IsDistinct}
@@ -16,7 +17,7 @@ use Rattle.block_model.proofs.Rewriting.{apart}
 
 -- ---- the first block of the lists from one of them on
 
--- the lists from `start` on are empty up to list k, which begins with the block
+-- list number `list` begins with address a, and the lists from `start` up to it are empty
 pub record IsFirstOf (lists : List (List ℕ)) (start a : ℕ) : Type 0 where
   pub list : ℕ
   pub rest : List ℕ
@@ -133,7 +134,7 @@ same_listed (x ∷ xs) (y ∷ ys) long same =
 
 -- ---- lists of other blocks
 
--- the lists without a block are lists of the blocks where that one is not free any more
+-- the blocks `new` have the same free blocks as `old`, except that none is at address a
 pub record LosesFree (old : List Block) (a : ℕ) (new : List Block) : Type 0 where
   pub was : (x : ℕ) (b : Block) → block_at new x ≡ Some b → b.owner ≡ None → (x ≢ a) × (block_at old x ≡ Some b)
   pub is : (x : ℕ) (b : Block) → x ≢ a → block_at old x ≡ Some b → b.owner ≡ None → block_at new x ≡ Some b
@@ -162,7 +163,7 @@ module _ (rule : FreeLists) (count : ℕ) where
   without_used blocks lists a of used = same_listed (lists_without lists a) lists (length-without lists a) (λ k. list_without lists a k
       ∙ without_absent a (list_in lists k) (λ i. let f = (of.members k a).0 i in used f.block f.there f.free))
 
--- one more block is free
+-- the blocks `new` have the same free blocks as `old`, and one more, of `size` words at address a
 pub record GainsFree (old : List Block) (a size : ℕ) (new : List Block) : Type 0 where
   pub there : block_at new a ≡ Some (record { address = a; size = size; owner = None })
   pub fresh : (b : Block) → block_at old a ≡ Some b → b.owner ≡ None → ⊥
@@ -177,7 +178,7 @@ module _ (rule : FreeLists) (count : ℕ) (old new : List Block) (lists : List (
   within : rule.bucket size < length lists
   within = (let e = of.as_many in omega arith)
 
-  -- a member of a list of the old blocks, and of the new ones
+  -- a free block of the old blocks is a free block of the new ones, in the same bucket
   kept_free : (k x : ℕ) → IsFreeOf rule old k x → IsFreeOf rule new k x
   kept_free k x f = record {
     block = f.block;
@@ -234,7 +235,7 @@ module _ (d : Demand) (place : ℕ) where
   size_later : (x : Block) (xs : List Block) → x.address ≢ place → size_at (x ∷ xs) place ≡ size_at xs place
   size_later x xs other = ap size_of (skip x xs place other)
 
-  -- no other block changes
+  -- a carve changes no block but the one at `place` and the rest of it
   carve_elsewhere : (bs : List Block) (a : ℕ) → a ≢ place → (d.need + 2 ≤ size_at bs place → a ≢ place + d.need)
       → block_at (carved_at bs place d) a ≡ block_at bs a
   carve_elsewhere [] a ne off = refl
@@ -258,7 +259,7 @@ module _ (d : Demand) (place : ℕ) where
     ])
   ]
 
-  -- the block at the address is used
+  -- the block at `place` is not free after the carve
   carve_used : (bs : List Block) (b : Block) → block_at (carved_at bs place d) place ≡ Some b → b.owner ≡ None → ⊥
   carve_used [] b there free = absurd (let e : None ≡ Some b = there in cc)
   carve_used (x ∷ xs) b there free = elim (cases_eq x.address place) [
@@ -287,7 +288,7 @@ module _ (d : Demand) (place : ℕ) where
   abbrev rest_of : ℕ → Block
   rest_of size = record { address = place + d.need; size = size - d.need; owner = None }
 
-  -- the rest of it is a free block
+  -- the rest of the carved block, if it has two words or more, is a free block
   carve_rest : (bs : List Block) (from to : ℕ) (found : Block) → Fill bs from to → 2 ≤ d.need → block_at bs place ≡ Some found → d.need + 2 ≤ found.size
       → block_at (carved_at bs place d) (place + d.need) ≡ Some (rest_of found.size)
   carve_rest [] from to found f some there large = absurd (let e : None ≡ Some found = there in cc)
@@ -311,7 +312,7 @@ module _ (d : Demand) (place : ℕ) where
 -- ---- a carve
 
 module _ (rule : FreeLists) (count : ℕ) (s : BlocksWithLists) (of : AreListsOf rule count s) where
-  -- the next block is free, of a bucket that is searched, and no lesser one has a block
+  -- the block at address a is free and may serve the need, and no block that may serve it is in a lower bucket
   pub record IsNext (need a : ℕ) : Type 0 where
     pub block : Block
     pub there : block_at s.blocks a ≡ Some block
@@ -374,7 +375,7 @@ module _ (rule : FreeLists) (count words : ℕ) (lawful : AreLawful rule count) 
   size_is : size_at s.blocks place ≡ found.size
   size_is = ap size_of there
 
-  -- all of the block is used
+  -- the demand for the whole block that was found
   abbrev all : Demand
   all = record { need = found.size; owner = d.owner }
 

@@ -1,4 +1,5 @@
--- For the law `lists_stay_lists_of_the_blocks`: the lists after a release are lists of the blocks that it leaves.
+-- For the order of free blocks: which free blocks there are after a free, which coalesces the freed block with its free neighbours, and that the free lists
+-- after it contain exactly these.
 use Rattle.std.proofs.Common.{◌≡◌, ◌≢◌, ℕ, Bool, true, false, ◌+◌, ◌-◌, ◌^◌, ◌<◌, ◌≤◌, List, [], ◌∷◌, Some, None, cond, arith, refl, sym, ap, ◌∙◌, inl, inr, subst}
 use Rattle.std.specs.Prelude.{◌&&◌, is_none, nat_eq}
 use Rattle.std.proofs.lemmas.Bool.{cases_Bool, cases_eq}
@@ -14,7 +15,7 @@ use Rattle.block_model.proofs.Releases.{freed_fill, merged_fill}
 
 -- ---- the blocks after a release
 
--- the words of a free block at the front, and the blocks past it
+-- the words of the first block if that one is free, else 0 (`front_words`); the blocks without that free block (`past_front`)
 abbrev front_words : List Block → ℕ
 front_words [] = 0
 front_words (c ∷ cs) = cond (is_free c) c.size 0
@@ -51,7 +52,7 @@ starts_joined c (d ∷ ds) = by_cases (is_free c) refl
         both true f = rw (e, f) refl
         both false f = rw (e, f) e
 
--- the free blocks past a free one at the front, if there is one
+-- the free blocks that are left without the first block, if that one is free (`past_front`)
 module _ (cs : List Block) (from to : ℕ) (f : Fill cs from to) (y : ℕ) (b : Block) where
   past_was : block_at (past_front cs) y ≡ Some b → b.owner ≡ None → (y ≢ from) × (block_at cs y ≡ Some b)
   past_was at by = by_list cs f at
@@ -83,13 +84,13 @@ module _ (cs : List Block) (from to : ℕ) (f : Fill cs from to) (y : ℕ) (b : 
         | inr off ↦ rw off there
       ]
 
--- the block of `size` words at `start` is free, the one at `behind` is free no more, and the other free ones stay
+-- From the blocks `old` to `new`: a free block of `size` words is at `start`, no free block begins at `behind` any more, and the other free blocks stay.
 pub record FreesAt (old : List Block) (start size behind : ℕ) (new : List Block) : Type 0 where
   pub there : block_at new start ≡ Some (free start size)
   pub was : (x : ℕ) (b : Block) → x ≢ start → block_at new x ≡ Some b → b.owner ≡ None → (x ≢ behind) × (block_at old x ≡ Some b)
   pub is : (x : ℕ) (b : Block) → x ≢ start → x ≢ behind → block_at old x ≡ Some b → b.owner ≡ None → block_at new x ≡ Some b
 
--- with one more block before them
+-- `FreesAt` still holds if one more block is before all of them
 more_before : (x : Block) (old new : List Block) (start size behind : ℕ) → x.address < start → x.address < behind → FreesAt old start size behind new
     → FreesAt (x ∷ old) start size behind (x ∷ new)
 more_before x old new start size behind before before' r = record {
@@ -122,7 +123,7 @@ module _ (u : Block) (h : ℕ) (used : u.owner ≡ Some h) (cs : List Block) (fr
         ∙ past_is cs (from + u.size) to f.2 y b (λ e. ne' (e ∙ ap (λ a. a + u.size) (sym f.0))) (sym (skip u cs y (λ e. ne (sym e))) ∙ at);
   }
 
-  -- a free block is before it
+  -- a free block x ends where the released one begins
   module _ (x : Block) (before : x.address + x.size ≡ u.address) (some : 2 ≤ x.size) where
     second_frees : FreesAt (x ∷ u ∷ cs) x.address (x.size + head_size) (u.address + u.size) (free x.address (x.size + head_size) ∷ past_front cs)
     second_frees = record {
@@ -140,19 +141,19 @@ module _ (u : Block) (h : ℕ) (used : u.owner ≡ Some h) (cs : List Block) (fr
           ∙ past_is cs (from + u.size) to f.2 y b (λ e. ne' (e ∙ ap (λ a. a + u.size) (sym f.0))) (sym (skip u cs y off) ∙ t));
     }
 
--- no block behind the address ends at it
+-- blocks that begin at address a or behind it don't end at a
 pub none_ends : (bs : List Block) (from to a : ℕ) → Fill bs from to → a ≤ from → free_up_to bs a ≡ 0
 none_ends [] from to a f le = refl
 none_ends (b ∷ bs) from to a f le =
     let at = f.0 in let two = f.1 in
     rw (eq_no (b.address + b.size) a (λ e. absurd (omega arith))) (none_ends bs (from + b.size) to a f.2 (omega arith))
 
--- the words of a free block where blocks begin
+-- a free block at `from`, where the blocks begin, is the first of them
 front_is : (bs : List Block) (from to : ℕ) → Fill bs from to → free_from bs from ≡ front_words bs
 front_is [] from to f = refl
 front_is (b ∷ bs) from to f = ap free_size (take_first b bs from f.0)
 
--- what a release does to the free blocks, by its address
+-- what a release of the block at address a does to the free blocks
 abbrev pub FreesBy : List Block → ℕ → Type 0
 FreesBy bs a = FreesAt bs (merged_start bs a) (merged_size bs a) (a + size_at bs a) (released bs a)
 
@@ -209,7 +210,7 @@ frees (x ∷ xs) from to a u h f m there used = elim (cases_eq x.address a) [
       ])
 ]
   where
-    -- the block does not meet the released one
+    -- if block x doesn't end at the released block, x and the first block after the release aren't both free
     apart_from : (x : Block) (xs : List Block) (from to a : ℕ) → Fill (x ∷ xs) from to → AreMerged (x ∷ xs) → block_at xs a ≡ Some u
         → x.address + x.size ≢ a → (is_free x && starts_free (released xs a)) ≡ false
     apart_from x [] from to a f m later apart = absurd (let e : None ≡ Some u = later in cc)

@@ -1,4 +1,5 @@
--- For the laws `other_blocks_stay` and `malloc_gives_what_is_needed`: what a malloc and a free do to the block at each address.
+-- For the laws `other_blocks_stay` and `malloc_gives_what_is_needed`: after a malloc or a free every other used block stays and no other becomes used; the
+-- block of a malloc has the words that are needed or one more.
 use Rattle.std.proofs.Common.{◌≡◌, ◌≢◌, ℕ, Bool, true, false, ◌+◌, ◌-◌, ◌^◌, ◌≤◌, List, [], ◌∷◌, ◌++◌, Some, None, arith, sym, ◌∙◌, inl, inr, ap, refl, subst}
 use Rattle.std.specs.Prelude.{◌&&◌, is_none}
 use Rattle.std.proofs.lemmas.Bool.{cases_lt, cases_eq}
@@ -13,7 +14,7 @@ pub fill_le : (bs : List Block) (from to : ℕ) → Fill bs from to → from ≤
 fill_le [] from to f = omega arith
 fill_le (b ∷ bs) from to f = (let r = fill_le bs (from + b.size) to f.2 in omega arith)
 
--- a block at an address is between the ends of its list
+-- block b begins at address a and lies within the words from `from` to `to`
 pub record IsBlockWithin (b : Block) (a from to : ℕ) : Type 0 where
   pub address : b.address ≡ a
   pub size : 2 ≤ b.size

@@ -1,4 +1,5 @@
--- For the law `the_words_show_the_blocks`: the words of a tiling determine its blocks.
+-- For the law `the_words_show_the_blocks`: the blocks that fill a region can be read from its words, by the header of each block and the tag of each used
+-- one.
 use Rattle.std.proofs.Common.{◌≡◌, ◌≢◌, ℕ, zero, suc, true, false, ◌+◌, ◌-◌, ◌*◌, ◌/◌, ◌%◌, ◌^◌, ◌<◌, ◌≤◌, List, [], ◌∷◌, Option, Some, None, get_or, arith}
 use Rattle.std.proofs.Common.{◌∙◌, subst, ap, refl}
 use Rattle.std.specs.Prelude.{nat_lt, nat_eq}

@@ -1,4 +1,5 @@
--- For the law `a_block_gets_other_contents`: the words of a tiling after one block gets other contents and every other word stays.
+-- For the law `a_block_gets_other_contents`: after one used block gets other contents and every word outside of it stays, the words are those of the same
+-- blocks, with these contents.
 use Rattle.std.proofs.Common.{◌≡◌, ◌≢◌, ℕ, ◌+◌, ◌-◌, ◌<◌, ◌≤◌, List, [], ◌∷◌, Some, None, length, get_or, map, arith, sym, ◌∙◌, inl, inr, ap, refl}
 use Rattle.std.specs.Prelude.{◌⊎◌, ◌&&◌, cond, nat_le, nat_lt}
 use Rattle.std.specs.List.{range_with_len}
@@ -11,7 +12,7 @@ use Rattle.block_model.specs.Words.{AreTilingWords, HaveHeaders}
 use Rattle.block_model.proofs.Others.{IsBlockWithin, lies}
 use Rattle.cf_lemmas.proofs.Tests.{eq_yes, eq_no, le_yes, le_no, lt_yes, lt_no}
 
--- the block at an address stays that block in a longer list
+-- the block at an address stays the same if one more block is put before the list
 pub behind : (x : Block) (xs : List Block) (from to a : ℕ) (b : Block) → Fill (x ∷ xs) from to → block_at xs a ≡ Some b → block_at (x ∷ xs) a ≡ Some b
 behind x xs from to a b f there =
     let l = lies xs (from + x.size) to a b f.2 there in
@@ -49,7 +50,7 @@ apart (z ∷ zs) from to a c b d f x y ne = elim (cases_eq z.address a) [
       ])
 ]
 
--- if the headers of all blocks stay, so do the headers of the list
+-- if word 0 of every block stays, the blocks still have their headers
 pub headers_stay : (old new : List ℕ) (bs : List Block) (from to before : ℕ) → Fill bs from to
     → ((a : ℕ) (b : Block) → block_at bs a ≡ Some b → get_or new a 0 ≡ get_or old a 0) → HaveHeaders old bs before → HaveHeaders new bs before
 headers_stay old new [] from to before f same heads = tt
@@ -58,7 +59,7 @@ headers_stay old new (b ∷ bs) from to before f same heads = (
   headers_stay old new bs (from + b.size) to b.size f.2 (λ a c there. same a c (behind b bs from to a c f there)) heads.1,
 )
 
--- the words after n of them, from `from` on, are replaced
+-- the list `words`, with the n words from `from` on replaced by `f 0`, `f 1` and so on
 abbrev pub replaced : (ℕ → ℕ) → ℕ → ℕ → List ℕ → List ℕ
 replaced f from n words = map (λ w. cond (nat_le from w && nat_lt w (from + n)) (f (w - from)) (get_or words w 0)) (range_with_len 0 (length words))
 

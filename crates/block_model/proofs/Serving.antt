@@ -1,4 +1,5 @@
--- For the law `a_malloc_is_done_or_lacks_a_block`: a malloc has a result in the model, or no free block may serve the need.
+-- For the law `a_malloc_is_done_or_lacks_a_block`: in the model a malloc splits a free block of the lowest list that may serve its need, or no free block is
+-- in a list that is searched.
 use Rattle.std.proofs.Common.{◌≡◌, ℕ, ◌+◌, ◌≤◌, List, [], ◌∷◌, Option, Some, None, arith, sym, ◌∙◌, inl, inr, ap, refl}
 use Rattle.std.specs.Prelude.{◌⊎◌}
 use Rattle.std.proofs.lemmas.Bool.{cases_eq, cases_lt}

@@ -1,4 +1,5 @@
--- For the laws of `costs.rt`: bounds on the steps of a carve and of a release.
+-- For the laws of `costs.rt`: a carve (finding a free block and making it used) takes at most 23 steps, a release (clearing a block and coalescing it) at
+-- most 37 and one for each word.
 use Rattle.std.proofs.Common.{ℕ, Bool, true, false, ◌+◌, ◌-◌, ◌/◌, ◌%◌, ◌^◌, ◌≤◌, ◌==◌, List, Option, Some, None, cond, length, get_or, arith}
 use Rattle.std.specs.Prelude.{nat_le, nat_lt}
 use Rattle.block_model.specs.Buckets.{FreeLists}
@@ -90,7 +91,7 @@ merge_at_most last none link end words =
 total_at_most : (size next previous made : ℕ) → next ≤ 14 → previous ≤ 14 → made ≤ 7 → size + next + previous + (2 + made) ≤ 37 + size
 total_at_most size next previous made n p m = omega arith
 
--- the link of the block before, once the block behind has left its list
+-- the link of the free block before a released one, once the free block behind it has left its list
 abbrev link_left : List ℕ → ℕ → ℕ → ℕ → ℕ → ℕ
 link_left words at size more less = link_then more (at - less) (get_or words (at - less + 1) 0) (get_or words (at + size + 1) 0)
 

@@ -1,4 +1,5 @@
--- For the law `malloc_keeps_tiling`: a malloc splits a block, and the blocks afterwards are a tiling.
+-- For the law `malloc_keeps_tiling`: after a malloc, which splits a free block, the blocks still fill the region without a gap, and no two neighbours are
+-- both free.
 use Rattle.std.proofs.Common.{◌≡◌, ℕ, Bool, true, false, ◌+◌, ◌≤◌, List, [], ◌∷◌, ◌++◌, Some, None, arith, ◌∙◌, inl, inr, ap, refl, subst}
 use Rattle.std.specs.Prelude.{◌&&◌, is_none}
 use Rattle.std.proofs.lemmas.Bool.{cases_lt, cases_eq}
@@ -10,7 +11,7 @@ free_is : (b : Block) → b.owner ≡ None → is_free b ≡ true
 free_is b e = ap is_none e
 
 module _ (d : Demand) (some : 2 ≤ d.need) where
-  -- the parts of a split block fill its words
+  -- the blocks that a split leaves fill the words of the block that was split
   carved_fill : (b : Block) (bs : List Block) (from to : ℕ) → Fill (b ∷ bs) from to → Fill (carved b d ++ bs) from to
   carved_fill b bs from to (is, size, rest) = elim (cases_lt b.size (d.need + 2)) [
     | inl small ↦ rw (le_no (d.need + 2) b.size small) (is, size, rest)
@@ -24,7 +25,7 @@ module _ (d : Demand) (some : 2 ≤ d.need) where
     | inr other ↦ rw (eq_no b.address a other) (f.0, f.1, fill_carved bs a (from + b.size) to f.2)
   ]
 
--- the first part of a split block is used
+-- the first block that a split leaves is used
 carved_starts : (b : Block) (bs : List Block) (d : Demand) → starts_free (carved b d ++ bs) ≡ false
 carved_starts b bs d = elim (cases_lt b.size (d.need + 2)) [
   | inl small ↦ rw (le_no (d.need + 2) b.size small) refl

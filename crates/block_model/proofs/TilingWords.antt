@@ -1,4 +1,5 @@
--- For the law `a_tiling_has_words`: each tiling has words that represent it.
+-- For the law `a_tiling_has_words`: blocks that fill a region have words that represent them, made block by block: its header, then its owner's contents, or
+-- zeros if it is free.
 use Rattle.std.proofs.Common.{◌≡◌, ℕ, suc, ◌+◌, ◌-◌, ◌<◌, ◌≤◌, List, [], ◌∷◌, ◌++◌, Some, length, get_or, map, arith, sym, ◌∙◌, subst, inl, inr, ap, refl}
 use Rattle.std.specs.List.{range_with_len}
 use Rattle.std.proofs.lemmas.Bool.{cases_eq}
@@ -25,7 +26,7 @@ module _ (content : ℕ → ℕ → ℕ) where
       let a = length-append (own before b) (tiling_words content bs b.size) in
       omega arith
 
-  -- the words from `from` on are these
+  -- the words from `from` on are those of the list xs
   abbrev Reads : List ℕ → ℕ → List ℕ → Type 0
   Reads words from xs = (i : ℕ) → i < length xs → get_or words (from + i) 0 ≡ get_or xs i 0
 

@@ -1,4 +1,4 @@
--- For the heaps with blocks, which count them: how a malloc and a free change the sum of the words of all used blocks.
+-- For the count of used words that heaps with blocks keep: a malloc adds the words of its block to the sum over all used blocks, and a free subtracts them.
 use Rattle.std.proofs.Common.{◌≡◌, ◌≢◌, ℕ, Bool, true, false, ◌+◌, ◌-◌, ◌≤◌, List, [], ◌∷◌, ◌++◌, Some, None, arith, ◌∙◌, inl, inr, ap, refl, subst}
 use Rattle.std.specs.Prelude.{◌&&◌, cond, is_none}
 use Rattle.std.proofs.lemmas.Bool.{cases_lt, cases_eq}
@@ -124,6 +124,6 @@ used_within (b ∷ bs) from to f =
     at_most true n = omega arith
     at_most false n = omega arith
 
--- 0 if the region is one free block
+-- no word is used if the region is one free block
 pub used_in_one_free : (n : ℕ) → used_words (record { address = 0; size = n; owner = None } ∷ []) ≡ 0
 used_in_one_free n = (let f = used_first (record { address = 0; size = n; owner = None }) [] in let z = used_none in omega arith)

@@ -1,4 +1,5 @@
--- The free-list rules of TLSF (2004) and of Half-Fit (1995). A bucket is the number of a free list. Sizes and needs are in words.
+-- The free-list rules of TLSF (2004) and of Half-Fit (1995), and when a rule is right (`AreLawful`). A bucket is the number of a free list. Sizes and needs
+-- are in words.
 use Rattle.std.specs.Prelude.{ℕ, zero, suc, ◌+◌, ◌-◌, ◌*◌, ◌/◌, ◌^◌, ◌<◌, ◌≤◌, if◌then◌else◌, nat_le, nat_lt}
 
 -- the greatest f up to `top` with 2^f at most n, else 0

@@ -1,5 +1,5 @@
--- How many steps the calls on blocks cost, computed from the blocks and words that they find. A carve is a malloc's part: to find a free block and split it. A
--- release is a free's part: to clear a block and join it with free neighbours.
+-- How many steps calls on blocks cost, by the blocks and words that they find. A carve, by a malloc, finds a free block and splits it; a release, by a free,
+-- clears a block and coalesces it with neighbours.
 use Rattle.std.specs.Prelude.{ℕ, ◌+◌, ◌-◌, ◌*◌, ◌/◌, ◌%◌, ◌^◌, ◌==◌, ◌&&◌, List, Option, Some, None, if◌then◌else◌, nat_eq, nat_le, nat_lt, count_by}
 use Rattle.std.specs.Prelude.{length, slice_index}
 use Rattle.block_model.specs.Buckets.{FreeLists}
@@ -25,7 +25,7 @@ find_steps rule count blocks need None = if nat_le count (rule.search need) then
 find_steps rule count blocks need (Some at) = list_steps (rule.search need) (Some (rule.bucket (size_at blocks at))) + 1
 
 -- The steps of finding the largest free block, by the free lists. One step reads which groups of lists have a block. If a block is free, a second step reads
--- which lists of the last such group have a block, a third reads the head of the last of these lists, and two steps read each block of that list.
+-- which lists of the last such group have a block. A third reads the head of the last of these lists. Two steps read each block of that list.
 abbrev pub largest_steps : List (List ℕ) → ℕ
 largest_steps lists = if length (last_listed lists) == 0 then 1 else 3 + 2 * length (last_listed lists)
 
@@ -33,8 +33,8 @@ largest_steps lists = if length (last_listed lists) == 0 then 1 else 3 + 2 * len
 abbrev pub before_steps : ℕ → ℕ → ℕ
 before_steps at words = if nat_lt at words then 2 else 0
 
--- A part of the steps of removing a block from its list: the list must now lead past it. The link of the block before it in the list, at `previous`, is
--- changed, or, if there is none, the head of the list.
+-- Some of the steps of removing a block from its list, so that the list leads past it: the link of the previous block in the list, at `previous`, is
+-- changed, or the head of the list if there is no previous block.
 abbrev pub next_steps : ℕ → ℕ
 next_steps previous = if previous == no_block then 3 else 2
 
@@ -42,12 +42,12 @@ next_steps previous = if previous == no_block then 3 else 2
 abbrev pub previous_steps : ℕ → ℕ
 previous_steps next = if next == no_block then 0 else 2
 
--- The steps of removing a block with this link from its list: its link is read, and the links of its neighbours there are written.
+-- The steps of removing a block with this link from its list: its link is read, and the links of its neighbours in the list are written, or the head.
 abbrev pub unlink_steps : ℕ → ℕ
 unlink_steps link = 1 + next_steps (link / 2 ^ 32) + previous_steps (link % 2 ^ 32)
 
--- The steps of making a block the head of a list whose head was `next`: the head is read, the link of the block and that of `next` are written, and then the
--- head is.
+-- The steps of making a block the head of a list whose head was `next`: the head is read, the link of the block and that of `next` are written, and the block
+-- is written as the new head.
 abbrev pub push_steps : ℕ → ℕ
 push_steps next = 5 + previous_steps next
 
@@ -81,8 +81,8 @@ abbrev pub carve_steps : FreeLists → ℕ → List ℕ → List Block → ℕ �
 carve_steps rule count words old need None new = find_steps rule count old need None
 carve_steps rule count words old need (Some at) new = find_steps rule count old need (Some at) + carve_at_steps rule words old need at new
 
--- The steps of making two neighbours one block that ends at `end`. The header of the first is read and written. The free one, which has this link, leaves its
--- list. Three words are cleared. The header behind the new block is written, if there is one.
+-- The steps of making two neighbours one block that ends at `end`, in a region of `words` words. The header of the first is read and written. The free one,
+-- which has this link, leaves its list. Three words are cleared. The header behind the new block is written, if there is one.
 abbrev pub join_steps : ℕ → ℕ → ℕ → ℕ
 join_steps link end words = 5 + unlink_steps link + before_steps end words
 
@@ -96,19 +96,19 @@ next_merge_steps link end more words = (if end == words then 0 else 1) + (if mor
 abbrev pub previous_merge_steps : ℕ → ℕ → ℕ → ℕ → ℕ → ℕ
 previous_merge_steps link at less end words = (if at == 0 then 0 else 1) + (if less == 0 then 0 else join_steps link end words)
 
--- The link of the block at `a`, which was `link`, after another block left the list, whose link was `gone`. If the block that left was the next one of `a`,
--- the next one of `a` is now that block's next one; else the link stays.
-abbrev pub led_link : ℕ → ℕ → ℕ → ℕ
-led_link a link gone = if a == gone / 2 ^ 32 then link_word (gone % 2 ^ 32) (link / 2 ^ 32) else link
+-- The link of the block at `a` after another block left the list. It was `link` before, and the block that left had the link `gone`. If the block at `a` was
+-- right before the one that left, its next block is now the next block of the one that left. Otherwise the link is unchanged.
+abbrev pub link_if_before_removed : ℕ → ℕ → ℕ → ℕ
+link_if_before_removed a link gone = if a == gone / 2 ^ 32 then link_word (gone % 2 ^ 32) (link / 2 ^ 32) else link
 
--- The link of the block at `a`, which was `link`, after another block left the list, whose link was `gone`: `led_link`, for the case that this block was the
--- next one of `a`; and if it was the previous one of `a`, the previous one of `a` is now that block's previous one.
-abbrev pub left_link : ℕ → ℕ → ℕ → ℕ
-left_link a link gone = if a == gone % 2 ^ 32 then link_word (led_link a link gone % 2 ^ 32) (gone / 2 ^ 32) else led_link a link gone
+-- The same link as `link_if_before_removed`, which changes it if the block at `a` was right before the one that left. This definition also changes it if the block at `a`
+-- was right after the one that left: its previous block is then the previous block of the one that left.
+abbrev pub link_after_removal : ℕ → ℕ → ℕ → ℕ
+link_after_removal a link gone = if a == gone % 2 ^ 32 then link_word (link_if_before_removed a link gone % 2 ^ 32) (gone / 2 ^ 32) else link_if_before_removed a link gone
 
--- the link of the block at `a` once a free block of `more` words, with the link `gone`, left the list (`left_link`); 0 words mean that none did
+-- the link of the block at `a` once a free block of `more` words, with the link `gone`, left the list (`link_after_removal`); 0 words mean that none did
 abbrev pub link_then : ℕ → ℕ → ℕ → ℕ → ℕ
-link_then more a link gone = if more == 0 then link else left_link a link gone
+link_then more a link gone = if more == 0 then link else link_after_removal a link gone
 
 -- The steps of releasing the used block of `size` words at `at`: it is cleared, and coalesced with a free block of `more` words behind it and one of `less`
 -- words before it, if these aren't 0. Then half a word of its header is written, and it becomes the head of a list that then has `many` blocks.

@@ -1,4 +1,5 @@
--- The order in which the free blocks are used: a free list for each bucket, the block that a carve takes, and the lists after a carve and after a release.
+-- The order in which free blocks are used: a free list for each bucket, the next block for a need, the lists after a carve (by a malloc) or a release (by a
+-- free), and their links in words.
 use Rattle.std.specs.Prelude.{◌≡◌, ℕ, ◌+◌, ◌-◌, ◌*◌, ◌^◌, ◌↔◌, List, [], ◌∷◌, Option, Some, None, length, slice_index, slice_index_or, slice_set, map, drop, nat_eq, nat_le}
 use Rattle.std.specs.Prelude.{not, replicate, cond, if◌then◌else◌}
 use Rattle.std.specs.List.{Contains, IsDistinct, filter}
@@ -22,7 +23,7 @@ pub record IsFreeOf (rule : FreeLists) (blocks : List Block) (k a : ℕ) : Type 
   pub free : block.owner ≡ None
   pub bucket : rule.bucket block.size ≡ k
 
--- the lists of s are those of its blocks: there are `count` lists, and each contains exactly the free blocks of its bucket, each once
+-- the lists of s (blocks with lists) are those of its blocks: there are `count` lists, and each contains exactly the free blocks of its bucket, each once
 pub record AreListsOf (rule : FreeLists) (count : ℕ) (s : BlocksWithLists) : Type 0 where
   pub as_many : length s.lists ≡ count
   pub members : (k a : ℕ) → Contains (list_in s.lists k) a ↔ IsFreeOf rule s.blocks k a
@@ -68,22 +69,22 @@ lists_carved rule s need place =
     then lists_led_by rule (lists_without s.lists place) (place + need) (size_at s.blocks place - need)
     else lists_without s.lists place
 
--- a malloc that follows the lists turns `old` into `new`: it carves the next block for the need of d, at `place`
+-- a malloc that follows the lists turns `old` into `new`: it carves the next block for the need of the demand d, at `place`
 pub record CarvesNext (rule : FreeLists) (old : BlocksWithLists) (d : Demand) (place : ℕ) (new : BlocksWithLists) : Type 0 where
   pub next : next_block rule old.lists d.need ≡ Some place
   pub blocks : new.blocks ≡ carved_at old.blocks place d
   pub lists : new.lists ≡ lists_carved rule old d.need place
 
--- the words of the block if there is one and it is free, else 0
+-- how many words the block has if there is one and it is free, else 0
 abbrev pub free_size : Option Block → ℕ
 free_size None = 0
 free_size (Some b) = cond (is_free b) b.size 0
 
--- the words of the free block that begins at address a, 0 if none does
+-- how many words the free block that begins at address a has, 0 if none begins there
 abbrev pub free_from : List Block → ℕ → ℕ
 free_from blocks a = free_size (block_at blocks a)
 
--- the words of the free block that ends at address a, 0 if none does
+-- how many words the free block that ends at address a has, 0 if none ends there
 abbrev pub free_up_to : List Block → ℕ → ℕ
 free_up_to [] a = 0
 free_up_to (b ∷ bs) a = if nat_eq (b.address + b.size) a then cond (is_free b) b.size 0 else free_up_to bs a
@@ -92,7 +93,7 @@ free_up_to (b ∷ bs) a = if nat_eq (b.address + b.size) a then cond (is_free b)
 abbrev pub merged_start : List Block → ℕ → ℕ
 merged_start blocks a = a - free_up_to blocks a
 
--- the words of the block that a release of the block at `a` leaves
+-- how many words the block has that a release of the block at `a` leaves
 abbrev pub merged_size : List Block → ℕ → ℕ
 merged_size blocks a = free_up_to blocks a + (size_at blocks a + free_from blocks (a + size_at blocks a))
 

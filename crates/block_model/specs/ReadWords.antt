@@ -1,4 +1,4 @@
--- Which blocks the words of a region show, and the words that represent a list of blocks.
+-- The blocks that the words of a region show (`read_blocks`), by headers and tags, and the words that represent a list of blocks with their owners' contents.
 use Rattle.std.specs.Prelude.{◌≡◌, ℕ, zero, suc, ◌+◌, ◌-◌, ◌/◌, ◌%◌, ◌^◌, List, [], ◌∷◌, ◌++◌, Option, Some, None, if◌then◌else◌, map, nat_eq, nat_lt}
 use Rattle.std.specs.Prelude.{slice_index}
 use Rattle.std.specs.List.{range_with_len}

@@ -1,4 +1,5 @@
--- A region that is divided into used and free blocks without a gap, and what a malloc and a free do to the blocks. Addresses and sizes are in words.
+-- A tiling: used and free blocks that fill a region without a gap, no two free ones side by side; what a malloc and a free do to the blocks, and counts of
+-- them. Addresses and sizes are in words.
 use Rattle.std.specs.Prelude.{◌≡◌, ◌≢◌, ℕ, Bool, false, ◌&&◌, ◌+◌, ◌-◌, ◌/◌, ◌≤◌, List, [], ◌∷◌, ◌++◌, Option, Some, None, if◌then◌else◌, is_none, is_some}
 use Rattle.std.specs.Prelude.{nat_eq, nat_le, max, count_by, sum_by, cond}
 use Rattle.block_model.specs.Buckets.{FreeLists}
@@ -60,20 +61,21 @@ pub record Serves (rule : FreeLists) (need : ℕ) (b : Block) : Type 0 where
 abbrev pub LacksBlock : FreeLists → List Block → ℕ → Type 0
 LacksBlock rule blocks need = (a : ℕ) (b : Block) → block_at blocks a ≡ Some b → Serves rule need b → ⊥
 
--- what block b becomes if it is split for d: its first words, which d needs, become used, and the rest becomes a free block; a rest of less than two words
--- stays with the used block
+-- what block b becomes if it is split for the demand d: its first words, which d needs, become used, and the rest becomes a free block; a rest of less than
+-- two words stays with the used block
 abbrev pub carved : Block → Demand → List Block
 carved b d = if nat_le (d.need + 2) b.size
     then record { address = b.address; size = d.need; owner = Some d.owner } ∷ record
     { address = b.address + d.need; size = b.size - d.need; owner = None } ∷ []
     else (record { address = b.address; size = b.size; owner = Some d.owner } ∷ [])
 
--- the blocks after the one at address a is split for d
+-- the blocks after the one at address a is split for the demand d
 abbrev pub carved_at : List Block → ℕ → Demand → List Block
 carved_at [] a d = []
 carved_at (b ∷ bs) a d = if nat_eq b.address a then carved b d ++ bs else b ∷ carved_at bs a d
 
--- a malloc turns the blocks `old` into `new`: of the free blocks that may serve the need of d, one of the lowest bucket is split, the one at `place`
+-- a malloc turns the blocks `old` into `new`: of the free blocks that may serve the need of the demand d, one of the lowest bucket is split, the one at
+-- `place`
 pub record Carves (rule : FreeLists) (old : List Block) (d : Demand) (place : ℕ) (new : List Block) : Type 0 where
   pub found : Block
   pub there : block_at old place ≡ Some found
@@ -81,7 +83,7 @@ pub record Carves (rule : FreeLists) (old : List Block) (d : Demand) (place : �
   pub least : (a : ℕ) (b : Block) → block_at old a ≡ Some b → Serves rule d.need b → rule.bucket found.size ≤ rule.bucket b.size
   pub carved : new ≡ carved_at old place d
 
--- block b, and behind it other blocks; if b and the first of them are free, they become one
+-- block b followed by other blocks; if b and the first of the others are both free, the two become one
 abbrev pub joined : Block → List Block → List Block
 joined b [] = b ∷ []
 joined b (c ∷ cs) = if is_free b && is_free c then record { address = b.address; size = b.size + c.size; owner = None } ∷ cs else (b ∷ c ∷ cs)
@@ -100,7 +102,7 @@ freed_at (b ∷ bs) a = if nat_eq b.address a then record { address = b.address;
 abbrev pub released : List Block → ℕ → List Block
 released blocks a = merged (freed_at blocks a)
 
--- the words of all used blocks
+-- how many words all used blocks have together
 unfoldable pub used_words : List Block → ℕ
 used_words blocks = sum_by (λ b. cond (is_free b) 0 b.size) blocks
 
@@ -112,21 +114,21 @@ used_blocks blocks = count_by (λ b. is_some b.owner) blocks
 unfoldable pub free_blocks : List Block → ℕ
 free_blocks blocks = count_by is_free blocks
 
--- the words of the largest free block, 0 if none is free
+-- how many words the largest free block has, 0 if no block is free
 abbrev pub largest_free : List Block → ℕ
 largest_free [] = 0
 largest_free (b ∷ bs) = max (cond (is_free b) b.size 0) (largest_free bs)
 
--- the words of a block, 0 if there is none
+-- how many words a block has, 0 if there is no block
 abbrev pub size_of : Option Block → ℕ
 size_of None = 0
 size_of (Some b) = b.size
 
--- the words of the block at address a, 0 if none begins there
+-- how many words the block at address a has, 0 if no block begins there
 abbrev pub size_at : List Block → ℕ → ℕ
 size_at blocks a = size_of (block_at blocks a)
 
--- the block at `place` has the owner that d names, and the words that d needs, or one more
+-- the block at `place` has the owner that the demand d names, and the words that d needs, or one more
 pub record IsCarvedTo (blocks : List Block) (place : ℕ) (d : Demand) : Type 0 where
   pub block : Block
   pub there : block_at blocks place ≡ Some block

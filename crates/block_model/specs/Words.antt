@@ -2,7 +2,7 @@
 use Rattle.std.specs.Prelude.{◌≡◌, ℕ, ◌+◌, ◌*◌, ◌^◌, ◌<◌, ◌≤◌, List, [], ◌∷◌, Some, None, cond, slice_index}
 use Rattle.block_model.specs.Tiling.{Block, is_free, block_at}
 
--- word 0 of block b: its size, a bit that is set if it is used, and in the upper half the size of the block before it
+-- Word 0 of block b: in the lower half the size of b, with bit 31 set if b is used; in the upper half `before`, the size of the block before b (0 if none).
 abbrev pub block_header : ℕ → Block → ℕ
 block_header before b = b.size + 2 ^ 31 * cond (is_free b) 0 1 + 2 ^ 32 * before
 

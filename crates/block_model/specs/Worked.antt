@@ -1,4 +1,4 @@
--- Short names for the blocks of the worked examples. Addresses and sizes are in words.
+-- Short names for a used and a free block, for the worked examples of mallocs and frees. Addresses and sizes are in words.
 use Rattle.std.specs.Prelude.{ℕ, Some, None}
 use Rattle.block_model.specs.Tiling.{Block}
 

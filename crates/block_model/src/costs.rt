@@ -1,5 +1,6 @@
-//! Laws of what calls on blocks cost in steps: bounds that hold whatever the blocks are. The
-//! functions do nothing; each contract is a law.
+//! Laws of the most steps, whatever the blocks are, of a carve (finding and splitting a free block)
+//! and of a release (clearing and coalescing a block). The functions do nothing; each contract is a
+//! law.
 ghost use Rattle.std.specs.Prelude.{ℕ, ◌+◌, ◌≤◌, List, Option, None};
 ghost use Rattle.block_model.specs.Buckets.{FreeLists};
 ghost use Rattle.block_model.specs.Costs.{carve_steps, find_steps, release_steps};
@@ -14,9 +15,9 @@ pub fn a_carve_has_a_bound()
     ensures none { (rule : FreeLists) (count : ℕ) (blocks : List Block) (need : ℕ) → find_steps rule count blocks need None ≤ 2 }
 {}
 
-/// A release of the block at `place` takes at most 37 steps, plus the words of the block: it
-/// becomes free, is cleared, and joins its free neighbours. `old` are the blocks before, `new`
-/// those after.
+/// A release of the block at `place` takes at most 37 steps, and one for each word of the block: the
+/// block becomes free, is cleared, and joins its free neighbours. `old` are the blocks before the
+/// release, `new` those after it.
 pub fn a_release_has_a_bound()
     ensures { (rule : FreeLists) (words : List ℕ) (old : List Block) (place : ℕ) (new : List Block)
         → release_steps rule words old place new ≤ 37 + size_at old place }

@@ -1,5 +1,6 @@
 //! Laws of the order in which free blocks are used. A `BlocksWithLists` is the blocks of a region with the
-//! free list of each bucket. The functions do nothing; each contract is a law.
+//! free list of each bucket. In the clauses `rule` is the free-list rule, `s` the blocks with their lists, and
+//! `d` the need and the owner of a malloc. The functions do nothing; each contract is a law.
 ghost use Rattle.std.specs.Prelude.{◌≡◌, ℕ, ◌^◌, ◌≤◌, Some};
 ghost use Rattle.block_model.specs.Buckets.{FreeLists, AreLawful};
 ghost use Rattle.block_model.specs.FreeOrder.{AreListsOf, CarvesNext, BlocksWithLists, first_lists, lists_released};

@@ -64,8 +64,8 @@ pub fn a_tiling_has_words()
         → AreTilingWords content blocks (tiling_words content blocks 0) × (length (tiling_words content blocks 0) ≡ count) }
 {}
 
-/// The words of a region of `count` words determine its blocks (`read_blocks`). It takes the header
-/// of each block and the tag of each used one; word 1 of a free block isn't needed.
+/// The words of a region of `count` words determine its blocks (`read_blocks`). The header of each
+/// block and the tag of each used one are enough; word 1 of a free block may be any word.
 pub fn the_words_show_the_blocks()
     ensures { (count : ℕ) (blocks : List Block) (words : List ℕ) → count < 2 ^ 31 → IsTiling count blocks
         → HaveHeaders words blocks 0 → HaveTags words blocks → read_blocks count words 0 count ≡ blocks }

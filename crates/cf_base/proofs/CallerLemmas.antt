@@ -1,4 +1,4 @@
--- What other crates' proofs may cite: the slot sizes of a page, bounds on sizes and slots, and numbers within limits.
+-- What other crates' proofs may cite: the list of slot sizes of a page, which rises, how large a slot is and how many a page has, and tests of ranges.
 use Rattle.std.proofs.Common.{◌≡◌, ℕ, ◌≤◌, true}
 use Rattle.std.proofs.lemmas.Bool.{and_from, le-leb}
 use Rattle.cf_base.specs.Limits.{is_within}

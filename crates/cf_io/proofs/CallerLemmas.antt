@@ -1,4 +1,4 @@
--- What other crates' proofs may cite: numbers that are written and read again, and how long the texts on a line are.
+-- What other crates' proofs may cite: numbers that are written and read again, bytes written one after the other, and how long the texts on a line are.
 use Rattle.std.proofs.Common.{◌≡◌, ◌∙◌, ◌<◌, ◌≤◌, ◌*◌, ◌&&◌, List, [], ◌∷◌, ℕ, Some, true, refl, ap, sym, length, arith}
 use Rattle.std.specs.List.{list_all}
 use Rattle.std.specs.Fmt.{decimal}
@@ -20,7 +20,7 @@ length_in_hex bytes = length-encode_with lower_digits bytes
 pub length_of_word : (v : ℕ) → length (word_text v) ≡ 16
 length_of_word v = length_in_hex (to_be_bytes w64 v)
 
--- a leading zero changes nothing
+-- a leading zero doesn't change the number that a text spells
 pub number_behind_zero : (text : List ℕ) → 0 < length text → number_in (48 ∷ text) ≡ number_in text
 number_behind_zero text some = grind (arith, some)
 
@@ -28,7 +28,7 @@ digits_pass : (text : List ℕ) → AllDigits 10 text → list_all is_digit text
 digits_pass [] h = refl
 digits_pass (c ∷ cs) h = let e : is_digit c ≡ true = grind (arith, digit_from_value c h.0) in ap (λ b. b && list_all is_digit cs) e ∙ digits_pass cs h.1
 
--- a number that was written is read again
+-- the decimal text of a number of 32 bits spells this number
 pub number_of_decimal : (n : ℕ) → n ≤ 4294967295 → number_in (decimal n) ≡ Some n
 number_of_decimal n fits =
     let h = decimal_is_IsNumeral n (omega arith) in

@@ -1,4 +1,5 @@
--- For `leading_number` and `number_of`: the decimal digits at the start of a text, read one by one.
+-- For `leading_number` and `number_of`, which read decimal digits one by one: their value after each digit, where they end, and when a text spells no
+-- number: no digit, another byte, or more than 2^32 - 1.
 use Rattle.std.proofs.Common.{◌≡◌, ◌∙◌, ◌<◌, ◌≤◌, ◌+◌, ◌-◌, ◌*◌, ◌&&◌, if◌then◌else◌, nat_le, not, Bool, List, ℕ, None, Some, true, false, refl, ap, sym, take}
 use Rattle.std.proofs.Common.{length, get_or, arith, inl, inr}
 use Rattle.std.proofs.Common.{Option, min, option_map}
@@ -44,7 +45,7 @@ passes text i v value large =
     let over : nat_le (digits_value 10 text) 4294967295 ≡ false = lt-leb _ _ (omega (arith, digits_value-take-le 10 text i (omega arith), value, large)) in
     rw over (sym (ap (λ b. if b then Some (digits_value 10 text) else None) (and-false _)))
 
--- if the first i bytes are digits, each of them is one
+-- if the first i bytes are all digits, byte k below i is a digit
 digit_before : (text : List ℕ) (i k : ℕ) → i ≤ length text → list_all is_digit (take i text) ≡ true → k < i → is_digit (get_or text k 0) ≡ true
 digit_before text i k within all below = go (is_digit (get_or text k 0)) refl
   where
@@ -62,17 +63,17 @@ other_byte text k inside isnt = rw (list_all_at is_digit text k 0 inside isnt) (
 pub digits_within : (text : List ℕ) → digits_first text ≤ length text
 digits_within text = prefix_len-le-length (λ b. not (not (is_digit b))) text
 
--- the byte after the first digits is no digit
+-- the byte after the digits that a text begins with is no digit
 pub digits_stop : (text : List ℕ) → digits_first text < length text → is_digit (get_or text (digits_first text) 0) ≡ false
 digits_stop text inside = not-true _ (passes_at_first (λ b. not (is_digit b)) text 0 inside)
 
--- if the first i bytes are digits and the next byte isn't, there are i first digits
+-- if the first i bytes are digits and the next byte isn't, the text begins with exactly i digits
 pub digits_end : (text : List ℕ) (i : ℕ) → i ≤ length text → list_all is_digit (take i text) ≡ true
     → (i < length text → is_digit (get_or text i 0) ≡ false) → digits_first text ≡ i
 digits_end text i within all ends =
     position_or_len_is (λ b. not (is_digit b)) text i 0 within (λ k below. ap not (digit_before text i k within all below)) (λ inside. ap not (ends inside))
 
--- and there are at least i first digits if the first i bytes are digits
+-- if the first i bytes are digits, the text begins with at least i digits
 digits_least : (text : List ℕ) (i : ℕ) → i ≤ length text → list_all is_digit (take i text) ≡ true → i ≤ digits_first text
 digits_least text i within all = elim (cases_lt (digits_first text) i) [
   | inl below ↦ absurd (false≢true (sym (digits_stop text (omega arith)) ∙ digit_before text i (digits_first text) within all below))
@@ -87,7 +88,7 @@ first_passes text i v within all value large =
     let same : take i (take n text) ≡ take i text = take-take i n text (digits_least text i within all) in
     ap (option_map (λ m. (m, n))) (passes (take n text) i v (value ∙ ap (digits_value 10) (sym same)) large)
 
--- if the first i bytes are digits and the next byte isn't, the first digits spell their value, which fits 32 bits
+-- if the first i bytes are digits, the next byte isn't, and their value v fits 32 bits, the leading number is v, of i digits
 pub first_spell : (text : List ℕ) (i v : ℕ) → 0 < i → i ≤ length text → list_all is_digit (take i text) ≡ true
     → (i < length text → is_digit (get_or text i 0) ≡ false) → v ≡ digits_value 10 (take i text) → v ≤ 4294967295 → Some (v, i) ≡ leading_number text
 first_spell text i v some within all ends value fits =
@@ -104,7 +105,7 @@ first_spell text i v some within all ends value fits =
 pub first_none : (text : List ℕ) → (0 < length text → is_digit (get_or text 0 0) ≡ false) → None ≡ leading_number text
 first_none text ends = rw (digits_end text 0 (omega arith) refl ends) refl
 
--- the leading number is the one that the first digits spell
+-- if v, of n digits, is the leading number, the text begins with n digits, and they spell v
 pub first_shown : (text : List ℕ) (v n : ℕ) → Some (v, n) ≡ leading_number text → (n ≡ digits_first text) × (number_in (take n text) ≡ Some v)
 first_shown text v n shown = go (number_in (take (digits_first text) text)) refl shown
   where
@@ -129,7 +130,7 @@ whole_other text v n shown below =
     let e = (first_shown text v n shown).0 in
     sym (other_byte text (digits_first text) (omega (arith, e)) (digits_stop text (omega (arith, e))))
 
--- the value that the loop keeps, at most 2^32, after one digit more
+-- one more digit turns the loop's value from v to w: the values of the first i and i + 1 digits, each cut to at most 2^32
 pub value_grows : (text : List ℕ) (i v w : ℕ) → i < length text → is_digit (get_or text i 0) ≡ true → v ≡ min (digits_value 10 (take i text)) 4294967296
     → w ≡ min (10 * v + (get_or text i 0 - 48)) 4294967296 → w ≡ min (digits_value 10 (take (i + 1) text)) 4294967296
 value_grows text i v w inside digit value grown =

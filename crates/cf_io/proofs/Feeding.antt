@@ -1,4 +1,4 @@
--- For `put_all`: bytes that are written one after the other.
+-- For `put_all`, which writes bytes to a sink in several calls: what these calls append, one after the other, is what one call of all bytes would append.
 use Rattle.std.proofs.Common.{◌≡◌, ◌++◌, ◌∙◌, List, ℕ, Option, None, Some, refl, ap, sym, ◌+◌, append_assoc, take, drop}
 use Rattle.std.proofs.Math.Seq.{take-add}
 use Rattle.cf_io.specs.Feeds.{appended}

@@ -1,8 +1,9 @@
--- For the layers above, which write replies: the bytes of a line, and lines that are written in parts.
+-- For crates that write replies: the bytes of a reply, each line after its lead; two writes, the second perhaps cut, as one; a line that texts were appended
+-- to; and that a text that fits the line is appended.
 use Rattle.std.proofs.Common.{◌≡◌, ◌∙◌, ℕ, ◌+◌, ◌<◌, ◌≤◌, ◌^◌, ◌++◌, List, [], ◌∷◌, Option, refl, ap, sym, append_assoc, append-nil, subst, arith, length, lit<}
 use Rattle.std.specs.Prelude.{Result, Ok, Err, decimal}
 use Rattle.std.specs.Result.{IsOk}
-use Rattle.cf_io.specs.Lines.{Pushes, line_room}
+use Rattle.cf_io.specs.Lines.{Pushes, line_capacity}
 use Rattle.cf_io.specs.declared.line.Full.{Full}
 use Rattle.std.proofs.lemmas.Fmt.{length-decimal-le}
 use Rattle.cf_base.specs.declared.answers.Failed.{Failed}
@@ -27,13 +28,13 @@ led-append lead (text ∷ rest) more =
 abbrev Written : Type 0
 Written = Option (List ℕ)
 
--- the first bytes were written whole, then the second ones, whole or in part: together that is a write of both
+-- if the bytes a were written whole, and then the bytes b whole or in part, that is a write of `a ++ b`, whole or in part
 pub puts_then : {T : Type 0} (w x y : Written) (a b : List ℕ) (r : Result T Failed) → x ≡ appended w a → Puts x b r y → Puts w (a ++ b) r y
 puts_then w x y a b (Ok u) first next = next ∙ ap (λ (o : Written). appended o b) first ∙ appended_then w a b
 puts_then w x y a b (Err e) first (front, lost, parts, is) =
     (a ++ front, lost, ap (λ xs. a ++ xs) parts ∙ sym (append_assoc a front lost), is ∙ ap (λ (o : Written). appended o front) first ∙ appended_then w a front)
 
--- only a prefix of the first bytes was written: that is a prefix of both
+-- if only a prefix of the bytes a was written, it is a prefix of `a ++ b`
 pub puts_cut : (w y : Written) (a b : List ℕ) (e : Failed) → Puts {T = Unit {0}} w a (Err e) y → Puts {T = Unit {0}} w (a ++ b) (Err e) y
 puts_cut w y a b e (front, lost, parts, is) = (front, lost ++ b, ap (λ xs. xs ++ b) parts ∙ append_assoc front lost b, is)
 
@@ -53,8 +54,8 @@ pub five : (lead l m n o p q a b c d e : List ℕ) → l ≡ lead → m ≡ l ++
     → q ≡ lead ++ (a ++ (b ++ (c ++ (d ++ e))))
 five lead l m n o p q a b c d e first second third fourth fifth sixth = rw (sixth, fifth, fourth, third, second, first) (simp append_assoc)
 
--- a text is on the line if it fitted
-pub pushed : {T : Type 0} (old text new : List ℕ) (r : Result T Full) → Pushes old text r new → length old + length text ≤ line_room
+-- if the line has room for the text, the push succeeds and appends it
+pub pushed : {T : Type 0} (old text new : List ℕ) (r : Result T Full) → Pushes old text r new → length old + length text ≤ line_capacity
     → IsOk r × (new ≡ old ++ text)
 pushed old text new (Ok u) p room = (refl, p.0)
 pushed old text new (Err e) p room = absurd (omega arith)

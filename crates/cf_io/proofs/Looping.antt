@@ -1,4 +1,5 @@
--- For `fill_over`: a buffer that is filled with a pattern over and over.
+-- For `fill_over`, which fills a buffer with the pattern of a `LoopSource` over and over: each copied part of the pattern continues at the right byte, and
+-- keeps the bytes before it.
 use Rattle.std.proofs.Common.{◌≡◌, ◌∙◌, ◌<◌, ◌≤◌, ◌+◌, ◌-◌, ◌%◌, ◌++◌, List, ℕ, ap, sym, take, drop, length, get_or, arith, inl, inr}
 use Rattle.std.proofs.Math.Nat.{mod-add-mod, mod-eq_of_lt, mod_self}
 use Rattle.std.proofs.lemmas.Bool.{cases_lt}
@@ -15,7 +16,7 @@ begins_again at full n next len was whole = sym (mod_self len) ∙ ap (λ m. m %
 pub goes_on_inside : (at full n next len : ℕ) → next ≡ (at + full) % len → next + n < len → next + n ≡ (at + (full + n)) % len
 goes_on_inside at full n next len was inside = sym (mod-eq_of_lt inside) ∙ goes_on at full n next len was
 
--- the index of byte k, if the next one to be copied is the pattern's byte `next`
+-- if byte `full` of the buffer is the pattern's byte `next`, byte k, at or after `full`, is the pattern's byte `next + (k - full)`
 place : (at full next k len : ℕ) → next ≡ (at + full) % len → full ≤ k → next + (k - full) < len → (at + k) % len ≡ next + (k - full)
 place at full next k len was behind inside =
     let e : at + full + (k - full) ≡ at + k = omega arith in

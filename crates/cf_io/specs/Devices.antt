@@ -37,11 +37,11 @@ sink_faults s = s.faults
 abbrev pub sink_failed : {T : Type 0} → StdSink T → Bool
 sink_failed s = s.failed
 
--- a call of the source `old` returned `answer` and left the source `new`: if the reader's remaining bytes are known, they are those before without the bytes
--- that the call read into `buf`
+-- A call of the source `old` returned `answer` and left the source `new`. If the bytes that the reader has left (`remaining`) are known, the call removed from
+-- them those that it read into `buf`, and none at an error. It read 0 bytes into a buffer that isn't empty only if no byte was left.
 abbrev pub ReadsFrom : {T : Type 0} → (T → Option (List ℕ)) → StdSource T → Result ℕ Failed → StdSource T → List ℕ → Type 0
 ReadsFrom remaining old answer new buf = ReadConsumes (remaining (reader_of old)) (remaining (reader_of new)) answer buf
 
--- a call of the sink `old` left the sink `new`: if the writer's contents are known, the call appended these bytes to them
+-- a call of the sink `old` left the sink `new`: if the writer's contents (`contents`) are known, the call appended `bytes` to them
 abbrev pub WritesTo : {T : Type 0} → (T → Option (List ℕ)) → StdSink T → List ℕ → StdSink T → Type 0
 WritesTo contents old bytes new = Appends (contents (writer_of old)) (contents (writer_of new)) bytes

@@ -14,11 +14,11 @@ one_more n = min (n + 1) last_count
 abbrev pub FailsLast : ℕ → ℕ → Bool → Type 0
 FailsLast old new last = (new ≡ one_more old) × (last ≡ true)
 
--- these bytes and then the bytes left, if these are observable
+-- `bytes`, and then the bytes left; `None` if the bytes left are not observable
 abbrev pub preceded : List ℕ → Option (List ℕ) → Option (List ℕ)
 preceded bytes = option_map (λ rest. bytes ++ rest)
 
--- the bytes written and then these, if the bytes written are observable
+-- the bytes written, and then `bytes`; `None` if the bytes written are not observable
 abbrev pub appended : Option (List ℕ) → List ℕ → Option (List ℕ)
 appended written bytes = option_map (λ all. all ++ bytes) written
 
@@ -26,7 +26,8 @@ appended written bytes = option_map (λ all. all ++ bytes) written
 abbrev pub IsSpent : Option (List ℕ) → Type 0
 IsSpent rest = IfSome rest (λ bytes. bytes ≡ [])
 
--- the bytes written, `old` before and `new` after: all of these bytes were appended, or, at an error, a prefix of them
+-- writing `bytes` to a sink turned the bytes written from `old` to `new`: all of `bytes` were appended; or, at an error, only `front`, a prefix of them, and
+-- `lost` was not written
 abbrev pub Puts : {T : Type 0} → Option (List ℕ) → List ℕ → Result T Failed → Option (List ℕ) → Type 0
 Puts old bytes (Ok u) new = new ≡ appended old bytes
 Puts old bytes (Err e) new = (front : List ℕ) × (lost : List ℕ) × (bytes ≡ front ++ lost) × (new ≡ appended old front)

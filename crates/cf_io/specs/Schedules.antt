@@ -3,8 +3,8 @@ use Rattle.std.specs.Prelude.{ℕ, Bool, true, false, ◌==◌, List, length, mi
 use Rattle.std.specs.List.{list_any}
 use Rattle.cf_io.specs.Feeds.{one_more}
 
--- which calls of a source or sink fail, by number (`fails`), and the most bytes that each of the first calls moves (`cuts`); the number of the next call, how
--- many calls failed, and whether the last one did
+-- The calls of a source or sink, numbered from 0: those in `fails` fail, and `cuts[j]` is the most bytes that call j moves (0 counts as 1; a call past the end
+-- of `cuts` has no limit). `call` is the number of the next call, `faults` how many calls failed, and `failed` whether the last one did.
 pub record Schedule : Type 0 where
   pub cuts : List ℕ
   pub fails : List ℕ

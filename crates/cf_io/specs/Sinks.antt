@@ -1,4 +1,4 @@
--- The sink in memory as contracts see it, and what a call does to it.
+-- The sink in memory as contracts see it: the bytes written, how many more fit, and the schedule by which its calls fail; and what a call does to it.
 use Rattle.std.specs.Prelude.{ℕ, Bool, ◌-◌, ◌==◌, ◌++◌, ◌||◌, ◌&&◌, not, List, [], length, take, min, if◌then◌else◌, Option, Some, None}
 use Rattle.cf_io.specs.Schedules.{Schedule, is_due, count_moved, gone_well, gone_wrong, planned}
 
@@ -20,7 +20,7 @@ put_fails s bytes = is_due s.schedule || (s.room == 0 && not (length bytes == 0)
 abbrev pub put_count : MemSink → List ℕ → ℕ
 put_count s bytes = count_moved s.schedule (min (length bytes) s.room)
 
--- how many of these bytes the next call of the sink s writes, which it returns; none if it fails
+-- the result of the next call of the sink s, with these bytes: how many of them it writes; none if it fails
 abbrev pub put_answer : MemSink → List ℕ → Option ℕ
 put_answer s bytes = if put_fails s bytes then None else Some (put_count s bytes)
 

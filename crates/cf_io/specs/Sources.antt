@@ -1,4 +1,5 @@
--- The sources in memory as contracts see them, and what a call does to them.
+-- The three sources in memory as contracts see them, and what a call does to each: one never fails, one fails by a schedule, one repeats its bytes without
+-- end.
 use Rattle.std.specs.Prelude.{ℕ, ◌≡◌, ◌%◌, EachIndex, slice_index, ◌+◌, ◌++◌, List, length, take, drop, min, if◌then◌else◌, Option, Some, None}
 use Rattle.cf_io.specs.Feeds.{last_count, one_more}
 use Rattle.cf_io.specs.Schedules.{Schedule, is_due, count_moved, gone_well, gone_wrong, planned}

@@ -13,8 +13,9 @@ use crate::source::Source;
 use cf_base::Failed;
 use std::io::{Read, Write};
 
-/// A source that reads from a reader of std. It counts the bytes that it returned, its calls and
-/// its faults. The bytes left are not observable. Each error of the reader is a fault.
+/// A source that reads from a reader of std. `given` counts the bytes that it returned, `calls` its calls,
+/// and `faults` those that failed; all three saturate. `failed` is whether the last call failed. A call fails
+/// if and only if the reader does. The bytes left are not observable.
 #[derive(Drop)]
 pub struct StdSource<T> {
     reader: T,
@@ -83,9 +84,9 @@ impl<T: Read> Source for StdSource<T> {
     }
 }
 
-/// A sink that writes to a writer of std, and flushes after each write. Its bytes written are not
-/// observable. A call fails if the write or the flush fails, or if there are bytes and the writer takes
-/// none.
+/// A sink that writes to a writer of std, and flushes after each write. A call fails if the write or the
+/// flush fails, or if there are bytes and the writer takes none. `faults` counts these calls and saturates;
+/// `failed` is whether the last call failed. The bytes written are not observable.
 #[derive(Drop)]
 pub struct StdSink<T> {
     writer: T,

@@ -1,5 +1,5 @@
-//! Sources and sinks of bytes, over devices of std and in memory; the buffer in which a line of a
-//! reply is built; and decimal numbers in text.
+//! Sources and sinks of bytes, over readers and writers of std and in memory; the line of a reply, which is
+//! built in a buffer and then written as a whole; and decimal numbers in text.
 #![tactic(auto)]
 
 mod devices;
@@ -14,7 +14,7 @@ mod sources;
 mod writing;
 
 pub use devices::{StdSink, StdSource};
-pub use line::{Full, LINE_ROOM, Line};
+pub use line::{Full, LINE_CAPACITY, Line};
 pub use numbers::{leading_number, number_of};
 pub use reply_line::{MOST_LEAD, begin_line, push_field, push_text, put_line};
 pub use sink::Sink;

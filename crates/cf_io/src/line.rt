@@ -2,23 +2,24 @@
 //! it.
 ghost use Rattle.std.specs.Prelude.{◌≡◌, ◌≤◌, [], length, decimal};
 ghost use Rattle.hex.specs.Hex.{encode_lower};
-ghost use Rattle.cf_io.specs.Lines.{Pushes, line_room, word_text};
+ghost use Rattle.cf_io.specs.Lines.{Pushes, line_capacity, word_text};
 
 use arrayvec::ArrayVec;
 use itoa::Buffer;
 use std::marker::Model;
 
-/// The most bytes that a line holds.
-pub const LINE_ROOM: usize = 9_000;
+/// The most bytes that a line holds, its line feed included.
+pub const LINE_CAPACITY: usize = 9_000;
 
 /// The error of a push: the text doesn't fit the line, and the line stays as it was.
 #[derive(Clone, Copy, Debug, PartialEq, Eq)]
 pub struct Full;
 
-/// A line that is being written: at most 9,000 bytes, kept in place, so that no push allocates.
+/// One line of a reply while it is built: at most 9,000 bytes, in the struct itself, so that no push
+/// allocates.
 #[derive(Drop)]
 pub struct Line {
-    buffer: ArrayVec<u8, LINE_ROOM>,
+    buffer: ArrayVec<u8, LINE_CAPACITY>,
 }
 
 impl Model for Line {
@@ -42,7 +43,7 @@ impl Line {
     /// The bytes of the line.
     pub fn bytes(&self) -> &[u8]
         ensures value { result.now ≡ self.now }
-        ensures fits { length self.now ≤ line_room }
+        ensures fits { length self.now ≤ line_capacity }
     {
         self.buffer.as_slice()
     }
@@ -68,17 +69,18 @@ impl Line {
 
     /// Appends the bytes in hex, two lower-case digits each. Fails with `Full` if and only if the line
     /// would pass 9,000 bytes.
-    // Out of line, since its loop then keeps all it needs in registers.
+    // Not inlined: in a function of its own, the loop of `encode_to_slice` keeps its values in registers.
     #[inline(never)]
     #[tactic(auto, using(crate::proofs::CallerLemmas::length_in_hex))]
     pub fn push_hex(&mut self, bytes: &[u8]) -> Result<(), Full>
         ensures { Pushes self.old (encode_lower bytes.now) result self.new }
     {
         let start = self.buffer.len();
-        if bytes.len() > (LINE_ROOM - start) / 2 {
+        if bytes.len() > (LINE_CAPACITY - start) / 2 {
             return Err(Full);
         }
-        // Appending the bytes twice reserves two places per byte; the digits then overwrite them.
+        // Appending the bytes twice makes the buffer longer by two places per byte, which the digits then
+        // overwrite.
         self.buffer.try_extend_from_slice(bytes).unwrap();
         self.buffer.try_extend_from_slice(bytes).unwrap();
         let room = &mut self.buffer.as_mut_slice()[start..];

@@ -1,7 +1,7 @@
 //! Builds one line of a reply in a buffer, and then writes it as a whole.
 ghost use Rattle.std.specs.Prelude.{◌≡◌, ◌+◌, ◌<◌, ◌≤◌, ◌++◌, ◌∷◌, [], OnErr, length, OnOk};
 ghost use Rattle.cf_io.specs.Feeds.{FailsLast, Puts};
-ghost use Rattle.cf_io.specs.Lines.{line_room};
+ghost use Rattle.cf_io.specs.Lines.{line_capacity};
 ghost use Rattle.cf_io.specs.Texts.{with_number};
 
 use crate::line::Line;
@@ -23,7 +23,7 @@ pub fn begin_line(line: &mut Line, lead: &[u8])
 
 /// Appends a text. The line must have room for it.
 pub fn push_text(line: &mut Line, text: &[u8])
-    requires { length line.old + length text.now ≤ line_room }
+    requires { length line.old + length text.now ≤ line_capacity }
     ensures { line.new ≡ line.old ++ text.now }
 {
     line.push(text).unwrap();
@@ -32,7 +32,7 @@ pub fn push_text(line: &mut Line, text: &[u8])
 /// Appends a text and the number `n` in decimal. The line must have room for the text and 20
 /// digits, the most that a number has.
 pub fn push_field(line: &mut Line, text: &[u8], n: u64)
-    requires { length line.old + (length text.now + 20) ≤ line_room }
+    requires { length line.old + (length text.now + 20) ≤ line_capacity }
     ensures text { line.new ≡ line.old ++ with_number text.now n }
     ensures short { length line.new ≤ length line.old + (length text.now + 20) }
 {
@@ -40,10 +40,10 @@ pub fn push_field(line: &mut Line, text: &[u8], n: u64)
     line.push_number(n).unwrap();
 }
 
-/// Appends a line feed to the line, and writes the line to the sink `out`. If a call of the sink
-/// fails, it returns `Failed`, and a prefix of the line was written.
+/// Appends a line feed to the line, which must have room for it, and writes the line to the sink `out`. If a
+/// call of the sink fails, the result is `Failed`, and a prefix of the line was written.
 pub fn put_line<K: Sink>(line: &mut Line, out: &mut K) -> Result<(), Failed>
-    requires { length line.old < line_room }
+    requires { length line.old < line_capacity }
     ensures puts { Puts (K.written out.old) (line.old ++ 10 ∷ []) result (K.written out.new) }
     ensures grows { K.faults out.old ≤ K.faults out.new }
     ensures same { OnOk result (K.faults out.new ≡ K.faults out.old) }

@@ -1,13 +1,14 @@
-//! The schedule by which a source or sink in memory fails and moves fewer bytes than it could, so
-//! that tests can choose both.
+//! The schedule of a source or sink in memory: which of its calls fail, and which move fewer bytes than they
+//! could. Tests choose it.
 ghost use Rattle.std.specs.Prelude.{◌≡◌, ◌≤◌};
 ghost use Rattle.cf_io.specs.Schedules.{gone_well, gone_wrong, is_due, count_moved, planned};
 
 use std::marker::Model;
 
-/// Which calls of a source or sink fail, by number from 0 (`fails`), and the most bytes that each
-/// of the first calls moves (`cuts`). `call` is the number of the next call, `faults` how many
-/// calls failed, and `failed` whether the last one did.
+/// Which calls of a source or sink fail, and how many bytes the others move at most. Calls are numbered from
+/// 0. `fails` has the numbers of those that fail. `cuts[j]` is the most bytes that call j moves, where 0
+/// counts as 1; a call past the end of `cuts` has no limit. `call` is the number of the next call, `faults`
+/// how many calls failed; both saturate. `failed` is whether the last call failed.
 #[derive(Drop)]
 pub struct Schedule {
     cuts: Vec<usize>,

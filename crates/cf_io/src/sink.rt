@@ -1,11 +1,12 @@
-//! The trait of sinks: a sink is what bytes are written to.
+//! The trait of sinks, to which bytes are written: the bytes so far, if they are observable, how many calls
+//! failed, and the call `put`.
 ghost use Rattle.std.specs.Prelude.{◌≡◌, ◌<◌, ◌≤◌, ◌+◌, ℕ, Bool, List, Option, length, take, IfOk, OnErr, OnOk};
 ghost use Rattle.std.specs.Result.{is_err};
 ghost use Rattle.cf_io.specs.Feeds.{appended, one_more};
 
 use cf_base::Failed;
 
-/// What bytes are written to, some at a time. A call may write only the first of its bytes.
+/// What bytes are written to. A call may write only a prefix of its bytes.
 pub trait Sink {
     /// The bytes written so far; none if they are not observable.
     ghost written: { Self → Option (List ℕ) };

@@ -1,5 +1,5 @@
-//! The sinks that are not devices: one that keeps the bytes in memory and fails by a schedule, and
-//! one that drops them.
+//! The sinks that are not over a writer of std: `MemSink` keeps the bytes in memory and fails by a schedule,
+//! and `NullSink` drops them.
 ghost use Rattle.std.specs.Prelude.{◌≡◌, ◌≤◌, false, None, Ok, Some, length, IfOk};
 ghost use Rattle.std.specs.Result.{result_ok};
 ghost use Rattle.cf_io.specs.Sinks.{mem_sink, put_after, put_answer};
@@ -32,9 +32,9 @@ impl Sink for NullSink {
 /// A sink that keeps the bytes in memory while it has room for them, and fails by a schedule.
 /// `room` is how many more bytes fit.
 ///
-/// Its calls are numbered from 0; the number, and the count of the calls that failed, stay at
-/// `2^64 - 1` once they reach it. Call j fails if and only if j is in `fails`, or it has bytes to
-/// write and no room is left. Else it writes the bytes that it has room for, at most
+/// Its calls are numbered from 0; the number, and the count of the calls that failed, saturate at `2^64 - 1`.
+/// `fails` and `cuts`, the arguments of `new`, are the schedule. Call j fails if and only if j is in `fails`,
+/// or it has bytes to write and no room is left. Else it writes the bytes that it has room for, at most
 /// `max(1, cuts[j])` of them if j is below the length of `cuts`.
 #[derive(Drop)]
 pub struct MemSink {
@@ -90,9 +90,8 @@ impl Sink for MemSink {
 
     ghost last_failed = { λ s. s.schedule.failed };
 
-    /// Fails if the schedule says so, or if there are bytes and no room is left. Else keeps the
-    /// first bytes, at most those that fit and that the schedule lets through, and returns how
-    /// many.
+    /// Fails if the schedule lists this call, or if there are bytes and no room is left. Else keeps the
+    /// longest prefix of the bytes that the room and the schedule allow, and returns its length.
     fn put(&mut self, bytes: &[u8]) -> Result<usize, Failed>
         ensures grows { self.old.schedule.faults ≤ self.new.schedule.faults }
         ensures answer { result_ok result ≡ put_answer self.old bytes.now }

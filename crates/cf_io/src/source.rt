@@ -1,4 +1,5 @@
-//! The trait of sources: a source is what bytes are read from.
+//! The trait of sources, from which bytes are read: the bytes left, if they are observable, how many were
+//! returned, how many calls there were and failed, and the call `take`.
 ghost use Rattle.std.specs.Prelude.{◌≡◌, ◌<◌, ◌≤◌, ◌+◌, ℕ, Bool, List, Option, length, take, min, IfOk, OnErr, OnOk};
 ghost use Rattle.std.specs.Result.{is_err};
 ghost use Rattle.cf_io.specs.Feeds.{preceded, IsSpent, last_count, one_more};

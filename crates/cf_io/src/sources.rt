@@ -1,4 +1,4 @@
-//! The sources in memory: one that never fails, one that fails by a schedule, and one that never
+//! The sources in memory: `SureSource` never fails, `MemSource` fails by a schedule, and `LoopSource` never
 //! ends.
 ghost use Rattle.std.specs.Prelude.{◌≡◌, ◌<◌, ◌≤◌, ◌+◌, ◌%◌, ◌++◌, false, Some, None, length, take, drop, IfOk};
 ghost use Rattle.std.specs.Result.{result_ok};
@@ -11,7 +11,8 @@ use crate::source::Source;
 use cf_base::Failed;
 use std::marker::Model;
 
-/// A source in memory that never fails. The bytes from index `at` on are left. They are observable.
+/// A source in memory that never fails. The bytes from index `at` on are left; they are observable. `given`
+/// counts the bytes that it returned, and `calls` its calls; both saturate.
 #[derive(Drop)]
 pub struct SureSource {
     bytes: Vec<u8>,
@@ -56,16 +57,16 @@ impl Source for SureSource {
 
     ghost last_failed = { λ _. false };
 
-    /// Copies the bytes left that fit to the start of `buf`, and returns how many.
+    /// Copies the bytes left to the start of `buf`, or the first of them if not all fit, and returns how
+    /// many it copied.
     fn take(&mut self, buf: &mut [u8]) -> Result<usize, Failed>
-        // It returns the bytes that are left, or the first of them if not all fit the buffer. The
-        // rest of the buffer stays.
+        // The bytes of `buf` after the copied ones stay.
         ensures sure { result ≡ Ok (sure_count self.old (length buf.old)) }
         ensures source { self.new ≡ sure_after self.old (sure_count self.old (length buf.old)) }
         ensures buffer { buf.new ≡ filled (sure_count self.old (length buf.old)) self.old.left buf.old }
     {
         let n = buf.len().min(self.bytes.len() - self.at);
-        hand(&self.bytes[self.at..], n, buf);
+        copy_first(&self.bytes[self.at..], n, buf);
         self.at += n;
         self.given = self.given.saturating_add(n as u64);
         self.calls = self.calls.saturating_add(1);
@@ -75,9 +76,10 @@ impl Source for SureSource {
 
 /// A source in memory that fails by a schedule. Its bytes left are observable.
 ///
-/// Its calls are numbered from 0; the number, and the count of the calls that failed, stay at
-/// `2^64 - 1` once they reach it. Call j fails if and only if j is in `fails`. Else it returns the bytes
-/// that fit and are left, at most `max(1, cuts[j])` of them if j is below the length of `cuts`.
+/// Its calls are numbered from 0; the number, and the count of the calls that failed, saturate at `2^64 - 1`.
+/// `fails` and `cuts`, the arguments of `new`, are the schedule. Call j fails if and only if j is in `fails`.
+/// Else it returns the bytes left that fit the buffer, at most `max(1, cuts[j])` of them if j is below the
+/// length of `cuts`.
 #[derive(Drop)]
 pub struct MemSource {
     bytes: Vec<u8>,
@@ -123,8 +125,8 @@ impl Source for MemSource {
 
     ghost last_failed = { λ s. s.schedule.failed };
 
-    /// Fails if the schedule says so. Else copies the bytes left to the start of `buf`, at most
-    /// those that fit and that the schedule lets through, and returns how many.
+    /// Fails if the schedule lists this call; `buf` stays then. Else copies the first bytes left to the
+    /// start of `buf`, as far as the buffer and the schedule allow, and returns how many it copied.
     fn take(&mut self, buf: &mut [u8]) -> Result<usize, Failed>
         ensures grows { self.old.schedule.faults ≤ self.new.schedule.faults }
         ensures answer { result_ok result ≡ mem_answer self.old (length buf.old) }
@@ -138,7 +140,7 @@ impl Source for MemSource {
         let n = self
             .schedule
             .count_moved(buf.len().min(self.bytes.len() - self.at));
-        hand(&self.bytes[self.at..], n, buf);
+        copy_first(&self.bytes[self.at..], n, buf);
         self.at += n;
         self.given = self.given.saturating_add(n as u64);
         self.schedule.go_well();
@@ -146,9 +148,10 @@ impl Source for MemSource {
     }
 }
 
-/// A source that fills each buffer with its pattern, over and over, and never fails. `at` is the
-/// index of the pattern's byte that is next. Its input never ends, so no list holds its bytes
-/// left, and they are not observable.
+/// A source that fills each buffer with its pattern, over and over, and never fails. Each call continues the
+/// pattern where the call before ended: `at` is the index of the pattern's byte that is next. `given` counts
+/// the bytes that it returned, and `calls` its calls; both saturate. Its input never ends, so no list holds
+/// its bytes left, and they are not observable.
 #[derive(Drop)]
 pub struct LoopSource {
     pattern: Vec<u8>,
@@ -209,7 +212,7 @@ impl Source for LoopSource {
 }
 
 /// Copies the first n of these bytes to the start of `buf`; the rest of the buffer stays.
-fn hand(bytes: &[u8], n: usize, buf: &mut [u8])
+fn copy_first(bytes: &[u8], n: usize, buf: &mut [u8])
     requires some { n ≤ length bytes.now }
     requires room { n ≤ length buf.old }
     ensures { buf.new ≡ filled n bytes.now buf.old }
@@ -238,8 +241,8 @@ fn fill_over(pattern: &[u8], at: usize, buf: &mut [u8]) -> usize
     next
 }
 
-/// Copies the n bytes of the pattern from its index `from` on to `buf`, from its index `to` on. The
-/// rest of the buffer stays.
+/// Copies n bytes of the pattern, from its index `from` on, into `buf` from index `to` on. The other bytes of
+/// `buf` stay.
 fn copy_part(pattern: &[u8], from: usize, n: usize, buf: &mut [u8], to: usize)
     requires some { from + n ≤ length pattern.now }
     requires room { to + n ≤ length buf.old }

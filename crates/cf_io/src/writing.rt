@@ -1,12 +1,12 @@
-//! Writes all bytes of a list to a sink, by one call or more.
+//! `put_all`: writes all bytes of a slice to a sink, which may take only some of them in each call.
 ghost use Rattle.std.specs.Prelude.{◌≡◌, ◌≤◌, OnErr, OnOk};
 ghost use Rattle.cf_io.specs.Feeds.{FailsLast, Puts};
 
 use crate::sink::Sink;
 use cf_base::Failed;
 
-/// Calls `put` with the bytes, then with the bytes left, until the sink has written all. If a call
-/// fails, it returns `Failed`, and a prefix of the bytes was written.
+/// Calls `put` with the bytes, then with the bytes left, until the sink has written all. If a call fails, the
+/// result is `Failed`, and a prefix of the bytes was written.
 pub fn put_all<K: Sink>(sink: &mut K, bytes: &[u8]) -> Result<(), Failed>
     ensures grows { K.faults sink.old ≤ K.faults sink.new }
     ensures puts { Puts (K.written sink.old) bytes.now result (K.written sink.new) }

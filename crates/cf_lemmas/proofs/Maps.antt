@@ -1,4 +1,4 @@
--- Lookups in finite maps after a removal or an insertion: of the key itself, and of another one.
+-- Finite maps whose keys are numbers: lookups and the number of keys after an insertion or a removal. Maps with the same lookups are equal.
 use Rattle.std.proofs.Common.{◌≡◌, ◌≢◌, ℕ, cond, ◌+◌, ◌-◌, Some, None, sym, ◌∙◌, ap, refl, inl, inr}
 use Rattle.std.specs.Option.{is_some}
 use Rattle.std.specs.Prelude.{◌⊎◌}

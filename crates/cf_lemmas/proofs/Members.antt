@@ -75,7 +75,7 @@ apart_from_range : (a b n : ℕ) → a < b → AllByRecursion (λ q. eqb a q ≡
 apart_from_range a b zero lt = tt
 apart_from_range a b (suc n) lt = (differs a b (λ e. omega arith), apart_from_range a (b + 1) n (omega arith))
 
--- and each number of a range is in it once
+-- no number is in a range twice
 pub range_distinct : (a n : ℕ) → IsDistinct nat_eq (range_with_len a n)
 unfolding IsDistinct
 range_distinct a zero = tt
@@ -110,7 +110,7 @@ contains_without p q (x ∷ xs) h = elim (cases_eq x p) [
   ]
 ]
 
--- the other numbers are still in the list
+-- each other number of the list is in the list without p
 pub without_contains : (p q : ℕ) (xs : List ℕ) → q ≢ p → Contains xs q → Contains (without_number p xs) q
 without_contains p q [] ne h = absurd (contains_nil q h)
 without_contains p q (x ∷ xs) ne h = elim (contains_cases q x xs h) [

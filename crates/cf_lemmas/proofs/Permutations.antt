@@ -1,4 +1,5 @@
--- For proofs about block tables: lists that contain each number below their length once.
+-- For proofs about block tables: lists that contain each number below their length once. Their entries differ, each number is an entry, and a list stays one
+-- when two of its runs change places.
 use Rattle.std.proofs.Common.{◌≡◌, ◌≢◌, ℕ, ◌+◌, ◌<◌, ◌≤◌, ◌⊎◌, inl, inr, List, length, slice_index, get_or, min, max}
 use Rattle.std.proofs.Common.{arith, sym, subst, ◌∙◌, eqb, eq-eqb}
 use Rattle.std.proofs.lemmas.Bool.{eqb-false, ne_eqb, cases_eq, cases_order}
@@ -62,7 +63,7 @@ pub exchanged_permutation : (s : List ℕ) (a b n : ℕ) → (a + n ≤ b) ⊎ (
 exchanged_permutation s a b n apart at_a at_b =
     rw (← swapped_is s a b n apart at_a at_b) (swapped_permutation s (min a b) (max a b) n (elim apart [ inl l ↦ omega arith | inr l ↦ omega arith ]))
 
--- so a list that contains each number below its length once still does after an exchange of two runs
+-- a list that contains each number below its length once still does after two of its runs changed places
 pub exchanged_permuted : (s : List ℕ) (a b n : ℕ) → (a + n ≤ b) ⊎ (b + n ≤ a) → a + n ≤ length s → b + n ≤ length s
     → IsPermutation (range_with_len 0 (length s)) s → IsPermutation (range_with_len 0 (length (exchanged s a b n))) (exchanged s a b n)
 exchanged_permuted s a b n apart at_a at_b p =

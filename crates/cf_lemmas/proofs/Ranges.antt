@@ -40,7 +40,7 @@ module _ (f g : ℕ → Bool) where
             omega arith)
       ]
 
--- two sums over a range with the same terms, and with the same terms but one
+-- two sums over a range: if all their terms are equal, and if all but the term at c are
 module _ (f g : ℕ → ℕ) where
   pub sum_range_same : (a n : ℕ) → ((d : ℕ) → a ≤ d → d < a + n → f d ≡ g d) → sum_by f (range_with_len a n) ≡ sum_by g (range_with_len a n)
   sum_range_same a zero same = refl
@@ -81,7 +81,7 @@ some_in_range f a (suc n) d low high is =
       | inr other ↦ (let rest = some_in_range f (a + 1) n d (omega arith) (omega arith) is in omega arith)
     ]
 
--- sums of smaller terms are smaller
+-- if each term is at most the term of another sum, the sum is at most the other
 pub sum_le : (f g : ℕ → ℕ) (a n : ℕ) → ((d : ℕ) → a ≤ d → d < a + n → f d ≤ g d) → sum_by f (range_with_len a n) ≤ sum_by g (range_with_len a n)
 sum_le f g a zero le = omega arith
 sum_le f g a (suc n) le =

@@ -1,4 +1,5 @@
--- For sessions, whose objects have a number and an id: two maps with the same values, one by number and one by id.
+-- For sessions, whose objects have a number and an id: two maps with the same values, one by number and one by id, have as many keys and the same sums over
+-- their values.
 use Rattle.std.proofs.Common.{◌≡◌, ℕ, ◌+◌, Some, None, arith, sym, ◌∙◌, ap, refl, inl, inr, subst}
 use Rattle.std.specs.Prelude.{sum_by, Option}
 use Rattle.std.proofs.lemmas.Bool.{cases_eq}
@@ -9,13 +10,13 @@ use Rattle.cf_lemmas.proofs.Sums.{put_back, sum_by-inserted, sum_by-removed}
 use Rattle.cf_lemmas.proofs.Induction.{map_induction}
 
 module _ {V : Type 0} where
-  -- each id has the value of its number, and each number belongs to one id
+  -- `ids` maps ids to numbers: n has under each id the value that m has under the id's number, and each number belongs to one id
   pub record AreRenamed (ids : FinMap nat_cmp ℕ) (m n : FinMap nat_cmp V) : Type 0 where
     pub found : (id : ℕ) (v : V) → get n id ≡ Some v → (h : ℕ) × (get ids id ≡ Some h) × (get m h ≡ Some v)
     pub all : (h : ℕ) (v : V) → get m h ≡ Some v → (id : ℕ) × (get ids id ≡ Some h) × (get n id ≡ Some v)
     pub once : (id other h : ℕ) → get ids id ≡ Some h → get ids other ≡ Some h → other ≡ id
 
-  -- they have the same number of keys, and each sum over their values is the same
+  -- two maps have the same number of keys, and each sum over their values is the same
   pub record CountAlike (m n : FinMap nat_cmp V) : Type 0 where
     pub count : len n ≡ len m
     pub sums : (f : V → ℕ) → sum_by f (values n) ≡ sum_by f (values m)
@@ -30,7 +31,7 @@ module _ {V : Type 0} where
 
   module _ (ids : FinMap nat_cmp ℕ) (m n : FinMap nat_cmp V) (id : ℕ) (v : V) (none : get n id ≡ None) (r : AreRenamed ids m (insert n id v))
       (number : ℕ) (named : get ids id ≡ Some number) where
-    -- what remains after removing the id and its number
+    -- the maps are still so related after the id and its number are removed
     fewer : AreRenamed (remove ids id) (remove m number) n
     fewer = record {
       found = λ q w e. elim (cases_eq q id) [

@@ -1,4 +1,5 @@
--- For the managers with blocks: the free lists of each kind are lawful, and an object that fits a page needs at most 2 ^ 23 words of a block.
+-- For the managers with blocks: in each kind every block of a list that a malloc searches is large enough (`AreLawful`), and an object that fits a page needs
+-- at most 2 ^ 23 words of a block.
 use Rattle.std.proofs.Common.{◌≡◌, ℕ, ◌^◌, ◌≤◌, arith}
 use Rattle.cf_base.specs.Classes.{need}
 use Rattle.cf_base.specs.Settings.{Profile}

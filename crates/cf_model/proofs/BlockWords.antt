@@ -1,4 +1,5 @@
--- For `an_order_leaves_one_outcome`, with blocks: the blocks, the objects in them and the free lists determine the words of the region.
+-- For `an_order_leaves_one_outcome`, with blocks: the blocks, the objects in them and the free lists, whose links are word 1 of each free block, determine the
+-- words of the region.
 use Rattle.std.proofs.Common.{◌≡◌, ◌≢◌, ℕ, false, true, ◌+◌, ◌-◌, ◌<◌, ◌≤◌, List, [], ◌∷◌, Option, Some, None, length, get_or, arith, refl, sym, ◌∙◌, ap, subst}
 use Rattle.std.proofs.Common.{inl, inr}
 use Rattle.std.specs.Prelude.{◌⊎◌, IsSome}
@@ -36,7 +37,7 @@ words_from a b (c ∷ cs) from to before f g h inside w low high = elim (cases_l
   | inr past ↦ words_from a b cs (from + c.size) to c.size f.2 g.1 h.1 (λ p d at. inside p d (behind c cs from to p d f at)) w past high
 ]
 
--- words of one tiling with one contents are equal if word 1 of each free block is
+-- two lists of words with the same blocks and contents are equal if word 1 of each free block is the same in both
 pub words_once : (a b : List ℕ) (content : ℕ → ℕ → ℕ) (count : ℕ) (blocks : List Block) → IsTiling count blocks → length a ≡ count → length b ≡ count
     → AreTilingWords content blocks a → AreTilingWords content blocks b
     → ((p : ℕ) (c : Block) → block_at blocks p ≡ Some c → c.owner ≡ None → get_or a (p + 1) 0 ≡ get_or b (p + 1) 0) → a ≡ b
@@ -59,7 +60,7 @@ words_once a b content count blocks t long long' s u linked =
 
 -- ---- word 1 of free blocks
 
--- the links of one list are the same
+-- two lists of words that both have the links of a free list have the same word 1 in each of its blocks
 pub links_agree : (a b : List ℕ) (previous : ℕ) (xs : List ℕ) → AreThreaded a previous xs → AreThreaded b previous xs → (p : ℕ) → Contains xs p
     → get_or a (p + 1) 0 ≡ get_or b (p + 1) 0
 links_agree a b previous [] s t p here = absurd (contains_nil p here)
@@ -70,7 +71,7 @@ links_agree a b previous (x ∷ xs) s t p here = elim (contains_cases p x xs her
   | inr later ↦ links_agree a b x xs s.1 t.1 p later
 ]
 
--- words that have the same word 1 in each block of a list have its links too
+-- if two lists of words have the same word 1 in each block of a free list, and one has the links of the list, so has the other
 links_of_list : (a b : List ℕ) (previous : ℕ) (xs : List ℕ) → ((p : ℕ) → Contains xs p → get_or b (p + 1) 0 ≡ get_or a (p + 1) 0) → AreThreaded a previous xs
     → AreThreaded b previous xs
 links_of_list a b previous [] same s = tt

@@ -38,7 +38,7 @@ framed s is keeps =
       count = omega arith;
     }
 
--- equal bytes in equal blocks are equal physical words
+-- an object with the same bytes in the same physical blocks before and after a call has the same words in them
 module _ (old new : HeapState) (o : Framed old) (n : Framed new) (same : paging_in new ≡ paging_in old)
     (q : ℕ) (x y : Placed) (e : get old.held q ≡ Some x) (f : get new.held q ≡ Some y) (bytes : y.bytes ≡ x.bytes) where
   words_stay : (before after : List ℕ) → IsPhysical old.frames old.words before → IsPhysical new.frames new.words after
@@ -101,7 +101,7 @@ blocks_after_resize old asked done new is before after f =
           words_stay old new o n same q x y e g bytes before after ph ph' i j lt low (stay q x y ne e g i lt);
     }
 
--- if only the cost changes, no block does
+-- if only the cost changes, each object keeps its blocks and their words
 pub blocks_after_refusal : (old : HeapState) (h : ℕ) (new : HeapState) → new ≡ record old { cost = new.cost } → old.kind ≡ NonMoving → KeepsRules old
     → KeepsRules new → BlocksStay old h new
 blocks_after_refusal old h new whole is before after =

@@ -1,8 +1,9 @@
--- What other crates' proofs may cite, re-exported. Declares nothing.
+-- Lemmas that other crates' proofs may cite, re-exported: on empty heaps, on the causes of refusals, on what an order determines, and on blocks, their owners
+-- and their words. Declares nothing.
 pub use Rattle.cf_model.proofs.BlockNeeds.{lawful, need_is_small}
 pub use Rattle.cf_model.proofs.Blocks.{blocks_after_free, blocks_after_refusal, blocks_after_resize}
 pub use Rattle.cf_model.proofs.EmptyHeaps.{empty_there, no_object, ordered_there, tiled_empty}
-pub use Rattle.cf_model.proofs.Exactly.{both_kinds, given_is_not_refused, not_none_found, resized_is_not_refused}
+pub use Rattle.cf_model.proofs.Exactly.{both_kinds, given_is_not_refused, not_none_found, one_cause, resized_is_not_refused}
 pub use Rattle.cf_model.proofs.OpeningOrders.{opened_in_order}
 pub use Rattle.cf_model.proofs.Owning.{no_one, owned_free, owned_malloc, owned_replaced}
 pub use Rattle.cf_model.proofs.ReadObjects.{fresh_word, objects_shown}

@@ -1,4 +1,5 @@
--- For `an_empty_heap_keeps_the_rules`: the state after opening a manager of each kind keeps the rules.
+-- For `an_empty_heap_keeps_the_rules`: the state after opening a manager of each kind keeps the rules (`KeepsRules`), with an order and without one, and for
+-- each kind there are such words.
 use Rattle.std.proofs.Common.{◌≡◌, ℕ, zero, suc, true, false, ◌+◌, ◌*◌, ◌/◌, ◌-◌, ◌≤◌, List, [], ◌∷◌, Option, Some, None, length, get_or, replicate, arith, sym}
 use Rattle.std.proofs.Common.{◌∙◌, inl, inr, ap, refl}
 use Rattle.std.specs.Prelude.{IfSome, nat_eq}
@@ -145,7 +146,7 @@ module _ (p : Profile) (ok : AreInRange p) where
           order = ordered;
         }
 
-    -- a manager with blocks, in an order or without one
+    -- a manager with blocks, with an order or without one
     tiled_in_order : (k : Kind) → IsTiled k → (order : Option Order) → IfSome order (IsBlockOrder (ordered_heap k p words order))
         → KeepsRules (ordered_heap k p words order)
     tiled_in_order k is order ordered = record {
@@ -187,7 +188,7 @@ module _ (p : Profile) (ok : AreInRange p) where
       by_family paged is = (replicate (region_words p) 0, rw (is, IsOpeningWords) refl, paged_empty k is None tt)
       by_family tiled is = (free_words, rw (is, IsOpeningWords) tt, tiled_empty free_words free_words_long refl free_words_zero k is)
 
-  -- and so there are with the opening order
+  -- for each kind there are such words with the opening order too
   pub ordered_there : OpensLists → (k : Kind)
       → (words : List ℕ) × IsOpeningWords k p words × KeepsRules (ordered_heap k p words (Some (opening_order k p)))
   ordered_there opens k = by_family (family_of k) refl

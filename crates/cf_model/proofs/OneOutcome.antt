@@ -1,4 +1,5 @@
--- For `an_order_leaves_one_outcome`: two outcomes of the same call of a manager that has an order are equal.
+-- For `an_order_leaves_one_outcome`: if a manager has an order, two outcomes of the same malloc, free or resize have equal results and states. So have two of
+-- the same write, without an order too.
 use Rattle.std.proofs.Common.{◌≡◌, ℕ, ◌+◌, true, false, List, ◌∷◌, Option, Some, None, Result, Ok, Err, arith, length, refl, sym, ◌∙◌, ap, subst}
 use Rattle.std.specs.Prelude.{IfSome, IsSome, is_some, option_map, slice_index}
 use Rattle.std.specs.FinMap.{get, insert}
@@ -41,7 +42,7 @@ use Rattle.cf_model.proofs.BlockWords.{link_outside, links_agree, some_order, wo
 use Rattle.cf_model.proofs.Exactly.{both_kinds, given_is_not_refused, not_none_found, one_cause, part_is_not_refused, resized_is_not_refused}
 use Rattle.cf_model.proofs.PageSteps.{free_removes}
 
--- an order, and one that follows it
+-- the orders before and after a call, which `step` relates
 record Followed (step : Order → Order → Type 0) (old new : Option Order) : Type 0 where
   before : Order
   after : Order
@@ -83,7 +84,7 @@ tiled_words a b first second ta tb profile held tiling linked =
     words_once b.words a.words (content_word a.held) (region_words a.profile) a.tiling ta.tiling (second.region ∙ ap region_words profile) first.region
     mine ta.words linked
 
--- and their order determines that word
+-- with blocks, the order determines word 1 of each free block
 linked_by : (a b : HeapState) (order : Order) → IsBlockOrder a order → IsBlockOrder b order → (p : ℕ) (c : Block) → block_at a.tiling p ≡ Some c → c.owner ≡ None
     → slice_index b.words (p + 1) ≡ slice_index a.words (p + 1)
 linked_by a b order oa ob p c at free =
@@ -91,7 +92,7 @@ linked_by a b order oa ob p c at free =
     links_agree b.words a.words no_block (list_in order.not_full k) (ob.links k) (oa.links k) p
     ((oa.lists.members k p).1 (record { block = c; there = at; free = free; bucket = refl }))
 
--- states that keep the rules and have one order have one list of words, if they have the same objects and blocks
+-- states that keep the rules, with the same order, objects and blocks, have the same words
 pub same_words : (a b : HeapState) → IsSome a.order → KeepsRules a → KeepsRules b → b.kind ≡ a.kind → b.profile ≡ a.profile → b.held ≡ a.held
     → b.tiling ≡ a.tiling → b.order ≡ a.order → b.words ≡ a.words
 same_words a b some first second kind profile held tiling order = by_family (family_of a.kind) refl

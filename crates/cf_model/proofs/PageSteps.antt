@@ -1,4 +1,4 @@
--- For `calls_are_the_steps_of_pages`: a malloc, a free and a resize of a manager with pages are those of the page model.
+-- For `calls_are_the_steps_of_pages`: with pages, a malloc and a free that succeed are those of the page model (`PlacesObject`, `RemovesObject`).
 use Rattle.std.proofs.Common.{ℕ, ap}
 use Rattle.cf_base.specs.declared.answers.Freed.{Freed}
 use Rattle.page_model.specs.Steps.{PlacesObject, RemovesObject, Request}

@@ -1,4 +1,5 @@
--- For `what_is_written_is_read` and `what_is_freed_is_gone`: what a read returns after a write, and which objects a write and a free leave.
+-- For `what_is_written_is_read` and `what_is_freed_is_gone`: a read after a write returns the written bytes, a write changes no other object, and a freed
+-- object isn't live.
 use Rattle.std.proofs.Common.{◌≡◌, ◌≢◌, ℕ, ◌+◌, ◌≤◌, List, ◌++◌, Option, Some, None, length, take, drop, arith, sym, ◌∙◌, subst, ap, refl}
 use Rattle.std.specs.Prelude.{option_map}
 use Rattle.std.proofs.Math.Seq.{drop-append_seam, take-append_seam}
@@ -17,7 +18,7 @@ none_mapped : (o : Option Placed) → option_map (λ (z : Placed). z.bytes) o �
 none_mapped None e = refl
 none_mapped (Some x) e = cc
 
--- the written bytes are those of the object at their place
+-- after a write into the bytes v from byte `at` on, the bytes there are the written ones
 part_written : (v : List ℕ) (at : ℕ) (bytes : List ℕ) → at + length bytes ≤ length v → take (length bytes) (drop at (written v at bytes)) ≡ bytes
 part_written v at bytes within =
     let rest = drop (at + length bytes) v in

@@ -66,7 +66,7 @@ usage_of t = record { asked = t.asked; taken = t.taken; held = t.held }
 abbrev pub usage_in : Kind → HeapState → Usage
 usage_in kind s = usage_of (totals_in kind s)
 
--- the class whose slots have `words` words; none if there is none, as always with blocks
+-- the class whose slots have `words` words; none if there is no such class, so always with blocks
 abbrev pub class_with : Kind → HeapState → ℕ → Option ℕ
 class_with kind s words = elim (family_of kind) [ paged ↦ position (λ w. nat_eq w words) (paging_in s).sizes | tiled ↦ None ]
 

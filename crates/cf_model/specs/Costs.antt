@@ -1,4 +1,5 @@
--- The most steps of each call of a manager, by its result.
+-- The bounds that `Manager` sets on the steps of a free, a resize, a read and a write, by their results; and relations between the count of steps before and
+-- after a call.
 use Rattle.std.specs.Prelude.{◌≡◌, ℕ, ◌+◌, ◌*◌, ◌/◌, ◌%◌, ⊤, Result, Ok, Err, if◌then◌else◌, nat_eq, max}
 use Rattle.step_ledger.specs.Counting.{RoseAtMost}
 use Rattle.cf_base.specs.declared.answers.Freed.{Freed}

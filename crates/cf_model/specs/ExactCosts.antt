@@ -53,8 +53,8 @@ abbrev pub carrying_cost : Kind → ℕ → ℕ → ℕ
 carrying_cost kind m n = copy_steps kind 1 ((min m n + 7) / 8) + tail_steps kind 0 n (8 * ((min m n + 7) / 8)) + word_steps kind + 1
 
 -- With pages, resizing the object x to n bytes: reading the proxy and the header, and finding two classes. Within its class, also cutting it and writing the
--- header. To another class, also testing whether an object must move, taking the next slot, copying x there, and leaving the old slot, into which the object
--- `moved` may move.
+-- header. To another class, also testing whether an object must move, taking the next slot, copying x there, and leaving the old slot; `moved` is the object
+-- that moves into it.
 abbrev pub resized_cost : HeapState → Order → ℕ → Placed → Option Handle → ℕ
 resized_cost s o n x moved =
     if nat_eq (class_for (paging_in s) n) (class_at (paging_in s) x) then 3 + 2 * word_steps s.kind + tail_steps s.kind 0 n (length x.bytes)

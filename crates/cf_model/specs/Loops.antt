@@ -1,5 +1,5 @@
--- What a loop over a list does to its items, for `open_all`, which opens every manager of a list: `xs` is the list before the loop, `ys` the list after it or
--- so far. d and e are the defaults of `slice_index_or`, which no position here uses.
+-- What a loop over a list does to its items, for `open_all`, which opens every manager of a list: `xs` is the list before it, `ys` the list after it or so far;
+-- d and e are defaults of `slice_index_or`, never used.
 use Rattle.std.specs.Prelude.{◌≡◌, ℕ, ◌<◌, ◌≤◌, List, length, slice_index_or}
 use Rattle.cf_base.specs.declared.settings.Settings.{Settings}
 use Rattle.cf_model.specs.Rules.{KeepsRules}
@@ -17,8 +17,8 @@ pub record Sweep {X : Type 0} (R : X → X → Type 0) (xs ys : List X) (i : ℕ
   pub done : (k : ℕ) (d e : X) → k < i → R (slice_index_or xs k d) (slice_index_or ys k e)
   pub rest : (k : ℕ) (d : X) → i ≤ k → slice_index_or ys k d ≡ slice_index_or xs k d
 
--- A loop stopped at position `at`: R relates each item before it, as it was in `xs`, to the item of `ys` there, and S does so for the item at it. Those after
--- it are unchanged.
+-- A loop stopped at position `at`. R relates each item before this position, as it was in `xs`, to the item of `ys` there, and S relates the two items at it.
+-- The later items are unchanged.
 pub record Stops {X : Type 0} (R S : X → X → Type 0) (xs ys : List X) : Type 0 where
   pub count : length ys ≡ length xs
   pub at : ℕ

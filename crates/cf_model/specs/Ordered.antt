@@ -1,5 +1,5 @@
--- What a manager with an order promises of each call: it uses what the order lists next, and its cost is computed from the states and the result. In each
--- definition `old` is the state before the call, `new` the state after it, `answer` the result, `was` the order before, and `now` the order after.
+-- What a manager with an order promises of each call: it uses what the order lists next, at a cost computed from states and result. A call leads from the state
+-- `old` to `new` and from the order `was` to `now`, and returns `answer`.
 use Rattle.std.specs.Prelude.{◌≡◌, ℕ, ⊤, IfOk, IfSome, List, ◌∷◌, Option, None, Some, Result, is_some}
 use Rattle.cf_base.specs.declared.answers.Freed.{Freed}
 use Rattle.cf_base.specs.declared.answers.Handle.{Handle}
@@ -47,8 +47,8 @@ pub record ResizeInOrder (old : HeapState) (asked : Request) (answer : Result Re
   pub choice : IfOk answer (λ done. ResizeFollows (paging_in old) old.held asked (record { held = new.held; moved = number_of done.moved }) was now)
   pub cost : new.cost ≡ resize_cost old was asked answer
 
--- With blocks, the object `asked` gets the first spare number, and its block is carved at `place`, from the free block that the lists of the order have next.
--- The order `now` has the lists after the carve, and the other spare numbers.
+-- With blocks, the object `asked` gets the first spare number. Its block is carved at `place`, from the free block that is next by the lists of the order. The
+-- order `now` has the lists after the carve, and the other spare numbers.
 pub record CarvesInOrder (old : HeapState) (asked : Request) (place : ℕ) (new : HeapState) (was now : Order) : Type 0 where
   pub rest : List ℕ
   pub number : was.spare ≡ asked.number ∷ rest

@@ -1,4 +1,5 @@
--- The rules that every open manager keeps: `KeepsRules`, at the end, and the definitions that it uses.
+-- The rules that every open manager keeps (`KeepsRules`, at the end): settings in range, a sound arrangement or blocks that fill the region, words that are the
+-- objects' image, and an order of what is free.
 use Rattle.std.specs.Prelude.{◌≡◌, ℕ, IfSome, IsTrue, ◌+◌, ◌*◌, ◌^◌, ◌≤◌, ◌<◌, List, [], Option, Some, None, length, nat_eq, slice_index}
 use Rattle.std.specs.List.{Contains, IsDistinct}
 use Rattle.std.specs.FinMap.{get, len}
@@ -85,8 +86,8 @@ content_word m h i = content (get m h) h i
 abbrev pub listed_by : HeapState → Order → BlocksWithLists
 listed_by s o = record { blocks = s.tiling; lists = o.not_full }
 
--- With blocks, o is an order of the state s: its lists are the free lists of the kind, which word 1 of each free block links, and its spare numbers are those
--- without an object, each once.
+-- With blocks, o is an order of the state s. Its lists are the free lists of the kind, and word 1 of each free block has the links of its list. Its spare
+-- numbers are those without an object, each once.
 pub record IsBlockOrder (s : HeapState) (o : Order) : Type 0 where
   pub no_pool : o.pool ≡ []
   pub lists : AreListsOf (free_lists_of s.kind) (list_count_of s.kind) (listed_by s o)

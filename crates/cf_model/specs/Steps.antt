@@ -33,13 +33,13 @@ use Rattle.cf_model.specs.Families.{paged, tiled, family_of, free_lists_of, list
 use Rattle.cf_model.specs.State.{HeapState, paging_in, layout_of, region_words}
 use Rattle.cf_model.specs.Rules.{IsPaged, IsTiled}
 
--- `new` is the manager `old`, with the same kind and settings, and it is open
+-- `new` has the kind and the settings of `old`, and is open
 pub record StaysOpen (old new : HeapState) : Type 0 where
   pub kind : new.kind ≡ old.kind
   pub open_now : new.is_open ≡ true
   pub profile : new.profile ≡ old.profile
 
--- `new` is the manager `old`, with the same kind, settings and bounds, and open if it was open
+-- `new` has the kind, the settings and the bounds of `old`, and is open if and only if `old` is
 pub record KeepsSettings (old new : HeapState) : Type 0 where
   pub kind : new.kind ≡ old.kind
   pub opened : new.is_open ≡ old.is_open
@@ -50,7 +50,7 @@ pub record KeepsSettings (old new : HeapState) : Type 0 where
 abbrev pub ChangesCost : HeapState → HeapState → Type 0
 ChangesCost old new = new ≡ record old { cost = new.cost }
 
--- `new` is the manager `old`, with the same kind, and it is closed
+-- `new` has the kind of `old`, and is closed
 pub record IsClosed (old new : HeapState) : Type 0 where
   pub kind : new.kind ≡ old.kind
   pub closed : new.is_open ≡ false
@@ -183,8 +183,8 @@ slot_in kind s x = elim (family_of kind) [ paged ↦ slot_for (paging_in s) (len
 abbrev pub MovesIn : Kind → HeapState → Placed → Option ℕ → Type 0
 MovesIn kind s x moved = elim (family_of kind) [ paged ↦ Moves (paging_in s) s.held x moved | tiled ↦ moved ≡ None ]
 
--- the block table after a free or a resize that left these objects and moved this one (`after`); only that of the non-moving kind changes, and only if an
--- object moved
+-- the block table after a free or a resize, which left `after`: the objects, and the number of the object that moved; only the table of the non-moving kind
+-- changes, and only if an object moved
 abbrev pub frames_left : Kind → HeapState → CallResult → List ℕ
 frames_left Moving s after = s.frames
 frames_left NonMoving s after = frames_after (paging_in s) s.held after s.frames

@@ -1,4 +1,6 @@
-//! What the clauses of `Manager` imply together. The functions do nothing; each contract is a law.
+//! What the clauses of `Manager` imply together: on empty heaps, reads, refusals, blocks and their
+//! words, the page model, and the one outcome that an order leaves. The functions do nothing; each
+//! contract is a law.
 ghost use Rattle.std.specs.Prelude.{◌≡◌, ◌≢◌, ℕ, ◌+◌, ◌<◌, ◌≤◌, IsSome, List, None, Option, Result, Some, length, replicate, slice_index};
 ghost use Rattle.std.specs.FinMap.{get, insert, remove};
 ghost use Rattle.cf_base.specs.declared.answers.AccessFault.{AccessFault};
@@ -107,10 +109,10 @@ pub fn refusals_come_exactly_by_their_causes()
         → ResizesObject old asked done new → ¬ IsResizeFault old asked e }
 {}
 
-/// With blocks, a malloc and a free keep each object in a block of its own, and each used block has
-/// an object. `m` are the objects before the call, `old` and `new` the blocks before and after it.
-/// The malloc adds an object of n bytes under the number h at the address `place`; the free removes
-/// object h, which is x.
+/// With blocks, a malloc and a free keep each object in a block of its own, and each used block has an object.
+/// `m` are the objects before the call, `old` and `new` the blocks before and after it. `rule` is the free-list
+/// rule, and the region has `words` words. The malloc adds an object of n bytes under the number h at the
+/// address `place`; the free removes object h, which is x.
 pub fn blocks_stay_owned()
     ensures malloc { (rule : FreeLists) (words : ℕ) (m : Held) (old new : List Block) (h n place : ℕ)
         → IsTiling words old → AreOwned m old → get m h ≡ None
@@ -131,11 +133,11 @@ pub fn the_words_show_blocks_and_objects()
         → read_objects s.words (places s.held) ≡ s.held }
 {}
 
-/// With blocks, a malloc adds an object of n bytes under the number h at the address `place`: `m`
-/// are the objects before it, `old` and `new` the blocks, `was` and `now` the words before and
-/// after it. Let the headers be in place afterwards, the free blocks cleared, the contents of the
-/// other used blocks unchanged, and the new block with its object's header in word 1, then zeros.
-/// Then the words are those of the blocks and of the objects with the new one.
+/// With blocks, a malloc adds an object of n bytes under the number h at the address `place`. `m` are the
+/// objects before it, `old` and `new` the blocks, `was` and `now` the words before and after it. `rule` is the
+/// free-list rule, and the region has `count` words. Let each block have its header afterwards, the free blocks
+/// be cleared, and the contents of the other used blocks be unchanged. Let the new block have its object's
+/// header in word 1, then zeros. Then the words are those of the blocks and of the objects with the new one.
 pub fn a_carve_keeps_the_words()
     ensures { (rule : FreeLists) (count : ℕ) (m : Held) (old new : List Block) (h n place : ℕ) (was now : List ℕ)
         → IsTiling count old → AreOwned m old → get m h ≡ None
@@ -150,8 +152,8 @@ pub fn a_carve_keeps_the_words()
         → AreTilingWords (content_word (insert m h (zeros_at place n))) new now }
 {}
 
-/// With pages, a malloc, a free and a resize of a manager that succeed are steps of the model of
-/// objects on pages: `PlacesObject`, `RemovesObject` and `RefitsObject`.
+/// With pages, each malloc, free and resize that succeeds is a step of the model of objects on pages:
+/// `PlacesObject`, `RemovesObject` or `RefitsObject`.
 pub fn calls_are_the_steps_of_pages()
     ensures malloc { (old new : HeapState) (asked : Request) → IsPaged old.kind → AddsObject old asked new
         → PlacesObject (paging_in old) old.held asked new.held }
@@ -161,10 +163,9 @@ pub fn calls_are_the_steps_of_pages()
         → RefitsObject (paging_in old) old.held asked (record { held = new.held; moved = number_of done.moved }) }
 {}
 
-/// If a manager has an order, each malloc, free and resize has one outcome: two results r and s of
-/// the same call in the state `old`, which leave the states `new` and `next`, are equal, and so are
-/// these states, with addresses, blocks, words, order and cost. A write has one outcome without an
-/// order too.
+/// If a manager has an order, each malloc, free and resize has one outcome. Two results r and s of the same
+/// call in the state `old` are equal. So are the states `new` and `next` that they leave, with addresses,
+/// blocks, words, order and cost. A write has one outcome without an order too.
 pub fn an_order_leaves_one_outcome()
     ensures malloc { (old new next : HeapState) (bytes : ℕ) (r s : Result Handle Refusal) → IsSome old.order
         → KeepsRules old → KeepsRules new → KeepsRules next

@@ -1,4 +1,6 @@
-//! Memory managers: what contracts see of one, the trait `Manager`, and opening many managers.
+//! Memory managers: the trait `Manager` with the contract of each call, the state of a manager that contracts
+//! see (`HeapState`), laws that follow from the contracts, the bytes that a heap uses (`Usage`), and opening
+//! every manager of a list.
 #![tactic(auto)]
 
 pub mod laws;

@@ -32,11 +32,13 @@ use step_ledger::Steps;
 /// size classes, by Compact-fit (2008). One of kind `Tlsf` or `HalfFit` divides it into blocks, by
 /// TLSF (2004) or Half-Fit (1995).
 ///
-/// A manager may promise an order (`HeapState`, field `order`), closed or open: then each malloc, free
-/// and resize uses the page, slot or block, number and object that are next in the order, and costs
-/// exactly the steps that the state before and the answer determine (clause `ordered`; with blocks a
-/// resize is refused, and the clause leaves its steps open). No call changes whether a manager
-/// promises one.
+/// A manager may promise an order (`HeapState`, field `order`), closed or open. Then the order determines each
+/// choice of a malloc, free or resize: the number, slot or block taken, and the object moved. It also
+/// determines their steps exactly (clause `ordered`). With blocks a resize is always refused, and the clause
+/// leaves its steps open. No call changes whether a manager promises an order.
+///
+/// Only `kind`, `is_open` and `open_heap` may be called while the heap is closed. Calls add their steps to the
+/// ledger `steps`. Before a malloc, free, write, read or resize its count is at most 2 ^ 63 (clause `room`).
 pub trait Manager: Drop {
     /// What contracts see of a manager.
     ghost state: { Self → HeapState };
@@ -59,10 +61,10 @@ pub trait Manager: Drop {
         ensures err { OnErr result (IsClosed (state self.old) (state self.new)) }
         ensures promise { KeepsPromise (state self.old) (state self.new) };
 
-    /// Adds an object of `bytes` bytes, all zero, under a handle that wasn't live. Refused, in this
-    /// order: `Size` if it needs more than a page; `Proxy` if every proxy is in use; `Space` if its
-    /// class has no slot left, or if no free list that is searched for its size has a block. A
-    /// refusal changes only the cost. At most 64 steps with pages, 25 with blocks.
+    /// Adds an object of `bytes` bytes, all zero, under a handle that wasn't live. Refused, in this order:
+    /// `Size` if it needs more than a page; `Proxy` if every proxy is in use; `Space` if its class has no slot
+    /// left or, with blocks, if no free list that is searched for its size has a block. A refusal changes only
+    /// the cost. At most 64 steps with pages, 25 with blocks.
     fn malloc(&mut self, bytes: u32, steps: &mut Steps) -> Result<Handle, Refusal>
         requires open { IsTrue (state self.old).is_open }
         requires room { steps.old ≤ 2 ^ 63 }
@@ -73,11 +75,11 @@ pub trait Manager: Drop {
         ensures bound { TakesAtMost (state self.old).kind steps.old steps.new 64 25 }
         ensures cost { steps.new ≡ steps.old + (state self.new).cost };
 
-    /// Removes an object, and returns the words of its slot or block. Refused if the handle isn't
-    /// live. With pages, if the free must move an object (`MustMove`), another object of the class
-    /// moves to the freed address; `moved` is that object. A refusal changes only the cost. With
-    /// pages at most 96 steps plus twice the words of the slot; with blocks at most 41 plus the
-    /// words of the block, 1 if refused.
+    /// Removes an object, and returns the words of its slot or block. Refused if the handle isn't live. With
+    /// pages, another object of the class moves to the freed address if the class would else pass its bound on
+    /// partly full pages (`MustMove`). `moved` is that object. A refusal changes only the cost. With pages at
+    /// most 96 steps plus twice the words of the slot; with blocks at most 41 plus the words of the block, 1 if
+    /// refused.
     fn free(&mut self, h: Handle, steps: &mut Steps) -> Result<Freed, NotLive>
         requires open { IsTrue (state self.old).is_open }
         requires room { steps.old ≤ 2 ^ 63 }
@@ -175,7 +177,7 @@ pub trait Manager: Drop {
         requires { IsTrue (state self.now).is_open }
         ensures { result ≡ classes_in (state self.now).kind (state self.now) };
 
-    /// The figures of class c; none if there is no such class.
+    /// The figures of class c, counted from 0; none if there is no such class.
     fn figures(&self, c: u32) -> Option<Figures>
         requires { IsTrue (state self.now).is_open }
         ensures { result ≡ figures_in (state self.now) c };
@@ -187,9 +189,9 @@ pub trait Manager: Drop {
         ensures value { result ≡ totals_in (state self.now).kind (state self.now) }
         ensures rises { steps.old ≤ steps.new };
 
-    /// The bytes that live objects asked for, those of their slots or blocks, and those that the
-    /// heap holds for them: three of the figures of `totals`. Each manager of this repository keeps
-    /// them as counts, so its own body of this call costs no step.
+    /// The bytes that live objects asked for, those of their slots or blocks, and those that the heap holds for
+    /// them: three of the figures of `totals`. Each manager of this repository keeps them as counts and has a
+    /// body of its own for this call, which costs no step.
     fn usage(&self, steps: &mut Steps) -> Usage
         requires { IsTrue (state self.now).is_open }
         ensures value { result ≡ usage_in (state self.now).kind (state self.now) }

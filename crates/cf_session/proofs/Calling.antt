@@ -1,5 +1,5 @@
--- For `set_bound`: the step of command `k`, from what the manager's call did; so also that no id is live if and only if no object is. For `push_steps`: its
--- text.
+-- For `set_bound`, which does command `k`: its step with and without live objects; no id is live if and only if no object is. For `push_steps`: the line
+-- that it builds is the reply to `steps`.
 use Rattle.std.proofs.Common.{Bool, ◌≡◌, ◌∙◌, ◌++◌, ℕ, true, false, List, Option, Some, None, refl, ap, sym, inl, inr, append_assoc}
 use Rattle.std.specs.Prelude.{◌⊎◌, codes, if◌then◌else◌, nat_eq, is_some}
 use Rattle.std.specs.Ordering.{nat_cmp}

@@ -1,4 +1,4 @@
--- For `answer`: the commands of other modes, which it has no branch for, get `none`.
+-- For `answer`, the match over all commands: a command of another mode, for which it has no branch, gets the reply `none` and changes nothing.
 use Rattle.std.proofs.Common.{◌≡◌, ℕ, List, Bor, refl}
 use Rattle.std.specs.Prelude.{codes}
 use Rattle.script_reader.specs.Owned.{owned_command}
@@ -8,7 +8,7 @@ use Rattle.run_model.specs.Sessions.{RunState}
 use Rattle.run_model.specs.Steps.{Step}
 use Rattle.run_model.specs.Texts.{said}
 
--- the reply to each such command is `none`
+-- the reply to a command that is none of those with a branch is `none`
 pub lacking : (run : RunState) (c : CommandRef)
     → ((id bytes : ℕ) → c ≡ borrowed.Malloc id bytes → ⊥) → ((id : ℕ) → c ≡ borrowed.Free id → ⊥)
     → ((id at : ℕ) (bytes : Bor (List ℕ)) → c ≡ borrowed.Write id at bytes → ⊥) → ((id at len : ℕ) → c ≡ borrowed.Read id at len → ⊥)

@@ -1,4 +1,5 @@
--- For the functions of `looks`: the line that each builds holds the lead and the text of the reply, and the outcome that it returns is that of the text.
+-- For `src/queries.rt`, which does `r`, `q`, `b`, `p` and `steps`: the line that each function builds is the lead and the text of the reply, and the outcome
+-- that it returns (good, refused or other) is that of the text.
 use Rattle.std.proofs.Common.{◌≡◌, ◌∙◌, ◌+◌, ◌<◌, ◌≤◌, ◌/◌, ◌%◌, ◌^◌, ◌++◌, ℕ, List, ◌∷◌, Option, Some, None, Err, option_map}
 use Rattle.std.proofs.Common.{length, take, drop, nat_eq, false, refl, sym, ap, arith, lit<}
 use Rattle.std.specs.Prelude.{codes, slice_index}
@@ -39,12 +40,12 @@ read_within x from count le = rw (le-leb _ _ le) refl
 pub read_past : (x : Placed) (from count : ℕ) → length x.bytes < from + count → read_text (Some x) from count ≡ codes "range"
 read_past x from count lt = rw (le_no _ _ lt) refl
 
--- the reply to a read that is done
+-- the reply to a read that the heap did is `=` and its bytes
 pub read_said : (s : HeapState) (position : Position) (count : ℕ) (bytes : List ℕ) → ReadsBytes s position count bytes
     → read_text (get s.held position.number) position.from count ≡ codes "=" ++ encode_lower bytes
 read_said s position count bytes r = rw r.found (read_within r.object position.from count r.within ∙ ap (λ (b : List ℕ). codes "=" ++ encode_lower b) (sym r.value))
 
--- the reply to a refused read
+-- the reply to a read that the heap refused, by the fault
 pub fault_said : (s : HeapState) (position : Position) (count : ℕ) (fault : AccessFault) → IsFault s position count fault
     → write_text (Err fault) ≡ read_text (get s.held position.number) position.from count
 fault_said s position count access.Unknown none = rw none refl

@@ -1,4 +1,5 @@
--- For `answer` and `apply_ref`: from the step of a command, and from what was written of its reply, to `AppliesOneManager`; and a command keeps a run in progress.
+-- For `answer` and `apply_ref`, which do one command: if its reply, a report, one line or the bytes of a read, was written whole or in part, the contract
+-- `AppliesOneManager` holds, and the run stays in progress.
 use Rattle.std.proofs.Common.{◌≡◌, ◌∙◌, ℕ, ◌++◌, List, [], ◌∷◌, Option, Some, None, Result, Ok, Err, length, map, refl, ap}
 use Rattle.std.proofs.Common.{ap₂, sym, subst, append_assoc}
 use Rattle.std.specs.Prelude.{IsTrue, codes}
@@ -39,7 +40,7 @@ use Rattle.cf_session.specs.declared.outcome.Outcome.{Outcome}
 use Rattle.cf_session.specs.declared.outcome.Outcome.TheVariants.{Good, Other}
 use Rattle.cf_session.specs.declared.short.Short.{Short}
 
--- a step of a run in progress is a turn
+-- a step of a run in progress is an `IsCommandStep`, since it also meets the bounds
 turn : (old new : RunState) (c : Command) (reply : Reply) → IsGoing old → Step old c reply new → IsCommandStep old c reply new
 turn old new c reply going step = record { step = step; bounds = step_meets_bounds old new c reply going step }
 
@@ -49,7 +50,7 @@ Bytes = Option (List ℕ)
 abbrev at : RunState → Bytes → Moment
 at run written = record { run = run; written = written }
 
--- the reply of a step was put, with its outcome
+-- the reply of a step was written whole (`applied`), or the sink failed and a prefix was written (`applied_cut`)
 module _ (old new : RunState) (c : Command) (lead : List ℕ) (reply : Reply) (w y : Bytes) (going : IsGoing old) (step : Step old c reply new) where
   pub applied : (outcome : Outcome) → outcome ≡ outcome_of reply → y ≡ appended w (led lead reply)
       → AppliesOneManager (at old w) (record { command = c; lead = lead }) (Ok outcome) (at new y)
@@ -60,7 +61,7 @@ module _ (old new : RunState) (c : Command) (lead : List ℕ) (reply : Reply) (w
   applied_cut e (front, lost, parts, put) =
       record { reply = reply; front = front; lost = lost; turn = turn old new c reply going step; cut = parts; written = put }
 
--- a report's outcome is neither good nor a refusal
+-- the outcome of a report is `Other`
 pub pages_other : (f : ℕ → Figures) (t : Totals) (cs : List ℕ) → Other ≡ outcome_of (map (λ c. class_line (f c)) cs ++ said (total_line t))
 pages_other f t [] = refl
 pages_other f t (c ∷ cs) = refl
@@ -101,26 +102,26 @@ reported_frag old lead w y c r answer is going put shown =
     let P : Command → Type 0 = λ k. AppliesOneManager (at old w) (record { command = k; lead = lead }) answer (at old y) in
     subst P (sym is) (reported old old Frag lead (frag_of old.heap) w y r Other answer going (refl, refl) (frag_other old.heap) put shown)
 
--- a text that was put after a step
+-- the reply of a step is the one line `text`, which was written whole or in part
 pub shown_step : (old new : RunState) (asked c : Command) (lead text : List ℕ) (w y : Bytes) (answer : Result Outcome Failed) → asked ≡ c → IsGoing old
     → Step old c (said text) new → IsPut text lead w answer y → AppliesOneManager (at old w) (record { command = asked; lead = lead }) answer (at new y)
 shown_step old new asked c lead text w y answer is going step shown =
     subst (λ (k : Command). AppliesOneManager (at old w) (record { command = k; lead = lead }) answer (at new y)) (sym is)
     (reported old new c lead (said text) w y shown.written (outcome_in text) answer going step refl shown.puts shown.ended)
 
--- a reply on the line has room for the line feed
+-- if a reply is on the line, the line has room for the line feed
 pub has_room : (lead line text : List ℕ) (o : OneLine) → SaidOn (lines_at lead line) text o → HasRoom line o
 has_room lead line text (reply.Short short) on = tt
 has_room lead line text (reply.Written outcome) on = on.1
 
--- a short reply that was put
+-- the reply `text` was written, if its function returned a short reply, and that was written
 pub shown_short : (lead line text : List ℕ) (w y : Bytes) (o : OneLine) (short : Short) (answer : Result Outcome Failed) → o ≡ reply.Short short
     → SaidOn (lines_at lead line) text o → IsPut (short_text short) lead w answer y → IsPut text lead w answer y
 shown_short lead line text w y o short answer is on shown =
     let same : short_text short ≡ text = subst (λ (p : OneLine). SaidOn (lines_at lead line) text p) is on in
     subst (λ (t : List ℕ). IsPut t lead w answer y) same shown
 
--- a line that was written after its lead, and put
+-- the reply `text` was written, if its function left it on the line (`Written`), and the line was written to the sink
 pub shown_written : (lead line text : List ℕ) (w y : Bytes) (o : OneLine) (outcome : Outcome) (r : Result Unit Failed) (answer : Result Outcome Failed)
     → o ≡ reply.Written outcome → SaidOn (lines_at lead line) text o → Puts w (line ++ 10 ∷ []) r y → IsEnded r outcome answer
     → IsPut text lead w answer y
@@ -132,7 +133,7 @@ shown_written lead line text w y o outcome r answer is on put shown =
       ended = subst (λ (p : Outcome). IsEnded r p answer) here.2 shown;
     }
 
--- the bytes that were read, spelled and put
+-- the reply to a read was written, if the heap read the bytes, and their hexadecimal digits were written to the sink
 pub shown_bytes : (s : HeapState) (position : Position) (count : ℕ) (bytes lead seen : List ℕ) (w y : Bytes) (r : Result Unit Failed) (answer : Result Outcome Failed)
     → ReadsBytes s position count bytes → seen ≡ led lead (said (codes "=" ++ encode_lower bytes)) → Puts w seen r y → IsEnded r Good answer
     → IsPut (read_text (get s.held position.number) position.from count) lead w answer y
@@ -140,7 +141,7 @@ shown_bytes s position count bytes lead seen w y r answer reads spelled put show
     subst (λ (t : List ℕ). IsPut t lead w answer y) (sym (read_said s position count bytes reads))
     (record { written = r; puts = subst (λ (l : List ℕ). Puts w l r y) spelled put; ended = shown })
 
--- a reply for an object is one for its id
+-- the reply to a read of object h is the reply to a read of the id whose handle is h
 pub shown_named : (session : SessionState) (heap : HeapState) (id h from count len : ℕ) (lead : List ℕ) (w y : Bytes) (answer : Result Outcome Failed)
     → Some h ≡ get session.ids id → IsPut (read_text (get heap.held h) from count) lead w answer y → count ≡ len
     → IsPut (read_text (object_of (run_at session heap) id) from len) lead w answer y
@@ -149,21 +150,21 @@ shown_named session heap id h from count len lead w y answer named put same =
     subst (λ (n : ℕ). IsPut (read_text (get heap.held h) from n) lead w answer y) same put in
     subst (λ (o : Option ℕ). IsPut (read_text (elim o [ None ↦ None | Some q ↦ get heap.held q ]) from len) lead w answer y) named there
 
--- a refused read, by its cause
+-- the reply to a read was written, if the heap refused the read, and the short reply for the fault was written
 pub shown_fault : (s : HeapState) (position : Position) (count : ℕ) (fault : AccessFault) (short : Short) (lead : List ℕ) (w y : Bytes)
     (answer : Result Outcome Failed) → IsFault s position count fault → short_text short ≡ write_text (Err fault) → IsPut (short_text short) lead w answer y
     → IsPut (read_text (get s.held position.number) position.from count) lead w answer y
 shown_fault s position count fault short lead w y answer cause is shown =
     subst (λ (t : List ℕ). IsPut t lead w answer y) (is ∙ fault_said s position count fault cause) shown
 
--- the line of a short reply without a lead
+-- a reply of one line was written, if the lead is empty, and the text with its line feed was written
 pub put_bare : (w y : Bytes) (lead text seen : List ℕ) (r : Result Unit Failed) → length lead ≡ 0 → seen ≡ text ++ 10 ∷ [] → Puts w seen r y
     → Puts w (led lead (said text)) r y
 put_bare w y lead text seen r none is put =
     puts_line w y lead text text r (ap (λ (l : List ℕ). l ++ text) (sym (nil_from_length lead none)))
     (subst (λ (s : List ℕ). Puts w s r y) is put)
 
--- the line of a short reply after its lead
+-- a reply of one line was written, if a line of the lead, the text and a line feed was written
 pub put_after : (w y : Bytes) (lead text seen before line : List ℕ) (r : Result Unit Failed) → before ≡ lead → line ≡ before ++ seen → seen ≡ text ++ 10 ∷ []
     → Puts w line r y → Puts w (led lead (said text)) r y
 put_after w y lead text seen before line r begun pushed is put =
@@ -176,7 +177,7 @@ pub applied_going : (old new : RunState) (c : Command) (lead : List ℕ) (w y : 
 applied_going old new c lead w y (Ok outcome) going a = step_going old new c a.0.reply going a.0.turn.step
 applied_going old new c lead w y (Err e) going a = step_going old new c a.reply going a.turn.step
 
--- a session that is consistent with an open heap that keeps its rules makes a run in progress
+-- a session and an open heap make a run in progress if the heap keeps its rules and the session's ids are tied to its objects
 pub going_before : (inside session : SessionState) (heap : HeapState) → IsTrue heap.is_open → KeepsRules heap → inside ≡ session
     → AreTied session heap → IsGoing (run_at inside heap)
 going_before inside session heap opened rules same tied =

@@ -1,9 +1,9 @@
--- For `spell_bytes`: a buffer whose parts are filled in turn with lead, `=`, digits and a line feed begins with the reply to the read.
+-- For `spell_bytes`, which fills a buffer in turn with the lead, `=`, hexadecimal digits and a line feed: the buffer then begins with the reply to the read.
 use Rattle.std.proofs.Common.{◌≡◌, ◌∙◌, ◌+◌, ◌≤◌, ◌++◌, ℕ, List, [], ◌∷◌, length, take, drop, slice_set, refl, sym, ap, ap₂, arith}
 use Rattle.std.proofs.Common.{append_assoc, append-nil, length-append}
 use Rattle.std.proofs.Math.Seq.{take-append_seam}
 
--- a lead, a mark and digits, and a line feed before what was there
+-- if a text begins with the lead, `=` (61), the digits and a line feed (10), its first bytes, without `rest`, are this line
 pub spelled : (lead digits rest : List ℕ) (n : ℕ) → n ≡ length digits
     → take (length lead + n + 2) (lead ++ 61 ∷ (digits ++ 10 ∷ rest)) ≡ (lead ++ 61 ∷ (digits ++ 10 ∷ [])) ++ []
 spelled lead digits rest n is =
@@ -17,7 +17,7 @@ spelled lead digits rest n is =
     sym (append_assoc lead (61 ∷ (digits ++ 10 ∷ [])) rest ∙ ap (λ l. lead ++ 61 ∷ l) (append_assoc digits (10 ∷ []) rest)) in
     ap₂ take long parts ∙ take-append_seam text rest ∙ sym (append-nil text)
 
--- the first of a list is set
+-- setting the first element of a list replaces it
 pub set_first : (xs : List ℕ) (v : ℕ) → 1 ≤ length xs → slice_set xs 0 v ≡ v ∷ drop 1 xs
 set_first [] v some = absurd (omega (arith, some))
 set_first (x ∷ xs) v some = refl

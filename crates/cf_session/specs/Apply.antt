@@ -1,4 +1,5 @@
--- What `Session::apply` does: the command takes effect, and its reply, or a prefix of it, is written.
+-- What `Session::apply` does: the command takes effect, and its reply is written, with its outcome as result (good, refused or other); or, if the sink
+-- fails, a prefix is written.
 use Rattle.std.specs.Prelude.{◌≡◌, ℕ, ◌||◌, List, [], ◌∷◌, Option, Result, Ok, Err, codes, nat_eq, if◌then◌else◌}
 use Rattle.std.specs.List.{starts_with}
 use Rattle.std.specs.Str.{bytes_eq}
@@ -28,13 +29,13 @@ abbrev pub outcome_of : Reply → Outcome
 outcome_of [] = Other
 outcome_of (text ∷ rest) = outcome_in text
 
--- Between the moments `old` and `new` the command took effect. If the result is `Ok`, its whole reply was written, and the result is the outcome of that reply;
--- if it is `Err`, a prefix was written.
+-- Between the moments `old` and `new` the command of `asked` took effect. If the result is `Ok`, its whole reply was written, and the result is the outcome of
+-- that reply; if it is `Err`, a prefix of the reply was written.
 abbrev pub AppliesOneManager : Moment → Asked → Result Outcome Failed → Moment → Type 0
 AppliesOneManager old asked (Ok outcome) new = (a : IsAnswered old asked new) × (outcome ≡ outcome_of a.reply)
 AppliesOneManager old asked (Err failed) new = IsCutShort old asked new
 
--- from the result of writing a reply and from its outcome, the result of the command: the outcome, or `Failed` if the sink failed
+-- `answer` is the result of a command, by the result of writing its reply: the reply's outcome (`outcome`), or the error if the sink failed
 abbrev pub IsEnded : {T : Type 0} → Result T Failed → Outcome → Result Outcome Failed → Type 0
 IsEnded (Ok u) outcome answer = answer ≡ Ok outcome
 IsEnded (Err failed) outcome answer = answer ≡ Err failed

@@ -1,7 +1,7 @@
 -- Replies of one line while they are built and written, for the functions inside this crate. No public clause cites this module.
 use Rattle.std.specs.Prelude.{◌≡◌, ◌<◌, ℕ, ◌++◌, List, length, Option, Result}
 use Rattle.cf_io.specs.Feeds.{Puts}
-use Rattle.cf_io.specs.Lines.{line_room}
+use Rattle.cf_io.specs.Lines.{line_capacity}
 use Rattle.cf_base.specs.declared.answers.Failed.{Failed}
 use Rattle.cf_session.specs.Apply.{IsEnded, outcome_in}
 use Rattle.cf_session.specs.Short.{short_text}
@@ -19,19 +19,19 @@ pub record Lines : Type 0 where
 abbrev pub lines_at : List ℕ → List ℕ → Lines
 lines_at lead text = record { lead = lead; text = text }
 
--- A function that has built a reply returned this `OneLine`, and the reply is `text`: a short reply with that text; or the line holds the lead and then `text`,
--- with room for the line feed, and the outcome is that of `text`.
+-- A function that built the reply `text` returned this `OneLine`: a short reply with that text; or `Written`, if the line holds the lead and then `text`, with
+-- room for the line feed, and the outcome is that of `text`.
 abbrev pub SaidOn : Lines → List ℕ → OneLine → Type 0
 SaidOn line text (reply.Short short) = short_text short ≡ text
-SaidOn line text (reply.Written outcome) = (line.text ≡ line.lead ++ text) × (length line.text < line_room) × (outcome ≡ outcome_in text)
+SaidOn line text (reply.Written outcome) = (line.text ≡ line.lead ++ text) × (length line.text < line_capacity) × (outcome ≡ outcome_in text)
 
 -- if the reply is on the line already, the line has room for the line feed
 abbrev pub HasRoom : List ℕ → OneLine → Type 0
 HasRoom line (reply.Short short) = Unit {0}
-HasRoom line (reply.Written outcome) = length line < line_room
+HasRoom line (reply.Written outcome) = length line < line_capacity
 
--- The lead, `text` and a line feed were written, and the result is the outcome of `text`; or the sink failed, the result is an error, and a prefix of these was
--- written. `before` and `after` are the bytes written before and after, if the sink is observable.
+-- The lead, `text` and a line feed were written, and the result is the outcome of `text`; or the sink failed, the result is an error, and a prefix of this line
+-- was written. `before` and `after` are the bytes written before and after, if the sink is observable.
 pub record IsPut (text lead : List ℕ) (before : Option (List ℕ)) (answer : Result Outcome Failed) (after : Option (List ℕ)) : Type 0 where
   pub written : Result Unit Failed
   pub puts : Puts before (led lead (said text)) written after

@@ -1,4 +1,5 @@
--- From the fields of a session to the states of which contracts speak. No public clause cites this module.
+-- The state of a session, and of a run (session and manager), computed from the records that a session keeps: its live ids and its counters. No public
+-- clause cites this module.
 use Rattle.cf_model.specs.State.{HeapState}
 use Rattle.run_model.specs.Sessions.{RunState, SessionState}
 use Rattle.cf_session.specs.Apply.{run_at}
@@ -8,6 +9,6 @@ use Rattle.cf_session.specs.declared.records.Records.{Records}
 abbrev pub session_of : Records → SessionState
 session_of r = record { ids = r.ids; bound = r.counters.bound; moves = r.counters.moves; words = r.counters.words }
 
--- the state of a run: that of a session with these records, and that of its manager
+-- the state of a run: the state of a session with these records, and the state of its manager
 abbrev pub run_with : Records → HeapState → RunState
 run_with records heap = run_at (session_of records) heap

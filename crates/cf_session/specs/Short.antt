@@ -1,4 +1,4 @@
--- The texts of the replies that are one fixed text.
+-- The texts of the replies that are one fixed text, such as `ok`, `none` or `refused space` (`Short`).
 use Rattle.std.specs.Prelude.{ℕ, List, codes}
 use Rattle.cf_session.specs.declared.short.Short.{Short}
 use Rattle.cf_session.specs.declared.short.Short.TheVariants.{Done, Live, Unknown, Range, Lacking, Busy, Full}

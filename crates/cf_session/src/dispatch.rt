@@ -8,8 +8,8 @@ ghost use Rattle.script_reader.specs.Owned.{owned_command};
 ghost use Rattle.run_model.specs.Sessions.{IsGoing};
 
 use crate::changes::{free, malloc, resize, set_bound, write};
-use crate::looks::{block, peek, place, put_steps_line, read};
 use crate::outcome::Outcome;
+use crate::queries::{block, peek, place, put_steps_line, read};
 use crate::records::Records;
 use crate::reply::{ended, put_reply, put_short_line};
 use crate::short::Short;
@@ -20,11 +20,11 @@ use frag_report::{frag_line, walk_lines};
 use script_reader::CommandRef;
 use step_ledger::Steps;
 
-/// Does command `c` and writes its reply to `out`. Each line begins with `lead` and is written in one call of
-/// the sink. Returns how the command ended, by its reply. If the sink fails, the result is `Failed`: the command
-/// has taken effect, and a prefix of its reply was written. `line`, `buffer` and `text` are scratch: `line` for
-/// replies of one line, and, for `r` alone, `buffer` for the bytes read and `text` for the line of the reply.
-// All commands are in one match: where a caller's command is known, the compiler inlines its branch alone.
+/// Does command `c` and writes its reply to `out`. Each line begins with `lead` and is passed to the sink as a
+/// whole. Returns the outcome of the reply. If the sink fails, the result is `Failed`: the command has taken
+/// effect, and a prefix of its reply was written. `line`, `buffer` and `text` are scratch: `line` for a line of
+/// any reply, and, for `r` alone, `buffer` for the bytes read and `text` for the line that shows them.
+// All commands are in one match: if the compiler knows a caller's command, it inlines that branch alone.
 pub(crate) fn answer<H: Manager, K: Sink>(
     records: &mut Records,
     heap: &mut H,

@@ -4,8 +4,8 @@
 
 mod changes;
 mod dispatch;
-mod looks;
 mod outcome;
+mod queries;
 mod records;
 mod reply;
 mod session;

@@ -1,4 +1,5 @@
-//! The outcome of a command, for callers that count replies and don't read their texts.
+//! The outcome of a command (good, refused or other), for callers that count replies and don't read their
+//! texts.
 /// How a command ended, by the first bytes of its reply.
 #[derive(Clone, Copy, Debug, PartialEq, Eq)]
 pub enum Outcome {

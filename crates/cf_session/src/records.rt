@@ -7,8 +7,8 @@ use cf_base::OutOfMemory;
 use id_table::{Counters, IdTable};
 use std::alloc::Global;
 
-/// `ids` maps each live id to its handle. `counters` has the step bound of the last malloc, free or resize, the
-/// number of moves, and the words of the slots moved.
+/// The records of a session. `ids` maps each live id to its handle. `counters` has the step bound of the last
+/// malloc, free or resize, how many objects moved, and the words of their slots.
 #[derive(Drop)]
 pub(crate) struct Records {
     pub(crate) ids: IdTable,
@@ -16,7 +16,7 @@ pub(crate) struct Records {
 }
 
 impl Records {
-    /// Records in which no id is live. Allocates the table of all ids.
+    /// Records in which no id is live. Allocates the table of all ids; fails only if memory runs out.
     pub(crate) fn new(alloc: Global) -> Result<Records, OutOfMemory>
         ensures { IfOk result (λ r. session_of r ≡ fresh_session) }
     {

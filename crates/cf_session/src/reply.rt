@@ -61,7 +61,7 @@ pub(crate) fn put_short_line<K: Sink>(
     ended(put_short(short, lead, line, out), short.outcome())
 }
 
-/// Writes the lead and a short reply to the sink. If the lead is empty, the text is not copied into `line`.
+/// Writes the lead and the fixed text of `short` to the sink. If the lead is empty, the text is not copied into `line`.
 fn put_short<K: Sink>(short: Short, lead: &[u8], line: &mut Line, out: &mut K) -> Result<(), Failed>
     requires { length lead.now ≤ 8 }
     ensures puts { Puts (K.written out.old) (led lead.now (said (short_text short))) result (K.written out.new) }
@@ -75,7 +75,7 @@ fn put_short<K: Sink>(short: Short, lead: &[u8], line: &mut Line, out: &mut K) -
     put_all(out, short.text_line())
 }
 
-/// Writes the lead and a short reply to the sink in one chunk, which is built in `line`.
+/// Writes the lead and a short reply to the sink, as one line built in `line`.
 fn put_led<K: Sink>(short: Short, lead: &[u8], line: &mut Line, out: &mut K) -> Result<(), Failed>
     requires { length lead.now ≤ 8 }
     ensures puts { Puts (K.written out.old) (led lead.now (said (short_text short))) result (K.written out.new) }

@@ -52,7 +52,8 @@ impl Model for Session {
 }
 
 impl Session {
-    /// A session in which no id is live. Allocates the table of all 65,536 ids.
+    /// A session in which no id is live. The runtime value `rt` makes its meter. Allocates the table of all
+    /// 65,536 ids; fails only if memory runs out.
     pub fn start(rt: &HostRuntime, alloc: Global) -> Result<Session, OutOfMemory>
         ensures { IfOk result (λ s. s ≡ fresh_session) }
     {
@@ -65,9 +66,9 @@ impl Session {
         })
     }
 
-    /// Does command `c` on the heap and writes its reply to `out`; each line begins with `lead` and is written
-    /// in one call of the sink. If the sink fails, the result is `Failed`: the command has taken effect, and a
-    /// prefix of its reply was written.
+    /// Does command `c` on the heap and writes its reply to `out`; each line begins with `lead` and is passed
+    /// to the sink as a whole. Returns the outcome of the reply. If the sink fails, the result is `Failed`: the
+    /// command has taken effect, and a prefix of its reply was written.
     pub fn apply<H: Manager, K: Sink>(
         &mut self,
         heap: &mut H,

@@ -1,7 +1,7 @@
-//! Replies of one line: the fixed texts that sessions of all modes use (`Short`), which results of a heap get
-//! which of them, and how a reply is put on a line.
+//! Replies of one line: the fixed texts that sessions of all modes use (`Short`), which text each refusal of a
+//! heap gets, and how a reply is appended to a line.
 ghost use Rattle.std.specs.Prelude.{◌≡◌, ◌<◌, ◌≤◌, ◌++◌, ◌∷◌, [], Err, codes, length};
-ghost use Rattle.cf_io.specs.Lines.{line_room};
+ghost use Rattle.cf_io.specs.Lines.{line_capacity};
 ghost use Rattle.cf_session.specs.Apply.{outcome_in};
 ghost use Rattle.cf_session.specs.Short.{short_text};
 ghost use Rattle.hex.specs.Hex.{encode_lower};
@@ -11,8 +11,8 @@ use crate::outcome::Outcome;
 use cf_base::{AccessFault, Refusal};
 use cf_io::{Line, push_text};
 
-/// A reply of one line: `Short`, a fixed text, which isn't on the line yet; or `Written`, the outcome of a reply
-/// that is on the line already.
+/// A reply of one line: `Short`, a fixed text that isn't in the buffer `line` yet; or `Written`, the outcome of a
+/// reply that `line` holds already.
 #[derive(Clone, Copy)]
 pub(crate) enum OneLine {
     Short(Short),
@@ -104,7 +104,7 @@ pub fn fault_reply(fault: AccessFault) -> Short
 pub fn push_short(line: &mut Line, short: Short) -> Outcome
     requires { line.old ≡ [] }
     ensures text { line.new ≡ short_text short }
-    ensures room { length line.new < line_room }
+    ensures room { length line.new < line_capacity }
     ensures outcome { result ≡ outcome_in line.new }
 {
     let text = short.text_line();
@@ -118,7 +118,7 @@ pub fn push_bytes(line: &mut Line, bytes: &[u8]) -> Outcome
     requires empty { line.old ≡ [] }
     requires few { length bytes.now ≤ 4096 }
     ensures text { line.new ≡ codes "=" ++ encode_lower bytes.now }
-    ensures room { length line.new < line_room }
+    ensures room { length line.new < line_capacity }
     ensures outcome { result ≡ outcome_in line.new }
 {
     push_text(line, b"=");

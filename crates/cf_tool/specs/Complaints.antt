@@ -1,4 +1,4 @@
--- For `complaint` of `main.rt`: what the program prints on standard error.
+-- For `complaint` of `main.rt`: the line that the program prints on standard error at each exit status but `Done`.
 use Rattle.std.specs.Prelude.{ℕ, List, Option, Some, None, codes}
 use Rattle.cf_base.specs.declared.status.Status.{Status}
 use Rattle.cf_base.specs.declared.status.Status.TheVariants.{Done, Words, BadScript, ReadFault, WriteFault, OutOfMemory, TooLong, BadImage}

@@ -1,5 +1,5 @@
 //! The program: calls `cf_main` with the arguments, standard input and output, and one closed manager of each
-//! kind, and exits with the status that it returns.
+//! kind, and exits with the status that it returns. If that isn't `Done`, it prints a line on standard error.
 #![tactic(auto)]
 
 ghost use Rattle.std.specs.Prelude.{◌≡◌, option_map};
@@ -34,8 +34,8 @@ fn complaint(status: Status) -> Option<&'static str>
     }
 }
 
-/// Returns the arguments of the command line, the program's name first. Fails with `OutOfMemory`, or with
-/// `Words` if they can't be read.
+/// Returns the arguments of the command line, the program's name first. Fails with `OutOfMemory` if out of
+/// memory, and with `Words` if they can't be read.
 fn command_words(rt: &HostRuntime) -> Result<Vec<String>, Status> {
     match env::args(rt) {
         Ok(args) => args.collect(rt.alloc()).map_err(|_| Status::OutOfMemory),
@@ -47,7 +47,7 @@ fn command_words(rt: &HostRuntime) -> Result<Vec<String>, Status> {
 }
 
 /// Calls `cf_main` with these arguments, standard input and output, and a closed manager of each kind.
-/// Returns its status. Fails if the boxes of the managers can't be allocated.
+/// Returns its status. Fails if the list of the managers or their boxes can't be allocated.
 fn run_all(rt: &HostRuntime, words: &[String]) -> Result<Status, AllocError> {
     let alloc = rt.alloc();
     let mut managers = Vec::new(alloc);

@@ -1,5 +1,7 @@
-//! Tests of the whole program: `cf_main` on sources and sinks in memory, in every mode. Here are the helpers
-//! that its modules share, and the tests of mode `run` with scripts whose replies were worked out by hand (`rows`).
+//! Tests of the whole program: `cf_main` on sources and sinks in memory, in every mode. This file has the helpers
+//! that its modules share, and tests of mode `run`: the scripts of `rows`, whose replies were worked out by hand;
+//! the longest line and script; and a page with the most slots. It also tests rejected arguments and the lines on
+//! standard error.
 mod damage;
 mod faults;
 mod keeping;
@@ -40,14 +42,15 @@ fn command_line(rt: &HostRuntime, words: &[&str]) -> Result<Vec<String>, AllocEr
     Ok(line)
 }
 
-/// Returns a sink that takes every chunk whole.
+/// Returns a sink whose every call takes all bytes that it is passed.
 fn plain_sink(rt: &HostRuntime) -> Result<MemSink, Fail> {
     let alloc = rt.alloc();
     let sink = MemSink::new(alloc, ROOM, Vec::new(alloc), Vec::new(alloc)).map_err(|_| "room")?;
     Ok(sink)
 }
 
-/// Returns a sink whose call number `call`, from 0, fails. Every other call takes its chunk whole.
+/// Returns a sink whose call number `call`, counted from 0, fails. All its other calls take all bytes that they
+/// are passed.
 fn failing_sink(rt: &HostRuntime, call: u64) -> Result<MemSink, Fail> {
     let alloc = rt.alloc();
     let fails = vec![in alloc; call; 1]?;
@@ -219,13 +222,13 @@ fn each_script_prints_its_replies(rt: HostRuntime) -> Result<(), Fail> {
     Ok(())
 }
 
-/// Returns the number of a `text` that is `before`, a number and `after`; `None` if it is something else.
+/// If `text` is `before`, a number and `after`, returns the number; else `None`.
 fn number_between(text: &[u8], before: &[u8], after: &[u8]) -> Option<u32> {
     number_of(text.strip_prefix(before)?.strip_suffix(after)?)
 }
 
-/// Returns the number of a script whose whole output is `before`, a number and `after`; `None` if the output is
-/// something else or the script does not end with `Done`.
+/// If a script ends with `Done` and its whole output is `before`, a number and `after`, returns the number; else
+/// `None`.
 fn number_shown(
     rt: &HostRuntime,
     words: &[&str],
@@ -250,7 +253,8 @@ fn the_steps_of_a_call_are_within_its_bound(rt: HostRuntime) -> Result<(), Fail>
     Ok(())
 }
 
-/// Returns whether the script `MOVE` prints `MOVED` also from a source that returns one byte a call.
+/// Returns whether the script `MOVE` of `rows` prints its replies, `MOVED`, also from a source that returns one
+/// byte a call.
 fn moves_byte_by_byte(rt: &HostRuntime) -> Result<bool, Fail> {
     let alloc = rt.alloc();
     let cuts = vec![in alloc; 1; MOVE.len()]?;
@@ -286,8 +290,8 @@ fn a_line_has_at_most_8999_bytes(rt: HostRuntime) -> Result<(), Fail> {
     Ok(())
 }
 
-/// Returns whether a source that repeats a comment line without end gets the status `TooLong`, and nothing is
-/// printed.
+/// Returns whether a source that repeats a comment line without end leads to the status `TooLong` and to no
+/// output. A script has at most 268,435,455 bytes.
 fn is_too_long(rt: &HostRuntime) -> Result<bool, Fail> {
     let mut line = vec![in rt.alloc(); b'#'; 8_999]?;
     line.push(b'\n')?;
@@ -312,6 +316,7 @@ fn push_small(script: &mut Vec<u8>, id: u64) -> Result<(), Fail> {
 }
 
 /// In a heap of one page of the largest size, 4,096 objects in slots of 4 words are made, and one more is refused.
+/// So the script prints 4,097 lines `ok`, one of them for the `heap` line, and then the refusal.
 #[test]
 fn a_page_of_131072_bytes_has_4096_slots(rt: HostRuntime) -> Result<(), Fail> {
     let mut script = b"heap 1 131072 1 8192\n".to_vec(rt.alloc())?;
@@ -336,7 +341,7 @@ fn a_page_of_131072_bytes_has_4096_slots(rt: HostRuntime) -> Result<(), Fail> {
 
 /// With arguments that it rejects, `cf_main` returns `Words` and prints nothing.
 #[test]
-fn words_that_are_not_taken_read_nothing(rt: HostRuntime) -> Result<(), Fail> {
+fn rejected_arguments_print_nothing(rt: HostRuntime) -> Result<(), Fail> {
     let refused: [&[&str]; 6] = [
         &["--manager", "other"],
         &["--help"],

@@ -1,4 +1,5 @@
--- For `push` and `unlink`: all rings together, after a page joins one or leaves one.
+-- For `push` and `unlink`, in which each page list is a ring of linked nodes: all rings after a page joins one or leaves one. They stay linked, and no page is
+-- in two.
 use Rattle.std.proofs.Common.{◌≡◌, ◌≢◌, ℕ, zero, suc, ◌+◌, ◌-◌, ◌<◌, List, [], ◌∷◌, length, get_or, set, arith, refl, sym, ◌∙◌, ap, inl, inr}
 use Rattle.std.specs.Prelude.{nat_eq}
 use Rattle.std.specs.List.{Contains, IsDistinct}

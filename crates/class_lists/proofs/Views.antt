@@ -15,14 +15,14 @@ use Rattle.class_lists.specs.Layout.{chains, lists_of, list_at, IsLinked, AreRin
 use Rattle.class_lists.proofs.Rings.{length-chains, chains_are, first_within, push_linked, push_disjoint, before_within, after_within, unlink_linked}
 use Rattle.class_lists.proofs.Rings.{unlink_disjoint}
 
--- a list's number determines its class and its kind
+-- a list's number determines its class, and which of the class's two lists it is
 pub same_list : (c d : ℕ) (w u : Which) → list_number c w ≡ list_number d u → (c ≡ d) × (w ≡ u)
 same_list c d Full Full e = (omega arith, refl)
 same_list c d Full NotFull e = absurd (omega arith)
 same_list c d NotFull Full e = absurd (omega arith)
 same_list c d NotFull NotFull e = (omega arith, refl)
 
--- the lists of class c are in range
+-- if there are n lists, two for each class, the numbers of those of class c are below n
 pub class_below : (c : ℕ) (w : Which) (n : ℕ) → c < n / 2 → list_number c w < n
 class_below c Full n lt = omega arith
 class_below c NotFull n lt = omega arith
@@ -72,7 +72,7 @@ module _ (next previous lens : List ℕ) (pages : ℕ) (s : IsValid next previou
     once = λ c d w u p h g. same_list c d w u (s.disjoint.once (list_number c w) (list_number d u) p h g);
   }
 
-  -- new links and lengths that represent valid lists
+  -- links and lengths of the old sizes that represent valid lists meet the invariant
   pub sound_after : (next' previous' lens' : List ℕ) (lists : List (List ℕ)) → length next' ≡ length next → length previous' ≡ length previous
       → length lens' ≡ length lens
       → AreRings next' previous' lens' pages lists → HoldPagesOnce pages lists → IsValid next' previous' lens' pages
@@ -150,7 +150,7 @@ module _ (next previous lens : List ℕ) (pages : ℕ) (s : IsValid next previou
         let f : list_number c w < length lens = list_within c w lt in
         omega arith
 
-    -- new links and lengths after one list is replaced
+    -- links and lengths that represent all lists, with another list number k, are the fields after a call that replaces it
     changed : (next' previous' lens' : List ℕ) (list list' : List ℕ) → list ≡ list' → length next' ≡ length next → length previous' ≡ length previous
         → length lens' ≡ length lens
         → AreRings next' previous' lens' pages (set (chains next pages lens) k list) → HoldPagesOnce pages (set (chains next pages lens) k list)

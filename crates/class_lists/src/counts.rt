@@ -1,4 +1,5 @@
-//! How many pages each list has, as plain counts, two for each class.
+//! How many pages each page list has, two counts for each class. They are plain numbers, so reading
+//! them costs no step.
 ghost use Rattle.std.specs.Prelude.{◌≡◌, ◌+◌, ◌-◌, ◌*◌, ◌^◌, ◌<◌, IfOk, length, replicate, slice_index, slice_set};
 ghost use Rattle.class_lists.specs.PageLists.{list_number};
 
@@ -19,11 +20,11 @@ pub(crate) struct Counts {
 
 impl Model for Counts {
     ghost use Rattle.std.specs.Prelude.{◌≡◌, ℕ, List, length};
-    ghost use Rattle.class_lists.specs.Counts.{in_turn};
+    ghost use Rattle.class_lists.specs.Counts.{interleaved};
 
     ghost Value = { List ℕ };
 
-    ghost view = { λ c. in_turn c.full.items c.not_full.items };
+    ghost view = { λ c. interleaved c.full.items c.not_full.items };
 
     ghost invariant = { λ c. length c.not_full.items ≡ length c.full.items };
 }

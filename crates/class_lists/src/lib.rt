@@ -17,7 +17,7 @@ use std::alloc::{AllocError, Global};
 use std::marker::Model;
 use step_ledger::Steps;
 
-/// Says which of the two lists of a class is meant.
+/// Which of the two lists of a class is meant.
 #[derive(Clone, Copy, Debug, PartialEq, Eq)]
 pub enum Which {
     /// The pages without a free slot.
@@ -30,7 +30,8 @@ pub enum Which {
 /// one.
 #[derive(Drop)]
 pub struct ClassLists {
-    // Each list is a ring through a node of its own, after the nodes of the pages.
+    // Each page and each list has a node. A list is a ring: its own node, then the nodes of its
+    // pages in order.
     links: Links,
     /// How many pages each list has.
     lens: Counts,

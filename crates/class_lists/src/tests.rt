@@ -1,4 +1,4 @@
-//! A test of the fields of `ClassLists`.
+//! A test that names each field of `ClassLists` with its type, so that no field is added unseen.
 use super::{ClassLists, Counts, Links, Which};
 use counted_cells::Cells;
 use std::test::Fail;

@@ -1,4 +1,5 @@
--- For `u64_in`, `quantum_in` and `read_arguments`: the values and the errors that `clap` returns are those of the definitions.
+-- For `read_arguments`, `u64_in` and `quantum_in`: the numbers and the errors that the crate `clap` returns for the arguments are those of the definitions
+-- in `Choices`.
 use Rattle.std.proofs.Common.{◌≡◌, ◌≤◌, ◌<◌, ◌^◌, ℕ, Bool, true, false, List, refl, arith, Option, Some, None, ◌≢◌, [], ◌∷◌, inl, inr}
 use Rattle.std.specs.Prelude.{Result, Ok, Err, unwrap_or}
 use Rattle.std.specs.Str.Parse.{ParsesUnsigned, digits_value, without_leading_plus}

@@ -1,4 +1,5 @@
--- For the law `all_such_commands_read_alike`: at whatever addresses an argument's names are, `clap` finds the same faults in the arguments.
+-- For the law `all_such_commands_read_alike`: the crate `clap` finds the same faults in the arguments at whatever addresses the names of modes and kinds
+-- are, which the logic doesn't know.
 use Rattle.std.proofs.Common.{◌≡◌, ◌∙◌, ◌&&◌, ℕ, Bool, zero, suc, not, List, [], ◌∷◌, map, length, refl, ap, ap₂, Option, Some, None, is_some}
 use Rattle.std.proofs.Common.{if◌then◌else◌}
 use Rattle.std.specs.List.{list_any}

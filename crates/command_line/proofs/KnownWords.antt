@@ -1,4 +1,5 @@
--- For the laws that are examples: what the command whose names are at address 0 finds in these arguments.
+-- For the laws that are examples of arguments (none, all options, `--help`, a number out of range, an unknown name): which choice they make, or that they
+-- are refused, with the names of modes and kinds at address 0.
 use Rattle.std.proofs.Common.{◌≡◌, List, [], ◌∷◌, refl, codes}
 use Rattle.cf_base.specs.Kind.{kind_name}
 use Rattle.cf_base.specs.declared.kind.Kind.{Kind}

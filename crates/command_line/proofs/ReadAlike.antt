@@ -1,4 +1,5 @@
--- For the laws of `laws`: every command with our names reads arguments as the command whose names are at address 0 does.
+-- For the laws of `laws.rt`: at whatever addresses the names of modes and kinds are, arguments are read alike; so they make at most one choice, and none if
+-- they are refused.
 use Rattle.std.proofs.Common.{◌≡◌, ◌∙◌, ◌⊎◌, List, map, refl, sym, ap, ap₂, inl, inr}
 use Rattle.std.specs.Prelude.{Result, Ok, Err}
 use Rattle.clap.specs.Simple.{argument_words, built, names_of}

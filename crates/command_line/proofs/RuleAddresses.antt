@@ -1,4 +1,5 @@
--- For the law `all_such_commands_read_alike`: the rule of an argument reads values as the same rule with its names at address 0 does.
+-- For the law `all_such_commands_read_alike`: the rule of the crate `clap` for one argument accepts, refuses and reads values as the same rule with its
+-- names at address 0 does.
 use Rattle.std.proofs.Common.{◌≡◌, ◌∙◌, ◌||◌, Bool, List, [], ◌∷◌, map, refl, sym, ap, ap₂, Option, Some, None, if◌then◌else◌}
 use Rattle.std.specs.Borrow.{Bor}
 use Rattle.std.specs.List.{fold, list_any}

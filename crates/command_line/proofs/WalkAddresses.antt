@@ -1,4 +1,5 @@
--- For the law `all_such_commands_read_alike`: at whatever addresses an argument's names are, `clap` finds the same values in its walk over the arguments.
+-- For the law `all_such_commands_read_alike`: the crate `clap`, in its walk over the arguments, finds the same values at whatever addresses the names of
+-- modes and kinds are.
 use Rattle.std.proofs.Common.{◌≡◌, ◌∙◌, ◌&&◌, ◌||◌, ℕ, Bool, zero, suc, false, not, List, [], ◌∷◌, map, length, refl, sym, ap, ap₂, Option, Some, None}
 use Rattle.std.proofs.Common.{is_some, if◌then◌else◌}
 use Rattle.std.specs.List.{fold}

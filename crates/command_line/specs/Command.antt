@@ -1,4 +1,5 @@
--- The command of `clap` that reads the arguments of `cf_tool`: a rule for each argument, which says what values it may have and which is its default.
+-- The description of the arguments of `cf_tool` by which the crate `clap` reads them (a `clap` command): a rule for each argument, with the values that it
+-- may have and its default.
 use Rattle.std.specs.Prelude.{◌≡◌, List, [], ◌∷◌, Some, map, codes}
 use Rattle.std.specs.Borrow.{Bor}
 use Rattle.cf_base.specs.Kind.{kind_name}
@@ -68,7 +69,7 @@ quantum_parser = Unsigned 1 16384
 abbrev pub quantum_rule : Rule
 quantum_rule = option_rule (codes "quantum") quantum_parser (codes "16")
 
--- the command with our five arguments; `modes` and `managers` are the borrowed lists of names that its rules keep
+-- the command of `clap` with the five arguments of `cf_tool`; `modes` and `managers` are the borrowed lists of names that its rules keep
 abbrev pub cf_app : NameList → NameList → App
 cf_app modes managers =
     with_rule (with_rule (with_rule (with_rule (with_rule (new_app (codes "cf_tool")) (mode_rule modes)) (manager_rule managers)) seed_rule) count_rule)

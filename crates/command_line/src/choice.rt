@@ -17,14 +17,14 @@ pub enum Mode {
     Save,
     /// Loads a heap image, and writes a script that makes its objects.
     Load,
-    /// Runs a script on a heap whose frees leave their work in slices.
+    /// Runs a script on a heap whose frees leave work to later calls, which do it in slices.
     Slice,
     /// Runs a script of tasks that share the pages of one heap, each with a quota.
     Quota,
 }
 
-/// The choice that the arguments make. The seed and the count are for mode `bench`, the quantum for mode
-/// `slice`.
+/// The choice that the arguments make. The kind is for modes `run` and `bench`, the seed and the count are for
+/// mode `bench`, the quantum for mode `slice`.
 #[derive(Clone, Copy, Debug, PartialEq, Eq)]
 pub struct Choice {
     pub mode: Mode,

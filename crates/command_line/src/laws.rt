@@ -13,8 +13,8 @@ ghost use Rattle.command_line.specs.declared.choice.Mode.TheVariants.{Run};
 ghost use Rattle.command_line.specs.declared.choice.ArgumentsFault.{ArgumentsFault};
 ghost use Rattle.command_line.specs.declared.choice.ArgumentsFault.TheVariants.{OutOfMemory, Refused};
 
-/// The command of `clap` keeps references to the names of modes and kinds. At whatever addresses these names
-/// are, it finds the same faults in the arguments `words`, and the same values (`matches_of`).
+/// The command of `clap` keeps references to the names of modes and kinds. Wherever in memory these names are,
+/// the command finds the same faults in the arguments `words`, and the same values (`matches_of`).
 pub fn all_such_commands_read_alike()
     ensures faults { (a b : App) (words : List Text) → IsCfApp a → IsCfApp b → fault_of b words ≡ fault_of a words }
     ensures matches { (a b : App) (words : List Text) → IsCfApp a → IsCfApp b → matches_of b words ≡ matches_of a words }
@@ -32,7 +32,7 @@ pub fn arguments_choose_once()
 {}
 
 /// Any result that `read_arguments` may have for arguments that make a choice is this choice or `OutOfMemory`.
-pub fn known_arguments_are_read()
+pub fn arguments_with_a_choice_are_read()
     ensures { (words : List Text) (choice : Choice) (result : Result Choice ArgumentsFault) → Chooses words choice
         → ReadsAs words result → (result ≡ Ok choice) ⊎ (result ≡ Err OutOfMemory) }
 {}
@@ -45,7 +45,7 @@ pub fn known_arguments_are_refused()
 
 /// With the program's name alone the choice is: mode `run`, the moving manager, seed 0, 1000 commands, slices
 /// of 16 words.
-pub fn no_arguments_are_taken()
+pub fn no_arguments_choose_the_defaults()
     ensures { (name : Text) → Chooses (name ∷ []) (chosen Run Moving 0 1000 16) }
 {}
 

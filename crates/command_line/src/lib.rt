@@ -11,8 +11,8 @@ pub use choice::{ArgumentsFault, Choice, Mode};
 pub use command::cf_command;
 pub use laws::{
     a_count_too_far_is_refused, a_quantum_out_of_range_is_refused, all_such_commands_read_alike,
-    arguments_choose_once, arguments_choose_what_they_say, help_is_refused,
-    known_arguments_are_read, known_arguments_are_refused, no_arguments_are_taken,
+    arguments_choose_once, arguments_choose_what_they_say, arguments_with_a_choice_are_read,
+    help_is_refused, known_arguments_are_refused, no_arguments_choose_the_defaults,
     other_names_are_refused, refused_arguments_are_not_chosen,
 };
 pub use reading::read_arguments;

@@ -1,4 +1,5 @@
-//! Counted cells in an array of fixed length, and the bits of such cells.
+//! `CellArray`, counted cells in an array of fixed length, and the bits of such cells. Each access
+//! to a cell adds a step to the ledger.
 ghost use Rattle.std.specs.Prelude.{◌≡◌, ℕ, true, ◌+◌, ◌^◌, ◌<◌, slice_index, slice_index_or, slice_set};
 ghost use Rattle.std.specs.Int.{bit_at};
 ghost use Rattle.step_ledger.specs.Counting.{RoseBy};

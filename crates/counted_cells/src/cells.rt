@@ -1,4 +1,5 @@
-//! A list of counted cells in allocated memory.
+//! `Cells`, a list of counted cells in allocated memory. Each access to a cell adds a step to the
+//! ledger.
 ghost use Rattle.std.specs.Prelude.{◌≡◌, ◌+◌, ◌<◌, ◌≤◌, ◌⊎◌, length, drop, take, slice_index_or, slice_set};
 ghost use Rattle.step_ledger.specs.Counting.{RoseBy};
 ghost use Rattle.cf_lemmas.specs.Exchanges.{exchanged};
@@ -116,8 +117,8 @@ impl<T: Copy> Cells<T> {
 }
 
 impl Cells<u32> {
-    /// Exchanges the `n` cells from `a` on with the `n` cells from `b` on, pair by pair. Costs n
-    /// steps, one for each pair.
+    /// Exchanges the `n` cells from cell `a` on with the `n` cells from cell `b` on, pair by pair.
+    /// The two ranges must not overlap. Costs n steps, one for each pair.
     pub fn exchange(&mut self, a: usize, b: usize, n: usize, steps: &mut Steps)
         requires a_in_range { a + n ≤ length self.old }
         requires b_in_range { b + n ≤ length self.old }
@@ -130,7 +131,8 @@ impl Cells<u32> {
     }
 }
 
-/// Exchanges the `n` items from `a` on with the `n` items from `b` on, pair by pair.
+/// Exchanges the `n` items from index `a` on with the `n` items from index `b` on, pair by pair.
+/// The two ranges must not overlap.
 fn exchange_runs(items: &mut [u32], a: usize, b: usize, n: usize)
     requires a_in_range { a + n ≤ length items.old }
     requires b_in_range { b + n ≤ length items.old }

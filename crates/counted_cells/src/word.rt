@@ -1,4 +1,5 @@
-//! One counted cell.
+//! `WordCell`, one counted cell, which holds a word of 64 bits. Each access adds a step to the
+//! ledger.
 ghost use Rattle.std.specs.Prelude.{◌≡◌, ◌<◌};
 ghost use Rattle.std.specs.Borrow.{Lends, sem, u64};
 ghost use Rattle.step_ledger.specs.Counting.{RoseBy};

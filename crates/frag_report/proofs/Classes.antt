@@ -1,4 +1,5 @@
--- For `put_classes`: the lines of the classes below c, written one class after the other, or cut.
+-- For `put_classes`, which writes the lines of `walk`, one for each class with live objects: the lines of the classes below c, then that of c, written whole
+-- or cut by a failed sink.
 use Rattle.std.proofs.Common.{◌≡◌, ◌∙◌, ℕ, zero, suc, ◌+◌, ◌-◌, ◌<◌, ◌++◌, List, [], ◌∷◌, Bool, true, false, cond, Option, refl, ap, sym, subst, arith}
 use Rattle.std.proofs.Common.{◌≤◌, Some, None, inl, inr, nat_lt}
 use Rattle.std.proofs.lemmas.Bool.{cases_lt}
@@ -19,7 +20,7 @@ use Rattle.run_model.specs.Reports.{class_line}
 use Rattle.run_model.specs.Texts.{Reply, led, said}
 use Rattle.frag_report.specs.Classes.{lines_of, classes_below, class_if_live}
 
--- the numbers up to n begin with those up to c
+-- the n + m numbers from a on are the n numbers from a on and then the m numbers from a + n on
 range_from : (a n m : ℕ) → range_with_len a (n + m) ≡ range_with_len a n ++ range_with_len (a + n) m
 range_from a zero m = let e : a ≡ a + 0 = omega arith in let z : 0 + m ≡ m = omega arith in ap (range_with_len a) z ∙ ap (λ b. range_with_len b m) e
 range_from a (suc n) m =
@@ -46,7 +47,7 @@ class_past c n x is = elim (cases_lt c n) [
 abbrev Written : Type 0
 Written = Option (List ℕ)
 
--- lines were put, and then more lines; or the first lines were cut
+-- if `lines` were written and then `more`, or only a prefix of `lines` was, that is a write of `lines ++ more`, whole or in part
 module _ (lead : List ℕ) (lines more : Reply) (w y : Written) where
   pub lines_then : {T : Type 0} (x : Written) (r : Result T Failed) → x ≡ appended w (led lead lines) → Puts x (led lead more) r y
       → Puts w (led lead (lines ++ more)) r y
@@ -75,7 +76,7 @@ module _ (p : Paging) (m : Held) where
       ap (lines_of p m) (one_class_more c) ∙ lines-append (range_with_len 0 c) (c ∷ [])
       ∙ ap (λ (r : Reply). classes_below p m c ++ r) (line_is c ∙ ap class_if_live (sym is))
 
-  -- the lines of all classes below c are put, and then that of c
+  -- if the lines of the classes below c were written, and then the line of class c, the lines of the classes below c + 1 were written
   pub class_put : (lead : List ℕ) (c : ℕ) (f : Figures) (w x y : Written) → f ≡ figures_of p m c → x ≡ appended w (led lead (classes_below p m c))
       → y ≡ appended x (led lead (class_if_live f)) → y ≡ appended w (led lead (classes_below p m (c + 1)))
   class_put lead c f w x y is first next =
@@ -83,7 +84,7 @@ module _ (p : Paging) (m : Held) where
       ∙ appended_then w (led lead (classes_below p m c)) (led lead (class_if_live f))
       ∙ ap (appended w) (sym (led-append lead (classes_below p m c) (class_if_live f)) ∙ ap (led lead) (sym (below_more c f is)))
 
-  -- the classes from c on, after that of c
+  -- the lines of all n classes are the lines of the classes below c, the line of class c, and then `more`
   lines_rest : (c n : ℕ) (f : Figures) → c < n → f ≡ figures_of p m c
       → (more : Reply) × (classes_below p m n ≡ (classes_below p m c ++ class_if_live f) ++ more)
   lines_rest c n f lt is =

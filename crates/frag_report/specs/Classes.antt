@@ -1,4 +1,4 @@
--- The lines of `walk` on a heap with pages, as they are written one after the other. `p` is the pages and classes, `m` the objects by number.
+-- The lines of `walk` on a heap with pages, as they are written one after the other. `p` is the pages and classes, `m` the objects by number, `c` a class.
 use Rattle.std.specs.Prelude.{ℕ, List, [], map, filter, not, nat_eq, if◌then◌else◌}
 use Rattle.std.specs.List.{range_with_len}
 use Rattle.cf_base.specs.declared.answers.Figures.{Figures}
@@ -18,7 +18,7 @@ lines_of p m classes = map (λ c. class_line (figures_of p m c)) (filter (λ c. 
 abbrev pub classes_below : Paging → Held → ℕ → Reply
 classes_below p m c = lines_of p m (range_with_len 0 c)
 
--- the line of a class, if it has live objects
+-- the line of the class with the figures f; no line if it has no live object
 abbrev pub class_if_live : Figures → Reply
 class_if_live f = if nat_eq f.live 0 then [] else said (class_line f)
 

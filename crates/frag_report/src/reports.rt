@@ -1,6 +1,6 @@
 //! The reports of commands `walk` and `frag`. Each line begins with `lead`: in mode `compare` the name of the
-//! manager's kind and a space, else no bytes. It is built in `line`, which is scratch, and written to the
-//! sink `out` in one call. If the sink fails, the result is `Failed`, and a prefix of the report was written.
+//! manager's kind and a space, else no bytes. Each line is built in `line`, which is scratch, and passed to the
+//! sink `out` as a whole. If the sink fails, the result is `Failed`, and a prefix of the report was written.
 ghost use Rattle.std.specs.Prelude.{◌≡◌, ◌≤◌, IsTrue, OnErr, length, OnOk};
 ghost use Rattle.cf_io.specs.Feeds.{FailsLast, Puts};
 ghost use Rattle.cf_base.specs.declared.answers.Totals.{Totals};
@@ -40,8 +40,8 @@ pub fn walk_lines<H: Manager, K: Sink>(
     }
 }
 
-/// `frag`: writes one line to the sink, with the bytes asked for by the objects, taken by their slots or
-/// blocks, and held by pages in use or, with blocks, by the whole region.
+/// `frag`: writes one line to the sink, with three counts of bytes. The objects asked for the first; their slots
+/// or blocks take the second; the pages in use, or with blocks the whole region, hold the third.
 pub fn frag_line<H: Manager, K: Sink>(
     heap: &H,
     lead: &[u8],

@@ -1,4 +1,5 @@
--- For `next_ref` and the law `generated_scripts_are_read_back`: generated commands have fields in range, which fit their types.
+-- The commands that are generated from a seed have fields that fit their types and are in the ranges of the grammar, and none is the command `k`; so a script
+-- of them is read back.
 use Rattle.std.proofs.Common.{◌≡◌, ◌≤◌, ◌<◌, ◌/◌, ◌%◌, ◌^◌, ◌==◌, ℕ, Bool, zero, suc, true, false, List, [], ◌∷◌, refl, arith, lit≤}
 use Rattle.std.specs.Prelude.{⊤, nat_lt, if◌then◌else◌}
 use Rattle.std.specs.Int.{w64, to_le_bytes}

@@ -1,4 +1,5 @@
--- For the laws: the line that is written for a command means this command by the grammar, and so do the lines of a script.
+-- For the laws: by the grammar of scripts the line that is written for a command means this command, and a `heap` line followed by such lines is a script of
+-- these commands.
 use Rattle.std.proofs.Common.{◌≡◌, ◌∙◌, ◌≤◌, ◌+◌, ◌*◌, ◌++◌, ℕ, Bool, true, false, List, [], ◌∷◌, length, map, refl, sym, ap, arith}
 use Rattle.std.proofs.Common.{Some, codes, append-nil, append_assoc}
 use Rattle.std.proofs.Common.{length-append}
@@ -65,7 +66,7 @@ tokens_back (Quota task pages) is = rw (task_back task is.formed, word_back page
 tokens_back (Need task bytes count) is = rw (task_back task is.formed, word_back bytes is.typed.0, word_back count is.typed.1) refl
 tokens_back (Admit task) is = rw (task_back task is.formed) refl
 
--- the tokens of a line of a word and numbers are tokens, and the line is no longer than this
+-- a line of the token `word` and these numbers consists of tokens, and has at most 21 bytes for each number beside the word
 record IsWordLine (word numbers : List ℕ) : Type 0 where
   tokens : AreTokens (word_and_numbers word numbers)
   short : length (spaced (word_and_numbers word numbers)) ≤ length word + 21 * length numbers
@@ -76,7 +77,7 @@ word_line word numbers is are = record {
   short = (let few = numbers_short numbers are in let e = length-append word (after_spaces (map decimal numbers)) in omega arith);
 }
 
--- each of these is a token, and a line of them isn't too long
+-- each of these is a token, and a line of them has at most 8,999 bytes, so that the reader accepts it
 record AreShort (ts : List (List ℕ)) : Type 0 where
   tokens : AreTokens ts
   short : length (spaced ts) ≤ 8999
@@ -137,7 +138,7 @@ short_line (Admit task) is =
     let low : IsWord task = omega (arith, is.formed) in
     of_words (codes "admit") (task ∷ []) (high_by_test (codes "admit") refl) (low, tt) (omega arith) (omega arith)
 
--- such a line has the meaning of its tokens
+-- a line of tokens that isn't too long means what its tokens mean
 line_by_tokens : (ts : List (List ℕ)) → AreShort ts → line_says (spaced ts) ≡ tokens_say ts
 line_by_tokens ts are =
     let fits : is_too_long (spaced ts) ≡ false = (let s = are.short in grind (arith, nat_tests)) in
@@ -153,7 +154,7 @@ line_back c rest ended is = cut_tokens (tokens_of c) rest ended (short_line c is
 pub says_back : (c : Command) → IsCommand c → line_says (spaced (tokens_of c)) ≡ item (asks c)
 says_back c is = line_by_tokens (tokens_of c) (short_line c is) ∙ tokens_back c is
 
--- a `heap` line with these numbers: it is read as their settings
+-- a `heap` line with these numbers is read as the item that starts a heap with these settings
 module _ (pages page_bytes k proxies : ℕ) (can : CanOpen pages page_bytes k proxies) where
   abbrev numbers : List ℕ
   numbers = pages ∷ page_bytes ∷ k ∷ proxies ∷ []
@@ -173,7 +174,7 @@ module _ (pages page_bytes k proxies : ℕ) (can : CanOpen pages page_bytes k pr
   after_opening rest = ap (λ ls. items_at ls 0 Opening) (cut_tokens (word_and_numbers (codes "heap") numbers) rest true heap_tokens)
       ∙ ap (λ says. items_by (verdict Opening says) 0 Opening (items_at (lines rest true) 1)) heap_says
 
--- a script of a `heap` line and the line of one command has these two items
+-- a script of a `heap` line and the line of one command has two items: the start with the settings, and the command
 pub alone_back : (pages page_bytes k proxies : ℕ) (c : Command) → CanOpen pages page_bytes k proxies → IsCommand c
     → items (heap_line pages page_bytes k proxies ++ line_of c) true ≡ starts (profile_from pages page_bytes k proxies) ∷ asks c ∷ []
 alone_back pages page_bytes k proxies c can is =
@@ -182,7 +183,7 @@ alone_back pages page_bytes k proxies c can is =
     (ap (λ l. lines l true) (sym (append-nil (line_of c))) ∙ line_back c [] true is)
     ∙ ap (λ says. starts (profile_from pages page_bytes k proxies) ∷ items_by (verdict Bounding says) 1 Bounding (items_at [] 2)) (says_back c is)
 
--- the stage is one after the `heap` line
+-- the reader's stage is one of those after the `heap` line
 abbrev IsOpened : Stage → Type 0
 IsOpened Opening = ⊥
 IsOpened stage = ⊤

@@ -1,4 +1,5 @@
--- For `command_text` and the laws: the texts of numbers and of bytes are tokens, and so short that a line holds them.
+-- For `command_text`, which writes a command as a line: the decimal text of a number and the hexadecimal text of bytes are tokens, and so short that a line
+-- holds them.
 use Rattle.std.proofs.Common.{◌≡◌, ◌∙◌, ◌≤◌, ◌<◌, ◌+◌, ◌*◌, ◌/◌, ◌%◌, ◌++◌, ◌&&◌, ℕ, Bool, suc, true, false, List, [], ◌∷◌, length, map}
 use Rattle.std.proofs.Common.{refl, sym, ap, arith, append-nil, append_assoc, Some}
 use Rattle.std.proofs.Common.{length-append}
@@ -65,7 +66,7 @@ numbers_short (n ∷ rest) are =
     let e = length-append (decimal n) (after_spaces (map decimal rest)) in
     omega arith
 
--- the bytes of tokens with one more token t at the end
+-- the bytes of tokens with a space before each, if one more token t is at the end
 after_push : (ts : List (List ℕ)) (t : List ℕ) → after_spaces (ts ++ t ∷ []) ≡ after_spaces ts ++ (32 ∷ t)
 after_push [] t = append-nil (32 ∷ t)
 after_push (u ∷ ts) t = ap (λ l. (32 ∷ u) ++ l) (after_push ts t) ∙ sym (append_assoc (32 ∷ u) (after_spaces ts) (32 ∷ t))

@@ -15,7 +15,7 @@ abbrev pub spaced : List (List ℕ) → List ℕ
 spaced [] = []
 spaced (token ∷ rest) = token ++ after_spaces rest
 
--- the tokens of a line: a word, and then these numbers in decimal, without leading zeros
+-- the tokens of a line: the token `word`, and then these numbers in decimal, without leading zeros
 abbrev pub word_and_numbers : List ℕ → List ℕ → List (List ℕ)
 word_and_numbers word numbers = word ∷ map decimal numbers
 

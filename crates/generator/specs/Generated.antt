@@ -17,7 +17,7 @@ bytes_asked word = word / 2 ^ 16 % (if word / 2 ^ 32 % 8 == 0 then 16384 else 10
 abbrev pub one_of_eight : ℕ → ℕ
 one_of_eight word = word / 2 ^ 12 % 8
 
--- the command of a word. Of the eight cases three are mallocs, two frees, one a write of the word's own eight bytes, and two reads of eight bytes.
+-- The command of a word. Of the eight values of `one_of_eight`, three mean a malloc, two a free, one a write of the word's eight bytes, and two a read of eight.
 abbrev pub command_of_word : ℕ → Command
 command_of_word word =
     if nat_lt (one_of_eight word) 3 then Malloc (id_named word) (bytes_asked word)

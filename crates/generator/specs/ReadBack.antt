@@ -1,4 +1,5 @@
--- For the laws of this crate: the commands whose written lines are read back as the same commands (`IsCommand`), and the scripts that such lines make.
+-- For the laws of this crate: the commands that are the same once written as a line and read back (`IsCommand`), and the scripts of a `heap` line and such
+-- lines.
 use Rattle.std.specs.Prelude.{◌≡◌, ◌≤◌, ⊤, ℕ, false, ◌++◌, List, [], ◌∷◌, None, codes}
 use Rattle.cf_base.specs.Settings.{setting_fault}
 use Rattle.hex.specs.Hex.{IsBytes}
@@ -51,7 +52,7 @@ abbrev pub lines_of : List Command → List ℕ
 lines_of [] = []
 lines_of (c ∷ rest) = line_of c ++ lines_of rest
 
--- each of these commands can have a line, and none of them is `k`
+-- each of these is a command of the code's type (`IsCommand`), and none of them is the command `k`
 abbrev pub ArePlain : List Command → Type 0
 ArePlain [] = ⊤
 ArePlain (c ∷ rest) = IsCommand c × (is_bound c ≡ false) × ArePlain rest

@@ -19,16 +19,16 @@ pub fn commands_are_read_back()
         → items (heap_line pages page_bytes k proxies ++ line_of c) true ≡ starts (profile_from pages page_bytes k proxies) ∷ asks c ∷ [] }
 {}
 
-/// A script begins with a `heap` line whose settings are in range, and goes on with the lines that are written
-/// for a list of commands, none of which is the command `k`. Its items are the `heap` line and these commands.
+/// A script begins with a `heap` line whose settings are in range. The lines that are written for a list of
+/// commands follow; none of these is the command `k`. The script's items are the `heap` line and these commands.
 pub fn scripts_are_read_back()
     ensures { (pages page_bytes k proxies : ℕ) (commands : List Command) → CanOpen pages page_bytes k proxies → ArePlain commands
         → items (heap_line pages page_bytes k proxies ++ lines_of commands) true
         ≡ starts (profile_from pages page_bytes k proxies) ∷ map (λ c. asks c) commands }
 {}
 
-/// A script begins with a `heap` line whose settings are in range, and goes on with the lines that are written
-/// for the first `count` commands of a seed. Its items are the `heap` line and these commands.
+/// If a script is a `heap` line with settings in range, and then the lines that are written for the first
+/// `count` commands of a seed, its items are the `heap` line and these commands.
 pub fn generated_scripts_are_read_back()
     ensures { (pages page_bytes k proxies seed count : ℕ) → CanOpen pages page_bytes k proxies
         → items (heap_line pages page_bytes k proxies ++ lines_of (generated seed count)) true

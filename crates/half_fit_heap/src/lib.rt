@@ -1,4 +1,4 @@
-//! Half-Fit (1995): the free lists, one for each power of two, and the manager with them.
+//! Half-Fit (1995): its free lists (`HalfFitBuckets`), and the manager with them (`HalfFitHeap`).
 #![tactic(auto)]
 
 mod buckets;

@@ -45,7 +45,7 @@ abbrev pub bounds_by : ById → Command → List ℕ
 bounds_by v (Bound slot_words k) = bounds_with v.bounds (class_shown v slot_words) k
 bounds_by v command = v.bounds
 
--- after a command and its reply
+-- what `view` is after a command and its reply, from the `view` v before it
 abbrev pub view_after : ById → Command → Reply → ById
 view_after v command reply = record v { bounds = bounds_by v command; objects = cond (is_ok reply) (done_by command v.objects) v.objects }
 
@@ -64,7 +64,7 @@ unresized_not_ok resize.Kind = refl
 unresized_not_ok resize.Size = refl
 unresized_not_ok resize.Space = refl
 
--- f of the bytes of an id that has some
+-- if an id has the bytes v, `changed` gives it f v
 pub changed_there : (m : Objects) (id : ℕ) (f : List ℕ → List ℕ) (v : List ℕ) → get m id ≡ Some v → insert m id (f v) ≡ changed m id f
 changed_there m id f v is = sym (ap (λ (o : Option (List ℕ)). elim o as (λ _. Objects) [ None ↦ m | Some v ↦ insert m id (f v) ]) is)
 
@@ -73,16 +73,16 @@ moved_view base None n = refl
 moved_view base (Some q) n = refl
 
 module _ (t new : ShownHeap) where
-  -- other objects, and the same settings and bounds
+  -- if the command changes at most the objects, as its reply shows, the view after it is `view_after`
   objects_view : (c : Command) (reply : Reply) (after : Objects) → view new ≡ record (view t) { objects = after } → bounds_by (view t) c ≡ t.heap.bounds
       → after ≡ cond (is_ok reply) (done_by c (objects t.heap.held)) (objects t.heap.held) → view new ≡ view_after (view t) c reply
   objects_view c reply after e b o = e ∙ (λ i. record (view t) { bounds = sym b i; objects = o i })
 
-  -- a reply that isn't `ok` leaves all
+  -- if the reply isn't `ok`, nothing changes
   left : (c : Command) (reply : Reply) → view new ≡ view t → bounds_by (view t) c ≡ t.heap.bounds → is_ok reply ≡ false → view new ≡ view_after (view t) c reply
   left c reply e b not_ok = objects_view c reply (objects t.heap.held) e b (sym (ap (λ b. cond b (done_by c (objects t.heap.held)) (objects t.heap.held)) not_ok))
 
-  -- a command that changes nothing leaves all
+  -- a command that only reads changes nothing, whatever its reply
   looked : (c : Command) (reply : Reply) → new ≡ t → bounds_by (view t) c ≡ t.heap.bounds → done_by c (objects t.heap.held) ≡ objects t.heap.held
       → view new ≡ view_after (view t) c reply
   looked c reply e b same = objects_view c reply (objects t.heap.held) (ap view e) b
@@ -146,7 +146,7 @@ module _ (t new : ShownHeap) where
           ∙ ap (λ o. insert o id (resized x.bytes n)) (free_objects (paging_in t.heap) a.0 t.heap.held a.1 id x there step.after.moved r.moves)
           ∙ insert_again (objects t.heap.held) id (resized x.bytes n)
 
-  -- k
+  -- command `k`
   class_in : (f : Family) → family_of t.heap.kind ≡ f → (words : ℕ) → class_to_bound t.heap words ≡ class_shown (view t) words
   class_in paged is words = rw (is, class_shown, class_with) (ap (λ n. cond (nat_eq n 0) (position (λ w. nat_eq w words) (paging_in t.heap).sizes) None) (sym (len-objects t.heap.held)))
   class_in tiled is words = rw (is, class_shown, class_with) (sym (either (nat_eq (len t.heap.held) 0) None))

@@ -1,4 +1,4 @@
--- The same objects, at the same addresses, under handles or under ids: figures, free slots and moves don't depend on the numbers.
+-- The same objects at the same addresses, named by handles or by ids: the figures, the free slots and the moves don't depend on these numbers.
 use Rattle.std.proofs.Common.{◌≡◌, ◌≢◌, ℕ, ◌-◌, ◌*◌, ◌≤◌, ◌<◌, Some, length, cond, sym, ◌∙◌, ap, subst, inl, inr}
 use Rattle.std.specs.Prelude.{count_by, nat_eq, nat_lt}
 use Rattle.std.specs.List.{range_with_len}

@@ -1,4 +1,5 @@
--- For `the_headline`: the replies of a run meet it, from the steps of `Steps` one by one.
+-- For the law `the_headline`: the replies of a run meet the headline, since each of its steps is an answer that the headline allows, by the lemmas of
+-- `Steps`.
 use Rattle.std.proofs.Common.{◌≡◌, List, [], ◌∷◌, Option, Some, None, sym, ◌∙◌, ap, refl, subst}
 use Rattle.std.specs.Prelude.{⊤, option_map}
 use Rattle.std.specs.FinMap.{empty, get, get-empty}
@@ -24,7 +25,7 @@ use Rattle.headline_laws.specs.ShownHeap.{ShownHeap, heap_opened}
 use Rattle.headline_laws.proofs.Shown.{heap_of, held_by_id, nothing, object_is, shown}
 use Rattle.headline_laws.proofs.Steps.{arranged, block_here, bound_shown, frag_here, free_shown, malloc_shown, peek_here, resize_shown, walk_here, write_shown}
 
--- by the command
+-- a step of a run is an answer between the heaps shown, by the command
 module _ (s new : RunState) (going : IsGoing s) (after : IsGoing new) (same : new.heap.kind ≡ s.heap.kind) where
   answered : (c : Command) (reply : Reply) → Step s c reply new → IsAnswer (shown s) c reply (shown new)
   answered (Malloc id n) reply step = malloc_shown s going new after same (get s.session.ids id) id n reply refl step

@@ -117,7 +117,7 @@ module _ (h : ById) (is_paged : IsPaged h.kind) where
   after_is (Need task bytes count) = ap With (sym (either (is_ok (reply_by_id h (Need task bytes count))) h.objects))
   after_is (Admit task) = ap With (sym (either (is_ok (reply_by_id h (Admit task))) h.objects))
 
--- Where an object may be placed there is room.
+-- If there is a free place for an object of n bytes, its class has a slot left.
 has_room : (h : HeapState) → IsPaged h.kind → (n place : ℕ) → need n ≤ h.profile.page_words → IsFreePlace (paging_in h) h.held n place
     → LacksRoom (paging_in h) h.held (class_for (paging_in h) n) → ⊥
 has_room h is n place fits free lacks =
@@ -189,7 +189,7 @@ module _ (t : ShownHeap) (is : IsPaged t.heap.kind) (arranged : IsArranged t.hea
   malloc_is None id n reply new none (inr r) = r.reply_is ∙ ap (λ f. said (ok_or (λ e. malloc_text (Err e)) f)) (sym (refused_is n r.refusal r.cause))
       ∙ ap (λ o. said (malloc_said o h n)) (sym (bytes_missing t.heap.held id none))
 
-  -- z
+  -- command `z`
   cases_of : (b : Bool) → (b ≡ true) ⊎ (b ≡ false)
   cases_of true = inl refl
   cases_of false = inr refl
@@ -229,7 +229,7 @@ module _ (t : ShownHeap) (is : IsPaged t.heap.kind) (arranged : IsArranged t.hea
       r.reply_is ∙ ap (λ f. said (ok_or (λ e. resize_text (Err e)) f)) (sym (resized_is id n x r.fault there r.cause))
       ∙ ap (λ o. said (resize_said o h n)) (sym (bytes_held t.heap.held id x there))
 
-  -- the reports
+  -- commands `walk` and `frag`
   totals_here : totals_in t.heap.kind t.heap ≡ totals_at_one p h.objects
   totals_here = totals_paged t.heap.kind is ∙ totals_are p paging ones t.heap.held sound
     where
@@ -255,7 +255,7 @@ module _ (t : ShownHeap) (is : IsPaged t.heap.kind) (arranged : IsArranged t.hea
   frag_is : frag_of t.heap ≡ said (frag_line (totals_at_one p h.objects))
   frag_is = ap (λ T. said (frag_line T)) totals_here
 
--- what needs no bound
+-- commands whose replies need no premise on the bounds
 module _ (t : ShownHeap) where
   abbrev v : ById
   v = view t

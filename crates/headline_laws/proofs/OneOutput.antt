@@ -1,4 +1,5 @@
--- For `one_output`: runs over the same items on managers with an order have the same replies and the same end.
+-- For the law `one_output`: runs over the same items on managers of one kind that promise an order have the same replies and the same end; and every script
+-- has such a run.
 use Rattle.std.proofs.Common.{◌≡◌, ℕ, ◌+◌, ◌*◌, Bool, true, false, List, [], ◌∷◌, Option, Some, None, Result, Ok, Err, refl, sym, ◌∙◌, ap, subst}
 use Rattle.std.specs.Prelude.{IsSome, IsTrue, ⊤, codes, is_some}
 use Rattle.std.specs.FinMap.{get, remove}
@@ -29,7 +30,7 @@ use Rattle.run_model.specs.Steps.{Step, class_to_bound, ids_given, session_resiz
 use Rattle.run_model.specs.Texts.{Reply, said}
 use Rattle.run_model.proofs.CallerLemmas.{FreesAt, MallocsAt, ResizesAt, WritesAt, begins_going, step_going}
 use Rattle.run_laws.specs.ValidItems.{AreValidItems}
-use Rattle.run_laws.proofs.CallerLemmas.{IsOn, items_sayable, kind_goes_on, run_there, step_on}
+use Rattle.run_laws.proofs.CallerLemmas.{IsOn, all_items_valid, kind_goes_on, run_there, step_on}
 use Rattle.headline_laws.specs.OneOutput.{BeginNone, BeginOnce, IsOrdered}
 
 same_run : (a b : RunState) → b.session ≡ a.session → b.heap ≡ a.heap → b ≡ a
@@ -82,7 +83,7 @@ module _ (old new next : RunState) (some : IsSome old.heap.order) (rules : Keeps
   one_step (Bound words k) reply other g f = (f.reply_is ∙ sym g.reply_is, same_run new next (f.session ∙ sym g.session) (f.heap ∙ sym g.heap))
   one_step _ reply other g f = (f.0 ∙ sym g.0, f.1 ∙ sym g.1)
 
--- a step keeps the order, or that there is none
+-- after a step the manager has an order if and only if it had one before
 module _ (old new : RunState) where
   abbrev Stays : Type 0
   Stays = is_some new.heap.order ≡ is_some old.heap.order
@@ -125,7 +126,7 @@ module _ (old new : RunState) where
 
 -- ---- many items
 
--- a run in progress has an order
+-- if the run has begun, it is in progress and its manager has an order
 abbrev IsReady : Option RunState → Type 0
 IsReady None = ⊤
 IsReady (Some s) = IsGoing s × IsSome s.heap.order
@@ -160,7 +161,7 @@ module _ (kind : Kind) where
       let (tail, final) = further_once mid rest more more' end last may.1 on run (subst (λ o. Run kind o rest more' last) state run') in
       (are' ∙ ap (λ r. r ∷ more') same ∙ ap (λ l. reply ∷ l) tail ∙ sym are, final)
 
-  -- an order at the end was there before
+  -- if the manager has an order after the items, it had one before them
   abbrev Before : Option RunState → Option RunState → Type 0
   Before old end = IsOrdered end → IsOrdered old
 
@@ -284,7 +285,7 @@ ended_open kind items replies s run = (let on : IsGoing s = on_at_end kind None 
 
 -- ---- the items of a script
 
--- a `heap` line is behind
+-- the reader is past the `heap` line
 abbrev IsBehind : Stage → Type 0
 IsBehind Opening = ⊥
 IsBehind Bounding = ⊤
@@ -333,4 +334,4 @@ begins_once bytes ended = once_from (lines bytes ended) 0
 -- every script has a run that ends with an order
 pub run_in_order : (kind : Kind) (bytes : List ℕ) (ended : Bool)
     → (replies : List Reply) × (end : Option RunState) × Run kind None (items bytes ended) replies end × IsOrdered end
-run_in_order kind bytes ended = ordered_run kind (items bytes ended) (begins_once bytes ended) (items_sayable bytes ended)
+run_in_order kind bytes ended = ordered_run kind (items bytes ended) (begins_once bytes ended) (all_items_valid bytes ended)

@@ -32,7 +32,7 @@ pub one_shown : (kind : Kind) (items : List Item) (replies : List Reply) (last :
     → ArePlaceless items → Run kind None items replies last → replies ≡ transcript kind items
 one_shown kind items replies last paged ones less run = headline_is_transcript kind items replies paged ones less (headline_met kind items replies last run)
 
--- what may follow asks for no bound, and no address
+-- a further command (`IsFurther`) sets no bound, and asks for no address
 further_command : (c : Command) → IsFurther (asks c) → AsksForOne (asks c) × AsksForNoAddress (asks c)
 further_command (Bound words k) may = absurd may
 further_command (Place id) may = absurd may

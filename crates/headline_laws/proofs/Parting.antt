@@ -36,7 +36,7 @@ split_line (a ∷ x) (b ∷ y) u v one two same =
 opened_text : (text : List ℕ) (rest : Reply) (u : List ℕ) → led [] (text ∷ rest) ++ u ≡ text ++ (10 ∷ (led [] rest ++ u))
 opened_text text rest u = append_assoc (text ++ 10 ∷ []) (led [] rest) u ∙ append_assoc text (10 ∷ []) (led [] rest ++ u)
 
--- if two replies of n lines each begin one text, they are equal, and so is the rest of the text
+-- if two replies of n lines each begin one text, they are equal, and so are the bytes after them
 split_reply : (n : ℕ) (a b : Reply) (u v : List ℕ) → HasLines n a → HasLines n b → led [] a ++ u ≡ led [] b ++ v → (a ≡ b) × (u ≡ v)
 split_reply zero [] [] u v one two same = (refl, same)
 split_reply zero [] (y ∷ b) u v one two same = absurd two

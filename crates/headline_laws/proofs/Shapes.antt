@@ -204,7 +204,7 @@ resize_shape None t id n reply new r = one_line _ reply r.0 refl
 resize_shape (Some x) t id n reply new (inl r) = one_line _ reply r.reply_is refl
 resize_shape (Some x) t id n reply new (inr r) = one_line _ reply r.reply_is (resize_line r.fault)
 
--- every reply as claimed has `lines_of` lines
+-- every reply that a command may get (`IsAnswer`) has `lines_of` lines
 pub shape : (t : ShownHeap) (c : Command) (reply : Reply) (new : ShownHeap) → IsAnswer t c reply new → HasLines (lines_of (view t) c) reply
 shape t (Malloc id n) reply new r = malloc_shape (get t.heap.held id) t id n reply new r
 shape t (Free id) reply new r = free_shape (get t.heap.held id) t id reply new r

@@ -1,4 +1,5 @@
--- The `ShownHeap` of a state of a run (`shown`): its objects under ids are those of the manager under handles.
+-- The heap that lines and replies show (`ShownHeap`), computed from a state of a run (`shown`): its objects by id are those of the manager by handle, also
+-- after a move, free or resize.
 use Rattle.std.proofs.Common.{◌≡◌, ◌≢◌, ℕ, [], Option, Some, None, sym, ◌∙◌, ap, refl, inl, inr}
 use Rattle.std.specs.Prelude.{⊤}
 use Rattle.std.proofs.lemmas.Bool.{cases_eq}
@@ -24,7 +25,7 @@ use Rattle.transcript_laws.proofs.CallerLemmas.{changed_renamed, found_renamed, 
 use Rattle.headline_laws.specs.ShownHeap.{ShownHeap}
 use Rattle.headline_laws.proofs.Alike.{fill_same, must_before, must_same}
 
--- no object
+-- a placeholder for the object of a number that has none
 abbrev pub nothing : Placed
 nothing = record { place = 0; bytes = [] }
 
@@ -37,7 +38,7 @@ heap_of s = record s.heap { held = held_by_id s.session.ids s.heap.held; words =
 abbrev pub shown : RunState → ShownHeap
 shown s = record { heap = heap_of s; numbers = s.session.ids; step_bound = s.session.bound; moves = s.session.moves; moved_words = s.session.words }
 
--- the object that moved, and its id
+-- an object moved, and `ids` maps its id to its handle; or none moved
 abbrev pub IsNamed : Ids → Option Handle → Option ℕ → Type 0
 IsNamed ids None None = ⊤
 IsNamed ids None (Some id) = ⊥
@@ -107,7 +108,7 @@ module _ (s : RunState) (going : IsGoing s) where
         ∙ ap (λ n. insert n r (record { place = x.place; bytes = y.bytes })) (gone_with nothing ids m going.tied.ids id h named)
         ∙ sym (ap (λ o. moved_to (remove by_ids id) r o x.place) (live_renamed nothing ids m r q.0 y is found))
 
-    -- and what moved keeps its id
+    -- the object that moved keeps its id
     pub still_named : (moved : Option Handle) (by_id : Option ℕ) → Moves p m x (number_of moved) → IsNamed ids moved by_id → IsNamed (remove ids id) moved by_id
     still_named None None never is = tt
     still_named None (Some r) never is = absurd is
@@ -116,7 +117,7 @@ module _ (s : RunState) (going : IsGoing s) where
         let ne = mover_is_other p ok m sound h x there q.0 y found must may in
         get_remove_other ids id r (λ same. ne (let e : Some q.0 ≡ Some h = sym is ∙ ap (get ids) same ∙ named in cc)) ∙ is
 
-    -- what is put back under the number of what went
+    -- removing a number changes nothing if an object is put back under the same number
     put_over : (n : Held) (k q : ℕ) (y z : Placed) → q ≢ k → insert (insert (remove n k) q y) k z ≡ insert (insert n q y) k z
     put_over n k q y z ne = equal_maps _ _ (λ r. elim (cases_eq r k) [
       | inl is ↦ rw is (get_inserted _ k z ∙ sym (get_inserted _ k z))
@@ -126,7 +127,7 @@ module _ (s : RunState) (going : IsGoing s) where
       ] ∙ sym (get_insert_other _ k z r other)
     ])
 
-    -- and what a resize to another class leaves
+    -- what a resize to another class leaves, by id
     pub refitted_by_id : (moved : Option Handle) (by_id : Option ℕ) (z : Placed) → Moves p m x (number_of moved) → IsNamed ids moved by_id
         → held_by_id ids (insert (without m h x.place (number_of moved)) h z) ≡ insert (without by_ids id x.place by_id) id z
     refitted_by_id None None z never is = ap (held_by_id ids) (insert_again m h z) ∙ changed_renamed nothing ids m going.tied.ids id h named z

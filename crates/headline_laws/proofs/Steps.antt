@@ -1,4 +1,5 @@
--- For `the_headline`: each `Step` of a run gives an `IsAnswer` between the heaps that the states show, command by command.
+-- For the law `the_headline`, command by command: a step of a run (`Step`) is an answer that the headline allows (`IsAnswer`) between the heaps that lines
+-- and replies show before and after it.
 use Rattle.std.proofs.Common.{◌≡◌, ℕ, ◌+◌, ◌*◌, ◌<◌, ◌++◌, Bool, List, [], Option, Some, None, Result, Ok, Err, max, map, cond, length, arith, sym, ◌∙◌, ap, refl, subst, inl, inr}
 use Rattle.std.specs.Prelude.{◌⊎◌, codes, filter, nat_eq, nat_le, nat_lt, not, slice_get, slice_index}
 use Rattle.std.specs.List.{range_with_len}
@@ -47,7 +48,7 @@ use Rattle.headline_laws.proofs.Shown.{IsNamed, apart, counts, frames_by_id, hea
 use Rattle.headline_laws.proofs.Shown.{refitted_by_id, shown, still_named, without_by_id}
 use Rattle.headline_laws.proofs.Words.{word_shown}
 
--- a session and its heap as a run
+-- two states of a run with equal sessions and heaps are equal
 pub run_is : (s new : RunState) → new.session ≡ s.session → new.heap ≡ s.heap → new ≡ s
 run_is s new e f = λ i. record { session = e i; heap = f i }
 
@@ -90,7 +91,7 @@ module _ (s : RunState) (going : IsGoing s) where
   pages : IsPaged s.heap.kind → KeepsPages s.heap
   pages is = pages_kept s.heap.kind s.heap is going.rules.of_kind
 
-  -- the heap that is shown is arranged
+  -- the heap that the run shows is arranged by the rules (`IsArranged`)
   tiling_kept : (k : Kind) → IsTiled k → KeepsRulesOf k s.heap → KeepsTiling s.heap
   tiling_kept k is rules = rw (is, KeepsRulesOf) at rules
 
@@ -101,7 +102,7 @@ module _ (s : RunState) (going : IsGoing s) where
   pub arranged : IsArranged (heap_of s)
   arranged = arranged_in (family_of s.heap.kind) refl
 
-  -- what no command changes
+  -- commands that only read
   totals_here : (k : Kind) → totals_in k s.heap ≡ totals_in k (heap_of s)
   totals_here k = λ i. elim (family_of k) as (λ _. Totals) [
     | paged ↦ sym (totals_same p m by_ids (counts s going)) i
@@ -183,7 +184,7 @@ module _ (s : RunState) (going : IsGoing s) where
     within : (n m : ℕ) → CostsByKind new.heap.kind new.heap.cost n m → CostsByKind s.heap.kind new.heap.cost n m
     within n m cost = subst (λ k. CostsByKind k new.heap.cost n m) same cost
 
-    -- m
+    -- command `m`
     placed_in : (k : Kind) (f : Family) → family_of k ≡ f → (asked : Request) (place : ℕ) → IsPlacedBy k s.heap asked place new.heap
         → IsPlacedBy k (heap_of s) asked place (heap_of new)
     placed_in k paged is asked place placed = rw (is, IsPlacedBy) (place_same p m by_ids (counts s going) (numbered s going) asked.length place (rw (is, IsPlacedBy) at placed))
@@ -233,7 +234,7 @@ module _ (s : RunState) (going : IsGoing s) where
         (malloc_answer id n reply step.answer step.step step.cost step.session step.reply_is)
     malloc_shown (Some h) id n reply named step = subst (λ o. Mallocs o t id n reply (shown new)) (sym (object s going id h named).2) (step.0, ap shown step.1)
 
-    -- f
+    -- command `f`
     abbrev FreedById : Kind → Placed → Option Handle → ℕ → ℕ → Type 0
     FreedById k x moved id h = (by_id : Option ℕ) × MovesIn k (heap_of s) x by_id × IsNamed ids moved by_id × IsNamed (remove ids id) moved by_id
         × (held_by_id (remove ids id) (without m h x.place (number_of moved)) ≡ without by_ids id x.place by_id)
@@ -317,7 +318,7 @@ module _ (s : RunState) (going : IsGoing s) where
     free_shown (Some h) id reply named step = subst (λ o. Frees o t id reply (shown new)) (sym (at_id id h named step.step.object step.step.found))
         (free_answer id h reply named step)
 
-    -- w
+    -- command `w`
     abbrev fits_in : Placed → ℕ → ℕ → Bool
     fits_in x at count = nat_le (at + count) (length x.bytes)
 
@@ -357,7 +358,7 @@ module _ (s : RunState) (going : IsGoing s) where
     write_shown None id at bytes reply none step = subst (λ o. Writes o t id at bytes reply (shown new)) (sym (missing s going id none)) (step.0, ap shown step.1)
     write_shown (Some h) id at bytes reply named step = write_answer id h at bytes reply step.answer named step.session step.step step.reply_is
 
-    -- z
+    -- command `z`
     still_in : (k : Kind) (f : Family) → family_of k ≡ f → new.session.ids ≡ ids → IsLeftByRefusal k s.heap new.heap → IsLeftByRefusal k (heap_of s) (heap_of new)
     still_in k paged is e unmoved = rw (is, IsLeftByRefusal) (
         let u : new.heap ≡ record s.heap { cost = new.heap.cost } = rw (is, IsLeftByRefusal) at unmoved in
@@ -462,7 +463,7 @@ module _ (s : RunState) (going : IsGoing s) where
     resize_shown None id n reply none step = subst (λ o. Resizes o t id n reply (shown new)) (sym (missing s going id none)) (step.0, ap shown step.1)
     resize_shown (Some h) id n reply named step = resize_answer id h n reply step.answer named step.step step.cost step.session step.reply_is
 
-    -- k
+    -- command `k`
     put_shown : (c : Option ℕ) (k : ℕ) → new.session.ids ≡ ids → new.heap ≡ with_bound s.heap c k → heap_of new ≡ with_bound (heap_of s) c k
     put_shown None k e is = λ i. record (is i) { held = held_by_id (e i) (is i).held; words = []; order = None }
     put_shown (Some c) k e is = λ i. record (is i) { held = held_by_id (e i) (is i).held; words = []; order = None }

@@ -1,4 +1,5 @@
--- For command `p`: the words of a manager are as `ShowsWord` requires of the heap that the run shows.
+-- For command `p`, which prints a word: the words of a manager, with pages and with blocks, are those that the headline requires (`ShowsWord`) by the
+-- objects, numbers and blocks shown.
 use Rattle.std.proofs.Common.{◌≡◌, ◌≢◌, ℕ, ◌+◌, List, [], ◌∷◌, Some, None, arith, sym, ◌∙◌, ap, refl, subst, inl, inr}
 use Rattle.std.specs.Prelude.{slice_index}
 use Rattle.std.proofs.lemmas.Bool.{cases_eq}
@@ -31,7 +32,7 @@ module _ (words : List ℕ) where
       let same : x ≡ b = cc in
       ap (slice_index words) (sym fill.0) ∙ headers.0 ∙ ap (block_header before) same
 
-  -- and of a block after another
+  -- the header of a block that follows another
   next_header : (bs : List Block) (first from to a : ℕ) (before b : Block) → Fill bs from to → HaveHeaders words bs first → block_at bs a ≡ Some before
       → block_at bs (a + before.size) ≡ Some b → slice_index words (a + before.size) ≡ block_header before.size b
   next_header [] first from to a before b fill headers there next = (let e : None ≡ Some before = there in cc)

@@ -1,4 +1,5 @@
--- For `wrong_replies_fall_short`: each small script with its wrong replies doesn't meet the headline.
+-- For the law `wrong_replies_fall_short`: small scripts with wrong replies (a malloc that fits refused, a line missing, an address shared or changed, and
+-- others) don't meet the headline.
 use Rattle.std.proofs.Common.{◌≡◌, ◌≢◌, ℕ, true, false, cond, ◌-◌, ◌/◌, ◌≤◌, ◌<◌, Err, List, [], ◌∷◌, ◌++◌, drop, get_or, map, Option, Some, None, length, replicate, arith, sym}
 use Rattle.std.proofs.Common.{◌∙◌, ap, refl, subst, lit≤, inl, inr}
 use Rattle.std.specs.Prelude.{⊤, codes}
@@ -194,7 +195,7 @@ freed_in_vain meets = (let e : said (codes "ok") ≡ said (codes "unknown") = ap
 
 -- What needs the steps themselves: costs and addresses.
 
--- what a claimed run says of its first item, and that what follows is claimed too
+-- the replies to the items that are left meet the headline, from the heap t on; `first_of` splits off the first item
 abbrev Rest : Kind → Option ShownHeap → List Item → List Reply → Type 0
 Rest kind t items replies = (end : Option ShownHeap) × PlayRun (Opens kind) Answers t items replies end
 
@@ -226,7 +227,7 @@ none_held q = get-empty nat_cmp q
 said_once : (a b : List ℕ) → said a ≡ said b → a ≡ b
 said_once a b same = (let e : a ∷ [] ≡ b ∷ [] = same in cc)
 
--- a malloc that gets `ok`
+-- `ok` is not the text of a refusal, so a malloc with the reply `ok` was done
 refusals_differ : (e : Refusal) → said (codes "ok") ≡ said (malloc_text (Err e)) → ⊥
 refusals_differ refusal.Size same = (let e : ◌≡◌ {A = ℕ} 111 114 = ap (λ r. get_or (line_at r 0) 0 0) same in omega arith)
 refusals_differ refusal.Proxy same = (let e : ◌≡◌ {A = ℕ} 111 114 = ap (λ r. get_or (line_at r 0) 0 0) same in omega arith)

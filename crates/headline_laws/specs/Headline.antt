@@ -1,9 +1,9 @@
 -- The headline: what is claimed of the replies to every script, by its lines and these replies alone. In each definition `old` is the heap before the command
--- and `new` the heap after it, as lines and replies show them; `id` is that of the command, `x` its object, `n` the bytes asked for.
+-- and `new` the heap after it, as lines and replies show them; `id` is the command's id, `x` the object that it names, `n` the bytes asked for.
 --
 -- The replies meet the headline if there is one for each item, and heaps between them, such that each reply and each heap follow from the heap before and the
--- item. `IsAnswer` says how, command by command. All is fixed but these choices of the manager: which of the free places a malloc takes, which object moves,
--- how many steps a call takes within its bound, which unused number an object gets, which only its header shows, and with blocks word 1 of a free block.
+-- item. `IsAnswer` defines how, command by command. All is fixed but these choices of the manager: which of the free places a malloc takes, which object moves,
+-- how many steps a call takes within its bound, which unused number an object gets (only its header shows the number), and with blocks word 1 of a free block.
 use Rattle.std.specs.Prelude.{◌≡◌, ◌≢◌, ℕ, ◌⊎◌, ◌+◌, ◌*◌, ◌≤◌, ◌<◌, List, ◌++◌, Option, Some, None, Err, codes, if◌then◌else◌, length, max, nat_le, nat_lt}
 use Rattle.std.specs.FinMap.{get, insert, len, remove}
 use Rattle.cf_base.specs.Classes.{need}
@@ -71,9 +71,9 @@ abbrev pub Mallocs : Option Placed → ShownHeap → ℕ → ℕ → Reply → S
 Mallocs (Some x) old id n reply new = OnlyReplies old (codes "live") reply new
 Mallocs None old id n reply new = IsMalloc old id n reply new ⊎ IsRefusedMalloc old n reply new
 
--- Command `f` for a live id: its object `x` is removed. With pages another object of its class, that of the id `moved`, moves into its slot if and only if its
--- page was full, with several slots, and its class had as many partly full pages as it may; that object comes from a partly full page. No other address
--- changes.
+-- Command `f` for a live id: its object `x` is removed. With pages an object of a partly full page of the same class moves into the slot of x, if the page of x
+-- was full with more than one slot and the class had as many partly full pages as its bound; else none moves. `moved` is the id of the object that moved. No
+-- other address changes.
 pub record IsFree (old : ShownHeap) (id : ℕ) (x : Placed) (reply : Reply) (new : ShownHeap) : Type 0 where
   pub moved : Option ℕ
   pub moves : MovesIn old.heap.kind old.heap x moved
@@ -106,14 +106,14 @@ Writes (Some x) old id at bytes reply new =
     (reply ≡ said (if nat_le (at + length bytes) (length x.bytes) then codes "ok" else codes "range"))
     × (new ≡ if nat_le (at + length bytes) (length x.bytes) then with_object old id (record x { bytes = written x.bytes at bytes }) else old)
 
--- Command `z` within the class: `after` is the objects afterwards, in which the id has `n` bytes at the same address; no other object moves.
+-- Command `z` within the class: `after` is the objects afterwards, in which the id has `n` bytes at the same address; no object moves.
 pub record RefitsInPlace (old : ShownHeap) (id : ℕ) (x : Placed) (n : ℕ) (after : CallResult) : Type 0 where
   pub same : class_for (paging_in old.heap) n ≡ class_at (paging_in old.heap) x
   pub still : after.moved ≡ None
   pub placed : after.held ≡ insert old.heap.held id (resized_at x.place x n)
 
--- Command `z` to another class: the object takes the free slot at `place` as a malloc does, and leaves its old one as a free does: `after.moved` is the id
--- whose object moved there, if one did.
+-- Command `z` to another class: the object takes the free slot at `place` as a malloc does, and leaves its old slot as a free does. `after.moved` is the id of
+-- the object that moved into the old slot, if one did.
 pub record RefitsElsewhere (old : ShownHeap) (id : ℕ) (x : Placed) (n : ℕ) (after : CallResult) : Type 0 where
   pub other : class_for (paging_in old.heap) n ≢ class_at (paging_in old.heap) x
   pub place : ℕ
@@ -138,8 +138,8 @@ pub record IsResize (old : ShownHeap) (id : ℕ) (x : Placed) (n : ℕ) (reply :
     step_bound = resize_bound_for old x n;
   }) after.moved (slot_for (paging_in old.heap) (length x.bytes))
 
--- Command `z`, refused: `none` with blocks; `refused size` if the object would need more than a page, else `refused space` if its class would be another one,
--- which has no slot left. No object changes.
+-- Command `z`, refused: `none` with blocks; `refused size` if the object would need more than a page, else `refused space` if it would need another class, and
+-- this class has no slot left. No object changes.
 pub record IsRefusedResize (old : ShownHeap) (id n : ℕ) (reply : Reply) (new : ShownHeap) : Type 0 where
   pub fault : ResizeFault
   pub cause : IsResizeFault old.heap (record { number = id; length = n }) fault
@@ -176,7 +176,7 @@ steps_shown kind t = elim (family_of kind) [
   | tiled ↦ with_number (codes "steps last ") t.heap.cost
 ]
 
--- In heap `old` the command may get this reply and leave the heap `new`. The last row is for the commands of other modes, which get `none`.
+-- In heap `old` the command may get this reply and leave the heap `new`. The last equation is for the commands of other modes, which get `none`.
 abbrev pub IsAnswer : ShownHeap → Command → Reply → ShownHeap → Type 0
 IsAnswer old (Malloc id n) reply new = Mallocs (get old.heap.held id) old id n reply new
 IsAnswer old (Free id) reply new = Frees (get old.heap.held id) old id reply new

@@ -18,8 +18,8 @@ ghost use Rattle.transcript_laws.specs.Transcripts.{ArePlaceless, StaysAtOne, tr
 ghost use Rattle.headline_laws.specs.Headline.{MeetsHeadline};
 ghost use Rattle.headline_laws.specs.OneOutput.{BeginNone, BeginOnce, IsOrdered};
 
-/// The replies of every run over a script meet the headline: there is exactly one for each item, and it is
-/// one that the item may get (`Answers`) in the heap as the lines and replies before it show it (`ShownHeap`).
+/// The replies of every run over a script meet the headline: there is exactly one reply for each item, and the
+/// item may get this reply (`Answers`) in the heap that the lines and replies before it show (`ShownHeap`).
 pub fn the_headline()
     ensures { (kind : Kind) (items : List Item) (replies : List Reply) (end : Option RunState)
         → Run kind None items replies end → MeetsHeadline kind items replies }
@@ -41,14 +41,14 @@ pub fn at_bound_one_the_headline_is_the_transcript()
         → MeetsHeadline kind items replies → replies ≡ transcript kind items }
 {}
 
-/// Some wrong replies, none of which meets the headline: so it rules something out. Each clause has a script
-/// on two pages of 64 words and wrong replies to it. To a malloc that fits while there is room:
-/// `refused space` (`room`), `refused size` (`size`), a reply without a line (`silent`), no reply (`missing`), or a
-/// reply more than there are items (`over`). In `walk`: a page more than the object needs (`pages`), and a
-/// total that isn't the sum of the lines above it (`total`). More steps than a malloc may take, with pages
-/// (`steps`) and with TLSF (`blocks`). `ok` to a free of an id that isn't live (`unknown`). The same address
-/// for two objects (`shared`). A new address of an object, though nothing was freed or resized (`moved`). A
-/// word other than 0 in a heap without objects (`word`).
+/// The headline excludes wrong replies: each clause has a script on two pages of 64 words, and replies to it
+/// that don't meet the headline. A malloc that fits gets `refused space` (`room`), `refused size` (`size`), a
+/// reply without a line (`silent`), or no reply (`missing`); or there is one reply more than items (`over`).
+/// `walk` prints one page more than the object needs (`pages`), or a total that isn't the sum of the lines
+/// above it (`total`). `steps` prints more steps than a malloc may take: 65 with pages (`steps`), where the
+/// bound is 64, and 26 with TLSF (`blocks`), where it is 25. A free of an id that isn't live gets `ok`
+/// (`unknown`). Two live objects have the same address (`shared`). An object has a new address, though nothing
+/// was freed or resized (`moved`). A heap without objects has a word that isn't 0 (`word`).
 pub fn wrong_replies_fall_short()
     ensures room { ¬ MeetsHeadline Moving (items (codes "heap 2 512 1 8\nm 1 176\n") true)
         (said (codes "ok") ∷ said (codes "refused space") ∷ []) }
@@ -91,9 +91,9 @@ pub fn one_transcript()
         → Run kind None items replies last → replies ≡ transcript kind items }
 {}
 
-/// If two runs with pages are in states in which each id names the same bytes, under equal settings and with
-/// every bound 1, then the same further items get the same replies in both, whatever their scripts were so
-/// far.
+/// If two runs of one kind with pages are in states in which each id names the same bytes, under equal
+/// settings and with every bound 1, then the same further items get the same replies in both, whatever their
+/// scripts were so far. Further items set no bound and ask for no address or cost (`AreFurther`).
 pub fn equal_objects_get_equal_replies()
     ensures { (one other : RunState) (items : List Item) (replies shown : List Reply)
         (last end : Option RunState)
@@ -106,8 +106,9 @@ pub fn equal_objects_get_equal_replies()
 
 /// On managers of one kind that promise an order, one script has one output: two runs over the same items
 /// have the same replies, with each address, block, word and cost, and lead to the same state. `there`: for
-/// any input there is such a run. `script` and `items`: it is enough that both managers have an order at the
-/// end. `further`: the same holds of two runs that continue from one state with an order.
+/// any input there is such a run. `script`: two runs over the items of any bytes, whose managers both have an
+/// order at the end. `items`: the same for any items without a `heap` line after the first (`BeginOnce`).
+/// `further`: the same for two runs that continue from one state with an order.
 pub fn one_output()
     ensures there { (kind : Kind) (bytes : List ℕ) (ended : Bool)
         → (replies : List Reply) × (last : Option RunState) × Run kind None (items bytes ended) replies last × IsOrdered last }

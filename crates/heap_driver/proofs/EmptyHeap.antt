@@ -1,4 +1,4 @@
--- For the contract of `set_bound` in `src/bounds.rt`: an open heap without objects is still one after a class gets a bound.
+-- For the contract of `set_bound` in `src/bounds.rt`: an open heap without objects stays open and without objects when a class gets another bound.
 use Rattle.std.specs.Prelude.{ℕ, Option, Some, None}
 use Rattle.cf_model.specs.Answers.{with_bound}
 use Rattle.cf_model.specs.State.{HeapState}

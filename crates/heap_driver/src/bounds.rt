@@ -1,4 +1,4 @@
-//! Opens a heap in which single classes have bounds of their own: how many of their pages may be partly full.
+//! Opens a heap, and sets the bound k of single classes: how many of their pages may be partly full.
 ghost use Rattle.std.specs.Prelude.{OnOk};
 ghost use Rattle.heap_driver.specs.EmptyHeap.{IsOpenedEmpty};
 

@@ -13,8 +13,8 @@ use std::alloc::Global;
 use test_support::{Wrong, hold};
 
 impl<H: Manager> RandomRun<H> {
-    /// Fails unless the heap shows the figures of this class that the reference computes, and no more of its
-    /// pages are partly full than its bound. The heap must show none if there is no such class.
+    /// Fails unless the heap shows the figures of this class that the reference computes. At most as many pages
+    /// of the class as its bound may be partly full. If there is no such class, the heap must show no figures.
     pub(crate) fn compare_figures(&self, class: u32) -> Result<(), Wrong>
         ensures same { OnOk result (class < classes self.now.reference.paging → figures_in (H.state self.now.calls.heap) class
             ≡ Some (figures_of self.now.reference.paging self.now.reference.held class)) }

@@ -108,8 +108,8 @@ impl<'a> Exact<'a> {
     }
 
     /// The steps of a resize that succeeds, of an object of `length` bytes at address `place`, to `bytes`
-    /// bytes. If its class changes and `moves` is true, another object moves into its old slot. 0 if no
-    /// class holds `bytes` bytes.
+    /// bytes. If its class changes and `moves` is true, another object moves into its old slot. 0 if a
+    /// class holds `length` bytes, but none holds `bytes`.
     fn resized_steps(&self, place: u32, length: u32, bytes: u32, moves: bool) -> u64
         ensures { (s : HeapState) (x : Placed) (moved : Option Handle) → HasPages self.now.kind self.now.reference.now s
             → IsObject self.now.reference.now place length x → is_some moved ≡ moves

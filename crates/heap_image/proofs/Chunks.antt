@@ -1,4 +1,5 @@
--- An object whose bytes are written to a sink chunk by chunk: for the loop of `put_bytes`.
+-- For `put_bytes`, which writes an object's bytes to a sink at most 4,096 at a time: each chunk read from the heap is a part of the object, and the chunks
+-- written are a prefix of it.
 use Rattle.std.proofs.Common.{◌≡◌, ◌∙◌, ◌++◌, ◌+◌, ◌≤◌, ℕ, List, Option, Some, length, take, drop, ap, sym, subst}
 use Rattle.std.specs.Prelude.{Err}
 use Rattle.std.specs.FinMap.{get}

@@ -1,4 +1,5 @@
--- The counters of a session during a load: for clause `counts` of `load` and of the functions that read entries.
+-- For clause `counts` of `load` and of the functions that read entries: a load changes the counters of its session as its mallocs do, and as the free of an
+-- object that could not be read whole.
 use Rattle.std.proofs.Common.{◌≡◌, ◌∙◌, ◌+◌, ◌*◌, ℕ, Bool, true, false, ap, refl, sym, inl, inr}
 use Rattle.std.specs.Prelude.{Result, Ok, Err, nat_lt}
 use Rattle.std.specs.FinMap.{len}

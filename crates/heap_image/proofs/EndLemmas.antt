@@ -1,4 +1,5 @@
--- The entries of an image that is loaded, one after the other, and then its end: for the loop of `load_entries`.
+-- For `load_entries`, which loads the entries of an image one after the other and then tests for its end: what the bytes so far decode to. T and U are
+-- functions that decode bytes.
 use Rattle.std.proofs.Common.{◌≡◌, ◌≢◌, ◌∙◌, ◌++◌, ◌+◌, ◌-◌, ◌≤◌, ◌<◌, ℕ, suc, List, [], ◌∷◌, Some, None, length, refl, ap, sym, arith, inl}
 use Rattle.std.specs.Prelude.{Result, Ok, Err}
 use Rattle.std.specs.FinMap.{empty, get, get-empty, insert, len, len-empty}
@@ -23,7 +24,7 @@ use Rattle.heap_image.proofs.StageLemmas.{broken_then, field_breaks, passes_part
 abbrev Reading : Type 0
 Reading = List ℕ → Decoded
 
--- two readings that decode all bytes alike: the second decodes what is left of the first
+-- T and U decode all bytes alike: so before any byte is taken, U decodes what T decodes
 pub passes_same : (T U : Reading) (had : Feed) → ((bytes : List ℕ) → T bytes ≡ U bytes) → WholeFields T had had U
 passes_same T U had same = record { taken = []; took = takes_nothing had; shows = same }
 

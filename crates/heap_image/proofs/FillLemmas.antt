@@ -1,4 +1,5 @@
--- A buffer that is filled from a source chunk by chunk: for the loop of `fill`, and for `read_end`.
+-- For `fill`, which fills a buffer from a source in several calls, and `read_end`, which reads at most one byte more: the bytes that a call took are added
+-- to those in the buffer.
 use Rattle.std.proofs.Common.{◌≡◌, ◌∙◌, ◌++◌, ◌+◌, ◌≤◌, ℕ, List, [], ◌∷◌, length, take, drop, get_or, refl, ap, sym, subst, arith}
 use Rattle.std.proofs.Common.{length-append}
 use Rattle.std.proofs.lemmas.List.{length-take-le, take-append-le}

@@ -1,4 +1,4 @@
--- The header word at an object's address holds its length in the upper half: for `length_of`.
+-- For `length_of`, which reads an object's length from the heap's words: the word at its address is the header, with the length in the upper half.
 use Rattle.std.proofs.Common.{◌≡◌, ℕ, ◌/◌, ◌^◌, ◌<◌, List, Some, None, length, get_or, arith, sym, ◌∙◌, ap, subst}
 use Rattle.std.specs.Prelude.{option_map, slice_get}
 use Rattle.std.proofs.lemmas.Option.{slice_get-get_or}

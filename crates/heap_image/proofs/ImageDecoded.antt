@@ -1,4 +1,4 @@
--- The image of settings and objects decodes to these, field by field: for the law `an_image_is_read_back`.
+-- For the law `an_image_is_read_back`: the image of settings and objects, decoded field by field, has these settings and these objects.
 use Rattle.std.proofs.Common.{◌≡◌, ◌∙◌, ◌++◌, ◌+◌, ◌*◌, ◌/◌, ◌%◌, ◌≤◌, ◌<◌, ◌^◌, ℕ, zero, suc, true, List, [], Option, Some, None}
 use Rattle.std.proofs.Common.{length, refl, ap, sym, arith, append_assoc}
 use Rattle.std.proofs.Common.{length-append}
@@ -61,7 +61,7 @@ pub entries_next : (p : Profile) (n : ℕ) (r : Reached) (bytes : List ℕ)
 unfolding entries_decoded
 entries_next p n r bytes = refl
 
--- after the mark `pages_decoded` decodes the rest
+-- `pages_decoded` decodes what follows the mark
 pub mark_read : (rest : List ℕ) → decoded (mark ++ rest) ≡ pages_decoded rest
 unfolding decoded
 mark_read rest = refl
@@ -176,7 +176,7 @@ module _ (p : Profile) (o : Objects) (h : HaveImage p o) where
       field_read_4 p.pages (number_bytes w32 (8 * p.page_words) ++ (number_bytes w32 p.proxies ++ (number_bytes w32 (len o) ++ behind))) (unopened 4)
       (λ n. is_within 1 4096 n) (λ n rest. page_bytes_decoded n rest) (within_limits 1 4096 p.pages least most) (omega arith) ∙ page_bytes_read
 
-  -- the image is decoded to what it is the image of
+  -- the image of the settings p and the objects o decodes to these
   pub image_read : decoded (image_under p o) ≡ whole p o
   image_read =
       let a = number_bytes w32 p.pages in let b = number_bytes w32 (8 * p.page_words) in let c = number_bytes w32 p.proxies in

@@ -15,6 +15,6 @@ mod LoadLemmas
 mod LoadRows
 mod MarkLemmas
 mod FillLemmas
-mod PartLemmas
+mod FillObjectLemmas
 mod SettingsLemmas
 pub mod CallerLemmas

@@ -1,4 +1,5 @@
--- Live objects have an image, and equal objects have the same one: for the laws `live_objects_have_an_image` and `equal_objects_have_one_image`.
+-- For the laws `live_objects_have_an_image` and `equal_objects_have_one_image`: the live objects of a moving heap need no more pages than it has, so they
+-- have an image; equal objects have the same one.
 use Rattle.std.proofs.Common.{◌≡◌, ◌∙◌, ◌+◌, ◌*◌, ◌≤◌, ℕ, List, Option, Some, None, length, refl, ap, sym, subst, arith}
 use Rattle.std.specs.Prelude.{option_map}
 use Rattle.std.specs.List.{range_with_len}
@@ -38,7 +39,7 @@ pub needed_within : (p : Profile) (bounds : List ℕ) (m : Held) → pages_neede
     → used_pages (paging_of p Words bounds) m + free_pages (paging_of p Words bounds) m ≡ p.pages → pages_needed (image_paging p) (objects m) ≤ p.pages
 needed_within p bounds m less all = (let same = needed_any p bounds (objects m) in omega arith)
 
--- objects that count alike need equally many pages
+-- objects with equal sums over their bytes (`CountAlike`) need the same number of pages
 pub needed_alike : (p : Paging) (m n : Objects) → CountAlike m n → pages_needed p n ≡ pages_needed p m
 unfolding pages_needed live
 needed_alike p m n alike = sum_same _ _ (range_with_len 0 (classes p)) (λ c. ap (λ n. ceil_div n (slots_of p c)) (alike.sums _))

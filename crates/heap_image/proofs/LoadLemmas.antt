@@ -1,4 +1,5 @@
--- A load put together from its stages, the settings and the objects: for `load` and `load_objects`.
+-- For `load` and `load_objects`: from how reading the settings and then the objects ended to what the whole load did: all loaded, a rule broken, the source
+-- failed, or memory ran out.
 use Rattle.std.proofs.Common.{◌≡◌, ◌∙◌, ◌++◌, ℕ, Bool, true, false, List, [], Option, Some, None, refl, ap, sym, subst, append-nil}
 use Rattle.std.specs.Prelude.{Result, Ok, Err}
 use Rattle.std.specs.FinMap.{empty, get, get-empty}
@@ -129,7 +130,7 @@ module _ (from to : RunState) (settings : Settings) (q : Profile) (had mid left 
           (subst (λ (p : Option Profile). HoldsRead from p ends.0.objects to) (sym ends.1) ends.4) (shows_then _ _ had mid left passes ends.0 ends.2)
       by fault.OutOfMemory ends = absurd ends
 
--- a first part was read, and a further reading ended the load: so the whole reading ended it
+-- if whole fields were taken, after which U decodes as T does, and by U the load ended after them, then by T it ended so over all bytes taken
 pub ends_then : (T U : Reading) (p : Profile) (had mid left : Feed) (r : Result Unit LoadFault) (to : RunState) → WholeFields T had mid U
     → EndsReading U p mid r left to → EndsReading T p had r left to
 ends_then T U p had mid left (Ok u) to passes ends = (ends.0, shows_then T U had mid left passes _ ends.1, ends.2, ends.3)

@@ -1,4 +1,5 @@
--- From clause `loads` of `load`, for callers: what a load did, if the source had the bytes `all`; and over any source, for some bytes that may follow.
+-- For callers of `load`: what its clause `loads` claims if the source is observable and had the bytes `all`, and over any source, for some bytes that may
+-- follow those taken.
 use Rattle.std.proofs.Common.{◌≡◌, ◌∙◌, ◌++◌, ℕ, List, [], Option, Some, None, refl, ap, sym, subst}
 use Rattle.std.specs.Prelude.{Result}
 use Rattle.cf_base.specs.declared.settings.Settings.{Settings}

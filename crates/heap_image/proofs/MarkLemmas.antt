@@ -1,4 +1,5 @@
--- The mark of an image, and the settings after it: for `read_settings` and the functions below it.
+-- For `read_settings` and the functions below it, which read the first 16 bytes of an image: the mark and the settings were read, or one breaks a rule, is
+-- cut, or the source failed. T and U decode bytes.
 use Rattle.std.proofs.Common.{◌≡◌, ◌∙◌, ◌++◌, ◌+◌, ◌≤◌, ◌<◌, ℕ, Bool, true, false, List, None, length, take, refl, ap, sym, arith}
 use Rattle.std.proofs.Common.{append_assoc, inr, length-append}
 use Rattle.std.specs.Prelude.{Result, Ok, Err, if◌then◌else◌, nat_lt}
@@ -51,7 +52,7 @@ pub settings_bad : (n : ℕ) (T : List ℕ → Decoded) (had left : Feed) (at : 
     → ReadsSettingsOrStops n T had (Err (fault.Bad at)) left
 settings_bad n T had left at shows = (unopened at, refl, refl, refl, shows)
 
--- bytes that don't begin with the mark
+-- what bytes that don't begin with the mark decode to
 abbrev unmarked : List ℕ → Decoded
 unmarked bytes = record (unopened 0) { is_cut = nat_lt (length bytes) 4 }
 

@@ -1,4 +1,5 @@
--- Numbers of two and four bytes: they are read back as written; and decoding a field that is a number, whole or cut.
+-- Fields of an image that are numbers of two or four bytes: a number that was written is read back; a whole field decodes to its number, a cut one is marked
+-- as cut.
 use Rattle.std.proofs.Common.{◌≡◌, ◌∙◌, ◌++◌, ◌<◌, ◌^◌, ℕ, Bool, true, false, List, length, take, drop, refl, ap, sym, arith, get_or}
 use Rattle.std.specs.Prelude.{nat_lt, if◌then◌else◌}
 use Rattle.std.specs.Int.{Width, w16, w32, byte_len}
@@ -34,7 +35,7 @@ unfolding number_bytes number_of_bytes
 bytes_back_4 bytes four small = le_bytes_4 bytes _ four small refl
 
 module _ (w : Width) (bytes : List ℕ) (bad : Decoded) (go : ℕ → List ℕ → Decoded) where
-  -- a whole field, and what follows it
+  -- a whole field decodes to its number, and `go` decodes what follows
   pub number_whole : (rest : List ℕ) → length bytes ≡ byte_len w → number w (bytes ++ rest) bad go ≡ go (number_of_bytes w bytes) rest
   number_whole rest same =
       let more = length-append bytes rest in
@@ -44,7 +45,7 @@ module _ (w : Width) (bytes : List ℕ) (bad : Decoded) (go : ℕ → List ℕ �
       ap (λ b. if b then cut bad else go (number_of_bytes w (take (byte_len w) (bytes ++ rest))) (drop (byte_len w) (bytes ++ rest))) long
       ∙ (λ i. go (number_of_bytes w (front i)) (back i))
 
-  -- a field that is cut
+  -- a field that is cut decodes to `bad`, marked as cut
   pub number_cut : length bytes < byte_len w → number w bytes bad go ≡ cut bad
   number_cut short =
       let less : nat_lt (length bytes) (byte_len w) ≡ true = grind (arith, nat_tests) in
@@ -58,7 +59,7 @@ module _ (n : ℕ) (rest : List ℕ) (bad : Decoded) (go : ℕ → List ℕ → 
   pub number_read_4 : n < 2 ^ 32 → number w32 (number_bytes w32 n ++ rest) bad go ≡ go n rest
   number_read_4 small = number_whole w32 (number_bytes w32 n) bad go rest (length-number_4 n) ∙ ap (λ n. go n rest) (number_back_4 n small)
 
--- a number that was written and is accepted
+-- a number that was written and passes its test is read back, and `yes` decodes what follows
 module _ (n : ℕ) (rest : List ℕ) (bad : Decoded) (test : ℕ → Bool) (yes : ℕ → List ℕ → Decoded) (good : test n ≡ true) where
   accepted : (if test n then yes n rest else bad) ≡ yes n rest
   accepted = ap (λ b. if b then yes n rest else bad) good

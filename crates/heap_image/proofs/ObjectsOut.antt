@@ -1,4 +1,5 @@
--- The live objects, written one after another: for the loop of `put_objects`.
+-- For `put_objects`, which writes the live objects by rising id: the texts written so far and those still to be written, or a prefix of all of them if the
+-- sink fails.
 use Rattle.std.proofs.Common.{◌≡◌, ◌∙◌, ◌++◌, ◌+◌, ◌-◌, ℕ, suc, List, [], Option, Some, None, refl, ap, sym, subst, arith, append_assoc, append-nil}
 use Rattle.std.specs.Prelude.{Err}
 use Rattle.std.specs.FinMap.{entries, get}

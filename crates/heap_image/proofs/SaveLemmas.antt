@@ -1,4 +1,5 @@
--- The header and the entries that are written make up the image of the live objects: for `save`.
+-- For `save`: the 20 bytes of the header and then the entries, id, length and bytes of each object, are the image of the live objects, or a prefix of it if
+-- the sink fails.
 use Rattle.std.proofs.Common.{◌≡◌, ◌∙◌, ◌++◌, ◌*◌, ℕ, List, [], Option, length, ap, sym, subst, append_assoc}
 use Rattle.std.specs.Prelude.{Result, Err}
 use Rattle.std.specs.FinMap.{entries, len}
@@ -41,7 +42,7 @@ entry_cut w y id n line line2 line3 bytes e none first second same put =
     subst (λ (b : List ℕ). Puts {T = Unit {0}} w b (Err e) y) is (puts_cut w y line3 bytes e put)
 
 module _ (s : RunState) (tied : AreTied s.session s.heap) where
-  -- the objects are as many by id as by number
+  -- there are as many live ids as live handles
   pub as_many : len (objects_of s) ≡ len s.heap.held
   as_many = (by_id_counts s.session.ids (objects s.heap.held) (names_of_objects s.session.ids s.heap.held tied.ids)).count
       ∙ len-objects s.heap.held
@@ -74,6 +75,6 @@ pub live_shown : (s : HeapState) (t : Totals) → s.kind ≡ Moving → t ≡ to
 live_shown s t moving is =
     ap (λ (f : Totals). f.live) (is ∙ ap (λ (k : Kind). totals_in k s) moving) ∙ len-objects s.held
 
--- equal settings are equal in each part that a header holds
+-- equal settings are equal in each field that a header holds
 pub profile_parts : (p q : Profile) → p ≡ q → (p.pages ≡ q.pages) × (p.page_words ≡ q.page_words) × (p.proxies ≡ q.proxies)
 profile_parts p q e = (ap (λ (p : Profile). p.pages) e, ap (λ (p : Profile). p.page_words) e, ap (λ (p : Profile). p.proxies) e)

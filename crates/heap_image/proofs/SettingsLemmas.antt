@@ -1,4 +1,5 @@
--- Which number breaks a rule if `Settings::check` refuses the numbers read: for `read_page_bytes` and `read_proxies`.
+-- For `read_page_bytes` and `read_proxies`, which read numbers of an image: if `Settings::check` refuses the numbers read so far, the last one breaks a
+-- rule.
 use Rattle.std.proofs.Common.{◌≡◌, ◌∙◌, ◌*◌, ℕ, Bool, true, false, Option, Some, None, refl, ap}
 use Rattle.std.specs.Prelude.{◌&&◌, if◌then◌else◌, nat_le}
 use Rattle.cf_base.specs.Limits.{is_page_bytes, is_within}

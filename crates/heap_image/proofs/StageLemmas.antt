@@ -1,4 +1,5 @@
--- How the stages of a load (`Stages`) follow one another: parts that are read in turn, a field that breaks a rule, and one that is cut.
+-- For the functions that load an image field by field (`Stages`): fields read in turn, and a field that is accepted, breaks a rule, is cut by the end or
+-- can't be read. T and U decode bytes.
 use Rattle.std.proofs.Common.{◌≡◌, ◌∙◌, ◌++◌, ◌+◌, ◌<◌, ℕ, Bool, true, false, List, [], ◌∷◌, Option, Some, length, refl, ap, sym, subst}
 use Rattle.std.proofs.Common.{append_assoc, append-nil, arith, inl, inr, length-append}
 use Rattle.std.proofs.lemmas.Bool.{cond-true, cond-false}
@@ -19,14 +20,14 @@ use Rattle.heap_image.proofs.Numbers.{number_cut, number_whole}
 abbrev Reading : Type 0
 Reading = List ℕ → Decoded
 
--- counts of bytes given, one after the other
+-- a source that returned n bytes and then k returned n + k
 given_then : (n k a b c : ℕ) → HasGiven a n b → HasGiven b k c → HasGiven a (n + k) c
 given_then n k a b c (inl x) (inl y) = inl (omega (arith, x, y))
 given_then n k a b c (inl x) (inr y) = inr y
 given_then n k a b c (inr x) (inl y) = inr (omega (arith, x, y))
 given_then n k a b c (inr x) (inr y) = inr y
 
--- one part after another
+-- the bytes a and then the bytes b were taken
 pub takes_then : (a b : List ℕ) (had mid left : Feed) → TakesBytes a had mid → TakesBytes b mid left → TakesBytes (a ++ b) had left
 takes_then a b had mid left one next = record {
   first = preceded_after had.rest mid.rest left.rest a b one.first next.first;
@@ -72,7 +73,7 @@ module _ (T U : Reading) (had mid left : Feed) (p : WholeFields T had mid U) whe
   stops_then s o fault.Read q = (q.0, q.1, q.2, shows_then q.0 q.3, q.4)
   stops_then s o fault.OutOfMemory q = absurd q
 
--- bytes, of which there is one at least, are some bytes and a last one
+-- a list with at least one byte is some bytes and a last one
 last_of : (bytes : List ℕ) → 0 < length bytes → (before : List ℕ) × (last : ℕ) × (bytes ≡ before ++ (last ∷ [])) × (length before < length bytes)
 last_of [] some = absurd (omega arith)
 last_of (x ∷ []) some = ([], x, refl, omega arith)
@@ -90,11 +91,11 @@ field_breaks T field had left bad rule some took shows sound = record {
     last_breaks : LastBreaks T field
     last_breaks = (let l = last_of field some in record { before = l.0; last = l.1; are = l.2; sound = sound l.0 l.3 })
 
--- a part was taken, and nothing more
+-- whole fields were taken and nothing after them: T decodes the bytes taken to what U decodes the empty list to
 pub passes_part : (T U : Reading) (had left : Feed) (t : Decoded) → WholeFields T had left U → U [] ≡ t → ReadsAs T had left t
 passes_part T U had left t p e = record { taken = p.taken; took = p.took; reads = ap T (sym (append-nil p.taken)) ∙ p.shows [] ∙ e }
 
--- a reading of fewer than `room` bytes finds them cut
+-- A field of `room` bytes: fewer bytes decode to `bad`, marked as cut.
 module _ (T : Reading) (room : ℕ) (bad : Decoded) (short : (bytes : List ℕ) → length bytes < room → T bytes ≡ cut bad) (had left : Feed) where
   pub falls_stops : (at : ℕ) (f : LoadFault) (s : Option Profile) (o : Objects) → bad.broken ≡ Some at → bad.settings ≡ s → bad.objects ≡ o
       → StopsInField room at had f left → StopsReading s o T had f left
@@ -121,7 +122,7 @@ module _ (T : Reading) (room : ℕ) (bad : Decoded) (short : (bytes : List ℕ) 
   )
   falls_stops at fault.OutOfMemory s o broken settings objects q = absurd q
 
--- a field that is a number, by its width
+-- a field that is a number of width w, and must pass a test
 module _ (w : Width) (bad : Decoded) (test : ℕ → Bool) (yes : ℕ → List ℕ → Decoded) (had left : Feed) (at : ℕ) where
   abbrev pub field : Reading
   field bytes = number w bytes bad (λ n rest. if test n then yes n rest else bad)
@@ -132,21 +133,21 @@ module _ (w : Width) (bad : Decoded) (test : ℕ → Bool) (yes : ℕ → List �
   field_cut : (few : List ℕ) → length few < byte_len w → field few ≡ cut bad
   field_cut few short = number_cut w few bad (λ n rest. if test n then yes n rest else bad) short
 
-  -- it is accepted
+  -- the number is accepted
   pub field_shows : (n : ℕ) (r : ReadsNumber w at had (Ok n) left) → test n ≡ true → (more : List ℕ) → field (r.0 ++ more) ≡ yes n more
   field_shows n r e more = tested n r more ∙ cond-true _ _ _ e
 
   pub field_good : (n : ℕ) → ReadsNumber w at had (Ok n) left → test n ≡ true → WholeFields field had left (yes n)
   field_good n r e = record { taken = r.0; took = r.3; shows = field_shows n r e }
 
-  -- it breaks a rule
+  -- the number breaks a rule
   pub field_bad : (n : ℕ) → ReadsNumber w at had (Ok n) left → test n ≡ false → bad.is_cut ≡ false → 0 < byte_len w → ReadsBroken field had left bad
   field_bad n r e rule wide =
       let long = r.1 in
       field_breaks field r.0 had left bad rule (omega arith) r.3 (λ more. tested n r more ∙ cond-false _ _ _ e)
       (λ few short. inr (ap (λ (d : Decoded). d.is_cut) (field_cut few (omega arith))))
 
-  -- it is cut, or can't be read
+  -- the number is cut, or can't be read
   pub field_stops : (f : LoadFault) (s : Option Profile) (o : Objects) → bad.broken ≡ Some at → bad.settings ≡ s → bad.objects ≡ o
       → StopsInField (byte_len w) at had f left → StopsReading s o field had f left
   field_stops f s o broken settings objects q = falls_stops field (byte_len w) bad field_cut had left at f s o broken settings objects q

@@ -1,4 +1,5 @@
--- What the commands `m`, `w` and `f` do to the objects by id, if every bound is 1: for `make_object`, `write_part` and `free_object`.
+-- For `make_object`, `write_object_bytes` and `free_object`, by which a load does `m`, `w` and `f`: what these do to the objects by id if every bound is 1;
+-- `m` succeeds if and only if its object fits.
 use Rattle.std.proofs.Common.{◌≡◌, ◌≢◌, ◌∙◌, ◌+◌, ◌*◌, ◌≤◌, ◌<◌, ℕ, Bool, true, false, List, Option, Some, None, length, refl, ap, sym, subst, arith, inl, inr}
 use Rattle.std.specs.Prelude.{◌⊎◌, ◌&&◌, cond, nat_eq, Result, Ok, Err, nat_le, replicate, ◌↔◌}
 use Rattle.std.specs.Bool.{OnFalse, OnTrue}
@@ -46,7 +47,7 @@ use Rattle.heap_image.specs.Stages.{LeadsTo}
 use Rattle.transcript_laws.proofs.CallerLemmas.{by_id_changed, by_id_counts, by_id_given, by_id_gone, found_by_id, unnumbered_by_id}
 use Rattle.heap_image.proofs.SaveLemmas.{as_many}
 
--- the pages that objects need with one more
+-- the pages that objects with one more of n bytes need don't depend on the bounds
 needed_with_any : (p : Profile) (bounds : List ℕ) (o : Objects) (n : ℕ)
     → pages_needed_with (paging_of p Words bounds) o n ≡ pages_needed_with (image_paging p) o n
 unfolding pages_needed_with live class_for
@@ -115,7 +116,7 @@ module _ (old new : RunState) (loading : IsLoading old) (going : IsGoing new) wh
     not_all : len old.heap.held ≡ old.heap.profile.proxies → ⊥
     not_all e = (let same = as_many old loading.going.tied in omega arith)
 
-    -- the object was made; or there is no room for it
+    -- the object was made, or there is no room for it, by the outcome
     abbrev pub Made : Outcome → Type 0
     Made outcome = ((outcome ≡ Good) × (has_room old.heap.profile o n ≡ true) × LeadsTo old new (insert o id (replicate n 0)))
         ⊎ ((outcome ≡ Refused) × (has_room old.heap.profile o n ≡ false) × LeadsTo old new o)
@@ -163,7 +164,7 @@ module _ (old new : RunState) (loading : IsLoading old) (going : IsGoing new) wh
     pub made_counts : new.session ≡ after_mallocs old.session true new.session.ids
     made_counts = mallocs.session ∙ ap (λ (i : Ids). record old.session { ids = i; bound = 64 }) (sym (ap (λ (s : SessionState). s.ids) mallocs.session))
 
-    -- whether it was made
+    -- the object was made if and only if there is room for it; `b` is whether the outcome is `Good`
     pub made_or_not : (b : Bool) (outcome : Outcome) → OnTrue b (outcome ≡ Good) → OnFalse b (outcome ≢ Good) → outcome ≡ outcome_of reply
         → (b ≡ has_room old.heap.profile o n) × OnTrue b (LeadsTo old new (insert o id (replicate n 0))) × OnFalse b (LeadsTo old new o)
     made_or_not b outcome good other shown = by b good other (made outcome shown)
@@ -184,7 +185,7 @@ module _ (old new : RunState) (loading : IsLoading old) (going : IsGoing new) wh
     writes : Writes old (record { number = handle.0; from = at }) bytes reply new
     writes = subst (λ (k : Option ℕ). WritesAt k old at bytes reply new) handle.1 turn.step
 
-    -- the bytes of the object under the number
+    -- the bytes of the object under the id's handle are v
     bytes_are : (x : Placed) → get old.heap.held handle.0 ≡ Some x → x.bytes ≡ v
     bytes_are x is = (let e : Some x.bytes ≡ Some v = sym (bytes_held old.heap.held handle.0 x is) ∙ handle.2 in cc)
 

@@ -6,12 +6,12 @@ use Rattle.run_model.specs.Sessions.{Ids, RunState, SessionState, counted}
 use Rattle.heap_image.specs.Heaps.{objects_of}
 use Rattle.heap_image.specs.declared.fault.LoadFault.{LoadFault}
 
--- the session s after mallocs and writes, which move no object: its ids are `ids`; `some` says whether there was a malloc, whose step bound is 64
+-- The session s after mallocs and writes, which move no object. Its ids are `ids`; if there was a malloc (`some`), its step bound is that of a malloc, 64.
 abbrev pub after_mallocs : SessionState → Bool → Ids → SessionState
 after_mallocs s some ids = record s { ids = ids; bound = if some then 64 else s.bound }
 
--- The last command of a load was a free: the session `new` has the step bound of the free, and counts its move besides what `old` counted.
--- `freed` is the reply to the free: the object that moved, if one did, and the words of the slot.
+-- How a load whose last command was a free changed the session `old` to `new`: the step bound is that of the free, and if the free moved an object, this move
+-- is added to the counts of `old`. `freed` is the manager's result of the free: the object that moved, if one did, and the words of the slot.
 pub record CountsFree (old new : SessionState) : Type 0 where
   pub freed : Freed
   -- 96 + 2s is the step bound of a free, where s is the words of the slot

@@ -1,4 +1,5 @@
--- Which bytes are a heap image: what bytes decode to, field by field, up to the first field that breaks a rule or is cut by the end.
+-- Which bytes are a heap image: what bytes decode to, field by field, up to the first field that breaks a rule or is cut by the end. In all definitions p is
+-- the settings that were decoded.
 use Rattle.std.specs.Prelude.{◌≡◌, ℕ, zero, suc, Bool, true, false, ◌⊎◌, ◌&&◌, ◌+◌, ◌*◌, List, [], ◌∷◌, Option, Some, None, length, take, drop}
 use Rattle.std.specs.Prelude.{if◌then◌else◌, nat_le, nat_lt}
 use Rattle.std.specs.Int.{Width, w16, w32, byte_len}
@@ -111,7 +112,7 @@ unfoldable pub proxies_decoded : ℕ → ℕ → List ℕ → Decoded
 proxies_decoded pages page_bytes bytes = number w32 bytes (unopened 12)
     (λ proxies rest. if is_within 1 65536 proxies then count_decoded (profile_from pages page_bytes 1 proxies) rest else unopened 12)
 
--- whether `pages` pages may have `page_bytes` bytes each: these are a page size, and all pages together have at most 64 MiB
+-- whether `pages` pages may have `page_bytes` bytes each: a page may have this size, and all pages together have at most 64 MiB
 abbrev pub is_page_of : ℕ → ℕ → Bool
 is_page_of pages page_bytes = is_page_bytes page_bytes && nat_le (pages * page_bytes) 67108864
 

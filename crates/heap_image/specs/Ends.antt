@@ -11,9 +11,10 @@ use Rattle.heap_image.specs.Stages.{ReadsAs, ReadsBroken}
 use Rattle.heap_image.specs.declared.fault.LoadFault.{LoadFault}
 use Rattle.heap_image.specs.declared.fault.LoadFault.TheVariants as fault
 
--- How reading the objects ended, by the result. `reading` decodes what was still to be read under the settings p; `had` and `left` are the source
--- before and after, `to` is the run after. `Ok`: all was read, and the heap holds the objects o. `Bad`: it holds those before the field that
--- breaks a rule. `Read`: it holds those of the whole entries that were read before the source failed.
+-- How reading the objects ended, by the result. `reading` decodes the bytes that were still to be read under the settings p, and t is what it decodes the
+-- bytes taken to. `had` and `left` are the source before and after, `to` is the run after. `Ok`: all was read, and the heap holds the objects o. `Bad`: the
+-- field at the offset `at` breaks a rule or is cut, and the heap holds the objects before that field. `Read`: the source failed, t breaks no rule, and the heap
+-- holds the objects of the whole entries that were read.
 abbrev pub EndsReading : (List ℕ → Decoded) → Profile → Feed → Result Unit LoadFault → Feed → RunState → Type 0
 EndsReading reading p had (Ok u) left to = (o : Objects) × ReadsAs reading had left (whole p o) × IsSpent left.rest × HoldsObjects p o to
 EndsReading reading p had (Err (fault.Bad at)) left to =

@@ -1,4 +1,4 @@
--- The image of a run: of the live objects of its manager, by the ids of its session; and which objects have an image.
+-- The heap image of a run: of the live objects of its manager, by the ids of its session; and which objects have an image.
 use Rattle.std.specs.Prelude.{◌≡◌, ℕ, ◌*◌, ◌^◌, ◌≤◌, ◌<◌, List, Some, length}
 use Rattle.std.specs.FinMap.{get, len}
 use Rattle.cf_base.specs.Classes.{need}

@@ -3,7 +3,7 @@ use Rattle.std.specs.Prelude.{ℕ, zero, suc, ◌+◌, List, [], ◌∷◌, Opti
 use Rattle.std.specs.FinMap.{get}
 use Rattle.page_model.specs.Held.{Objects}
 
--- the list `rest` with the id and its object in front, if the id has an object
+-- the list `rest`, with the id and its object as a new first entry if the id has an object
 abbrev pub listed_before : ℕ → Option (List ℕ) → List (ℕ × List ℕ) → List (ℕ × List ℕ)
 listed_before id None rest = rest
 listed_before id (Some v) rest = (id, v) ∷ rest

@@ -23,8 +23,8 @@ pub record LastBreaks (reading : List ℕ → Decoded) (taken : List ℕ) : Type
   pub are : taken ≡ before ++ (last ∷ [])
   pub sound : BreaksNoRule (reading before)
 
--- No byte was taken past the broken field. If the end cuts this field (`true`), no bytes `more` follow those taken. Else the field breaks a rule, and the last
--- byte taken is the first that shows it: the bytes before it break none.
+-- No byte was taken past the broken field. If the end cuts this field (`true`), no bytes `more` follow `taken`, the bytes taken. Else the field breaks a rule,
+-- and the last byte of `taken` is the first that shows it: the bytes before it break none.
 abbrev pub TakesNoMore : List ℕ → List ℕ → Bool → Type 0
 TakesNoMore taken more true = more ≡ []
 TakesNoMore taken more false = LastBreaks decoded taken
@@ -35,7 +35,7 @@ pub record IsLoading (s : RunState) : Type 0 where
   pub kind : s.heap.kind ≡ Moving
   pub ones : EveryBoundIsOne (paging_in s.heap)
 
--- the run s is as `IsLoading` says, its heap has the settings p, and its live objects by id are exactly o
+-- the run s meets `IsLoading`, its heap has the settings p, and its live objects by id are exactly o
 pub record HoldsObjects (p : Profile) (o : Objects) (s : RunState) : Type 0 where
   pub loading : IsLoading s
   pub profile : s.heap.profile ≡ p
@@ -89,7 +89,7 @@ IsLoaded from taken more (Err fault.Read) to = LoadsInPart from taken to
 IsLoaded from taken more (Err fault.OutOfMemory) to = LoadsNothing from taken to
 
 -- Over every source: the bytes that the load took, and what its result claims of them and of all bytes that may follow. `had` and `left` are the
--- source before and after, `from` and `to` the run. `ended` says whether the source had ended, if it isn't observable.
+-- source before and after, `from` and `to` the run. `ended` is whether the source had ended, if it isn't observable.
 pub record LoadsBy (from : RunState) (had : Feed) (result : Result Settings LoadFault) (left : Feed) (to : RunState) : Type 0 where
   pub taken : List ℕ
   pub ended : Bool

@@ -1,5 +1,5 @@
-//! Reads the fields of an image from a source, whatever its chunks: a buffer of bytes, or a number of two or
-//! four bytes, the least significant first.
+//! Reads one field of an image from a source, whatever the source's chunks: `fill` fills a buffer; `read_u16`
+//! and `read_u32` read a number of two or four bytes, the least significant first.
 ghost use Rattle.std.specs.Prelude.{◌≡◌, ◌≤◌, Err, ◌≢◌};
 ghost use Rattle.std.specs.Int.{w16, w32};
 ghost use Rattle.cf_io.specs.Feeds.{FailsLast};
@@ -9,19 +9,20 @@ ghost use Rattle.heap_image.specs.Stages.{FillsBuffer, ReadsNumber};
 use crate::fault::LoadFault;
 use cf_io::Source;
 
-/// How far `fill` filled a buffer.
+/// Why `fill` stopped, and so whether the buffer is full.
 #[derive(Clone, Copy, Debug, PartialEq, Eq)]
 pub(crate) enum Filled {
-    /// To its end.
+    /// The buffer is full.
     Whole,
-    /// Up to the end of the input.
+    /// The input ended before the buffer was full.
     Cut,
-    /// Up to the point at which the source failed.
+    /// The source failed before the buffer was full.
     Failed,
 }
 
-/// Takes bytes from the source into the buffer, chunk by chunk, until the buffer is full, the input ends or
-/// the source fails. Returns which of the three ended it.
+/// Fills the buffer with the next bytes of the source, by repeated calls of `take`. Stops when the buffer is
+/// full (`Whole`), the input ends (`Cut`) or a call fails (`Failed`), and returns which of the three it was.
+/// After `Cut` and `Failed` nothing is claimed of the bytes in the buffer.
 pub(crate) fn fill<S: Source>(source: &mut S, buffer: &mut [u8]) -> Filled
     ensures fills { FillsBuffer (feed_at (S.rest source.old) (S.given source.old)) buffer.new result (feed_at (S.rest source.new) (S.given source.new)) }
     ensures grows { S.faults source.old ≤ S.faults source.new }

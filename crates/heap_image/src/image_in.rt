@@ -24,11 +24,11 @@ use cf_session::Session;
 /// settings, with the bound 1. The session has no live id before.
 ///
 /// After `Ok` the heap is open with these settings and holds the image's objects, the session maps their ids
-/// to handles, and the source is at its end. Fails with `Read` only if the source failed; the bytes before
-/// that break no rule. Fails with `Bad` if the bytes are not an image; it takes no byte past the field that
-/// breaks a rule. After `Read` or `Bad` the heap is unchanged if the settings were not read, and else holds
-/// the objects of the whole entries that were read. Fails with `OutOfMemory` only when it opens the heap,
-/// after the 16 bytes of the mark and the settings; then the heap is closed.
+/// to handles, and the source is at its end. Fails with `Read` only if the source failed; the bytes that the
+/// source returned before break no rule. Fails with `Bad` if the bytes are not an image; it takes no byte
+/// past the field that breaks a rule. After `Read` or `Bad` the heap is unchanged if the settings were not
+/// read, and else holds the objects of the whole entries that were read. Fails with `OutOfMemory` only when
+/// it opens the heap, after the 16 bytes of the mark and the settings; then the heap is closed.
 pub fn load<S: Source, H: Manager>(
     source: &mut S,
     heap: &mut H,
@@ -122,8 +122,8 @@ fn load_entries<S: Source, H: Manager>(
     read_end(source, at)
 }
 
-/// Checks that the source ends behind the last entry, at the offset `at` of the image. Fails with `Bad { at }`
-/// if the source returns another byte, and with `Read` if it failed.
+/// Checks that the source ends after the last entry, at the offset `at` of the image. Fails with `Bad { at }`
+/// if the source returns another byte, and with `Read` if the source failed.
 fn read_end<S: Source>(source: &mut S, at: u64) -> Result<(), LoadFault>
     ensures end { EndRead at (feed_at (S.rest source.old) (S.given source.old)) result (feed_at (S.rest source.new) (S.given source.new)) }
     ensures grows { S.faults source.old ≤ S.faults source.new }

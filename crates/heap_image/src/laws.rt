@@ -1,4 +1,5 @@
-//! Laws of heap images. The functions do nothing: what each ensures is the law.
+//! Laws of heap images: an image is read back and determines its objects, live objects have an image, and
+//! equal objects have the same one. The functions do nothing: their contracts are the laws.
 ghost use Rattle.std.specs.Prelude.{◌≡◌, ◌≤◌, ℕ, List};
 ghost use Rattle.cf_base.specs.Settings.{Profile, at_bound_one};
 ghost use Rattle.cf_base.specs.declared.kind.Kind.TheVariants.{Moving};

@@ -1,5 +1,6 @@
-//! Heap images: `save` writes the live objects of a heap as bytes, which depend on its settings and its objects
-//! by id alone, and `load` makes the objects again.
+//! Heap images: `save` writes the settings and the live objects of a heap as bytes, and `load` opens a heap with
+//! these settings and makes the objects again. Equal settings and objects by id have equal images.
+//! `put_objects` visits the live objects by rising id, and writes each in the format of an `ObjectWriter`.
 #![tactic(auto)]
 
 mod fault;

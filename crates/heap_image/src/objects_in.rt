@@ -31,7 +31,7 @@ pub(crate) struct Entry {
     pub length: u32,
 }
 
-/// Reads the next entry of the source and makes its object. The id must be `next` at least; `at` is the
+/// Reads the next entry of the source and makes its object. The id must be at least `next`; `at` is the
 /// offset of the entry in the image, and `buffer` takes up to 4,096 bytes of the object at a time. Fails
 /// with `Bad` or `Read` as `load` does, and then the heap holds the same objects as before.
 ///
@@ -69,8 +69,9 @@ pub(crate) fn read_entry<S: Source, H: Manager>(
     read_object(source, heap, session, id, next, at, buffer)
 }
 
-/// Reads the rest of an entry, the length and the bytes of its object, and makes the object. The other
-/// parameters are those of `read_entry`; `id` was read before. Fails as `read_entry` does.
+/// Reads what follows the id of an entry, the length and the bytes of its object, and makes the object under
+/// this `id`. The other parameters are those of `read_entry`: `at` is still the offset of the entry, so the
+/// length is at `at + 2`. Fails as `read_entry` does.
 fn read_object<S: Source, H: Manager>(
     source: &mut S,
     heap: &mut H,
@@ -133,7 +134,7 @@ fn make_object<H: Manager>(heap: &mut H, session: &mut Session, id: u16, n: u32)
     }
 }
 
-/// Whether a command had the outcome `Good`: it did what it asks for.
+/// Whether a command had the outcome `Good`, that is, did what it asks for.
 fn is_good(outcome: Outcome) -> bool
     ensures good { OnTrue result (outcome ≡ Outcome.Good) }
     ensures other { OnFalse result (outcome ≢ Outcome.Good) }
@@ -144,9 +145,10 @@ fn is_good(outcome: Outcome) -> bool
     }
 }
 
-/// Fills the object of an id, `n` zero bytes, with the next `n` bytes of the source, the first of which is at
-/// the offset `at` of the image. Fails with `Bad { at }` if the input ends before the last of them, and with
-/// `Read` if the source failed; then it frees the object.
+/// Fills the object of an id with the next `n` bytes of the source, which begin at the offset `at` of the
+/// image; `buffer` takes up to 4,096 of them at a time. Before the call the object is `n` zero bytes. Fails
+/// with `Bad { at }` if the input ends before the last of them, and with `Read` if the source failed; in both
+/// cases it frees the object.
 fn fill_object<S: Source, H: Manager>(
     source: &mut S,
     heap: &mut H,
@@ -182,14 +184,20 @@ fn fill_object<S: Source, H: Manager>(
                 return Err(LoadFault::Read);
             }
         }
-        write_part(heap, session, id, done, chunk);
+        write_object_bytes(heap, session, id, done, chunk);
         done += count;
     }
     Ok(())
 }
 
 /// Writes these bytes into the object of an id, from byte `at` of the object on.
-fn write_part<H: Manager>(heap: &mut H, session: &mut Session, id: u16, at: u32, bytes: &[u8])
+fn write_object_bytes<H: Manager>(
+    heap: &mut H,
+    session: &mut Session,
+    id: u16,
+    at: u32,
+    bytes: &[u8],
+)
     requires loading { IsLoading (run_at session.old (H.state heap.old)) }
     requires some { 1 ≤ length bytes.now }
     requires few { length bytes.now ≤ 4096 }

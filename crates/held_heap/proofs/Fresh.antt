@@ -1,4 +1,5 @@
--- For `Held::open`: a closed manager that is opened is a fresh heap (`IsFreshHeap`), and how a fact about a `Result` passes through `ok()` and `?`.
+-- For `Held::open`: a closed manager that is opened has no objects, uses all in the opening order, and has counted 0 steps (`IsFreshHeap`). Also, how a fact
+-- about a `Result` passes through `ok()` and `?`.
 use Rattle.std.proofs.Common.{◌≡◌, Some, None, refl, sym, ◌∙◌, ap, subst}
 use Rattle.std.specs.Prelude.{IfOk, IfSome, IsSome, OnOk, Option, Result, Ok, Err}
 use Rattle.core.specs.Result.{result_ok}

@@ -1,4 +1,5 @@
--- For the proofs of `HeapBlock`: its machine value is its address; how to put it together, and take it apart into the address and the heap there.
+-- For `HeapBlock` of `nonmoving.rt`, which owns the block of an open heap: its machine value is the block's address; how to put it together from the address
+-- and the heap there, and to take it apart.
 use Rattle.std.proofs.Common.{◌≡◌, ℕ, List, [], ◌∷◌, ◌++◌, refl, subst, Option, Some, None, IsSome, sym}
 use seplogic.Ra.Ura.{Ura}
 use mathlib.Core.Bool.{true≢false}

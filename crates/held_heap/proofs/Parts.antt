@@ -1,4 +1,5 @@
--- For `Unboxed` and each `HeapBlock`: the machine value of an `Unboxed` is its allocator and then its address; how to take it apart and put it together.
+-- For `Unboxed`, the allocator and the address that a box leaves when it is taken apart, and each `HeapBlock`: an `Unboxed` in machine values, and how to take
+-- it apart and put it together.
 use Rattle.std.proofs.Common.{◌≡◌, ℕ, List, [], ◌∷◌, ◌++◌, refl, subst, ap}
 use mathlib.Core.Bool.{true, ◌&&◌}
 use lib.Dec.{T}

@@ -1,4 +1,5 @@
--- The law `Send` of `NphHeap`, for each manager: C may pass a heap to another thread. No function cites it; it checks that the kit finds the law.
+-- The law `Send` of `NphHeap`, for each manager: the heap of a caller in C may go to another thread. No function cites the law; it checks that the kit finds
+-- it.
 use denote.Param.Send.{IsSend}
 use Rattle.held_heap.specs.contracts.moving.NphHeap as moving
 use Rattle.held_heap.specs.contracts.nonmoving.NphHeap as nonmoving

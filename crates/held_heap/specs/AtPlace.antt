@@ -1,4 +1,5 @@
--- What an export does to a caller's heap. A heap is its state if it is open, `None` if it is closed.
+-- What an exported call does to the heap of a caller in C: it opens the heap, works on an open one, or only returns a code. A heap is its state, or `None` if
+-- it is closed.
 use Rattle.std.specs.Prelude.{◌≡◌, ℕ, ℤ, pos, Option, Some, None}
 use Rattle.cf_base.specs.Settings.{Profile, profile_from, setting_fault}
 use Rattle.cf_base.specs.declared.kind.Kind.{Kind}
@@ -23,7 +24,8 @@ abbrev pub IsOpened : Kind → Profile → ℤ → Option HeldState → Type 0
 IsOpened kind p code None = code ≡ pos 10
 IsOpened kind p code (Some h) = (code ≡ pos 0) × IsFreshHeap kind p h
 
--- an open of a closed heap, where the first argument is the first setting out of range: its code, and the heap stays closed; if there is none, `IsOpened`
+-- An open of a closed heap. The first argument is the first setting out of range: its code is returned, and the heap stays closed. If it is `None`, `IsOpened`
+-- holds.
 abbrev pub IsOpening : Option SettingFault → Kind → Profile → ℤ → Option HeldState → Type 0
 IsOpening (Some e) kind p code new = (code ≡ fault_code e) × (new ≡ None)
 IsOpening None kind p code new = IsOpened kind p code new

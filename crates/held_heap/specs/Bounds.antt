@@ -1,5 +1,5 @@
--- For the trait `ExportedManager`: what each call of a manager does, and the most steps that it takes; for a read and a write the exact number of steps.
--- Below, `old` and `new` are the heap before and after a call, `answer` is its result, and `from` and `to` are the ledger's steps before and after it.
+-- For the trait `ExportedManager`: what each call of a manager does, and the most steps that it takes, exact for a read and a write. `old` and `new` are the
+-- heap before and after it, `answer` is its result.
 use Rattle.std.specs.Prelude.{◌≡◌, ℕ, ◌+◌, IsTrue, List, Option, Result, length}
 use Rattle.step_ledger.specs.Counting.{RoseAtMost, RoseBy}
 use Rattle.cf_base.specs.declared.answers.Handle.{Handle}
@@ -33,7 +33,7 @@ pub record IsOpenOfKind (of_kind : Kind) (s : HeapState) : Type 0 where
   pub open_now : IsTrue s.is_open
   pub kind : s.kind ≡ of_kind
 
--- a malloc of `bytes` bytes; its steps are the cost that the new heap records
+-- a malloc of `bytes` bytes; its steps are the cost that the new heap records; here and below the ledger has `from` steps before the call, `to` after it
 pub record IsMalloc (most : Bounds) (old : HeapState) (bytes : ℕ) (answer : Result Handle Refusal) (new : HeapState) (from to : ℕ) : Type 0 where
   pub step : IsMallocStep old bytes answer new
   pub ordered : IsOrderedMalloc old bytes answer new

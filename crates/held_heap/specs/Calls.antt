@@ -1,6 +1,5 @@
--- For `Held`: each call of the C library on an open heap. `old` and `new` are the heap with its step count before and after the call, `code` is what it
--- returns, `before` and `after` are the caller's number, structure or buffer, and `answer` is the result of the manager's call that is made. Each call begins
--- with a ledger of 0 steps, so `new.steps` are its steps. `number` is a handle, and `most` the manager's step bounds.
+-- For `Held`: what each call of a C library does to an open heap with its step count (`old`, `new`) and to the caller's number, structure or buffer (`before`,
+-- `after`), and the `code` that it returns.
 use Rattle.std.specs.Prelude.{◌≡◌, ℕ, ℤ, pos, List, Option, Some, None, Result, Ok, Err}
 use Rattle.cf_base.specs.Settings.{Profile}
 use Rattle.cf_base.specs.declared.answers.Handle.{Handle}
@@ -39,7 +38,8 @@ abbrev pub malloc_number : ℕ → Result Handle Refusal → ℕ
 malloc_number before (Ok h) = h.0
 malloc_number before (Err e) = before
 
--- a malloc of `bytes` bytes
+-- a malloc of `bytes` bytes; here and below `answer` is the result of the manager's call, whose steps, counted from 0, are `new.steps`, and `most` has the step
+-- bounds
 pub record IsMallocCall (most : Bounds) (old : HeldState) (bytes before : ℕ) (code : ℤ) (after : ℕ) (new : HeldState) : Type 0 where
   pub answer : Result Handle Refusal
   pub by_code : code ≡ malloc_code answer
@@ -100,7 +100,7 @@ pub record IsLengthCall (most : Bounds) (old : HeldState) (number before : ℕ) 
   pub kept : new.heap ≡ old.heap
   pub exact : RoseBy 0 new.steps (most.length (length_of old.heap number))
 
--- the code of `has_room` with this result: that of a malloc with it
+-- the code of `has_room` with this result: 0, or the code of a malloc with this refusal
 abbrev pub room_code : Result (Unit {0}) Refusal → ℤ
 room_code (Ok u) = pos 0
 room_code (Err e) = malloc_code (Err e)

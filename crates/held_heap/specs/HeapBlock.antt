@@ -1,4 +1,4 @@
--- For `HeapBlock`: the memory that a `HeapBlock` owns, a block with an open heap or nothing. R is the type of the heap.
+-- For `HeapBlock`, which has the address of an open heap's block, or null: it owns that block with the heap, or nothing. R is the type of the heap.
 use base.Fml.{Fml, ftrue}
 use denote.RattleType.{RattleType}
 use denote.RawPtr.{Ptr}

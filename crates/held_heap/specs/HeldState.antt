@@ -1,4 +1,4 @@
--- For `Held`: an open heap with its step count, as contracts see it.
+-- For `Held`, an open heap with the step count of its last call: its state, as contracts see it.
 use Rattle.std.specs.Prelude.{ℕ, refl}
 use Rattle.std.specs.Coded.{Coded, code_by, coded×, coded_ℕ}
 use Rattle.cf_model.specs.State.{HeapState, state_code}

@@ -1,5 +1,5 @@
--- For `moving.rt`: the type of the value in the block that a `HeapBlock` owns, in the kit's logic of memory (`RattleType`). The kit generates the names below
--- `contracts`: `the_row` is the type of a struct, and `ghosts` are the ghost members of an implementation of a trait.
+-- For `moving.rt`: the type of an open heap of the moving manager (`Held`) in the kit's logic of memory. The kit generates `the_row`, the type of a struct, and
+-- `ghosts`, the ghost members of a trait's implementation.
 use denote.RattleType.{RattleType}
 use Rattle.moving_heap.specs.contracts.manager.MovingHeap.{the_row}
 use Rattle.moving_heap.specs.contracts.manager.MovingHeapManager.TheImpl.{ghosts}

@@ -1,4 +1,5 @@
--- For `NphHeap` of `nonmoving.rt`: the open heap that a caller's struct owns, and that struct when a borrow of the heap ends.
+-- For `NphHeap` of `nonmoving.rt`, the struct that a caller in C has for its heap: the open heap that it owns, if any, and the struct when a borrow of that
+-- heap ends.
 use Rattle.std.specs.Prelude.{Option, refl, true}
 use Rattle.std.specs.Borrow.{Fml, Lends, MutBor}
 use Rattle.held_heap.specs.HeldState.{HeldState}

@@ -1,5 +1,5 @@
--- For `HeapBlock::lend` of `tlsf.rt`: what the `HeapBlock` is when the borrow of its heap ends. A `HeapBlock` is the address of the block in which an open heap
--- lies, with the state of that heap; or null, with none.
+-- For `HeapBlock::lend` of `tlsf.rt`, which borrows the open heap that a `HeapBlock` owns: when the borrow ends, the `HeapBlock` has the same address, and the
+-- heap the state in which the borrow leaves it.
 use Rattle.std.specs.Prelude.{Some}
 use Rattle.std.specs.Borrow.{Fml, Lends, MutBor}
 use Rattle.held_heap.specs.HeldState.{HeldState}

@@ -1,5 +1,5 @@
-//! The structures that a caller in C passes to calls, which write their results into them. The header
-//! `norphuen.h` declares the same types.
+//! The structures into which calls write their results for a caller in C: of a free, of a resize, the figures
+//! of a class and of the heap. The header `norphuen.h` declares the same types.
 
 /// The result of a free: the words of the freed slot or block (`slot_words`), and the handle of the object
 /// that moved to its address (`moved`), `NONE` if no object moved.

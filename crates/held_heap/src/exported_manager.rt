@@ -1,5 +1,5 @@
-//! What a manager must have for the C libraries: the trait `ExportedManager`, and its implementations for the moving
-//! and the non-moving heap and for the heaps with blocks.
+//! The trait `ExportedManager` of the managers in the C libraries, whose calls have step bounds of their own,
+//! exact for a read and a write; and its implementations for heaps with pages and with blocks.
 ghost use Rattle.std.specs.Prelude.{◌≡◌, ◌^◌, ◌≤◌, IsTrue};
 ghost use Rattle.cf_base.specs.declared.kind.Kind.{Kind};
 ghost use Rattle.cf_base.specs.declared.kind.Kind.TheVariants.{Moving, NonMoving};

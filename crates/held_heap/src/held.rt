@@ -1,4 +1,5 @@
-//! An open heap with the step count of its last call, as the C library calls it.
+//! `Held`: an open heap with the step count of its last call, for a C library. Each call returns a code, and
+//! writes its other results through references.
 ghost use Rattle.std.specs.Prelude.{◌≡◌, IfSome};
 ghost use Rattle.cf_base.specs.Settings.{profile_of};
 
@@ -114,8 +115,8 @@ impl<H: ExportedManager> Held<H> {
         }
     }
 
-    /// Writes the bytes into an object, from its byte `at` on. Returns `DONE`; or `UNKNOWN` or `RANGE`, and
-    /// then the object is unchanged.
+    /// Writes the bytes into an object, from its byte `at` on. Returns `DONE`; `UNKNOWN` if the handle isn't
+    /// live, or `RANGE` if the bytes pass the object's end, and then no object changes.
     pub fn write(&mut self, handle: u32, at: u32, bytes: &[u8]) -> i32
         ensures { IsWriteCall H.most self.old handle at bytes.now result self.new }
     {
@@ -130,8 +131,8 @@ impl<H: ExportedManager> Held<H> {
         }
     }
 
-    /// Fills `out` with the bytes of an object from its byte `at` on. Returns `DONE`; or `UNKNOWN` or
-    /// `RANGE`, and then `out` is unchanged.
+    /// Fills `out` with the bytes of an object from its byte `at` on. Returns `DONE`; `UNKNOWN` if the handle
+    /// isn't live, or `RANGE` if the bytes pass the object's end, and then `out` is unchanged.
     pub fn read(&mut self, handle: u32, at: u32, out: &mut [u8]) -> i32
         ensures { IsReadCall H.most self.old handle at out.old result out.new self.new }
     {

@@ -1,6 +1,5 @@
-//! An open heap in a block of memory, for callers in C and other languages, which hold the block's address. A
-//! call returns a code, and writes its other results through references. The static libraries `norphuen`,
-//! `norphuen_nonmoving` and `norphuen_tlsf` export these calls, each for one manager.
+//! An open heap in a block of memory whose address a caller in C holds: its calls, their codes and results. The
+//! libraries `norphuen`, `norphuen_nonmoving` and `norphuen_tlsf` export them, each for one manager.
 #![tactic(auto)]
 
 mod answers;

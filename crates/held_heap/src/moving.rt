@@ -1,5 +1,6 @@
-//! `NphHeap` for the moving manager: the struct that a caller in C has for its heap, open or closed. Each
-//! manager has such a file, because an export takes no type parameters.
+//! `NphHeap` for the moving manager: what a caller in C has for its heap, open or closed; and in it
+//! `HeapBlock`, which owns the open heap. Each manager has such a file, since an export takes no type
+//! parameters.
 ghost use Rattle.std.specs.Prelude.{◌≡◌, Option, Some, None, IsSome, is_some};
 ghost use Rattle.std.specs.Borrow.{sem};
 ghost use Rattle.std.specs.Coded.{coded_option};
@@ -20,8 +21,8 @@ use std::rt::Memory;
 /// The open heap in the block whose address C has.
 type Open = Held<MovingHeap>;
 
-/// The address of the block of an open heap, and then the `HeapBlock` owns that block; or null, and it owns
-/// nothing. `held` is the state of that heap, `None` with null.
+/// The address of the block of an open heap, which the `HeapBlock` owns; or null, and then it owns nothing.
+/// `held` is the state of the heap, `None` if the address is null.
 #[repr(C)]
 #[derive(Drop)]
 pub struct HeapBlock {

@@ -1,6 +1,7 @@
 //! The opaque type that C sees at the address of an open heap.
 
-/// The block of an open heap. C sees this type in place of the heap's own; only the library uses its bytes.
+/// The type that C sees at the address of an open heap, in place of the heap's type. Only the library uses the
+/// bytes there.
 #[repr(C)]
 #[derive(Drop)]
 pub struct Sealed {

@@ -1,4 +1,5 @@
--- For the calls of `IdTable`: how a change of the list of numbers changes the map of ids that it represents.
+-- For the calls of `IdTable`, a list with one entry for each id: how a change of an entry changes the map from live ids to handles that the list represents,
+-- and the count of live ids.
 use Rattle.std.proofs.Common.{◌≡◌, ◌∙◌, ℕ, zero, suc, ◌+◌, ◌-◌, ◌<◌, ◌≤◌, Bool, true, false, List, length, get_or, set}
 use Rattle.std.proofs.Common.{Option, Some, None, refl, ap, sym, arith, inl, inr}
 use Rattle.std.specs.Prelude.{◌↔◌, IsTrue, cond, IsSome, is_some, nat_eq, not}
@@ -20,7 +21,7 @@ pub numbered-vacant : (n k : ℕ) → numbered k (vacant {X = ℕ} n) ≡ empty
 numbered-vacant zero k = refl
 numbered-vacant (suc n) k = numbered-vacant n (k + 1)
 
--- a new table
+-- a new table, in which no id is live, is valid
 pub none_live : IsValid (vacant {X = ℕ} 65536) 0
 none_live = record {
   long = length-replicate {A = Option ℕ} 65536 None;
@@ -45,7 +46,7 @@ some_live ids id h is = elim (cases_lt 0 (len ids)) [
 ]
 
 module _ (numbers : List (Option ℕ)) (ids : Ids) (seen : numbered 0 numbers ≡ ids) where
-  -- the list has the handle of each id
+  -- entry `id` of the list `numbers` is the number that the id has in the map `ids`
   pub handle_at : (id : ℕ) → get ids id ≡ get_or numbers id None
   handle_at id = ap (λ (m : Ids). get m id) (sym seen) ∙ get-numbered numbers id
 
@@ -79,7 +80,7 @@ module _ (numbers : List (Option ℕ)) (live : ℕ) (valid : IsValid numbers liv
       )
 
   module _ (id : ℕ) (lt : id < length numbers) where
-    -- the list has the number that the id had before
+    -- if o is entry `id` of the list, it is what the map has for this id
     pub live_before : (o : Option ℕ) → o ≡ get_or numbers id None → get (numbered 0 numbers) id ≡ o
     live_before o is = get-numbered numbers id ∙ sym is
 

@@ -13,7 +13,7 @@ use Rattle.id_table.specs.Ties.{AreTiedTo}
 pub clash : {T V : Type 0} (o : Option V) (v : V) → o ≡ Some v → o ≡ None → T
 clash o v some none = absurd (let z : Some v ≡ None = sym some ∙ none in cc)
 
--- no id is live, and there are no objects
+-- if no id is live and there is no object, ids and objects are tied
 pub none_tied : {V : Type 0} (ids : Ids) (live : FinMap nat_cmp V) → ids ≡ empty → live ≡ empty → AreTiedTo ids live
 none_tied {V} ids live no_ids no_objects = record {
   named = λ id h is. clash (get ids id) h is (ap (λ (i : Ids). get i id) no_ids ∙ get-empty nat_cmp id);
@@ -22,7 +22,7 @@ none_tied {V} ids live no_ids no_objects = record {
 }
 
 module _ {V : Type 0} (ids : Ids) (live : FinMap nat_cmp V) (tied : AreTiedTo ids live) where
-  -- an object is made for an id that wasn't live
+  -- ids and objects stay tied if an object is made, with an unused number h, for an id that wasn't live
   pub tied_more : (id h : ℕ) (v : V) → get ids id ≡ None → get live h ≡ None → AreTiedTo (insert ids id h) (insert live h v)
   tied_more id h v free unused = record {
     named = λ i q is. elim (some_inserted ids id h i q is) [
@@ -49,7 +49,7 @@ module _ {V : Type 0} (ids : Ids) (live : FinMap nat_cmp V) (tied : AreTiedTo id
     ];
   }
 
-  -- the object of an id is freed
+  -- ids and objects stay tied if the object of an id is freed
   pub tied_less : (id h : ℕ) → get ids id ≡ Some h → AreTiedTo (remove ids id) (remove live h)
   tied_less id h is_live = record {
     named = λ i q is. (
@@ -63,7 +63,7 @@ module _ {V : Type 0} (ids : Ids) (live : FinMap nat_cmp V) (tied : AreTiedTo id
         (i.0, get_remove_other ids id i.0 (λ e. r.0 (same_Some q h (sym i.1 ∙ ap (get ids) e ∙ is_live))) ∙ i.1));
   }
 
-  -- an object's value changes
+  -- ids and objects stay tied if the value of an object changes
   pub tied_same : (h : ℕ) (v w : V) → get live h ≡ Some v → AreTiedTo ids (insert live h w)
   tied_same h v w found = record {
     named = λ i q is. elim (cases_eq q h) [

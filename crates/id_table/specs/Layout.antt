@@ -1,4 +1,4 @@
--- How an id table lays out its ids. No public clause cites this module.
+-- The invariant of an id table: its list has an entry for each of the 65,536 ids, and its count is that of the live ids. No public clause cites this module.
 use Rattle.std.specs.Prelude.{◌≡◌, ℕ, ◌^◌, List, Option, length}
 use Rattle.std.specs.FinMap.{len}
 use Rattle.cf_lemmas.specs.Maps.{numbered}

@@ -1,13 +1,13 @@
-//! What a session counts over its calls: the last step bound, and the objects that moved.
+//! The counters of a session: the last step bound, and how many objects moved, with the words of their slots.
 ghost use Rattle.std.specs.Prelude.{◌≡◌};
 ghost use Rattle.id_table.specs.Counters.{no_counts, with_move};
 
 use cf_base::Handle;
 
-/// What a session counts over its calls; the reply to `steps` shows it.
+/// The counters of a session, which the reply to `steps` shows.
 #[derive(Clone, Copy, Debug, PartialEq, Eq)]
 pub struct Counters {
-    /// The step bound of the last malloc, free or resize; 0 before the first one.
+    /// The step bound of the last malloc, free or resize that called the manager; 0 before the first one.
     pub bound: u64,
     /// How many objects moved. Saturates at `2^64 - 1`.
     pub moves: u64,
@@ -27,8 +27,8 @@ impl Counters {
         }
     }
 
-    /// Counts the object that moved, if one did, and the words of the slot that it moved from,
-    /// `slot_words`. Both counts saturate at `2^64 - 1`.
+    /// If an object moved (`moved`), adds one to `moves` and `slot_words`, the words of its slot, to `words`.
+    /// Old and new slot are of one class. Both counters saturate at `2^64 - 1`.
     pub fn count_move(&mut self, moved: Option<Handle>, slot_words: u32)
         ensures { self.new ≡ with_move self.old moved slot_words }
     {

@@ -72,7 +72,7 @@ impl IdTable {
         }
     }
 
-    /// Makes `h` the handle of an id, in place of its old one, if it had one. The id is live then.
+    /// Makes `h` the handle of an id, in place of its old handle, if it had one. The id is live after it.
     pub fn bind(&mut self, id: u16, h: Handle)
         ensures { self.new ≡ map.insert self.old id h.0 }
     {
@@ -81,7 +81,7 @@ impl IdTable {
         self.numbers[id as usize] = Some(h.0);
     }
 
-    /// Removes the handle of an id, if it has one. The id isn't live then.
+    /// Removes the handle of an id, if it has one. The id isn't live after it.
     pub fn unbind(&mut self, id: u16)
         ensures { self.new ≡ map.remove self.old id }
     {

@@ -1,5 +1,5 @@
-//! For a session of a script: the table from its ids to the handles of their objects, and what it
-//! counts over its calls.
+//! For a session of a script: the table from ids to the handles of their objects (`IdTable`), and the
+//! session's counters (`Counters`).
 #![tactic(auto)]
 
 mod counters;

@@ -21,7 +21,7 @@ use Rattle.transcript_laws.specs.Histories.{AreAlike}
 use Rattle.image_laws.proofs.Short.{script_short}
 use Rattle.image_laws.proofs.Loaded.{going, image_back, kind, load_done, same_objects}
 
--- equal objects by id
+-- two runs in progress with equal kinds, settings and objects by id are alike (`AreAlike`)
 pub alike : (one other : RunState) → IsGoing one → IsGoing other → other.heap.kind ≡ one.heap.kind → other.heap.profile ≡ one.heap.profile
     → objects_of other ≡ objects_of one → AreAlike one other
 alike one other on on' k p o = record {

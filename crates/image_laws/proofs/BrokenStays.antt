@@ -1,4 +1,5 @@
--- For `a_broken_rule_stays_broken`: bytes that break a rule of images still do so if more bytes follow.
+-- For the law `a_broken_rule_stays_broken`: bytes that break a rule of images, and are not only cut, decode to the same whatever bytes follow (`Stays`). T
+-- and U decode bytes.
 use Rattle.std.proofs.Common.{◌≡◌, ◌∙◌, ◌++◌, ◌≤◌, ◌<◌, ℕ, zero, suc, Bool, true, false, List, [], ◌∷◌, Some, None, length, take, drop}
 use Rattle.std.proofs.Common.{refl, ap, sym, arith, inl, inr, length-append}
 use Rattle.std.specs.Prelude.{if◌then◌else◌, nat_le, nat_lt}
@@ -19,7 +20,7 @@ use Rattle.heap_image.specs.Image.{mark, number_of_bytes}
 abbrev Reading : Type 0
 Reading = List ℕ → Decoded
 
--- bytes that break a rule of a reading still do so, whatever follows
+-- bytes that break a rule of T, and not only because they end too early, decode to the same whatever bytes follow
 abbrev pub Stays : Reading → Type 0
 Stays T = (bytes more : List ℕ) (at : ℕ) → (T bytes).broken ≡ Some at → (T bytes).is_cut ≡ false → T (bytes ++ more) ≡ T bytes
 
@@ -105,7 +106,7 @@ pages_stay : Stays pages_decoded
 unfolding pages_decoded
 pages_stay = number_stays w32 (unopened 4) (λ n. is_within 1 4096 n) (λ n rest. page_bytes_decoded n rest) (λ n. page_bytes_stay n)
 
--- `Stays` of the mark
+-- what bytes that don't begin with the mark decode to; and `Stays` of the mark
 abbrev unmarked : List ℕ → Decoded
 unmarked bytes = record (unopened 0) { is_cut = nat_lt (length bytes) 4 }
 

@@ -1,2 +1,2 @@
--- Re-exports the lemmas that proofs of other crates may cite. Declares nothing.
+-- What other crates' proofs may cite, re-exported: modes `save` and `load` print what is claimed of them. Declares nothing.
 pub use Rattle.image_laws.proofs.ClaimsMet.{load_met, save_met}

@@ -1,4 +1,5 @@
--- For `wrong_images_fall_short`: from the script of some objects mode `save` prints exactly their image, and from the image mode `load` exactly the script.
+-- For the law `wrong_images_fall_short`: the claims of modes `save` and `load` allow one output, so an output that is empty, of another length, or of other
+-- objects doesn't meet them.
 use Rattle.std.proofs.Common.{◌≡◌, ◌≢◌, ◌∙◌, ◌+◌, ◌*◌, ℕ, List, [], Option, Some, None, true, length, arith, refl, ap, sym}
 use Rattle.std.specs.Prelude.{option_map}
 use Rattle.std.specs.FinMap.{get, insert, len}
@@ -16,7 +17,7 @@ use Rattle.page_model.proofs.CallerLemmas.{asked_added}
 use Rattle.script_reader.specs.Items.{items}
 use Rattle.transcript_laws.specs.ById.{ById}
 use Rattle.image_laws.specs.Claims.{MeetsLoad, MeetsSave, image_shown}
-use Rattle.image_laws.specs.Scripts.{after_items, holding, script_items}
+use Rattle.image_laws.specs.Scripts.{after_items, state_of_objects, script_items}
 use Rattle.image_laws.proofs.Loaded.{asked_ones, asked_places}
 use Rattle.image_laws.proofs.Made.{makes}
 use Rattle.image_laws.proofs.ObjectsShown.{run_leaves}
@@ -28,11 +29,11 @@ module _ (p : Profile) (o : Objects) (h : HaveImage p o) where
   saves_exactly printed m = m.image ∙ go m.left (run_leaves Moving refl (script_items p o) None m.left m.replies tt (asked_ones p o h) (asked_places p o h) m.answered
       ∙ makes p o h)
     where
-      go : (left : Option ShownHeap) → option_map view left ≡ Some (holding p o) → image_shown left ≡ image_under p o
-      go None e = absurd (let f : ◌≡◌ {A = Option ById} None (Some (holding p o)) = e in cc)
+      go : (left : Option ShownHeap) → option_map view left ≡ Some (state_of_objects p o) → image_shown left ≡ image_under p o
+      go None e = absurd (let f : ◌≡◌ {A = Option ById} None (Some (state_of_objects p o)) = e in cc)
       go (Some t) e =
-          let f : Some (view t) ≡ Some (holding p o) = e in
-          let same : view t ≡ holding p o = cc in
+          let f : Some (view t) ≡ Some (state_of_objects p o) = e in
+          let same : view t ≡ state_of_objects p o = cc in
           ap (λ (v : ById). image_under v.profile v.objects) same
 
   -- empty output and output of another length don't meet the claim of mode `save`
@@ -74,8 +75,8 @@ module _ (p : Profile) (o : Objects) (h : HaveImage p o) where
     others_loaded n other have m =
         let e = loads_exactly (script_under p n) m in
         let same : script_items p n ≡ script_items p o = sym (read_back p n have) ∙ ap (λ (b : List ℕ). items b true) e ∙ read_back p o h in
-        let held : Some (holding p n) ≡ Some (holding p o) = sym (makes p n have) ∙ ap (after_items Moving None) same ∙ makes p o h in
-        let is : holding p n ≡ holding p o = cc in
+        let held : Some (state_of_objects p n) ≡ Some (state_of_objects p o) = sym (makes p n have) ∙ ap (after_items Moving None) same ∙ makes p o h in
+        let is : state_of_objects p n ≡ state_of_objects p o = cc in
         other (ap (λ (t : ById). t.objects) is)
 
     -- empty output doesn't meet the claim of mode `load`

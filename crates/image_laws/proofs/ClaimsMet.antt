@@ -1,4 +1,5 @@
--- For `cf_main`: modes `save` and `load` print what `SavesAs` and `LoadsAs` claim.
+-- For `cf_main`: what modes `save` and `load` print is as claimed (`SavesAs`, `LoadsAs`): an image, a script, the offset at which the bytes break a rule, or
+-- nothing.
 use Rattle.std.proofs.Common.{◌≡◌, ◌≢◌, ◌∙◌, ◌++◌, ℕ, false, List, [], Option, Some, None, append-nil, refl, ap, sym, subst}
 use Rattle.std.specs.Prelude.{Err, Ok, if◌then◌else◌}
 use Rattle.cf_base.specs.Settings.{profile_of}

@@ -1,4 +1,5 @@
--- For the laws on `save` and `load`: after a run over the script of some objects the heap holds these objects; after a load it holds those of the image.
+-- For the laws on `save` and `load`: after a run over the script that makes some objects, each reply `ok`, the heap holds these; after a load it holds those
+-- of the image, and their script was printed.
 use Rattle.std.proofs.Common.{◌≡◌, ◌≢◌, ◌∙◌, append-nil, ◌++◌, ◌≤◌, ℕ, zero, suc, true, List, [], ◌∷◌, Option, Some, None, length, map, refl, ap, sym, subst}
 use Rattle.std.specs.Prelude.{⊤, Err, Ok, codes, option_map, if◌then◌else◌}
 use Rattle.std.specs.FinMap.{entries}
@@ -32,7 +33,7 @@ use Rattle.script_reader.specs.declared.command.Command.{Command}
 use Rattle.script_reader.specs.declared.command.Command.TheVariants.{Malloc, Write}
 use Rattle.transcript_laws.specs.ById.{ById}
 use Rattle.transcript_laws.specs.Transcripts.{ArePlaceless, AskForOne, StaysAtOne}
-use Rattle.image_laws.specs.Scripts.{holding, script_items}
+use Rattle.image_laws.specs.Scripts.{state_of_objects, script_items}
 use Rattle.image_laws.proofs.Made.{all_ok, makes}
 use Rattle.image_laws.proofs.ObjectsShown.{objects_shown, run_leaves}
 use Rattle.image_laws.proofs.Plain.{read_back}
@@ -78,7 +79,7 @@ pub record Holds (p : Profile) (o : Objects) (last : Option RunState) : Type 0 w
   pub is : last ≡ Some state
   pub kind : state.heap.kind ≡ Moving
   pub going : IsGoing state
-  pub objects : view (shown state) ≡ holding p o
+  pub objects : view (shown state) ≡ state_of_objects p o
 
 module _ (p : Profile) (o : Objects) (h : HaveImage p o) where
   are : AreMaking (commands_of (entries o))
@@ -102,9 +103,9 @@ module _ (p : Profile) (o : Objects) (h : HaveImage p o) where
       let on = run_keeps Moving None (items (script_under p o) true) replies last tt run in
       go last (left ∙ makes p o h) on
     where
-      go : (last : Option RunState) → option_map view (shown_at last) ≡ Some (holding p o) → IsUnderWay Moving last → Holds p o last
-      go None e on = absurd (let f : None ≡ Some (holding p o) = e in cc)
-      go (Some s) e on = record { state = s; is = refl; kind = on.0; going = on.1; objects = (let f : Some (view (shown s)) ≡ Some (holding p o) = e in cc) }
+      go : (last : Option RunState) → option_map view (shown_at last) ≡ Some (state_of_objects p o) → IsUnderWay Moving last → Holds p o last
+      go None e on = absurd (let f : None ≡ Some (state_of_objects p o) = e in cc)
+      go (Some s) e on = record { state = s; is = refl; kind = on.0; going = on.1; objects = (let f : Some (view (shown s)) ≡ Some (state_of_objects p o) = e in cc) }
 
   -- each reply of a run over the script is `ok`
   pub run_ok : (replies : List Reply) (last : Option RunState) → Run Moving None (items (script_under p o) true) replies last
@@ -113,10 +114,10 @@ module _ (p : Profile) (o : Objects) (h : HaveImage p o) where
       one_shown Moving (script_items p o) replies last refl asked_ones asked_places (of_items replies last run) ∙ all_ok p o h
 
 -- the objects that a run shows are those by its ids
-pub held_objects : (p : Profile) (o : Objects) (s : RunState) → IsGoing s → view (shown s) ≡ holding p o → (s.heap.profile ≡ p) × (objects_of s ≡ o)
+pub held_objects : (p : Profile) (o : Objects) (s : RunState) → IsGoing s → view (shown s) ≡ state_of_objects p o → (s.heap.profile ≡ p) × (objects_of s ≡ o)
 held_objects p o s going is = (ap (λ (t : ById). t.profile) is, objects_shown s going ∙ ap (λ (t : ById). t.objects) is)
 
--- mode `save` over the script of objects
+-- A call in mode `save` that runs the script of the objects o and ends with `Done`: its run holds o, and it prints the image of o.
 module _ (p : Profile) (o : Objects) (h : HaveImage p o) (from to : RunState) (call : Effects) (moving : from.heap.kind ≡ Moving)
     (had : call.had ≡ Some (script_under p o)) (few : length (script_under p o) ≤ MOST_BYTES) (done : call.status ≡ Done) (ends : EndsSave from call to) where
   whole_run : Wrote one_manager from (items_within (script_under p o)) (unseen call) to
@@ -147,7 +148,7 @@ module _ (p : Profile) (o : Objects) (h : HaveImage p o) (from to : RunState) (c
   pub image_back : call.after ≡ appended call.before (image_under p o)
   image_back = subst (λ st. WritesAtEnd st call.before (saved to) call.after) done ends.written ∙ ap (appended call.before) saved_is
 
--- mode `load` with status `Done`
+-- a call in mode `load` read the bytes `all` and ended with `Done`: they are an image, the heap holds its objects, and their script was printed
 pub record Loaded (all : List ℕ) (to : RunState) (call : Effects) : Type 0 where
   pub profile : Profile
   pub objects : Objects

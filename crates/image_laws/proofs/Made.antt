@@ -1,4 +1,5 @@
--- For `printed_scripts_are_read_back`, clauses `makes` and `replies`: the commands of the script of objects leave these objects, each with the reply `ok`.
+-- For the law `printed_scripts_are_read_back`, clauses `makes` and `replies`: the commands of the script that mode `load` prints for some objects leave
+-- exactly these, each with the reply `ok`.
 use Rattle.std.proofs.Common.{◌≡◌, ◌∙◌, ◌++◌, ◌+◌, ◌-◌, ◌*◌, ◌≤◌, ◌<◌, ℕ, zero, suc, true, false, List, [], ◌∷◌, Option, Some, None}
 use Rattle.std.proofs.Common.{length, take, drop, map, refl, ap, sym, subst, arith, append_assoc, append-nil, inl, inr}
 use Rattle.std.proofs.Common.{length-append, length-drop}
@@ -30,21 +31,21 @@ use Rattle.run_model.specs.Replies.{malloc_text, write_text}
 use Rattle.run_model.specs.Texts.{Reply, said}
 use Rattle.transcript_laws.specs.Replies.{after_by_id, malloc_fault, malloc_leaves, malloc_said, ok_or, put_unless, reply_by_id, write_fault, write_leaves, write_said}
 use Rattle.transcript_laws.specs.Transcripts.{replies_from, transcript}
-use Rattle.image_laws.specs.Scripts.{after_items, holding, script_items}
+use Rattle.image_laws.specs.Scripts.{after_items, state_of_objects, script_items}
 use Rattle.heap_image.proofs.CallerLemmas.{AreBelow, below_none, below_some, needed_added, needed_more, below_end}
 use Rattle.heap_image.proofs.CallerLemmas.{listed_all, listed_end, listed_none, listed_some}
 
--- the state after all commands
+-- the state after all commands, from the state t on
 abbrev pub after_all : ById → List Command → ById
 after_all t [] = t
 after_all t (c ∷ cs) = after_all (after_by_id t c) cs
 
--- the reply to each command is `ok`
+-- the reply to each command is `ok`, from the state t on
 abbrev pub AllOk : ById → List Command → Type 0
 AllOk t [] = ⊤
 AllOk t (c ∷ cs) = (reply_by_id t c ≡ said (codes "ok")) × AllOk (after_by_id t c) cs
 
--- commands with the reply `ok` lead from one state to another
+-- the commands cs lead from the state t to u, each with the reply `ok`
 record Leads (t : ById) (cs : List Command) (u : ById) : Type 0 where
   state : after_all t cs ≡ u
   ok : AllOk t cs
@@ -92,28 +93,28 @@ module _ (p : Profile) (id : ℕ) (m : Objects) where
       ∙ insert_twice m id v (written v at chunk)
 
   one_write : (at : ℕ) (v chunk : List ℕ) → at + length chunk ≤ length v
-      → after_by_id (holding p (insert m id v)) (Write id at chunk) ≡ holding p (insert m id (written v at chunk))
-  one_write at v chunk fits = ap (holding p) (write_leaves_is at v chunk fits)
+      → after_by_id (state_of_objects p (insert m id v)) (Write id at chunk) ≡ state_of_objects p (insert m id (written v at chunk))
+  one_write at v chunk fits = ap (state_of_objects p) (write_leaves_is at v chunk fits)
 
   write_ok : (at : ℕ) (v chunk : List ℕ) → at + length chunk ≤ length v
-      → reply_by_id (holding p (insert m id v)) (Write id at chunk) ≡ said (codes "ok")
+      → reply_by_id (state_of_objects p (insert m id v)) (Write id at chunk) ≡ said (codes "ok")
   write_ok at v chunk fits =
       let none : write_fault v at (length chunk) ≡ None = cond-true _ _ _ (let e : nat_le (at + length chunk) (length v) ≡ true = grind (arith, nat_tests) in e) in
       ap (λ f. said (write_said f at (length chunk))) (get_inserted m id v)
       ∙ ap (λ f. said (ok_or (λ e. write_text (Err e)) f)) none
 
   all_writes : (n at : ℕ) (done bytes : List ℕ) → at ≡ length done → length bytes ≤ 4096 * n → 4096 * n < length bytes + 4096
-      → Leads (holding p (insert m id (done ++ replicate (length bytes) 0))) (writes_from n id at bytes) (holding p (insert m id (done ++ bytes)))
+      → Leads (state_of_objects p (insert m id (done ++ replicate (length bytes) 0))) (writes_from n id at bytes) (state_of_objects p (insert m id (done ++ bytes)))
   unfolding writes_from
   all_writes zero at done bytes is enough few =
       let none : bytes ≡ [] = nil_from_length bytes (omega (arith, enough)) in
       record { state = rw none refl; ok = tt }
   all_writes (suc n) at done bytes is enough few =
-      leads_first _ (holding p (insert m id ((done ++ take 4096 bytes) ++ replicate (length bytes - length (take 4096 bytes)) 0))) _
+      leads_first _ (state_of_objects p (insert m id ((done ++ take 4096 bytes) ++ replicate (length bytes - length (take 4096 bytes)) 0))) _
       (Write id at (take 4096 bytes)) (writes_from n id (at + 4096) (drop 4096 bytes))
       (write_ok at (done ++ replicate (length bytes) 0) (take 4096 bytes) fits)
       (one_write at (done ++ replicate (length bytes) 0) (take 4096 bytes) fits
-      ∙ ap (λ v. holding p (insert m id v)) (written_zeros done (take 4096 bytes) (length bytes) at is))
+      ∙ ap (λ v. state_of_objects p (insert m id v)) (written_zeros done (take 4096 bytes) (length bytes) at is))
       (elim (cases_lt 4096 (length bytes)) [
         | inl lt ↦ goes_on lt (λ is enough few. all_writes n (at + 4096) (done ++ take 4096 bytes) (drop 4096 bytes) is enough few)
         | inr le ↦ ends le
@@ -129,40 +130,40 @@ module _ (p : Profile) (id : ℕ) (m : Objects) where
 
       goes_on : 4096 < length bytes
           → (at + 4096 ≡ length (done ++ take 4096 bytes) → length (drop 4096 bytes) ≤ 4096 * n → 4096 * n < length (drop 4096 bytes) + 4096
-          → Leads (holding p (insert m id ((done ++ take 4096 bytes) ++ replicate (length (drop 4096 bytes)) 0)))
-          (writes_from n id (at + 4096) (drop 4096 bytes)) (holding p (insert m id ((done ++ take 4096 bytes) ++ drop 4096 bytes))))
-          → Leads (holding p (insert m id ((done ++ take 4096 bytes) ++ replicate (length bytes - length (take 4096 bytes)) 0)))
-          (writes_from n id (at + 4096) (drop 4096 bytes)) (holding p (insert m id (done ++ bytes)))
+          → Leads (state_of_objects p (insert m id ((done ++ take 4096 bytes) ++ replicate (length (drop 4096 bytes)) 0)))
+          (writes_from n id (at + 4096) (drop 4096 bytes)) (state_of_objects p (insert m id ((done ++ take 4096 bytes) ++ drop 4096 bytes))))
+          → Leads (state_of_objects p (insert m id ((done ++ take 4096 bytes) ++ replicate (length bytes - length (take 4096 bytes)) 0)))
+          (writes_from n id (at + 4096) (drop 4096 bytes)) (state_of_objects p (insert m id (done ++ bytes)))
       goes_on lt rest =
           let full = length-take-le 4096 bytes (omega (arith, lt)) in
           let left = length-drop 4096 bytes in
           let long = length-append done (take 4096 bytes) in
           let same : length (drop 4096 bytes) ≡ length bytes - length (take 4096 bytes) = omega (arith, full, left) in
-          leads_same _ _ _ _ _ (ap (λ k. holding p (insert m id ((done ++ take 4096 bytes) ++ replicate k 0))) same)
-          (ap (λ v. holding p (insert m id v)) (append_assoc done (take 4096 bytes) (drop 4096 bytes) ∙ ap (λ l. done ++ l) (take-append-drop 4096 bytes)))
+          leads_same _ _ _ _ _ (ap (λ k. state_of_objects p (insert m id ((done ++ take 4096 bytes) ++ replicate k 0))) same)
+          (ap (λ v. state_of_objects p (insert m id v)) (append_assoc done (take 4096 bytes) (drop 4096 bytes) ∙ ap (λ l. done ++ l) (take-append-drop 4096 bytes)))
           (rest (omega (arith, is, full, long)) (omega (arith, enough, left)) (omega (arith, few, left, lt)))
 
       ends : length bytes ≤ 4096
-          → Leads (holding p (insert m id ((done ++ take 4096 bytes) ++ replicate (length bytes - length (take 4096 bytes)) 0)))
-          (writes_from n id (at + 4096) (drop 4096 bytes)) (holding p (insert m id (done ++ bytes)))
+          → Leads (state_of_objects p (insert m id ((done ++ take 4096 bytes) ++ replicate (length bytes - length (take 4096 bytes)) 0)))
+          (writes_from n id (at + 4096) (drop 4096 bytes)) (state_of_objects p (insert m id (done ++ bytes)))
       ends le =
           let last : n ≡ 0 = omega (arith, few, le) in
           let whole = take_all 4096 bytes le in
           let none : length bytes - length (take 4096 bytes) ≡ 0 = (let e = ap (length {A = ℕ}) whole in omega (arith, e)) in
-          let start : ById = holding p (insert m id ((done ++ take 4096 bytes) ++ replicate (length bytes - length (take 4096 bytes)) 0)) in
-          let is : start ≡ holding p (insert m id (done ++ bytes)) =
-          ap (λ k. holding p (insert m id ((done ++ take 4096 bytes) ++ replicate k 0))) none
-          ∙ ap (λ v. holding p (insert m id v)) (append-nil (done ++ take 4096 bytes) ∙ ap (λ l. done ++ l) whole) in
-          subst (λ k. Leads start (writes_from k id (at + 4096) (drop 4096 bytes)) (holding p (insert m id (done ++ bytes)))) (sym last)
+          let start : ById = state_of_objects p (insert m id ((done ++ take 4096 bytes) ++ replicate (length bytes - length (take 4096 bytes)) 0)) in
+          let is : start ≡ state_of_objects p (insert m id (done ++ bytes)) =
+          ap (λ k. state_of_objects p (insert m id ((done ++ take 4096 bytes) ++ replicate k 0))) none
+          ∙ ap (λ v. state_of_objects p (insert m id v)) (append-nil (done ++ take 4096 bytes) ∙ ap (λ l. done ++ l) whole) in
+          subst (λ k. Leads start (writes_from k id (at + 4096) (drop 4096 bytes)) (state_of_objects p (insert m id (done ++ bytes)))) (sym last)
           (record { state = is; ok = tt })
 
   -- one object is made and filled
-  object_made : (v : List ℕ) → get m id ≡ None → malloc_fault (holding p m) (length v) ≡ None
-      → Leads (holding p m) (object_commands id v) (holding p (insert m id v))
+  object_made : (v : List ℕ) → get m id ≡ None → malloc_fault (state_of_objects p m) (length v) ≡ None
+      → Leads (state_of_objects p m) (object_commands id v) (state_of_objects p (insert m id v))
   object_made v none good =
       leads_first _ _ _ (Malloc id (length v)) (writes_of id v)
-      (ap (λ f. said (malloc_said f (holding p m) (length v))) none ∙ ap (λ f. said (ok_or (λ e. malloc_text (Err e)) f)) good)
-      (ap (λ o. holding p o) (ap (λ f. malloc_leaves f (holding p m) (record { number = id; length = length v })) none
+      (ap (λ f. said (malloc_said f (state_of_objects p m) (length v))) none ∙ ap (λ f. said (ok_or (λ e. malloc_text (Err e)) f)) good)
+      (ap (λ o. state_of_objects p o) (ap (λ f. malloc_leaves f (state_of_objects p m) (record { number = id; length = length v })) none
       ∙ ap (λ f. put_unless f m id (replicate (length v) 0)) good))
       (all_writes (div_ceil (length v) 4096) 0 [] v refl (omega arith) (omega arith))
 
@@ -205,32 +206,32 @@ module _ (p : Profile) (o : Objects) (h : HaveImage p o) where
     pages_good = (let added = needed_added (image_paging p) m k v fresh in let f = next.pages in let g = h.room in
         let le : pages_needed_with (image_paging p) m (length v) ≤ p.pages = omega (arith, added, f, g) in grind (arith, nat_tests, le))
 
-    good : malloc_fault (holding p m) (length v) ≡ None
+    good : malloc_fault (state_of_objects p m) (length v) ≡ None
     good = cond-false _ _ _ size_good ∙ cond-false _ _ _ proxies_good ∙ cond-false _ _ _ pages_good
 
-  all_made : (n k : ℕ) (m : Objects) → k + n ≡ 65536 → AreBelow o k m → Leads (holding p m) (commands_of (listed o k n)) (holding p o)
-  all_made zero k m end b = subst (λ (es : List (ℕ × List ℕ)). Leads (holding p m) (commands_of es) (holding p o)) (sym (listed_end o k))
-      (record { state = ap (holding p) (below_end o h.ids k m (omega arith) b); ok = tt })
+  all_made : (n k : ℕ) (m : Objects) → k + n ≡ 65536 → AreBelow o k m → Leads (state_of_objects p m) (commands_of (listed o k n)) (state_of_objects p o)
+  all_made zero k m end b = subst (λ (es : List (ℕ × List ℕ)). Leads (state_of_objects p m) (commands_of es) (state_of_objects p o)) (sym (listed_end o k))
+      (record { state = ap (state_of_objects p) (below_end o h.ids k m (omega arith) b); ok = tt })
   all_made (suc n) k m end b = go (get o k) refl (λ m b. all_made n (k + 1) m (omega arith) b)
     where
       go : (v : Option (List ℕ)) → get o k ≡ v
-          → ((m : Objects) → AreBelow o (k + 1) m → Leads (holding p m) (commands_of (listed o (k + 1) n)) (holding p o))
-          → Leads (holding p m) (commands_of (listed o k (suc n))) (holding p o)
-      go None e rest = subst (λ (es : List (ℕ × List ℕ)). Leads (holding p m) (commands_of es) (holding p o)) (sym (listed_none o k n e))
+          → ((m : Objects) → AreBelow o (k + 1) m → Leads (state_of_objects p m) (commands_of (listed o (k + 1) n)) (state_of_objects p o))
+          → Leads (state_of_objects p m) (commands_of (listed o k (suc n))) (state_of_objects p o)
+      go None e rest = subst (λ (es : List (ℕ × List ℕ)). Leads (state_of_objects p m) (commands_of es) (state_of_objects p o)) (sym (listed_none o k n e))
           (rest m (below_none o k m b e))
-      go (Some v) e rest = subst (λ (es : List (ℕ × List ℕ)). Leads (holding p m) (commands_of es) (holding p o)) (sym (listed_some o k n v e))
+      go (Some v) e rest = subst (λ (es : List (ℕ × List ℕ)). Leads (state_of_objects p m) (commands_of es) (state_of_objects p o)) (sym (listed_some o k n v e))
           (leads_joined (object_commands k v) (commands_of (listed o (k + 1) n)) _ _ _
           (object_made p k m v (fresh n k m v end b e) (good n k m v end b e))
           (rest (insert m k v) (below_some o k m b v e)))
 
-  all_leads : Leads (holding p empty) (commands_of (entries o)) (holding p o)
-  all_leads = subst (λ (es : List (ℕ × List ℕ)). Leads (holding p empty) (commands_of es) (holding p o)) (sym (listed_all o 65536 (λ q v e. h.ids q v e)))
+  all_leads : Leads (state_of_objects p empty) (commands_of (entries o)) (state_of_objects p o)
+  all_leads = subst (λ (es : List (ℕ × List ℕ)). Leads (state_of_objects p empty) (commands_of es) (state_of_objects p o)) (sym (listed_all o 65536 (λ q v e. h.ids q v e)))
       (all_made 65536 0 empty (omega arith) (record { low = λ q lt. absurd (omega arith); high = λ q le. get-empty nat_cmp q }))
 
   -- the script makes the objects
-  pub makes : after_items Moving None (script_items p o) ≡ Some (holding p o)
-  makes = left_is (holding p empty) (commands_of (entries o)) ∙ ap (λ t. Some t) all_leads.state
+  pub makes : after_items Moving None (script_items p o) ≡ Some (state_of_objects p o)
+  makes = left_is (state_of_objects p empty) (commands_of (entries o)) ∙ ap (λ t. Some t) all_leads.state
 
   -- each reply to the script is `ok`
   pub all_ok : transcript Moving (script_items p o) ≡ map (λ i. said (codes "ok")) (script_items p o)
-  all_ok = ap (λ (replies : List Reply). said (codes "ok") ∷ replies) (ok_is (holding p empty) (commands_of (entries o)) all_leads.ok)
+  all_ok = ap (λ (replies : List Reply). said (codes "ok") ∷ replies) (ok_is (state_of_objects p empty) (commands_of (entries o)) all_leads.ok)

@@ -1,4 +1,5 @@
--- For the laws on `save` and `load`: the objects by id of a run are those of the heap that it shows; and what a run leaves if every bound is 1.
+-- For the laws on `save` and `load`: the objects by id of a run, and their image, are those that its lines and replies show; if every bound is 1, a run
+-- leaves what its items determine.
 use Rattle.std.proofs.Common.{◌≡◌, ◌∙◌, List, [], ◌∷◌, Option, Some, sym, ap, subst}
 use Rattle.std.specs.Prelude.{option_map}
 use Rattle.cf_base.specs.declared.kind.Kind.{Kind}

@@ -1,4 +1,5 @@
--- For `only_images_are_read`: entries of an image that the definition accepts are, byte for byte, those of the objects that they decode to.
+-- For the law `only_images_are_read`: bytes that `Decoded` accepts as entries are, byte for byte, the entries of the objects that they decode to, and a heap
+-- may hold all these objects.
 use Rattle.std.proofs.Common.{◌≡◌, ◌∙◌, ◌++◌, ◌+◌, ◌-◌, ◌≤◌, ◌<◌, ◌^◌, ℕ, zero, suc, Bool, true, false, List, [], ◌∷◌}
 use Rattle.std.proofs.Common.{Some, None, length, get_or, take, drop, refl, ap, sym, subst, arith}
 use Rattle.std.proofs.Common.{append-nil, append_assoc, inl, inr, lit<}
@@ -21,7 +22,7 @@ use Rattle.heap_image.specs.Image.{entries_of, entry_of, number_bytes, number_of
 use Rattle.heap_image.proofs.CallerLemmas.{bytes_back_2, bytes_back_4, needed_added}
 use Rattle.image_laws.proofs.Rising.{AreUnder, entries_last, under_last, under_more, unused_under}
 
--- parts of lists of bytes are lists of bytes
+-- if all numbers of a list are bytes, so are the first n of them, and those after the first n
 pub bytes_taken : (n : ℕ) (l : List ℕ) → AreBytes l → AreBytes (take n l)
 bytes_taken n l b i = elim (cases_lt i n) [
   | inl lt ↦ rw (get_or-take n l i 0 lt) (b i)
@@ -31,11 +32,11 @@ bytes_taken n l b i = elim (cases_lt i n) [
 pub bytes_left : (n : ℕ) (l : List ℕ) → AreBytes l → AreBytes (drop n l)
 bytes_left n l b i = rw (get_or-drop n l i 0) (b (n + i))
 
--- what is broken isn't whole
+-- what has a broken field isn't an image
 pub breaks_not : (d : Decoded) (at : ℕ) → d.broken ≡ Some at → d.broken ≡ None → ⊥
 breaks_not d at some none = (let z : Some at ≡ None = sym some ∙ none in cc)
 
--- if a choice is whole and one branch is broken, the choice is the other branch
+-- if the result of a test is an image and one branch has a broken field, the result is the other branch
 pub second_whole : (t : Bool) (x y : Decoded) (at : ℕ) → x.broken ≡ Some at → (if t then x else y).broken ≡ None → (t ≡ false) × (y.broken ≡ None)
 second_whole true x y at breaks none = absurd (breaks_not x at breaks none)
 second_whole false x y at breaks none = (refl, none)
@@ -44,7 +45,7 @@ pub first_whole : (t : Bool) (x y : Decoded) (at : ℕ) → y.broken ≡ Some at
 first_whole true x y at breaks none = (refl, none)
 first_whole false x y at breaks none = absurd (breaks_not y at breaks none)
 
--- a number that is accepted: its value, its bytes, what follows them, and the test that it passes
+-- a number that is accepted: its value n, its bytes `field`, the bytes `rest` after them, and the test that it passes
 pub record AcceptedNumber (w : Width) (bytes : List ℕ) (test : ℕ → Bool) (go : ℕ → List ℕ → Decoded) : Type 0 where
   pub n : ℕ
   pub rest : List ℕ

@@ -1,4 +1,5 @@
--- For `only_images_are_read`: bytes that the definition accepts are the image of the settings and objects that they decode to.
+-- For the law `only_images_are_read`: bytes that `Decoded` accepts are, field by field from the mark on, the image of the settings and objects that they
+-- decode to.
 use Rattle.std.proofs.Common.{◌≡◌, ◌∙◌, ◌++◌, ◌*◌, ◌/◌, ◌%◌, ◌≤◌, ◌^◌, ℕ, true, List, Some, None, length, take, drop, refl, ap, sym}
 use Rattle.std.proofs.Common.{subst, arith, append_assoc}
 use Rattle.std.specs.Prelude.{◌==◌, ◌↔◌, nat_le, nat_lt}
@@ -75,7 +76,7 @@ mark_accepted bytes is =
     is in
     ((bytes_eq-Decides (take 4 bytes) mark).0 whole.0, whole.1)
 
--- tests of the settings that hold
+-- if `pages` pages may have n bytes each (`is_page_of`), then n is whole words, a size of a page, and the region is within its limit
 page_of : (pages n : ℕ) → is_page_of pages n ≡ true → (8 * (n / 8) ≡ n) × (is_page_size (n / 8) ≡ true) × (pages * n ≤ 67108864)
 page_of pages n e =
     let size = and_parts (is_page_bytes n) (nat_le (pages * n) 67108864) e in

@@ -1,4 +1,5 @@
--- For `printed_scripts_are_read_back`, clause `read`: the script of objects is read back as its items.
+-- For the law `printed_scripts_are_read_back`, clause `read`: the text of the script that mode `load` prints for some objects is read back as its items, a
+-- `heap` line and valid commands.
 use Rattle.std.proofs.Common.{◌≡◌, ◌∙◌, ◌++◌, ◌+◌, ◌*◌, ◌/◌, ◌%◌, ◌≤◌, ◌<◌, ℕ, zero, suc, true, List, [], ◌∷◌, Option, Some, None}
 use Rattle.std.proofs.Common.{length, take, drop, map, refl, ap, sym, subst, arith}
 use Rattle.std.proofs.Common.{length-drop}

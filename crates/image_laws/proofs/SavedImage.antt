@@ -1,4 +1,5 @@
--- For `what_was_saved_is_loaded_again`: what mode `save` prints is an image, mode `load` never refuses it, and then both heaps answer alike.
+-- For the law `what_was_saved_is_loaded_again`: what mode `save` prints is an image, mode `load` never refuses it, its heap then has the same objects by id,
+-- and further items get the same replies.
 use Rattle.std.proofs.Common.{◌≡◌, ◌≢◌, ◌∙◌, ℕ, List, [], Option, Some, refl, ap, sym, subst}
 use Rattle.std.specs.Prelude.{IsTrue, if◌then◌else◌}
 use Rattle.cf_base.specs.Settings.{Profile, at_bound_one}
@@ -58,7 +59,7 @@ module _ (read_back : (p : Profile) (o : Objects) → HaveImage p o → decoded 
         let profile : at_bound_one to.heap.profile ≡ l.profile = cc in
         (l.held.1 ∙ sym (ap (λ (d : Decoded). d.objects) stated), l.held.0 ∙ sym profile, l.loading)
 
-    -- both heaps give the same further items the same replies
+    -- the same further items get the same replies from both heaps
     module _ (there from2 : RunState) (two : Effects) (had2 : two.had ≡ Some image) (done2 : two.status ≡ Done) (ends2 : EndsLoad from2 two there)
         (equally : (one other : RunState) (items : List Item) (replies stated : List Reply) (last end : Option RunState)
         → IsGoing one → IsGoing other → IsPaged one.heap.kind → AreAlike one other → EveryBoundIsOne (paging_in one.heap) → EveryBoundIsOne (paging_in other.heap)

@@ -1,4 +1,5 @@
--- For `printed_scripts_are_read_back`, clause `clean`: the script of objects is within the limit of a script.
+-- For the law `printed_scripts_are_read_back`, clause `clean`: the script that mode `load` prints for the objects of an image is within the limit of a
+-- script, 268,435,455 bytes.
 use Rattle.std.proofs.Common.{◌≡◌, ◌++◌, ◌+◌, ◌*◌, ◌≤◌, ℕ, zero, suc, List, [], ◌∷◌, Option, Some, None, length, take, drop, refl, ap, arith}
 use Rattle.std.proofs.Common.{length-append, take-append-drop}
 use Rattle.std.specs.Prelude.{codes}

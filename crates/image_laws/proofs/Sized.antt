@@ -1,4 +1,5 @@
--- For `the_size_of_an_image_is_known_beforehand`: how long an image is. For clause `clean`: the script of objects has no bad line.
+-- For the law `the_size_of_an_image_is_known_beforehand`: the length of an image. For `printed_scripts_are_read_back`, clause `clean`: the script that mode
+-- `load` prints has no bad line and isn't too long.
 use Rattle.std.proofs.Common.{◌≡◌, ◌∙◌, ◌++◌, ◌+◌, ◌*◌, ◌<◌, ◌^◌, ℕ, zero, suc, false, List, [], ◌∷◌, Option, Some, None, length, map, refl, ap, arith}
 use Rattle.std.proofs.Common.{length-append}
 use Rattle.std.specs.Int.{w16, w32}

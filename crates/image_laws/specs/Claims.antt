@@ -1,4 +1,5 @@
--- What is claimed of modes `save` and `load`, by the bytes read and the bytes printed alone.
+-- What is claimed of modes `save` and `load`, by the bytes read and the bytes printed alone: the image of what a script leaves, the script of an image's
+-- objects, the offset of a broken rule, or nothing.
 use Rattle.std.specs.Prelude.{◌≡◌, ℕ, List, [], Option, Some, None}
 use Rattle.cf_base.specs.Settings.{Profile}
 use Rattle.cf_base.specs.declared.kind.Kind.TheVariants.{Moving}
@@ -17,7 +18,7 @@ use Rattle.run_model.specs.Texts.{Reply}
 use Rattle.script_loop.specs.ScriptOutcome.{Effects, items_within}
 use Rattle.script_reader.specs.Items.{Item}
 
--- the image of the objects of a heap that a script shows; nothing if no `heap` line opened it
+-- the image of the objects of the heap that a script and its replies show (`ShownHeap`); no bytes if no `heap` line opened it
 abbrev pub image_shown : Option ShownHeap → List ℕ
 image_shown None = []
 image_shown (Some t) = image_under t.heap.profile (objects t.heap.held)

@@ -1,4 +1,4 @@
--- When bytes are the heap image of given objects.
+-- When bytes are the heap image of given objects, by id and under given settings.
 use Rattle.std.specs.Prelude.{◌≡◌, ℕ, List}
 use Rattle.cf_base.specs.Settings.{Profile}
 use Rattle.page_model.specs.Held.{Objects}

@@ -1,4 +1,5 @@
--- The state by id (`ById`) that items leave if every bound is 1, and the script that mode `load` prints for an image, as items.
+-- The settings, bounds and objects by id (`ById`, without addresses) that the items of a script leave if every bound is 1; and the script that mode `load`
+-- prints for an image, as items.
 use Rattle.std.specs.Prelude.{List, [], ◌∷◌, Option, map}
 use Rattle.std.specs.FinMap.{entries}
 use Rattle.cf_base.specs.Settings.{Profile}
@@ -16,8 +17,8 @@ after_items kind t [] = t
 after_items kind t (item ∷ rest) = after_items kind (after_at kind t item) rest
 
 -- the state by id of a moving manager with the settings `p` and the objects `o`, and in each class the bound of the settings
-abbrev pub holding : Profile → Objects → ById
-holding p o = record (begun Moving p) { objects = o }
+abbrev pub state_of_objects : Profile → Objects → ById
+state_of_objects p o = record (begun Moving p) { objects = o }
 
 -- the items of the script that makes the objects `o` on a heap with the settings `p`
 abbrev pub script_items : Profile → Objects → List Item

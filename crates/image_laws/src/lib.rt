@@ -15,7 +15,7 @@ ghost use Rattle.heap_image.specs.Heaps.{HaveImage, image_under, objects_of};
 ghost use Rattle.heap_image.specs.Load.{IsLoading};
 ghost use Rattle.image_laws.specs.Claims.{MeetsLoad, MeetsSave};
 ghost use Rattle.image_laws.specs.Images.{IsImageOf};
-ghost use Rattle.image_laws.specs.Scripts.{after_items, holding, script_items};
+ghost use Rattle.image_laws.specs.Scripts.{after_items, state_of_objects, script_items};
 ghost use Rattle.image_run.specs.Loads.{EndsLoad};
 ghost use Rattle.image_run.specs.Saves.{EndsSave, saved};
 ghost use Rattle.image_run.specs.Script.{script_under};
@@ -46,7 +46,8 @@ pub fn only_images_are_read()
 }
 
 /// If `bytes` break a rule of images, and not only because they end too early, then all longer bytes that
-/// begin with them break it at the same offset. So no prefix of an image breaks a rule but by its early end.
+/// begin with them break it at the same offset. So a prefix of an image breaks no rule except that it ends
+/// too early.
 pub fn a_broken_rule_stays_broken()
     ensures { (bytes more : List ℕ) (at : ℕ) → (decoded bytes).broken ≡ Some at → (decoded bytes).is_cut ≡ false
         → decoded (bytes ++ more) ≡ decoded bytes }
@@ -58,22 +59,23 @@ pub fn the_size_of_an_image_is_known_beforehand()
         → length (image_under p o) ≡ 20 + 6 * len o + asked_bytes o }
 {}
 
-/// The script that mode `load` prints for objects `o`, which have an image under the settings `p`. `read`:
-/// its items are the commands that make them. `clean`: it has no bad line and is within the limit of a
-/// script. `makes`: its commands leave just these objects. `replies`: in every run each reply is `ok`.
+/// Four facts about the script that mode `load` prints for objects `o`, if they have an image under the
+/// settings `p`. `read`: its items are the `heap` line and the commands that make the objects. `clean`: it
+/// has no bad line and is within the limit of a script. `makes`: its items leave exactly the objects `o`.
+/// `replies`: in every run each reply is `ok`.
 pub fn printed_scripts_are_read_back()
     ensures read { (p : Profile) (o : Objects) → HaveImage p o → items (script_under p o) true ≡ script_items p o }
     ensures clean { (p : Profile) (o : Objects) → HaveImage p o → IsClean (Some (script_under p o)) }
     ensures makes { (p : Profile) (o : Objects) → HaveImage p o
-        → after_items Moving None (script_items p o) ≡ Some (holding p o) }
+        → after_items Moving None (script_items p o) ≡ Some (state_of_objects p o) }
     ensures replies { (p : Profile) (o : Objects) (replies : List Reply) (last : Option RunState) → HaveImage p o
         → Run Moving None (items (script_under p o) true) replies last
         → replies ≡ map (λ i. said (codes "ok")) (script_items p o) }
 {}
 
-/// If a call `one` in mode `load` reads the image `all` and prints `script`, and a call `two` in mode `save`
-/// runs this script, then `two` prints the image again, byte for byte, and both heaps have the same objects
-/// by id.
+/// If a call `one` in mode `load` reads the image `all` and prints `script`, a call `two` in mode `save` runs
+/// this script, and both calls end with `Done`, then `two` prints the image again, byte for byte. The run
+/// `to` that `one` leaves and the run `end` that `two` leaves have the same objects by id.
 pub fn what_was_loaded_is_saved_again()
     ensures { (from to begin end : RunState) (one two : Effects) (all script : List ℕ)
         → AreBytes all → one.had ≡ Some all → one.status ≡ Done → one.before ≡ Some [] → one.after ≡ Some script → EndsLoad from one to
@@ -84,10 +86,11 @@ pub fn what_was_loaded_is_saved_again()
     only_images_are_read();
 }
 
-/// `image`: what a call `one` in mode `save` prints at the end of a script with a `heap` line is an image.
-/// `taken`: a call `two` in mode `load` never refuses this image. `loads`: if `two` is done, its heap has the
-/// same objects by id, under the same settings with the bound 1. `further`: so if the settings of the saved
-/// heap have the bound 1, and all its classes too, both heaps give the same further items the same replies.
+/// A call `one` in mode `save` runs a script with a `heap` line, ends with `Done`, and leaves the run `to`.
+/// `image`: what it prints is an image. `taken`: a call `two` in mode `load` never refuses this image.
+/// `loads`: if `two` ends with `Done`, the run `there` that it leaves has the same objects by id, under the
+/// same settings with the bound 1. `further`: so if the settings of `to` have the bound 1, and all its
+/// classes too, the same further items (`AreFurther`) get the same replies from both runs.
 pub fn what_was_saved_is_loaded_again()
     ensures image { (from to : RunState) (one : Effects) → one.status ≡ Done → EndsSave from one to → IsTrue to.heap.is_open
         → IsImage (saved to) }

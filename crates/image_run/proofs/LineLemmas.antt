@@ -9,11 +9,11 @@ use Rattle.generator.specs.ReadBack.{heap_line}
 use Rattle.hex.specs.Hex.{encode_lower}
 use Rattle.script_reader.specs.declared.command.Command.TheVariants.{Malloc, Write}
 
--- bytes that were put, written as equal bytes
+-- if the list b equals a, what `Puts` claims of a it claims of b
 pub puts_same : (w y : Option (List ℕ)) (a b : List ℕ) (r : Result (Unit {0}) Failed) → a ≡ b → Puts w a r y → Puts w b r y
 puts_same w y a b r is put = subst (λ (bytes : List ℕ). Puts w bytes r y) is put
 
--- fields after one another, and a line feed
+-- the same fields, grouped in two ways, with a line feed at the end
 two_fields : (a b c d : List ℕ) → ((a ++ b) ++ (c ++ d)) ++ 10 ∷ [] ≡ (a ++ (b ++ (c ++ (d ++ [])))) ++ 10 ∷ []
 two_fields a b c d = ap (λ l. l ++ 10 ∷ []) (append_assoc a b (c ++ d) ∙ ap (λ l. a ++ (b ++ (c ++ l))) (sym (append-nil d)))
 

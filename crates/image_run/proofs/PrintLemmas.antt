@@ -1,4 +1,5 @@
--- For `print_script`: the script of the live objects, written line by line and object by object, or cut.
+-- For `print_script`, of mode `load`: the script that makes the live objects, its `heap` line and then the lines of each object, written one after the
+-- other, or cut by a failed sink.
 use Rattle.std.proofs.Common.{◌≡◌, ◌∙◌, ◌++◌, ℕ, List, [], ◌∷◌, Option, refl, ap, sym, append_assoc}
 use Rattle.std.specs.Prelude.{Result, Err, length}
 use Rattle.std.specs.FinMap.{entries}
@@ -50,7 +51,7 @@ module _ (s : RunState) where
       (put ∙ ap (λ (p : Profile). appended w (opening_line p)) (sym same))
       (puts_same x y _ (lines_of (commands_of (entries (objects_of s)))) r (sym (lines_are (entries (objects_of s)))) rest)
 
-  -- it was cut
+  -- the `heap` line was cut
   pub opening_cut : (w y : Written) (p : Profile) (e : Failed) → s.heap.profile ≡ p → Puts {T = Unit {0}} w (opening_line p) (Err e) y
       → Puts {T = Unit {0}} w (heap_script s) (Err e) y
   opening_cut w y p e same put = puts_cut w y (opening_line s.heap.profile) (lines_of (commands_of (entries (objects_of s)))) e

@@ -1,4 +1,5 @@
--- For `save_script`: from how the script ended (its session keeps the settings) and what was written of the image to `EndsSave`, by status.
+-- For `save_script`, which runs a script and writes an image: from how the script ended, its settings kept, and what was written of the image to its
+-- contract `EndsSave`, for each status.
 use Rattle.std.proofs.Common.{◌≡◌, ◌≢◌, ◌∙◌, ◌++◌, ℕ, List, [], false, true, Option, Some, None, refl, ap, sym, subst}
 use Rattle.std.specs.Prelude.{Err, option_map, if◌then◌else◌}
 use Rattle.cf_base.specs.Settings.{profile_of}
@@ -15,7 +16,7 @@ use Rattle.script_loop.specs.OneManager.{one_manager}
 use Rattle.script_loop.specs.ScriptOutcome.{Effects, HasCauses, IsStatusRow, MeetsOutcome, SinkState, SourceState, EndsAt}
 use Rattle.script_loop.specs.WithSettings.{GoesWith, Settled, with_settings}
 
--- a sink that nobody sees never fails
+-- the sink that drops the replies of the script never fails
 pub never_cut : (st : Status) → (st ≡ WriteFault → FailsLast 0 0 false) → st ≡ WriteFault → ⊥
 never_cut st cause is = let e : false ≡ true = (cause is).1 in absurd cc
 
@@ -67,7 +68,7 @@ module _ (from to : Settled RunState) (call : Effects) where
     row = λ more follows. row_settled call.status (met.taken ++ more) more whole (met.row more follows);
   }
 
-  -- no `heap` line came: nothing was opened
+  -- if the script has no `heap` line, nothing was opened
   pub unopened : MeetsOutcome (with_settings one_manager) from call to → call.status ≡ Done → to.settings ≡ None → from.state.heap.is_open ≡ false
       → to.state.heap.is_open ≡ false
   unopened met done none closed =
@@ -104,7 +105,7 @@ module _ (from to : Settled RunState) (call : Effects) where
 pub saved_going : (s : RunState) → IsGoing s → saved s ≡ heap_image s
 saved_going s going = ap (λ b. if b then heap_image s else []) going.opened
 
--- the call as it ends, and the script as it ended
+-- the effects of the call (`call_as`) and of the script alone (`script_as`), by status
 module _ (from to : Settled RunState) (had left : Option (List ℕ)) (gave given : ℕ) (before after : Option (List ℕ)) where
   abbrev call_as : Status → Effects
   call_as st = record { had = had; left = left; given_before = gave; given_after = given; before = before; after = after; status = st }
@@ -139,7 +140,7 @@ module _ (from to : Settled RunState) (had left : Option (List ℕ)) (gave given
     script = outcome_settled from to (script_as Done) (λ is. (let e : Done ≡ WriteFault = is in absurd cc))
         (subst (λ (st : Status). MeetsOutcome (with_settings one_manager) from (script_as st) to) done met)
 
-    -- it was run to its end, and nothing was opened
+    -- the script was run to its end, and nothing was opened
     pub ends_unopened : to.state.heap.is_open ≡ false → after ≡ before → EndsSave from.state (call_as Done) to.state
     ends_unopened closed same = record {
       script = script;

@@ -1,4 +1,4 @@
--- For `put_writes`: the bytes of an object, written as `w` lines one after the other, or cut.
+-- For `put_writes`, of mode `load`: the bytes of an object, written as `w` lines of at most 4,096 bytes each, one after the other, or cut by a failed sink.
 use Rattle.std.proofs.Common.{◌≡◌, ◌∙◌, ◌++◌, ◌+◌, ◌-◌, ◌<◌, ◌≤◌, ℕ, zero, suc, List, [], ◌∷◌, Option, length, take, drop, refl, ap, sym, arith}
 use Rattle.std.proofs.Common.{append_assoc, append-nil, inl, inr}
 use Rattle.std.proofs.Common.{length-drop}
@@ -37,7 +37,8 @@ whole_chunk count at bytes is = elim (cases_lt 4096 (length bytes - at)) [
       ∙ sym (take_all 4096 (drop at bytes) (omega (arith, less, long))))
 ]
 
--- the lines came to an offset: what was written by then, and the lines from there on
+-- The loop came to the byte `at` of the object: of the `w` lines, `done` was written, and the lines from this byte on are still to be written. The sink held
+-- w before the loop and holds x now.
 pub record WroteTo (id : ℕ) (bytes : List ℕ) (w x : Written) (at : ℕ) : Type 0 where
   pub done : List ℕ
   pub rest : lines_of (writes_of id bytes) ≡ done ++ lines_of (writes_from (div_ceil (length bytes - at) 4096) id at (drop at bytes))
@@ -79,7 +80,7 @@ module _ (id : ℕ) (bytes : List ℕ) (w x : Written) (at : ℕ) (so_far : Wrot
     writes_cut y e put = puts_same w y (so_far.done ++ (line ++ behind)) (lines_of (writes_of id bytes)) (Err e) (sym split)
         (puts_then {T = Unit {0}} w x y so_far.done (line ++ behind) (Err e) so_far.written (puts_cut x y line behind e put))
 
-  -- no byte is left
+  -- if no byte of the object is left, all lines were written
   pub writes_last : length bytes ≤ at → x ≡ appended w (lines_of (writes_of id bytes))
   writes_last end =
       let none : length bytes - at ≡ 0 = omega (arith, end) in

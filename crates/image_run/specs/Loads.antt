@@ -1,4 +1,5 @@
--- The contract of `load_script`: an image is loaded, and the script that makes its objects is written. `from` is the state of the run before, `to` after it.
+-- The contract of `load_script`, by status: an image is loaded and the script that makes its objects is written, or a line `bad image`, or nothing. `from`
+-- is the state of the run before, `to` after it.
 use Rattle.std.specs.Prelude.{◌≡◌, ℕ, List, [], Option, Result, Ok, Err, codes}
 use Rattle.cf_base.specs.declared.settings.Settings.{Settings}
 use Rattle.cf_base.specs.declared.status.Status.{Status}
@@ -26,7 +27,7 @@ IsCutOff (Err (fault.Bad at)) before to after = WritesPrefix before (bad_image a
 IsCutOff (Err fault.Read) before to after = ⊥
 IsCutOff (Err fault.OutOfMemory) before to after = ⊥
 
--- the load from the source of the call had this result
+-- `load` read the source of the call with this result; the run was `from` before and is `to` after
 abbrev pub LoadsIn : RunState → Effects → Result Settings LoadFault → RunState → Type 0
 LoadsIn from call result to = LoadsBy from (feed_at call.had call.given_before) result (feed_at call.left call.given_after) to
 

@@ -1,4 +1,5 @@
--- The contract of `save_script`: a script is run, and the objects that are live at its end are written as an image.
+-- The contract of `save_script`, by status: a script is run, its replies are dropped, and the objects that are live at its end are written as an image,
+-- whole or in part.
 use Rattle.std.specs.Prelude.{◌≡◌, ◌++◌, ℕ, List, [], Option, None, IsTrue, if◌then◌else◌}
 use Rattle.cf_base.specs.Settings.{at_bound_one}
 use Rattle.cf_base.specs.declared.kind.Kind.TheVariants.{Moving}
@@ -33,13 +34,14 @@ WritesAtEnd Done before bytes after = after ≡ appended before bytes
 WritesAtEnd WriteFault before bytes after = WritesPrefix before bytes after
 WritesAtEnd status before bytes after = after ≡ before
 
--- the run is in progress on a manager of kind Moving, and its objects have an image under its settings with the bound 1
+-- the run is in progress on a manager of kind Moving, and a heap with its settings and the bound 1 can hold its objects (`HaveImage`)
 pub record CanBeSaved (s : RunState) : Type 0 where
   pub going : IsGoing s
   pub kind : s.heap.kind ≡ Moving
   pub have : HaveImage (at_bound_one s.heap.profile) (objects_of s)
 
--- what the call did: the script led the run from `from` to `to`; the image of `to`, or a prefix of it, was written; and if a heap was opened, it has an image
+-- what the call did: the script led the run from `from` to `to`; the image of `to`, or a prefix of it, was written; and if the
+-- status is `Done` and a heap was opened, its objects have an image (`CanBeSaved`)
 pub record EndsSave (from : RunState) (call : Effects) (to : RunState) : Type 0 where
   pub script : MeetsOutcome one_manager from (unseen call) to
   pub written : WritesAtEnd call.status call.before (saved to) call.after

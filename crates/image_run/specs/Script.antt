@@ -10,7 +10,8 @@ use Rattle.run_model.specs.Sessions.{RunState}
 use Rattle.script_reader.specs.declared.command.Command.{Command}
 use Rattle.script_reader.specs.declared.command.Command.TheVariants.{Malloc, Write}
 
--- write commands for `bytes`, from byte `at` of the object of `id` on: as many as the first argument, of 4,096 bytes each, the last one shorter
+-- n write commands, where n is the first argument: they write `bytes` into the object of `id`, from its byte `at` on, 4,096 bytes each; the last command may
+-- write fewer
 unfoldable pub writes_from : ℕ → ℕ → ℕ → List ℕ → List Command
 writes_from zero id at bytes = []
 writes_from (suc more) id at bytes = Write id at (take 4096 bytes) ∷ writes_from more id (at + 4096) (drop 4096 bytes)
@@ -27,7 +28,7 @@ object_commands id bytes = Malloc id (length bytes) ∷ writes_of id bytes
 abbrev pub object_lines : ℕ → List ℕ → List ℕ
 object_lines id bytes = lines_of (object_commands id bytes)
 
--- the commands that make these objects, each an id with its bytes, in turn
+-- the commands that make the objects of a list, one after the other; an entry is an id and the bytes of its object
 abbrev pub commands_of : List (ℕ × List ℕ) → List Command
 commands_of [] = []
 commands_of (e ∷ es) = object_commands e.0 e.1 ++ commands_of es

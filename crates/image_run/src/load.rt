@@ -1,4 +1,5 @@
-//! Mode `load`: from an image to the script that makes its objects.
+//! Mode `load`: loads an image and writes the script that makes its objects, or a line `bad image` with the
+//! offset of the first field that breaks a rule.
 ghost use Rattle.std.specs.Prelude.{◌≡◌, ◌≤◌, OnErr, OnOk, ◌≢◌};
 ghost use Rattle.std.specs.FinMap as map;
 ghost use Rattle.cf_base.specs.declared.kind.Kind.TheVariants.{Moving};
@@ -15,8 +16,11 @@ use cf_session::Session;
 use heap_image::{LoadFault, load};
 use step_ledger::Meter;
 
-/// Loads an image into a manager of kind Moving, and writes the script that makes its objects. If the
-/// bytes are no image, writes the offset of the first field that breaks a rule, and returns `BadImage`.
+/// Loads an image into a manager of kind Moving, writes the script that makes its objects, and returns `Done`.
+/// If the bytes are no image, writes a line with the offset of the first field that breaks a rule (`bad_image`)
+/// and returns `BadImage`. If the source failed or the heap couldn't be opened, writes nothing and returns
+/// `ReadFault` or `OutOfMemory`. If the sink failed, returns `WriteFault` after a prefix. The session has no
+/// live id before.
 pub fn load_script<H: Manager, S: Source, K: Sink>(
     rt: &HostRuntime,
     session: &mut Session,
@@ -55,8 +59,8 @@ pub fn load_script<H: Manager, S: Source, K: Sink>(
     }
 }
 
-/// Writes the line `bad image` with `at`, the offset in bytes of the first field that breaks a rule. `Failed`
-/// if the sink failed; then a prefix of the line was written.
+/// Writes the line `bad image` with `at`, the offset in bytes of the first field that breaks a rule. Returns
+/// `Failed` if the sink failed; then a prefix of the line was written.
 fn put_bad_image<K: Sink>(at: u64, sink: &mut K) -> Result<(), Failed>
     ensures puts { Puts (K.written sink.old) (bad_image at) result (K.written sink.new) }
     ensures grows { K.faults sink.old ≤ K.faults sink.new }

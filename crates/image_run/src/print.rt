@@ -19,7 +19,7 @@ use cf_session::Session;
 use heap_image::{ObjectWriter, length_of, put_objects};
 use step_ledger::Meter;
 
-/// The most bytes of one write.
+/// The most bytes of an object that one `w` line writes.
 const CHUNK: u64 = 4_096;
 
 /// The writer with which `put_objects` writes each object as the lines of a script that make it: an `m` line
@@ -49,8 +49,8 @@ impl ObjectWriter for Lines {
 }
 
 /// Writes the script that makes the live objects of the heap: its `heap` line, with bound 1, and for each
-/// id in rising order an `m` line and `w` lines of 4,096 bytes, the last one shorter. Returns `Failed`
-/// only if the sink failed; then a prefix of the script was written.
+/// id in rising order an `m` line and `w` lines of 4,096 bytes; the last one may be shorter. The session maps
+/// the ids to handles. Returns `Failed` only if the sink failed; then a prefix of the script was written.
 pub fn print_script<H: Manager, K: Sink>(
     s: &Settings,
     heap: &H,
@@ -75,7 +75,7 @@ pub fn print_script<H: Manager, K: Sink>(
     put_objects(&Lines, heap, session, &mut line, out, meter)
 }
 
-/// Writes the `heap` line of the settings `s`, with the bound 1 in place of theirs.
+/// Writes the `heap` line of the settings `s`, with the bound 1 in place of that of `s`.
 fn put_heap<K: Sink>(s: &Settings, line: &mut Line, out: &mut K) -> Result<(), Failed>
     ensures puts { Puts (K.written out.old) (opening_line (profile_of s.now)) result (K.written out.new) }
     ensures grows { K.faults out.old ≤ K.faults out.new }

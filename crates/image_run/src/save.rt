@@ -1,4 +1,4 @@
-//! Mode `save`: from a script to an image of the objects that it leaves.
+//! Mode `save`: runs a script, drops its replies, and writes an image of the objects that it leaves.
 ghost use Rattle.std.specs.Prelude.{◌≡◌, None, false};
 ghost use Rattle.cf_base.specs.declared.kind.Kind.TheVariants.{Moving};
 ghost use Rattle.cf_model.specs.Ordered.{KeepsPromise};

@@ -1,4 +1,5 @@
--- For `the_large_headline`: the replies of a run meet the claim, from the steps of `Steps` one by one.
+-- For `the_large_headline`: the replies of every run in mode `large` meet the claim (`MeetsLarge`), item by item, since each reply and the objects after it
+-- are those that the claim computes.
 use Rattle.std.proofs.Common.{◌≡◌, List, [], ◌∷◌, Option, Some, None, sym, ◌∙◌, ap, subst}
 use Rattle.std.specs.Prelude.{⊤, option_map}
 use Rattle.cf_base.specs.Settings.{Profile, at_bound_one}

@@ -61,7 +61,7 @@ taken_by_sum : (p : Paging) (o : Objects) → taken_bytes p o ≡ 8 * length_sum
 unfolding taken_bytes length_sum
 taken_by_sum p o = refl
 
--- the refusals by their tests
+-- the refusal by the results of the three tests
 abbrev refusal_by : (size proxy space : Bool) → Option Refusal
 refusal_by size proxy space = cond size (Some refusal.Size) (cond proxy (Some refusal.Proxy) (cond space (Some refusal.Space) None))
 
@@ -100,7 +100,7 @@ module _ (s : LargeRun) (going : IsGoingLarge s) where
   unfolding inner_pages_with
   with_is n = λ i. pages_for p (λ c. live_is c i + in_class p c (inner_lengths u n))
 
-  -- m
+  -- the command `m`
   module _ (n : ℕ) where
     abbrev size_test : Bool
     size_test = nat_lt u n && nat_lt u (spine_bytes u n)
@@ -136,7 +136,7 @@ module _ (s : LargeRun) (going : IsGoingLarge s) where
     pub not_refused : HasRoom s.heap n → large_refusal (shown s) n ≡ None
     not_refused room = λ i. refusal_by (fits_so room.fits i) (few_so room.proxies i) (within_so room.pages i)
 
-  -- the reports
+  -- the replies to `walk` and `frag`
   each_is : (c : ℕ) → live p (objects inner.held) c ≡ live_inner (shown s) c
   each_is c = going.parts.counted.each c ∙ sym (live_is c)
 

@@ -1,4 +1,5 @@
--- For `the_large_headline`: each command's reply and the heap after it are those of `large_reply` and `large_after`.
+-- For `the_large_headline`: in a run in mode `large` each command's reply, and the objects by id after it, are those that the claim computes (`large_reply`,
+-- `large_after`).
 use Rattle.std.proofs.Common.{◌≡◌, ℕ, cond, ◌+◌, ◌<◌, ◌≤◌, List, Option, Some, None, length, replicate, arith, sym, ◌∙◌, ap, refl}
 use Rattle.std.specs.Prelude.{Result, Ok, Err, codes}
 use Rattle.std.specs.Option.{MatchOption}
@@ -59,7 +60,7 @@ module _ (old new : LargeRun) (going : IsGoingLarge old) (later : IsGoingLarge n
   same_shown : new ≡ old → shown new ≡ with (by_id old)
   same_shown is = ap shown is
 
-  -- m
+  -- the command `m`
   malloc_is : (id n : ℕ) (answer : Result Handle Refusal) → IsLargeMalloc old.heap n answer new.heap → new.ids ≡ ids_given old.ids id answer
       → (large_refusal t n ≡ refused answer) × (by_id new ≡ put_unless (refused answer) (by_id old) id (replicate n 0))
   malloc_is id n (Ok h) g ids = (
@@ -86,7 +87,7 @@ module _ (old new : LargeRun) (going : IsGoingLarge old) (later : IsGoingLarge n
         same_shown st.1 ∙ sym (ap (λ o. with (malloc_leaves o t id n)) v.2),
       )
 
-  -- f
+  -- the command `f`
   free_answered : (id : ℕ) → (o : Option ℕ) → get old.ids id ≡ o
       → MatchOption o (StaysLarge old (codes "unknown") reply new) (λ h. FreesIdLarge old id h reply new) → Answered (command.Free id)
   free_answered id None none st =
@@ -100,7 +101,7 @@ module _ (old new : LargeRun) (going : IsGoingLarge old) (later : IsGoingLarge n
         stays_shown st.kept ∙ ap with ((λ i. objects_by_id (st.ids i) ((st.step).left i)) ∙ by_id_gone old.ids old.heap.objects going.tied id h named),
       )
 
-  -- w
+  -- the command `w`
   write_is : (id h from : ℕ) (bytes v : List ℕ) → get old.ids id ≡ Some h → get old.heap.objects h ≡ Some v → (answer : Result Unit AccessFault)
       → IsLargeWrite old.heap (record { number = h; from = from }) bytes answer new.heap → new.ids ≡ old.ids
       → (write_text answer ≡ write_said (Some v) from (length bytes))
@@ -143,7 +144,7 @@ module _ (old new : LargeRun) (going : IsGoingLarge old) (later : IsGoingLarge n
         stays_shown st.kept ∙ ap with (stated.1 ∙ sym (ap (λ o. write_leaves o (by_id old) (record { id = id; at = from; bytes = bytes })) v.2)),
       )
 
-  -- r
+  -- the command `r`
   read_answered : (id from count : ℕ) → reply ≡ said (large_read_text (large_object_of old id) from count) → new ≡ old
       → Answered (command.Read id from count)
   read_answered id from count r same = (

@@ -1,4 +1,5 @@
--- For `wrong_large_replies_fall_short`: the right replies to the small script meet the claim, and wrong ones don't.
+-- For `wrong_large_replies_fall_short`: the right replies to a small script in mode `large`, worked out command by command, meet the claim; replies that meet
+-- it are eight, with the same letters in their first lines.
 use Rattle.std.proofs.Common.{◌≡◌, ℕ, true, List, [], ◌∷◌, Some, None, length, replicate, get_or, sym, ◌∙◌, ap, refl}
 use Rattle.std.specs.Prelude.{codes}
 use Rattle.std.specs.Fmt.{digits}
@@ -69,7 +70,7 @@ step7 : Steps o3 (Malloc 3 4000) (said (codes "refused space")) o3
 unfolding sizes_from class_for inner_count inner_live inner_pages_with inner_sum in_class inner_lengths part_count digits encode_with
 step7 = (simp maps, simp maps)
 
--- one command, before the rest
+-- if `replies` are those to the items `rest` after a command, its reply and then `replies` are those to the command and these items
 before : (old : Objects) (c : Command) (reply : Reply) (new : Objects) (rest : List Item) (replies : List Reply) → Steps old c reply new
     → large_replies Moving (Some (with new)) rest ≡ replies → large_replies Moving (Some (with old)) (asks c ∷ rest) ≡ reply ∷ replies
 before old c reply new rest replies step more = (λ i. step.0 i ∷ large_replies Moving (Some (step.1 i)) rest) ∙ ap (λ l. reply ∷ l) more

@@ -1,5 +1,5 @@
--- What is claimed of every script in mode `large`: each reply is a function of the lines before it. `t` is the heap before a command: its settings, with the
--- bound 1 in each class, and its objects by id, long ones whole.
+-- What is claimed of every script in mode `large`: each reply is a function of its line and the lines before it. `t` is the heap before a command: its
+-- settings, with the bound 1 in each class, and its objects by id, long ones whole.
 --
 -- An object that fits a page is one inner object, a longer one is a spine and its parts (`inner_lengths`). Refusals and reports count inner objects.
 use Rattle.std.specs.Prelude.{◌≡◌, ℕ, ◌+◌, ◌-◌, ◌*◌, ◌&&◌, List, [], ◌∷◌, ◌++◌, Option, Some, None, Err, codes, filter, if◌then◌else◌, length, map, nat_eq, nat_lt, not}

@@ -23,10 +23,10 @@ pub fn the_large_headline()
         → MeetsLarge kind items replies → MeetsLarge kind items others → others ≡ replies }
 {}
 
-/// Some wrong replies, each of which violates the claim: so it rules something out. The script, on eight pages
-/// of 512 bytes: a malloc of 600 bytes; a write of two bytes across the end of a part; a malloc of 90 bytes; a
-/// read of the two bytes; `walk`; `frag`; and a malloc of 4,000 bytes, which needs more pages than are free.
-/// The claim holds for the right replies (`right`). It fails for `refused size` to a malloc that fits
+/// The claim excludes wrong replies: the right ones meet it, and nine wrong ones don't. The script, on eight
+/// pages of 512 bytes: a malloc of 600 bytes; a write of two bytes across the end of a part; a malloc of 90
+/// bytes; a read of the two bytes; `walk`; `frag`; and a malloc of 4,000 bytes, which needs more pages than are
+/// free. The claim holds for the right replies (`right`). It fails for `refused size` to a malloc that fits
 /// (`size`), for no replies at all (`silent`), for a reply too few (`missing`) or too many (`over`), for a read
 /// of zeros (`other`), for a `walk` that counts the long object as one object (`whole`), for a `frag` without
 /// the bytes of the spine (`spine`) or of its slot (`slots`), and for `ok` to the last malloc (`pages`).

@@ -1,4 +1,5 @@
--- A long object is read and written part by part: for the loops of `read_long` and `write_long`.
+-- For the loops of `read_long` and `write_long`, which go part by part: the next bytes are in one part, and after each turn the first bytes of the call are
+-- read, or are written into the object.
 use Rattle.std.proofs.Common.{◌≡◌, ℕ, ◌+◌, ◌*◌, ◌/◌, ◌%◌, ◌^◌, ◌<◌, ◌≤◌, List, [], ◌∷◌, ◌++◌}
 use Rattle.std.proofs.Common.{Some, length, take, drop, arith, sym, ◌∙◌, ap, refl, subst, length-append, length-drop}
 use Rattle.std.proofs.Math.Nat.{div-add-mod, lt_of_mul-lt-mul_left, mod-lt}
@@ -39,7 +40,7 @@ module _ (u from : ℕ) (some : 0 < u) where
       let l : u * (from / u) < u * part_count u n = omega arith in
       lt_of_mul-lt-mul_left u l
 
--- the next chunk is in one part
+-- the bytes that the loop reads or writes next are in one part
 pub next_range : (s : LargeState) (h at done count total : ℕ) (v : List ℕ) → 0 < part_bytes_in s → get s.objects h ≡ Some v → part_bytes_in s < length v
     → at + total ≤ length v → done + count ≤ total → 0 < count → (at + done) % part_bytes_in s + count ≤ part_bytes_in s
     → HasPartRange s h ((at + done) / part_bytes_in s) ((at + done) % part_bytes_in s) count
@@ -52,14 +53,14 @@ next_range s h at done count total v some found long within few more inside = re
   within = (let e = place_is (part_bytes_in s) (at + done) some in omega arith);
 }
 
--- nothing is written yet
+-- before the first write: no bytes are written
 pub wrote_nothing : (s : LargeState) (h at : ℕ) (bytes v : List ℕ) → get s.objects h ≡ Some v → at ≤ length v
     → s.objects ≡ insert s.objects h (written v at (take 0 bytes))
 wrote_nothing s h at bytes v found within =
     let e : written v at (take 0 bytes) ≡ v = ap (written v at) (take_none bytes) ∙ written_nothing v at within in
     sym (ap (insert s.objects h) e ∙ inserted_there s.objects h v found)
 
--- one chunk more is written
+-- after one more write, of `chunk`
 pub wrote_more : (old now new : LargeState) (h at done count : ℕ) (bytes v chunk : List ℕ) (from : ℕ) → get old.objects h ≡ Some v
     → at + length bytes ≤ length v → done + count ≤ length bytes → now.objects ≡ insert old.objects h (written v at (take done bytes))
     → chunk ≡ take count (drop done bytes) → from ≡ at + done → WritesLarge now (record { number = h; from = from }) chunk new
@@ -76,7 +77,7 @@ wrote_more old now new h at done count bytes v chunk from found within few so_fa
     ∙ ap (λ (x : List ℕ). insert old.objects h (written (written v at (take done bytes)) (at + done) x)) chunk_is
     ∙ ap (insert old.objects h) (written_more v at bytes done count within few)
 
--- the object in the middle of a write
+-- the object's bytes when the first `done` of the new bytes are written
 pub now_found : (old now : LargeState) (h at done : ℕ) (bytes v : List ℕ) → now.objects ≡ insert old.objects h (written v at (take done bytes))
     → get now.objects h ≡ Some (written v at (take done bytes))
 now_found old now h at done bytes v so_far = ap (λ (o : Objects). get o h) so_far ∙ get_inserted old.objects h _
@@ -84,7 +85,7 @@ now_found old now h at done bytes v so_far = ap (λ (o : Objects). get o h) so_f
 pub now_long : (at done : ℕ) (bytes v : List ℕ) → at + length bytes ≤ length v → length (written v at (take done bytes)) ≡ length v
 now_long at done bytes v within = length-written v at (take done bytes) (let l = length-take done bytes in omega arith)
 
--- all chunks are written
+-- after the last write: all bytes are written
 pub wrote_all : (old now : LargeState) (h at done : ℕ) (bytes : List ℕ) (has : HasLong old h at (length bytes)) → length bytes ≤ done
     → ((v : List ℕ) → get old.objects h ≡ Some v → now.objects ≡ insert old.objects h (written v at (take done bytes)))
     → WritesLarge old (record { number = h; from = at }) bytes now
@@ -164,7 +165,7 @@ module _ (old now : LargeState) (h at done count part_bytes : ℕ) (bytes : List
       (let l = same_bytes in let w = has.within in omega arith) few more
       (subst (λ k. (at + done) % k + count ≤ k) (sym part_now) inside))
 
-  -- after the chunk
+  -- after the write of `chunk`
   pub so_far_more : (new : LargeState) (chunk : List ℕ) → chunk ≡ take count (drop done bytes)
       → WritesLarge now (record { number = h; from = part_bytes_in now * ((at + done) / part_bytes) + (at + done) % part_bytes }) chunk new
       → (v : List ℕ) → get old.objects h ≡ Some v → new.objects ≡ insert old.objects h (written v at (take (done + count) bytes))
@@ -176,7 +177,7 @@ module _ (old now : LargeState) (h at done count part_bytes : ℕ) (bytes : List
       wrote_more old now new h at done count bytes v chunk (part_bytes_in now * ((at + done) / part_bytes) + (at + done) % part_bytes) found within few (so_far v found)
       chunk_is from wrote
 
--- a read of the next chunk
+-- the next read, of `count` bytes in one part
 module _ (s : LargeState) (h at done count part_bytes total : ℕ) (has : HasLong s h at total) (parts : KeepsParts s) (part_is : part_bytes ≡ part_bytes_in s)
     (positive : 0 < part_bytes)
     (few : done + count ≤ total) (more : 0 < count) where
@@ -193,7 +194,7 @@ module _ (s : LargeState) (h at done count part_bytes total : ℕ) (has : HasLon
       (next_range s h at done count total has.bytes (let e = part_is in omega arith) has.found has.long has.within few more
       (subst (λ k. (at + done) % k + count ≤ k) part_is inside))
 
-  -- what was read so far, and then the chunk
+  -- the bytes read before, followed by those of the next read
   pub read_more : (v out : List ℕ) → (before : List ℕ) → before ≡ take done (drop at v)
       → out ≡ take count (drop (part_bytes_in s * ((at + done) / part_bytes) + (at + done) % part_bytes) v)
       → before ++ out ≡ take (done + count) (drop at v)
@@ -202,7 +203,7 @@ module _ (s : LargeState) (h at done count part_bytes total : ℕ) (has : HasLon
       ap (λ k. k * ((at + done) / part_bytes) + (at + done) % part_bytes) (sym part_is) ∙ place_is part_bytes (at + done) positive in
       ap (λ w. w ++ out) before_is ∙ ap (λ w. take done (drop at v) ++ w) (out_is ∙ ap (λ k. take count (drop k v)) from) ∙ sym (take_drop_more v at done count)
 
--- a list keeps its length if a part of it is replaced by a list of the same length
+-- a list keeps its length if a range of it is replaced by a list of the same length
 pub length_put : (a k : ℕ) (xs ys : List ℕ) → length ys ≡ k → a + k ≤ length xs → length (put_mid a k xs ys) ≡ length xs
 length_put a k xs ys same within =
     let put : List ℕ = put_mid a k xs ys in
@@ -213,7 +214,7 @@ length_put a k xs ys same within =
     let first = length-take a xs in
     omega arith
 
--- what was read so far, after the chunk
+-- the first bytes of the buffer after one more read
 pub read_put : (at done count k : ℕ) (v xs ys : List ℕ) → length ys ≡ count → done + count ≤ length xs → take done xs ++ ys ≡ take (done + count) (drop at v)
     → take (done + count) (put_mid done k xs ys) ≡ take (done + count) (drop at v)
 read_put at done count k v xs ys long within after = take-put_mid done k xs ys (done + count) (omega arith) (omega arith) ∙ after

@@ -1,4 +1,5 @@
--- Ranges of byte lists: the handles of a spine, the parts of an object, and what a write changes of them.
+-- Ranges of lists of bytes: the handles in a spine, the parts of an object, and which of them a write changes; all parts, one after the other, are the
+-- object.
 use Rattle.std.proofs.Common.{◌≡◌, ◌≢◌, ℕ, zero, suc, ◌+◌, ◌-◌, ◌*◌, ◌^◌, ◌<◌, ◌≤◌, List, ◌++◌}
 use Rattle.std.proofs.Common.{length, get_or, take, drop, replicate, min, arith, sym, ◌∙◌, ap, refl, inl, inr}
 use Rattle.std.proofs.Common.{length-drop}
@@ -169,7 +170,7 @@ written_more v at bs d c fits some =
       ]
     ])
 
--- a part and the part after it
+-- a range is its first d bytes and then the c bytes after them
 pub take_drop_more : (v : List ℕ) (at d c : ℕ) → take (d + c) (drop at v) ≡ take d (drop at v) ++ take c (drop (at + d) v)
 take_drop_more v at d c = take-add d c (drop at v) ∙ ap (λ w. take d (drop at v) ++ take c w) (drop_twice v at d)
   where

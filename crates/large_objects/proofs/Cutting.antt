@@ -1,4 +1,4 @@
--- How many parts an object has and how long each is, by the object's length: for the functions of `cut` and the law `parts_are_as_many_as_needed`.
+-- Into how many parts an object is cut and how long each is, by the object's length; and how many of these lengths, with that of the spine, are in a class.
 use Rattle.std.proofs.Common.{◌≡◌, ℕ, suc, ◌+◌, ◌-◌, ◌*◌, ◌/◌, ◌%◌, ◌<◌, ◌≤◌, List, [], ◌∷◌, ◌++◌, length, get_or, take, replicate, min}
 use Rattle.std.proofs.Common.{arith, sym, ◌∙◌, ap, refl, inl, inr, length-append}
 use Rattle.std.specs.Prelude.{count_by, sum_by, nat_eq}
@@ -63,7 +63,7 @@ module _ (u n : ℕ) (some : 0 < u) where
       let t : u * (i + 1) ≡ u * i + u = omega arith in
       omega arith
 
-  -- the last one has what is left
+  -- the last part has the bytes after the whole parts
   pub last_part : (i : ℕ) → i + 1 ≡ part_count u n → part_length u n i ≡ n - u * (part_count u n - 1)
   last_part i is =
       let e = parts_enough in
@@ -99,7 +99,7 @@ module _ (u n : ℕ) (some : 0 < u) where
       let c = two_parts lt in
       rw (inner_lengths_long lt) (omega arith)
 
-  -- after the spine the parts come in order
+  -- in `inner_lengths` the parts follow the spine, in order
   pub inner_length_is : u < n → (i : ℕ) → i < part_count u n → get_or (inner_lengths u n) (suc i) 0 ≡ part_length u n i
   inner_length_is lt i below =
       let l = length-replicate (part_count u n - 1) u in
@@ -114,7 +114,7 @@ module _ (u n : ℕ) (some : 0 < u) where
             ∙ ap (λ k. get_or ((n - u * (part_count u n - 1)) ∷ []) k 0) z ∙ sym (last_part i (omega arith)))
       ]
 
--- one part more in the count of a class
+-- how many of the first i + 1 lengths are in class c
 pub in_class_more : (p : Paging) (c : ℕ) (xs : List ℕ) (i : ℕ) → i < length xs
     → in_class p c (take (i + 1) xs) ≡ in_class p c (take i xs) + one (nat_eq (class_for p (get_or xs i 0)) c)
 unfolding in_class

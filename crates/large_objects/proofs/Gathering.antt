@@ -1,4 +1,5 @@
--- The bytes gathered from the inner objects are those of the large objects; and the counts and lengths after each call.
+-- The bytes of each object can be gathered from its inner objects; and after a malloc, free or write the number of inner objects in each class (`AreCounted`)
+-- and the table of lengths (`AreLengths`) are right.
 use Rattle.std.proofs.Common.{◌≡◌, ◌≢◌, ℕ, zero, suc, ◌+◌, ◌-◌, ◌*◌, ◌<◌, ◌≤◌, List, [], ◌∷◌, ◌++◌}
 use Rattle.std.proofs.Common.{Some, None, length, get_or, set, drop, replicate, arith, sym, ◌∙◌, ap, refl, inl, inr, length-drop}
 use Rattle.std.specs.Prelude.{Option, nat_eq, option_map, sum_by}
@@ -39,7 +40,7 @@ gathered_at u inner k (None ∷ lengths) (suc i) = gathered_at u inner (k + 1) l
 gathered_at u inner k (Some n ∷ lengths) (suc i) = gathered_at u inner (k + 1) lengths i
     ∙ ap (λ h. option_map (gathered u inner h) (get_or lengths i None)) (let e : k + 1 + i ≡ k + suc i = omega arith in e)
 
--- an object is gathered whole
+-- the bytes gathered for an object are its bytes
 gathered_is : (u : ℕ) (large inner : Objects) → 0 < u → AreLaidOut u large inner → (h : ℕ) (v : List ℕ) → get large h ≡ Some v → gathered u inner h (length v)
     ≡ v
 unfolding gathered
@@ -50,7 +51,7 @@ gathered_is u large inner some laid h v is = elim (cases_lt u (length v)) [
   | inr short ↦ rw (le_yes (length v) u short) (ap bytes_in (laid.small h v is short))
 ]
 
--- all objects are gathered whole
+-- the gathered objects are the objects of the heap
 pub all_gathered : (u proxies : ℕ) (lengths : List (Option ℕ)) (large inner : Objects) → 0 < u → AreLaidOut u large inner → AreLengths lengths large proxies
     → gathered_objects u lengths inner ≡ large
 unfolding gathered_objects
@@ -146,7 +147,7 @@ module _ (p : Paging) (u : ℕ) (some : 0 < u) (large inner : Objects) (laid : A
             let before = counted.sums f in omega arith);
       }
 
-  -- a long one, when all its parts are made
+  -- a long object is made, with all its parts
   module _ (long : u < n) (next : Objects) (grown : IsGrowing p u n inner h (part_count u n) next) where
     pub new_long : IsNew u inner h (replicate n 0) next
     new_long =

@@ -1,4 +1,5 @@
--- A malloc of a long object, part by part: for the loop of `make_long`.
+-- A malloc of a long object that has room: the spine is made, then part by part, each named in the spine. There is room for each in turn, and the invariant
+-- of the loop of `make_long` holds (`IsGrowing`).
 use Rattle.std.proofs.Common.{◌≡◌, ◌≢◌, ℕ, suc, ◌+◌, ◌-◌, ◌*◌, ◌^◌, ◌<◌, ◌≤◌, List, [], ◌∷◌, ◌++◌}
 use Rattle.std.proofs.Common.{Some, None, length, get_or, take, replicate, arith, sym, ◌∙◌, ap, refl, subst, inl, inr}
 use Rattle.std.specs.Prelude.{◌⊎◌, Option, nat_eq, sum_by}
@@ -295,7 +296,7 @@ module _ (u n : ℕ) (old now : HeapState) (h i : ℕ) (some : 0 < u) (long : u 
   pub place_in_spine : HasInner now h (4 * i) 4
   place_in_spine = record { bytes = g.growing.spine.spine; found = g.growing.spine.found; within = (let l = g.growing.spine.long in omega arith) }
 
-  -- the place's byte is a number of 32 bits, as the spine fits a page
+  -- the index of the place's first byte is a number of 32 bits, as the spine fits a page
   pub place_is_small : u < 2 ^ 32 → 4 * i < 2 ^ 32
   place_is_small small = (let within : spine_bytes u n ≤ u = elim room.fits [ inl short ↦ absurd (omega arith) | inr fits ↦ fits ] in omega arith)
 

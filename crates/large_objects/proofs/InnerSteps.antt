@@ -1,4 +1,5 @@
--- What the calls of an inner manager that is ready do to its objects.
+-- What the calls of a *ready* inner manager (open, with pages and every bound 1) do to its objects: it refuses no malloc that has room, no free of a live
+-- object, and no access within an object.
 use Rattle.std.proofs.Common.{◌≡◌, ℕ, ◌+◌, ◌*◌, ◌^◌, ◌<◌, ◌≤◌, List, Some, None, true, length, take, drop, arith, sym, ◌∙◌, ap, refl, subst}
 use Rattle.std.specs.Prelude.{Result, Ok, Err}
 use Rattle.std.proofs.lemmas.Option.{same_Some}
@@ -46,7 +47,7 @@ stays_ready old new r k rules = record {
   };
 }
 
--- one call after another
+-- two calls, one after the other, leave a ready manager too
 pub then_ready : (a b c : HeapState) → StaysReady a b → StaysReady b c → StaysReady a c
 then_ready a b c x y = record {
   settings = record {
@@ -126,7 +127,7 @@ inner_freed old new h v (Ok freed) ready found step rules = record { stays = sta
 inner_freed old new h v (Err e) ready found (none, same) rules =
     absurd (not_both (objects old.held) h v found (bytes_missing old.held h none))
 
--- no inner object is longer than a page, nor than a number of 32 bits
+-- an inner object is not longer than a page, so its length is a number of 32 bits
 pub inner_small : (s : HeapState) → IsReady s → (q : ℕ) (v : List ℕ) → get (objects s.held) q ≡ Some v → length v < 2 ^ 32
 inner_small s r q v is =
     let x = held_of_bytes s.held q v is in

@@ -1,4 +1,5 @@
--- For a malloc of all inner objects of a large object, and for a free of them, there is a state of the inner manager after it: for `LargeThere`.
+-- For the proof that each call has a result: if there is room, the inner manager has a state after all inner objects of a new object are made, and one after
+-- those of a live object are freed.
 use Rattle.std.proofs.Common.{◌≡◌, ℕ, zero, suc, ◌+◌, ◌*◌, ◌<◌, ◌≤◌, arith, subst, inl, inr}
 use Rattle.std.specs.Int.{to_le_bytes, w32}
 use Rattle.std.proofs.lemmas.Bool.{cases_lt}

@@ -1,4 +1,5 @@
--- From the fields of a heap of large objects: what a call may rely on before it, and that the heap keeps its rules after it.
+-- For each call of a heap of long objects, by its fields: what the call may rely on, that the invariant and the rules hold after a malloc, free or write, and
+-- the cause for which a malloc is refused.
 use Rattle.std.proofs.Common.{◌≡◌, ℕ, ◌+◌, ◌*◌, ◌^◌, ◌<◌, ◌≤◌, Bool, true, List, Some, None, length}
 use Rattle.std.proofs.Common.{get_or, set, take, drop, replicate, arith, sym, ◌∙◌, ap, refl, subst, inl, inr}
 use Rattle.std.specs.Prelude.{Option, IsTrue, option_map}

@@ -1,4 +1,5 @@
--- After each call the inner objects are the short objects, the spines and the parts (`AreLaidOut`).
+-- When an object is made, freed or written, the inner objects are still exactly the short objects, the spines and the parts of the heap's objects
+-- (`AreLaidOut`).
 use Rattle.std.proofs.Common.{◌≡◌, ◌≢◌, ℕ, ◌<◌, ◌≤◌, List, Some, None, length, arith, sym, ◌∙◌, ap, refl, inl, inr}
 use Rattle.std.specs.Prelude.{◌⊎◌, Option}
 use Rattle.std.proofs.lemmas.Bool.{cases_eq, cases_lt}
@@ -50,7 +51,7 @@ module _ (u : ℕ) (large inner : Objects) (laid : AreLaidOut u large inner) whe
             (laid.of_one (named inner h j) h j h k (part_bytes j lj) other).1);
       }
 
--- An object h with these bytes is made, with its parts.
+-- An object of the bytes v is made under the handle h: `inner` are the inner objects before, `next` those afterwards, with those of the new object.
 pub record IsNew (u : ℕ) (inner : Objects) (h : ℕ) (v : List ℕ) (next : Objects) : Type 0 where
   pub unused : get inner h ≡ None
   pub others : (q : ℕ) (b : List ℕ) → get inner q ≡ Some b → get next q ≡ Some b
@@ -82,7 +83,7 @@ module _ (u : ℕ) (large inner : Objects) (laid : AreLaidOut u large inner) (h 
   same_named : (g : ℕ) (w : List ℕ) → get large g ≡ Some w → (i : ℕ) → named next g i ≡ named inner g i
   same_named g w is i = ap (λ o. handle_at (bytes_in o) i) (same_handle g w is)
 
-  -- a part afterwards is one of the new object's, or was one before
+  -- each part afterwards is a part of the new object, or was a part before
   before_or_own : (q g i : ℕ) → IsPart u more next q g i
       → ((g ≡ h) × ((u < length v) × ((i < part_count u (length v)) × (q ≡ named next h i)))) ⊎ IsPart u large inner q g i
   before_or_own q g i k = elim (some_inserted large h v g k.bytes k.found) [
@@ -153,11 +154,11 @@ module _ (u : ℕ) (large inner : Objects) (laid : AreLaidOut u large inner) (h 
         | inr (long, (i, lt, at)) ↦ (h, i, record { bytes = v; found = get_inserted large h v; long = long; below = lt; is = at })
       ]
 
--- q is the handle of h, or of one of its parts
+-- q is the handle of the object h, or of one of its parts
 abbrev pub IsInnerOf : ℕ → Objects → ℕ → List ℕ → ℕ → Type 0
 IsInnerOf u inner h v q = (q ≡ h) ⊎ ((u < length v) × ((i : ℕ) × (i < part_count u (length v)) × (q ≡ named inner h i)))
 
--- The inner objects of h change, and nothing else.
+-- The inner objects of the object h change, and nothing else.
 module _ (u : ℕ) (large inner : Objects) (laid : AreLaidOut u large inner) (h : ℕ) (v : List ℕ) (found : get large h ≡ Some v) (next : Objects)
     (others : (q : ℕ) → (IsInnerOf u inner h v q → ⊥) → get next q ≡ get inner q) where
   own_part : u < length v → (i : ℕ) → i < part_count u (length v) → IsPart u large inner (named inner h i) h i
@@ -180,7 +181,7 @@ module _ (u : ℕ) (large inner : Objects) (laid : AreLaidOut u large inner) (h 
         ne (laid.of_one q g j h i k own).0)
   ])
 
-  -- all parts of h are removed
+  -- all inner objects of the object h are removed
   module _ (gone : (q : ℕ) → IsInnerOf u inner h v q → get next q ≡ None) where
     abbrev less : Objects
     less = remove large h

@@ -1,4 +1,5 @@
--- For each call of a heap of large objects there is an answer and a state after it that its contract allows: for `Turns`.
+-- Each call of a heap of long objects has a result and a state after it that its contract allows: a malloc with room, or a cause to refuse it; a free; and a
+-- write, part by part.
 use Rattle.std.proofs.Common.{◌≡◌, ℕ, zero, suc, ◌+◌, ◌-◌, ◌*◌, ◌/◌, ◌%◌, ◌<◌, ◌≤◌, true, List, Some}
 use Rattle.std.proofs.Common.{None, length, set, take, drop, min, arith, sym, ◌∙◌, ap, refl, subst, inl, inr}
 use Rattle.std.specs.Prelude.{◌⊎◌, IsTrue, Option, option_map}
@@ -148,7 +149,7 @@ module _ (old : LargeState) (opened : IsTrue old.is_open) (kept : KeepsParts old
   pub kept_same : StaysKept old old
   kept_same = same_kept true old.inner.profile.pages u lengths old.inner old view opened valid
 
--- bytes are written into a long object, chunk by chunk
+-- bytes are written into a long object, part by part
 module _ (old : LargeState) (opened : IsTrue old.is_open) (kept : KeepsParts old) (h at : ℕ) (bytes : List ℕ) (has : HasLong old h at (length bytes))
     (are : AreBytes bytes) (few : length bytes ≤ 4096) where
   pub record IsWritten (now : LargeState) (done : ℕ) : Type 0 where

@@ -1,4 +1,4 @@
--- The causes of refusals exclude one another, the pages in use follow from the objects, and writes are read back: for the laws of large objects.
+-- The causes of refusals exclude one another, the pages in use follow from the objects, and writes are read back: for the laws of long objects.
 use Rattle.std.proofs.Common.{◌≡◌, ◌≢◌, ℕ, List, Some, None, length, take, drop, arith, sym, ◌∙◌, ap, refl, inl, inr}
 use Rattle.std.proofs.lemmas.Option.{same_Some}
 use Rattle.std.specs.FinMap.{get}

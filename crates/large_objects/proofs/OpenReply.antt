@@ -1,4 +1,5 @@
--- How a run over large objects begins, and that no command changes the kind of its manager: for `open` and `answer` of the mode handler.
+-- For mode `large`: once its `heap` line is done, a run over long objects has an open heap with these settings at the bound 1, and is in progress; and no
+-- command changes the kind of its inner manager.
 use Rattle.std.proofs.Common.{◌≡◌, ℕ, List, Some, None, ap, subst}
 use Rattle.std.specs.Prelude.{Option, codes}
 use Rattle.std.specs.Option.{MatchOption}

@@ -1,4 +1,5 @@
--- An inner manager as a run of its own, in which each handle is its own id: so each call that it has room for is done.
+-- An inner manager has a state after each malloc with room, free or write of an inner object: it is the state of a run whose ids are the live handles, and
+-- each command of a run has a reply.
 use Rattle.std.proofs.Common.{◌≡◌, ℕ, zero, suc, ◌+◌, ◌<◌, ◌≤◌, List, [], ◌∷◌, Some, None, length, get_or, arith, sym, ◌∙◌, ap, refl, subst, inl, inr}
 use Rattle.std.specs.Prelude.{Option, option_map, Result, Ok, Err, codes}
 use Rattle.std.specs.Option.{MatchOption}
@@ -20,7 +21,7 @@ use Rattle.id_table.specs.Ids.{Ids}
 use Rattle.script_reader.specs.declared.command.Command.TheVariants.{Malloc, Free, Write}
 use Rattle.run_model.specs.Sessions.{AreTied, CostsAtMost, IsGoing, RunState, SessionState}
 use Rattle.run_model.specs.Steps.{Frees, Mallocs, Stays, Writes}
-use Rattle.run_laws.proofs.CallerLemmas.{turn_there}
+use Rattle.run_laws.proofs.CallerLemmas.{step_exists}
 use Rattle.large_objects.specs.InnerCalls.{FreesInner, MakesOneInner, HasInner, HasInnerRoom, IsReady, WritesInner}
 use Rattle.run_model.proofs.CallerLemmas.{held_of_bytes}
 use Rattle.large_objects.proofs.InnerSteps.{inner_freed, inner_given, inner_not_refused, inner_written}
@@ -96,7 +97,7 @@ module _ (s : HeapState) (ready : IsReady s) where
   -- an inner object is made, if there is room
   pub gives_there : (n : ℕ) → HasInnerRoom s n → (q : ℕ) × (new : HeapState) × MakesOneInner s q n new
   gives_there n room =
-      let t = turn_there run (Malloc s.profile.proxies n) going (record { formed = tt; bytes = tt }) in
+      let t = step_exists run (Malloc s.profile.proxies n) going (record { formed = tt; bytes = tt }) in
       let m = of_free t.0 t.1 (get ids s.profile.proxies) (id_is s.profile.proxies ∙ own_past s.profile.proxies (omega arith)) t.2.step in
       by_answer t.1.heap m.answer m.step m.rules
     where
@@ -110,11 +111,11 @@ module _ (s : HeapState) (ready : IsReady s) where
       by_answer new (Ok h) given rules = (h.0, new, inner_given s new (record { number = h.0; length = n }) ready given rules)
       by_answer new (Err e) (cause, same) rules = absurd (inner_not_refused s n ready room e cause)
 
-  -- a live one is freed
+  -- a live inner object is freed
   pub frees_there : (q : ℕ) → HasInner s q 0 0 → (new : HeapState) × FreesInner s q new
   frees_there q has =
       let x = held_of_bytes s.held q has.bytes has.found in
-      let t = turn_there run (Free q) going (record { formed = tt; bytes = tt }) in
+      let t = step_exists run (Free q) going (record { formed = tt; bytes = tt }) in
       let f = of_live t.0 t.1 (get ids q) (id_is q ∙ ap (option_map (λ (x : Placed). q)) x.1) t.2.step in
       (t.1.heap, inner_freed s t.1.heap q has.bytes (Ok f.freed) ready has.found f.step f.rules)
     where
@@ -124,12 +125,12 @@ module _ (s : HeapState) (ready : IsReady s) where
       of_live reply new None live f = absurd (let z : ◌≡◌ {A = Option ℕ} None (Some q) = live in cc)
       of_live reply new (Some h) live f = (let e = same_Some h q live in subst (λ k. Frees run (record { id = q; number = k }) reply new) e f)
 
-  -- bytes are written into one: at most 4,096, as in a command
+  -- bytes are written into a live inner object: at most 4,096, as in a command `w`
   pub writes_there : (q at : ℕ) (bytes : List ℕ) → HasInner s q at (length bytes) → AreBytes bytes → 1 ≤ length bytes → length bytes ≤ 4096
       → (new : HeapState) × WritesInner s q at bytes new
   writes_there q at bytes has are some few =
       let x = held_of_bytes s.held q has.bytes has.found in
-      let t = turn_there run (Write q at bytes) going (record { formed = (some, few); bytes = are }) in
+      let t = step_exists run (Write q at bytes) going (record { formed = (some, few); bytes = are }) in
       let w = of_live t.0 t.1 (get ids q) (id_is q ∙ ap (option_map (λ (x : Placed). q)) x.1) t.2.step in
       (t.1.heap, inner_written s t.1.heap (record { number = q; from = at }) bytes w.answer ready has w.step w.rules)
     where

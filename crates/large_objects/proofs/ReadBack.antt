@@ -1,4 +1,4 @@
--- In a run over large objects, reads return the bytes that follow from the lines and their replies: for the law `reads_give_what_was_written`.
+-- In a run over long objects, reads return the bytes that follow from the lines and their replies: for the law `reads_give_what_was_written`.
 use Rattle.std.proofs.Common.{List, Option, None}
 use Rattle.cf_base.specs.declared.kind.Kind.{Kind}
 use Rattle.cf_io.specs.Texts.{Reply}
@@ -10,7 +10,7 @@ use Rattle.large_objects.specs.Playing.{BeginsAtOne, RunsLarge}
 use Rattle.large_objects.proofs.RunInvariant.{named, still_going, turn_named}
 use Rattle.large_objects.proofs.Turns.{begins_going}
 
--- a run over large objects is one whose ids name objects (`NamesObjects`)
+-- a run over long objects is one whose ids name objects (`NamesObjects`)
 large_names : (kind : Kind) → NamesObjects (BeginsAtOne kind) LargeStep
 large_names kind = record {
   is_going = IsGoingLarge;

@@ -1,4 +1,5 @@
--- What a command of a session over large objects did and what was written of its reply, together.
+-- What a command of a session over long objects did, together with what the sink got of its reply: for `walk` and `frag`, and for the text of a read; after
+-- it the run is in progress.
 use Rattle.std.proofs.Common.{◌≡◌, ◌∙◌, ◌+◌, ◌≤◌, ℕ, ◌++◌, List, [], Option, Result, Ok}
 use Rattle.std.proofs.Common.{Err, ◌<◌, length, take, drop, Some, None, ap, refl, sym, subst}
 use Rattle.std.specs.Prelude.{codes}
@@ -58,7 +59,7 @@ applied_going old new c w y (Err e) going a = still_going old new going a.turns.
 abbrev object_at : LargeRun → Option ℕ → Option (List ℕ)
 object_at run o = elim o [ None ↦ None | Some h ↦ get run.heap.objects h ]
 
--- a part that the object has, and one that passes its end
+-- the reply to a read within the object, and to one that passes its end
 within_text : (v : List ℕ) (at count : ℕ) → at + count ≤ length v → large_read_text (Some v) at count ≡ codes "=" ++ encode_lower (take count (drop at v))
 within_text v at count le = rw (le_yes (at + count) (length v) le) refl
 

@@ -1,4 +1,5 @@
--- If there is room for all inner objects of an object, there is room for each in turn; and other facts of counts and pages of inner objects.
+-- If there is room for all inner objects of an object, there are pages for each; and how the number of inner objects, in all and in each class, changes with
+-- the objects.
 use Rattle.std.proofs.Common.{◌≡◌, ℕ, ◌+◌, ◌≤◌, List, Some, None, length, take, arith, ap}
 use Rattle.std.specs.Prelude.{nat_eq}
 use Rattle.std.proofs.lemmas.List.Sums.{sum_by-take-le}
@@ -66,7 +67,7 @@ module _ (p : Paging) (o : Objects) (h : ℕ) (v : List ℕ) where
       let e = sum_by-replaced (λ v. one (nat_eq (class_for p (length v)) c)) o h v w some in
       let l = ap (λ n. one (nat_eq (class_for p n) c)) same in omega arith
 
--- the pages counted from the inner objects are those counted from the large objects
+-- the pages computed from the inner objects are those computed from the objects
 pub pages_counted : (p : Paging) (u : ℕ) (large inner : Objects) (n : ℕ) → AreCounted p u large inner
     → pages_for p (λ c. live p inner c + in_class p c (inner_lengths u n)) ≡ inner_pages_with p u large n
 unfolding inner_pages_with

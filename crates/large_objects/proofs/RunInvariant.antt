@@ -1,4 +1,5 @@
--- A run over large objects is in progress after each command. And what each command does to the ids and the objects that they name.
+-- After each command of a run over long objects its heap is open and keeps its rules, and the ids name its objects (`IsGoingLarge`); and what each command
+-- does to the ids and the objects that they name.
 use Rattle.std.proofs.Common.{◌≡◌, ◌∙◌, ℕ, List, Some, None, sym, ap, refl, subst, inl, inr}
 use Rattle.std.specs.Prelude.{IsTrue, Option, Result, Ok, Err, codes}
 use Rattle.std.specs.Option.{MatchOption}

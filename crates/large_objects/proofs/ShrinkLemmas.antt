@@ -1,4 +1,5 @@
--- A free of a long object, part by part: for the loop of `release_parts`.
+-- A free of a long object: part by part, each found by its handle in the spine, and then the spine. The invariant of the loop of `release_parts` holds
+-- (`IsShrinking`).
 use Rattle.std.proofs.Common.{◌≡◌, ℕ, suc, ◌+◌, ◌*◌, ◌<◌, List, Some, get_or, drop, arith, sym, ◌∙◌, ap, refl, subst, inl, inr, length-drop}
 use Rattle.std.specs.Prelude.{nat_eq}
 use Rattle.std.proofs.lemmas.Bool.{cases_eq}

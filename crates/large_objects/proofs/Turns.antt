@@ -1,4 +1,4 @@
--- Each command of a run over large objects has a reply, and a run can be continued to the end of its items.
+-- Each command of a run over long objects has a reply, and a run can be continued to the end of its items.
 use Rattle.std.proofs.Common.{◌≡◌, ℕ, ◌+◌, List, Some, None, length, arith, refl, inl, inr}
 use Rattle.std.specs.Prelude.{true, Option, Ok, Err, codes}
 use Rattle.std.specs.Option.{MatchOption}
@@ -13,7 +13,7 @@ use Rattle.cf_model.specs.Families.{IsPaged}
 use Rattle.cf_model.specs.Rules.{AreInRange}
 use Rattle.cf_model.specs.Steps.{IsEmptyHeap}
 use Rattle.cf_lemmas.specs.Maps.{vacant}
-use Rattle.run_laws.proofs.CallerLemmas.{CanGoOn, begins_there}
+use Rattle.run_laws.proofs.CallerLemmas.{CanGoOn, begin_exists}
 use Rattle.run_laws.specs.ValidItems.{IsValidCommand}
 use Rattle.run_model.specs.Replies.{malloc_text, write_text}
 use Rattle.run_model.specs.Steps.{ids_given}
@@ -98,8 +98,8 @@ module _ (old : LargeRun) (going : IsGoingLarge old) where
   step_there c can = record { reply = large_shown old c; new = old; done = (refl, refl) }
 
 -- every command of the grammar has a reply
-pub turn_there : (old : LargeRun) (c : Command) → IsGoingLarge old → IsValidCommand c → (reply : Reply) × (new : LargeRun) × LargeStep old c reply new
-turn_there old c going can = (let s = step_there old going c can in (s.reply, s.new, s.done))
+pub step_exists : (old : LargeRun) (c : Command) → IsGoingLarge old → IsValidCommand c → (reply : Reply) × (new : LargeRun) × LargeStep old c reply new
+step_exists old c going can = (let s = step_there old going c can in (s.reply, s.new, s.done))
 
 -- a run begins over any manager with pages, under any settings in their ranges
 pub begins_large : (kind : Kind) (p : Profile) → IsPaged kind → AreInRange p → (new : LargeRun) × BeginsLarge kind p new
@@ -118,7 +118,7 @@ begins_large kind p paged can =
       few_proxies = can.few_proxies;
       small_region = can.small_region;
     } in
-    let b = begins_there kind (at_bound_one p) (record {
+    let b = begin_exists kind (at_bound_one p) (record {
       some_pages = can.some_pages;
       few_pages = can.few_pages;
       page_size = can.page_size;
@@ -145,12 +145,12 @@ begins_large kind p paged can =
 pub begins_going : (kind : Kind) (p : Profile) (s : LargeRun) → BeginsLarge kind p s → IsGoingLarge s
 begins_going kind p s b = record { opened = b.open_now; parts = b.parts; tied = none_tied s.ids s.heap.objects b.ids b.none }
 
--- a run over large objects can be continued after each command
+-- a run over long objects can be continued after each command
 pub large_goes_on : (kind : Kind) → IsPaged kind → CanGoOn (BeginsAtOne kind) LargeStep
 large_goes_on kind paged = record {
   is_going = IsGoingLarge;
   begins_going = λ p reply s b. begins_going kind p s b.0;
   still_going = λ old c reply new going can step. still_going old new going reply c step;
-  begins_there = λ p can. (let b = begins_large kind p paged can in (said (codes "ok"), b.0, (b.1, refl)));
-  turn_there = turn_there;
+  begin_exists = λ p can. (let b = begins_large kind p paged can in (said (codes "ok"), b.0, (b.1, refl)));
+  step_exists = step_exists;
 }

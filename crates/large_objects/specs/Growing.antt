@@ -1,6 +1,5 @@
--- An inner manager in the middle of a malloc of a long object: some of its parts are made. In all definitions u is the bytes of a whole part, and n
--- those of the object; h is the handle of its spine. A *ready* inner manager is open, keeps its rules, has pages, and has every bound 1 (`IsReady`). No public
--- clause cites this module.
+-- An inner manager in the middle of a malloc of a long object, with some parts made. In all definitions u is the bytes of a whole part, n those of the
+-- object, h the handle of its spine. No public clause cites this module.
 use Rattle.std.specs.Prelude.{◌≡◌, ◌≢◌, ℕ, ◌+◌, ◌*◌, ◌^◌, ◌≤◌, ◌<◌, ◌⊎◌, List, Some, None, length, take, replicate, sum_by}
 use Rattle.std.specs.FinMap.{get, insert, len}
 use Rattle.std.specs.Int.{to_le_bytes, w32}
@@ -14,7 +13,8 @@ use Rattle.large_objects.specs.Large.{HasSpine, named}
 use Rattle.large_objects.specs.LargeSteps.{FitsSpine}
 use Rattle.large_objects.specs.InnerObjects.{in_class, length_sum, inner_lengths, whole_part_bytes, part_length, part_count}
 
--- the inner manager s is ready, and has the proxies and the pages for all inner objects of one more object of n bytes
+-- the inner manager s is ready (`IsReady`: open, with its rules, with pages, every bound 1), and has the proxies and the pages for all inner objects of one
+-- more object of n bytes
 pub record HasObjectRoom (u n : ℕ) (s : HeapState) : Type 0 where
   pub ready : IsReady s
   pub part_bytes : u ≡ whole_part_bytes s.profile
@@ -40,12 +40,13 @@ pub record IsGrowing (p : Paging) (u n : ℕ) (old : Objects) (h i : ℕ) (now :
   pub all : len now ≡ len old + (1 + i)
   pub sums_now : (f : ℕ → ℕ) → length_sum f now ≡ length_sum f old + sum_by f (take (1 + i) (inner_lengths u n))
 
--- `IsGrowing` for the objects that an inner manager has before the malloc (`old`) and now; the manager has the same settings and is ready
+-- `IsGrowing` for the objects that an inner manager has before the malloc (`old`) and now; the manager has the same settings and is ready (`IsReady`)
 pub record GrowsInner (u n : ℕ) (old : HeapState) (h i : ℕ) (now : HeapState) : Type 0 where
   pub stays : StaysReady old now
   pub growing : IsGrowing (paging_in old) u n (objects old.held) h i (objects now.held)
 
--- One part of n zero bytes was made, with the handle `number`, and the spine h holds this handle at place i. Its old bytes were `spine`.
+-- One part of n zero bytes was made, with the handle `number`, and the spine h holds this handle at place i. `spine` are the bytes of the spine before the
+-- call.
 pub record NamesPart (old : HeapState) (h i n : ℕ) (new : HeapState) : Type 0 where
   pub stays : StaysReady old new
   pub number : ℕ

@@ -54,8 +54,8 @@ pub record HasSpine (u : ℕ) (inner : Objects) (h n : ℕ) : Type 0 where
   pub found : get inner h ≡ Some spine
   pub long : length spine ≡ spine_bytes u n
 
--- The inner objects are those of the large ones: an object that fits a page is an inner object, and a longer one has a spine, which holds the handles of its
--- parts in order. A part belongs to one object, and isn't an object itself. There are no other inner objects.
+-- The inner objects `inner` are exactly those of the objects `large`: an object that fits a page is an inner object, and a longer one has a spine, which holds
+-- the handles of its parts in order. A part belongs to one object, and isn't an object itself. There are no other inner objects.
 pub record AreLaidOut (u : ℕ) (large inner : Objects) : Type 0 where
   pub small : (h : ℕ) (v : List ℕ) → get large h ≡ Some v → length v ≤ u → get inner h ≡ Some v
   pub spines : (h : ℕ) (v : List ℕ) → get large h ≡ Some v → u < length v → HasSpine u inner h (length v)

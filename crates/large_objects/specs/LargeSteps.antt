@@ -40,11 +40,11 @@ pub record StaysOpenLarge (old new : LargeState) : Type 0 where
 abbrev pub FitsSpine : ℕ → ℕ → Type 0
 FitsSpine u n = (n ≤ u) ⊎ (spine_bytes u n ≤ u)
 
--- there are enough proxies for all inner objects with those of one more object of n bytes
+-- there are enough proxies for all inner objects and those of one more object of n bytes
 abbrev pub HasProxies : LargeState → ℕ → Type 0
 HasProxies s n = inner_count (part_bytes_in s) s.objects + length (inner_lengths (part_bytes_in s) n) ≤ s.inner.profile.proxies
 
--- there are enough pages for all inner objects with those of one more object of n bytes
+-- there are enough pages for all inner objects and those of one more object of n bytes
 abbrev pub HasPages : LargeState → ℕ → Type 0
 HasPages s n = inner_pages_with (paging_in s.inner) (part_bytes_in s) s.objects n ≤ s.inner.profile.pages
 

@@ -1,4 +1,4 @@
--- What the fields of a heap of long objects represent, and their invariant: it stores the length of each object by handle, and the inner manager holds the
+-- What the fields of a heap of long objects represent, and their invariant. The heap stores the length of each object by handle; the inner manager holds the
 -- bytes. In all definitions u is the bytes of a whole part. No public clause cites this module.
 use Rattle.std.specs.Prelude.{◌≡◌, ℕ, ◌+◌, ◌<◌, Bool, true, false, List, [], ◌∷◌, Option, Some, None, length, option_map, nat_le, if◌then◌else◌, slice_index_or}
 use Rattle.std.specs.FinMap.{get, empty}

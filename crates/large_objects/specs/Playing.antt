@@ -1,4 +1,4 @@
--- Mode `large` for the script loop: how a run over a heap of long objects begins, its runs over a script, and what is left if an allocation fails.
+-- Mode `large` for the script loop: how a run over a heap of long objects begins, its runs over a script, and its state after an allocation failed.
 use Rattle.std.specs.Prelude.{◌≡◌, true, List, Option, codes}
 use Rattle.std.specs.FinMap.{empty}
 use Rattle.cf_base.specs.Settings.{Profile, at_bound_one}

@@ -1,4 +1,5 @@
--- Which commands of a session over long objects have a reply of one line, which `build_reply` builds. No public clause cites this module.
+-- Which commands of a session over long objects have a reply of one line, which `build_reply` builds: all but `walk` and `frag`. No public clause cites this
+-- module.
 use Rattle.script_reader.specs.declared.command.Command.{Command}
 use Rattle.script_reader.specs.declared.command.Command.TheVariants.{Walk, Frag}
 

@@ -1,7 +1,7 @@
 //! The commands `m`, `f`, `w` and `r` of a session over long objects, where a script names objects by ids.
 //! The first three return their reply; `r` builds its reply in `line`.
 ghost use Rattle.std.specs.Prelude.{◌≡◌, ◌<◌, ◌≤◌, [], IsTrue, length};
-ghost use Rattle.cf_io.specs.Lines.{line_room};
+ghost use Rattle.cf_io.specs.Lines.{line_capacity};
 ghost use Rattle.cf_io.specs.Texts.{said};
 ghost use Rattle.cf_session.specs.Apply.{outcome_in};
 ghost use Rattle.cf_session.specs.Short.{short_text};
@@ -84,9 +84,8 @@ pub(crate) fn write<H: Manager>(
     }
 }
 
-/// `r`: reads as many bytes as `buffer` holds from the object of a live id, from byte `at` on. The reply in
-/// `line` is `=` and the bytes in hexadecimal; or `unknown` if the id isn't live, or `range` if the bytes pass
-/// the object's end.
+/// `r`: fills `buffer` with bytes of the object of a live id, from byte `at` on. The reply in `line` is `=` and
+/// the bytes in hexadecimal; or `unknown` if the id isn't live, or `range` if the bytes pass the object's end.
 pub(crate) fn read<H: Manager>(
     ids: &IdTable,
     heap: &LargeHeap<H>,
@@ -100,7 +99,7 @@ pub(crate) fn read<H: Manager>(
     requires few { length buffer.old ≤ 4096 }
     requires empty { line.old ≡ [] }
     ensures text { line.new ≡ large_read_text (large_object_of (large_run ids.now heap.now) id) at (length buffer.old) }
-    ensures room { length line.new < line_room }
+    ensures room { length line.new < line_capacity }
     ensures outcome { result ≡ outcome_in line.new }
 {
     let Some(h) = ids.handle(id) else {

@@ -106,10 +106,10 @@ impl<H: Manager> LargeHeap<H> {
         Ok(())
     }
 
-    /// Adds an object of `bytes` bytes, all zero, under a handle that wasn't live. It fails with `Size`
-    /// if the spine would need more than a page, else with `Proxy` if there would be more inner objects
-    /// than proxies, else with `Space` if they would need more pages than there are. A refusal changes
-    /// nothing, not even the inner manager.
+    /// Adds an object of `bytes` bytes, all zero, under a handle that wasn't live. It fails with `Size` if the
+    /// spine would need more than a page. Else it fails with `Proxy` if there would be more inner objects than
+    /// proxies, and else with `Space` if they would need more pages than there are. A refusal changes nothing,
+    /// not even the inner manager.
     pub fn malloc(&mut self, bytes: u32, meter: &mut Meter) -> Result<Handle, Refusal>
         requires { IsTrue self.old.is_open }
         ensures step { IsLargeMalloc self.old bytes result self.new }

@@ -1,5 +1,6 @@
 //! Calls of the inner manager that it can't refuse: each function requires that there is room, or that the
-//! inner object is live and has the bytes.
+//! inner object is live and has the bytes. Each first resets `meter`, since a manager requires a count of at
+//! most 2 ^ 63 steps; so afterwards `meter` has the steps of the last inner call alone.
 ghost use Rattle.std.specs.Prelude.{◌≡◌, ℕ, List, Some, length, take, drop};
 ghost use Rattle.std.specs.FinMap.{get};
 ghost use Rattle.page_model.specs.Held.{objects};

@@ -1,4 +1,6 @@
-//! Laws of long objects. The functions do nothing: their clauses are the laws.
+//! Laws of long objects and of runs over them: causes of refusals, pages in use, the number of
+//! parts, reads of what was written, runs that can go on, cut output. The functions do nothing:
+//! their clauses are the laws.
 ghost use Rattle.std.specs.Prelude.{◌≡◌, ◌≢◌, ℕ, ◌+◌, ◌*◌, ◌<◌, ◌≤◌, ◌++◌, Bool, List, [], Option, None, length};
 ghost use Rattle.std.specs.FinMap.{get};
 ghost use Rattle.cf_base.specs.declared.answers.AccessFault.{AccessFault};
@@ -35,22 +37,22 @@ pub fn refusals_come_exactly_by_their_causes()
         → WritesLarge old position bytes new → ¬ IsLargeFault old position (length bytes) e }
 {}
 
-/// In an open heap of long objects, the inner manager uses exactly the pages that the inner objects of all
-/// objects need, computed from the lengths of the objects, since every bound is 1.
+/// In an open heap of long objects, the inner manager uses exactly the pages that the inner objects need, since
+/// every bound is 1. Their number follows from the lengths of the objects.
 pub fn pages_in_use_are_those_of_the_inner_objects()
     ensures { (s : LargeState) → KeepsParts s
         → used_pages (paging_in s.inner) s.inner.held ≡ pages_for (paging_in s.inner) (inner_live (paging_in s.inner) (part_bytes_in s) s.objects) }
 {}
 
-/// An object of n bytes is cut into as many parts of u bytes as it needs: they have room for all its bytes,
-/// and fewer than u bytes of them are unused.
+/// An object of n bytes is cut into parts of u bytes, as few as possible: together they hold at least n bytes
+/// (clause `enough`), and fewer than n + u (`few`).
 pub fn parts_are_as_many_as_needed()
     ensures enough { (u n : ℕ) → 0 < u → n ≤ u * part_count u n }
     ensures few { (u n : ℕ) → 0 < u → u * part_count u n < n + u }
 {}
 
-/// Clause `same`: after a write of bytes into an object, a read of equally many from the same place returns
-/// what was written. Clause `others`: the write has changed no other object.
+/// Clause `same`: after a write, a read of the same number of bytes from the same position returns the written
+/// bytes. Clause `others`: a write changes no other object.
 pub fn what_is_written_is_read()
     ensures same { (old new : LargeState) (position : Position) (bytes out : List ℕ)
         → WritesLarge old position bytes new → ReadsLarge new position (length bytes) out → out ≡ bytes }
@@ -79,7 +81,8 @@ pub fn each_command_has_its_turn()
         → LargeStep old command reply new → IsGoingLarge new }
 {}
 
-/// There is a run over the items of any bytes, and each run over a prefix of them can be continued to the end.
+/// Clause `there`: there is a run over the items of any bytes `given`, where `ended` is whether the script ends
+/// after them. Clause `on`: each run over a prefix of these items can be continued to the last one.
 pub fn a_long_run_can_always_go_on()
     ensures there { (kind : Kind) (given : List ℕ) (ended : Bool) → IsPaged kind
         → (replies : List Reply) × (new : Option LargeRun) × RunsLarge kind None (items given ended) replies new }
@@ -89,7 +92,8 @@ pub fn a_long_run_can_always_go_on()
         → (more : List Reply) × (new : Option LargeRun) × RunsLarge kind None (items given ended) (replies ++ more) new }
 {}
 
-/// The output before the sink failed is a prefix of the output of a run over the whole script.
+/// If the sink fails, what it got before is a prefix of the output of a run over the whole script, whose bytes
+/// are `all`.
 pub fn what_was_cut_is_a_prefix()
     ensures { (from to : LargeRun) (call : Effects) (all : List ℕ) → IsPaged from.heap.inner.kind
         → (w : WroteInPart large_heap from (items_within all) call to)

@@ -80,10 +80,10 @@ impl<H: Manager> ModeHandler<LargeHeap<H>> for LargeHandler {
     }
 }
 
-/// Runs the script of a source on the heap, and writes the replies to a sink; the status says how it ended.
-/// The `heap` line opens the heap, with the bound 1 for each class; each later command is done on its
-/// objects. Each complete line has its reply before the next chunk is taken. The run stops at a bad line,
-/// if the source or the sink fails, if an allocation fails at the `heap` line, and after 268,435,455 bytes.
+/// Runs the script of a source on the heap, and writes the replies to a sink. The `heap` line opens the heap,
+/// with the bound 1 for each class; each later command is done on its objects. Each complete line has its reply
+/// before the next chunk is taken. The run stops at a bad line, if the source or the sink fails, if an
+/// allocation fails at the `heap` line, and after 268,435,455 bytes. The status shows which.
 pub fn run_large<H: Manager, S: Source, K: Sink>(
     mode_handler: &mut LargeHandler,
     heap: &mut LargeHeap<H>,

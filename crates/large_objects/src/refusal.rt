@@ -1,5 +1,6 @@
-//! Why the heap refuses a malloc, found before it changes anything. In all functions `part_bytes` is the bytes
-//! of a whole part, the largest object that fits a page.
+//! Why the heap refuses a malloc, found before it changes anything: for pages, those that all inner objects
+//! and the new ones need are counted. In all functions `part_bytes` is the bytes of the largest object that
+//! fits a page.
 ghost use Rattle.std.specs.Prelude.{◌≡◌, ◌+◌, ◌<◌, IsTrue};
 ghost use Rattle.std.specs.Option.{MatchOption};
 ghost use Rattle.page_model.specs.Arrangement.{live, pages_for};
@@ -26,7 +27,7 @@ impl<H: Manager> LargeHeap<H> {
         if !has_spine_that_fits(bytes, self.part_bytes) {
             return Some(Refusal::Size);
         }
-        // `lengths` has an entry for each handle, so as many as there are proxies.
+        // `lengths` has one entry for each proxy, so its length is the number of proxies.
         let live = self.inner.totals(meter.steps()).live as u64;
         if (self.lengths.len() as u64) < live + inner_objects(bytes, self.part_bytes) {
             return Some(Refusal::Proxy);
@@ -38,8 +39,8 @@ impl<H: Manager> LargeHeap<H> {
     }
 }
 
-/// The number of pages that all inner objects need together with those of one more object of `bytes` bytes:
-/// for each class the inner objects over the slots of a page, rounded up.
+/// The number of pages that all inner objects and those of one more object of `bytes` bytes need. A class needs
+/// its number of inner objects divided by the slots of a page, rounded up.
 fn pages_with<H: Manager>(inner: &H, bytes: u32, part_bytes: u32) -> u64
     requires some { 0 < part_bytes }
     requires fits { FitsSpine part_bytes bytes }

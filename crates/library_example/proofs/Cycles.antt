@@ -1,4 +1,5 @@
--- For `next_frame`: the slices of a cycle change no object's bytes, and after enough of them no job is pending.
+-- For `next_frame`, one cycle on the sliced heap (free the last frame, do slices, malloc the next): slices change no object's bytes, and after enough of
+-- them no job is pending and the malloc isn't `Busy`.
 use Rattle.std.proofs.Common.{◌≡◌, ◌≢◌, ℕ, zero, suc, ◌+◌, ◌-◌, ◌*◌, ◌≤◌, Option, Some, None, arith, sym, ◌∙◌, ap, refl, subst, replicate}
 use Rattle.std.specs.Prelude.{Ok}
 use Rattle.std.specs.FinMap.{get, insert}

@@ -1,4 +1,5 @@
--- For `store` and `first_object`: a write into an object that was just made is not refused, and the object then begins with the bytes.
+-- For `store`, which makes an object and writes bytes into it, and `first_object`, which opens a heap for that: the write is not refused, and the object
+-- then begins with the bytes.
 use Rattle.std.proofs.Common.{◌≡◌, ℕ, ◌+◌, ◌-◌, ◌≤◌, List, [], ◌∷◌, ◌++◌, Some, length, take, drop, replicate, arith, sym, ◌∙◌, ap, refl}
 use Rattle.std.specs.Prelude.{Result, Ok, Err, None, IfOk, OnOk}
 use Rattle.std.specs.Result.{result_ok}

@@ -1,4 +1,5 @@
--- For `next_frame`: the objects of a sliced heap after a cycle that made a frame, and after one that made none.
+-- For `next_frame`, one cycle of a control loop: the objects of a sliced heap after a cycle that made a frame (the cycle's object), and after one that made
+-- none.
 use Rattle.std.specs.Prelude.{◌≡◌, ℕ, None, replicate}
 use Rattle.std.specs.FinMap.{get, insert, remove}
 use Rattle.page_model.specs.Held.{Objects, objects}

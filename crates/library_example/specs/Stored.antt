@@ -6,7 +6,7 @@ use Rattle.page_model.specs.Held.{objects}
 use Rattle.cf_model.specs.State.{HeapState}
 use Rattle.cf_model.specs.Steps.{IsFault, Position, ReadsBytes}
 
--- the 176 bytes of an object that begins with `bytes`; the rest are zeros
+-- the 176 bytes of an object: `bytes`, and zeros after them
 abbrev pub padded_to_176 : List ℕ → List ℕ
 padded_to_176 bytes = bytes ++ replicate (176 - length bytes) 0
 

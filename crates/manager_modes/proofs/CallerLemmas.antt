@@ -1,3 +1,4 @@
--- What upper crates may cite, passed on from one place. Declares nothing.
+-- What other crates' proofs may cite, re-exported: for each mode, that its output is as claimed and that without a fault it ends by `Done` or `OutOfMemory`;
+-- and the contract of a mode with its own heap. Declares nothing.
 pub use Rattle.manager_modes.proofs.Outcomes.{made_ends}
 pub use Rattle.manager_modes.proofs.Whole.{IsSound, bench_sound, compare_sound, compare_shown, did_all, load_sound, never_bad_image, own_sound, own_shown, run_sound, run_shown, save_sound}

@@ -1,4 +1,5 @@
--- From the contract of the function that a mode calls (`run_script`, `play_script`, `run_bench`, `save_script`, `load_script`) to `EndsWithCause` of that mode.
+-- For each mode: from the contract of the function that it calls (`run_script`, `play_script`, `run_bench`, `save_script`, `load_script`) to
+-- `EndsWithCause`: what the mode did, and the cause of its status.
 use Rattle.std.proofs.Common.{◌≡◌, ◌≢◌, ◌<◌, ◌⊎◌, ◌∙◌, arith, ℕ, Bool, List, Option, Some, None, refl, ap, sym, subst, length, get_or, set, map, inl, inr}
 use Rattle.std.proofs.lemmas.List.{get_or-map, length-map, map-set}
 use Rattle.std.specs.Prelude.{is_some}
@@ -23,7 +24,7 @@ use Rattle.bench_run.specs.Bench.{EndsBench}
 use Rattle.command_line.specs.declared.choice.Choice.{Choice}
 use Rattle.manager_modes.specs.Outcomes.{Benches, Compares, EndsWithCause, CallState, Loads, OrLacks, PlaysOwn, Runs, Saves, effects_of, call_state}
 
--- `OrLacks`, if `Does` holds and nothing was written if memory ran out
+-- `OrLacks`, if the mode's record `Does` holds and nothing was written if memory ran out
 or_lacks : (Does : CallState → Status → CallState → Type 0) (old : CallState) (st : Status) (new : CallState)
     → (st ≡ OutOfMemory → new.sink.written ≡ old.sink.written) → Does old st new → OrLacks Does old st new
 or_lacks Does old OutOfMemory new silent done = (silent refl, inr done)
@@ -35,7 +36,7 @@ or_lacks Does old WriteFault new silent done = done
 or_lacks Does old TooLong new silent done = done
 or_lacks Does old BadImage new silent done = done
 
--- `EndsWithCause`, if `Does` holds, the status has its causes, and kinds and promises are kept
+-- `EndsWithCause`, if the mode's record `Does` holds, the status has its causes, and the managers' kinds and promises of an order are kept
 pub ends_of : (Does : CallState → Status → CallState → Type 0) (s : SourceState) (k : SinkState) (hs : List HeapState) (st : Status) (s' : SourceState)
     (k' : SinkState) (hs' : List HeapState)
     → HasCauses s k st s' k' → map (λ (h : HeapState). h.kind) hs' ≡ map (λ h. h.kind) hs

@@ -1,5 +1,5 @@
--- What follows from `EndsWithCause` of each mode: if the input is right and neither source nor sink failed, the status is `Done` or `OutOfMemory`; what was printed is
--- as the mode claims. `top_call` cites these lemmas.
+-- What follows from `EndsWithCause` (what a mode did, and why it ended so): if the input is right and source and sink didn't fail, the status is `Done` or
+-- `OutOfMemory`, and the output is as the mode claims.
 use Rattle.std.proofs.Common.{◌≡◌, ◌∙◌, ℕ, List, Option, Some, None, true, false, refl, ap, sym, subst, arith, inl, inr}
 use Rattle.std.specs.Prelude.{Err, ⊤}
 use Rattle.cf_base.specs.declared.kind.Kind.{Kind}
@@ -33,13 +33,14 @@ use Rattle.side_by_side.specs.OwnRuns.{MeetHeadlines}
 use Rattle.manager_modes.specs.Claims.{HoldsImage, MeetsClaim}
 use Rattle.manager_modes.specs.Outcomes.{Benches, Compares, EndsWithCause, EndsWhole, CallState, Loads, OrLacks, PlaysOwn, Runs, Saves, effects_of, kinds_in}
 
--- A mode is sound: no call ends by `Words`; a call whose input is right, and that met no fault of source or sink, ends by `Done` or `OutOfMemory`.
+-- A mode is sound: no call ends by `Words`, the status of refused arguments; a call whose input is right, and that met no fault of source or sink, ends by
+-- `Done` or `OutOfMemory`.
 pub record IsSound (Does : CallState → Status → CallState → Type 0) (IsRight : Option (List ℕ) → Type 0) : Type 0 where
   pub never_words : (old new : CallState) → Does old Words new → ⊥
   pub whole : (old : CallState) (st : Status) (new : CallState) → EndsWithCause Does old st new → IsRight old.source.rest
       → ¬ FailsLast old.source.faults new.source.faults new.source.failed → ¬ FailsLast old.sink.faults new.sink.faults new.sink.failed → EndsWhole st
 
--- the mode's outcome, if it is not that memory ran out
+-- P holds of the status if it holds of `OutOfMemory` and of each status for which the mode's record `Does` holds
 outcome_at : (Does : CallState → Status → CallState → Type 0) (old new : CallState) (P : Status → Type 0) → P OutOfMemory
     → ((st : Status) → Does old st new → P st) → (st : Status) → OrLacks Does old st new → P st
 outcome_at Does old new P lacks does OutOfMemory done = lacks
@@ -111,7 +112,7 @@ script_sound m Does met = record {
       met_whole m outcome.0.0 outcome.0.1 (effects_of old st new) outcome.1 read wrote clean sure firm) st ends;
 }
 
--- What was written of all the items is as claimed.
+-- If all items are answered, their replies are as claimed.
 claim_of : {S P : Type 0} (m : Semantics S P) (from to : S) (Claim : List Item → List Reply → Type 0)
     → ((all : List ℕ) (call : Effects) (w : Wrote m from (items_within all) call to) → Claim (items_within all) w.replies)
     → (call : Effects) (had : Option (List ℕ)) → had ≡ call.had → MeetsOutcome m from call to → AnswersAll call.status → MeetsClaim Claim had call
@@ -120,7 +121,7 @@ claim_of m from to Claim claims call (Some all) shown met is =
     let w = wrote_by m from to call all (sym shown) met is in
     record { replies = w.replies; printed = w.written; claimed = claims all call w }
 
--- what a call did that answered all items
+-- if the status is one after which all items are answered, the mode's record `Does` holds
 pub did_all : (Does : CallState → Status → CallState → Type 0) (old new : CallState) (st : Status) → OrLacks Does old st new → AnswersAll st → Does old st new
 did_all Does old new = outcome_at Does old new (λ st. AnswersAll st → Does old st new) absurd (λ st done all. done)
 
@@ -172,7 +173,7 @@ module _ {S P : Type 0} (m : Semantics S P) (IsMade : S → Type 0) where
   pub own_sound : IsSound (PlaysOwn m IsMade) IsClean
   own_sound = script_sound m (PlaysOwn m IsMade) λ old st new done. ((done.begin, done.end), done.outcome)
 
-  -- if each run from such a state is as claimed, so is what is printed
+  -- if each run from a state of which `IsMade` holds is as claimed, so is the output
   pub own_shown : (Claim : List Item → List Reply → Type 0)
       → ((begin : S) → IsMade begin → (all : List ℕ) (replies : List Reply) (end : Option S) → RunBy m begin None (items_within all) replies end
       → Claim (items_within all) replies)

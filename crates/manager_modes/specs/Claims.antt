@@ -1,4 +1,5 @@
--- Two shapes of claims for a mode: on the replies that it prints to the items of a script, and on the image that it reads.
+-- For a mode that answers a script: that its output is a reply to each item, of which a given claim holds (`PrintsAs`). And that the bytes of a source are a
+-- heap image (`HoldsImage`).
 use Rattle.std.specs.Prelude.{◌≡◌, ⊤, ℕ, List, [], Option, Some, None}
 use Rattle.cf_io.specs.Feeds.{appended}
 use Rattle.script_reader.specs.Items.{Item}

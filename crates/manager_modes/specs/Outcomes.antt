@@ -108,7 +108,7 @@ pub record Loads (old : CallState) (status : Status) (new : CallState) : Type 0 
   pub outcome : EndsLoad (run_at fresh_session (closed_state Moving)) (effects_of old status new) end
   pub untouched : new.managers ≡ old.managers
 
--- `Does`, the record of the mode, holds. If the status is `OutOfMemory`, nothing was written, and either the call changed nothing at all or `Does` holds.
+-- `Does`, the record of the mode, holds; but with the status `OutOfMemory` nothing was written, and either the call changed nothing at all or `Does` holds.
 abbrev pub OrLacks : (CallState → Status → CallState → Type 0) → CallState → Status → CallState → Type 0
 OrLacks Does old OutOfMemory new = (new.sink.written ≡ old.sink.written) × ((new ≡ old) ⊎ Does old OutOfMemory new)
 OrLacks Does old status new = Does old status new

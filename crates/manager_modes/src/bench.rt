@@ -1,4 +1,4 @@
-//! Mode `bench`: runs generated commands on one manager of the chosen kind and prints the counts.
+//! Mode `bench`: runs generated commands on one manager of the chosen kind and prints a line of counts.
 ghost use Rattle.script_loop.specs.ScriptOutcome.{SourceState};
 ghost use Rattle.manager_modes.specs.Outcomes.{Benches, EndsBeside, sink_seen};
 
@@ -13,9 +13,10 @@ use nonmoving_heap::NonMovingHeap;
 use std::alloc::Global;
 use tlsf_heap::TlsfHeap;
 
-/// Makes a closed manager of the chosen kind, runs the generated script of the chosen seed and count on
-/// it, and prints the counts. It reads nothing and touches no other manager. Returns the status, `OutOfMemory`
-/// also if the session can't be allocated.
+/// Makes a closed manager of the chosen kind, and runs on it the chosen number of commands, generated from the
+/// chosen seed. Prints a line of six counts: commands, good replies, refusals; and at the end live objects,
+/// pages or blocks in use, and objects moved. It reads nothing and touches no other manager. Returns the
+/// status, `OutOfMemory` also if the session can't be allocated.
 pub fn bench_seed<K: Sink>(rt: &HostRuntime, alloc: Global, choice: Choice, sink: &mut K) -> Status
     ensures { (source : SourceState) → EndsBeside (Benches choice)
         source (sink_seen K.Sink sink.old) result source (sink_seen K.Sink sink.new) }

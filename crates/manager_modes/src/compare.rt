@@ -8,7 +8,7 @@ use script_loop::play_script;
 use side_by_side::Sessions;
 use std::alloc::Global;
 
-/// Runs a script on all managers. Each has a session of its own. A command is done on the first manager, then
+/// Runs a script on all managers. Each has its own session. A command is done on the first manager, then
 /// on the second, and so on, before the next command. Returns the status, `OutOfMemory` also if the sessions
 /// can't be allocated.
 pub fn compare_all<H: Manager, S: Source, K: Sink>(

@@ -1,4 +1,4 @@
-//! Mode `run`: runs a script on one manager of the chosen kind.
+//! Mode `run`: runs a script on the first manager of the chosen kind, or on a new one if none is given.
 ghost use Rattle.std.specs.Prelude.{◌≡◌};
 ghost use Rattle.cf_model.specs.State.{closed_state};
 ghost use Rattle.run_model.specs.Sessions.{fresh_session};

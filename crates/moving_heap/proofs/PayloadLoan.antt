@@ -1,4 +1,5 @@
--- For `payload_mut` and `lend`: the heap after a borrow of the whole words of an object.
+-- For `payload_mut` and `lend`, which lend the whole words of an object, eight bytes to a word: after the borrow the heap keeps its invariant, and the object
+-- has the words that were written.
 use Rattle.std.proofs.Common.{◌≡◌, ℕ, ◌+◌, ◌-◌, ◌*◌, ◌/◌, ◌%◌, ◌^◌, ◌<◌, ◌≤◌, List, ◌++◌, length, get_or, take, drop, Option, Some, None, arith, sym, ◌∙◌, ap}
 use Rattle.std.proofs.Common.{refl, subst, lit<, inl, inr}
 use Rattle.std.proofs.lemmas.Bool.{cases_lt, false≢true}
@@ -41,11 +42,11 @@ module _ (ws : List ℕ) where
     | inr past ↦ rw (get_or_past (bytes_of_words ws) i 0 (simp length-bytes_of_words past)) (lit< tt)
   ]
 
--- a list of n words of 64 bits is an array of n words of 64 bits
+-- a list that has been fitted to n words of 64 bits (`fit`) is not changed by fitting it again
 fit_again : (n : ℕ) (ws : List ℕ) → fit n (fit n ws) ≡ fit n ws
 fit_again n ws = fit-words n (fit n ws) (length-fit n ws) (λ i d lt. rw (get_or_default (fit n ws) i d 0 lt) (fit_below n ws i))
 
--- n words from `first` on, with ws in their place, have its bytes written over theirs
+-- to put ws in the place of the n words from `first` on is to write the bytes of ws over the bytes of these words
 run_overwritten : (old ws : List ℕ) (first n : ℕ) → first + n ≤ length old
     → Overwrites old (with_words old first n ws) (record { from = first; count = n }) 0 (bytes_of_words (fit n ws))
 run_overwritten old ws first n inside =
@@ -122,7 +123,7 @@ module _ (h : OpenHeap) (k : IsValid (seen Moving h)) (q a : ℕ) (some : get h.
   payload_state : state_at Moving (with_payload_at h a ws) ≡ lent_back (state_at Moving h) q ws
   payload_state = ap (state_at Moving) (sym (left_is many refl)) ∙ left_state
 
--- as above, if there may be no such object
+-- as above, whether number q has an object or not
 of_kept : (h : OpenHeap) → IsValid (seen Moving h) → (q : ℕ) (p : Option ℕ) → get h.proxies.places q ≡ p → (ws : List ℕ)
     → IsValid (seen Moving (with_payload_of h p ws))
 of_kept h k q None e ws = k
@@ -133,7 +134,7 @@ of_state : (h : OpenHeap) → IsValid (seen Moving h) → (q : ℕ) (p : Option 
 of_state h k q None e ws = rw (no_place (seen Moving h) k q e) refl
 of_state h k q (Some a) e ws = payload_state h k q a e ws
 
--- the run that is found is the payload, and a run of no words is none
+-- to write over a run of no words changes nothing; below, to write over the run that `find_words` finds is to write over the object's whole words
 no_run : (words : List ℕ) (ws : List ℕ) → with_words words 0 0 ws ≡ words
 unfolding fit
 no_run words ws = refl
@@ -142,7 +143,7 @@ pub found_run : (h : OpenHeap) (p : Option ℕ) (ws : List ℕ) → with_run h (
 found_run h None ws = ap (λ (words : List ℕ). record h { region = words }) (no_run h.region ws)
 found_run h (Some a) ws = refl
 
--- as many words as before
+-- the region has as many words as before the borrow
 payload_laid : (h : OpenHeap) → Holds Moving h → (q : ℕ) (p : Option ℕ) → get h.proxies.places q ≡ p → (ws : List ℕ)
     → length (with_payload_of h p ws).region ≡ length h.region
 payload_laid h k q None e ws = refl
@@ -180,7 +181,7 @@ pub lent_rules : (o : Option OpenHeap) → IsValidIn Moving o → (s : HeapState
 lent_rules o k s is open_now q ws =
     subst KeepsRules (lent_state o k s is open_now q ws) (rules_in Moving (with_payload_in o q ws) (lent_kept o k q ws) (still_open o s is open_now q ws))
 
--- a number without an object has nothing to be left in
+-- if number q has no object, the state is unchanged
 pub nothing_lent : (s : HeapState) (q : ℕ) (ws : List ℕ) → payload_of s q ≡ None → lent_back s q ws ≡ s
 nothing_lent s q ws none = by_object (get s.held q) refl
   where

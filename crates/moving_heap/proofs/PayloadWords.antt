@@ -1,4 +1,5 @@
--- For `payload` and `find_words`: the words that are borrowed are the whole words of the object.
+-- For `payload` and `find_words`: the words after an object's header that are lent are its whole words, eight bytes to a word. A number that is not live has
+-- none. The steps of lending.
 use Rattle.std.proofs.Common.{◌≡◌, ℕ, suc, ◌+◌, ◌*◌, ◌/◌, ◌^◌, ◌<◌, ◌≤◌, Bool, List, length, get_or, take, drop, Option, Some, None, arith, sym, refl, subst}
 use Rattle.std.proofs.Common.{◌∙◌, ap}
 use Rattle.std.proofs.lemmas.Grind.{same_number_lists}
@@ -30,7 +31,7 @@ none_lent h k q none = ap (option_map (λ (x : Placed). whole_words x.bytes)) (n
 pub count_is : (h : OpenHeap) (a read : ℕ) → read ≡ get_or h.region a 0 / 2 ^ 32 → read / 8 ≡ length (bytes_at h.region a) / 8
 count_is h a read is = (let long = bytes_long h.region a in omega arith)
 
--- an object with its address
+-- object q, at the address a
 module _ (h : OpenHeap) (k : IsValid (seen Moving h)) (q a : ℕ) (some : get h.proxies.places q ≡ Some a) where
   abbrev bytes : List ℕ
   bytes = bytes_at h.region a
@@ -59,11 +60,11 @@ module _ (h : OpenHeap) (k : IsValid (seen Moving h)) (q a : ℕ) (some : get h.
   pub some_lent : payload_of (state_at Moving h) q ≡ Some (whole_words bytes)
   some_lent = ap (option_map (λ (x : Placed). whole_words x.bytes)) (has_place (seen Moving h) k q a some)
 
-  -- the words from the address on, their number read from the header
+  -- the words after the header, as many as the length in the header says, are those that `payload` lends
   pub lent_is : (n : ℕ) → n ≡ length bytes / 8 → (ws : List ℕ) → ws ≡ take n (drop (a + 1) h.region) → Some ws ≡ payload_of (state_at Moving h) q
   lent_is n is ws e = ap Some (e ∙ ap (λ m. take m (drop (a + 1) h.region)) is ∙ words_are) ∙ sym some_lent
 
--- what is found of a number, if there may be no object
+-- the words that `find_words` finds are those to lend, whether number q has an object or not
 lent_found : (h : OpenHeap) → IsValid (seen Moving h) → (q : ℕ) (p : Option ℕ) → get h.proxies.places q ≡ p → (ws : List ℕ)
     → ws ≡ take (words_found h p).2 (drop (words_found h p).1 h.region)
     → words_lent (words_found h p).0 ws ≡ payload_of (state_at Moving h) q

@@ -1,5 +1,5 @@
-//! `MovingHeap`: the trait `Manager` over an open heap of `paged_heap`, or none while it is closed;
-//! and its calls beyond the trait.
+//! `MovingHeap`: the trait `Manager` over an open heap of `paged_heap`, and calls beyond the trait.
+//! While the manager is closed it has no such heap.
 ghost use Rattle.std.specs.Prelude.{◌≡◌, ◌+◌, ◌^◌, ◌≤◌, ℕ, ◌<◌, List, IfErr, IfOk, IsSome, IsTrue, OnErr, OnOk, Result, if◌then◌else◌, is_some, length, slice_get, option_copied, option_map};
 ghost use Rattle.std.specs.FinMap as map;
 ghost use Rattle.page_model.specs.Held.{Placed};
@@ -66,8 +66,8 @@ impl MovingHeap {
     }
 }
 
-// The calls pass on to the open heap, with the mapping `Direct`. Their contracts require an open
-// heap, so a closed one is never met.
+// Calls on an open heap pass on to `OpenHeap`, with the mapping `Direct`. Their contracts require that
+// the heap is open, so their branches `None` are never reached.
 impl Manager for MovingHeap {
     ghost state = { λ h. h };
 
@@ -338,7 +338,7 @@ impl MovingHeap {
 
     /// Lends the whole words of an object without a copy, eight bytes to a word, the least significant
     /// first; none if the handle is not live. The bytes after the last whole word are not lent: use
-    /// `read`. Costs at most two steps, and one for each word.
+    /// `read`. Costs at most two steps, and one for each word that is lent.
     pub fn payload(&self, h: Handle, steps: &mut Steps) -> Option<&[u64]>
         requires { IsTrue self.now.is_open }
         ensures value { option_copied result ≡ payload_of self.now h.0 }
@@ -360,9 +360,9 @@ impl MovingHeap {
         if lent.0 { Some(lent.1) } else { None }
     }
 
-    /// Lends the words that `payload_mut` lends, after a flag that is true if the handle is live; no words
-    /// if it is not. For callers that prove what the heap is after the borrow: the checker does not follow
-    /// a borrow inside an `Option`.
+    /// Returns whether the handle is live, and lends the words that `payload_mut` lends; no words if it is
+    /// not live. For callers that prove what the heap is after the borrow: the checker does not follow a
+    /// borrow inside an `Option`.
     pub fn lend(&mut self, h: Handle, steps: &mut Steps) -> (bool, &mut [u64])
         requires { IsTrue self.old.is_open }
         ensures* writes_back { sem 𝓛 (LendsPayload self.entry h.0 result.1) }

@@ -1,5 +1,5 @@
-//! `NonMovingHeap`: the trait `Manager` over an open heap of `paged_heap`, or none while it is
-//! closed; and its calls beyond the trait.
+//! `NonMovingHeap`: the trait `Manager` over an open heap of `paged_heap`, and calls beyond the trait.
+//! While the manager is closed it has no such heap.
 ghost use Rattle.std.specs.Prelude.{◌≡◌, ◌+◌, ◌^◌, ◌<◌, ◌≤◌, [], IfErr, IfOk, IsSome, IsTrue, OnErr, OnOk, Result, if◌then◌else◌, is_some, length, slice_get, option_map};
 ghost use Rattle.std.specs.FinMap as map;
 ghost use Rattle.page_model.specs.Held.{Placed};
@@ -67,8 +67,8 @@ impl NonMovingHeap {
     }
 }
 
-// The calls pass on to the open heap, with the mapping `Mapped`. Their contracts require an open
-// heap, so a closed one is never met.
+// Calls on an open heap pass on to `OpenHeap`, with the mapping `Mapped`. Their contracts require that
+// the heap is open, so their branches `None` are never reached.
 impl Manager for NonMovingHeap {
     ghost state = { λ h. h.state };
 
@@ -182,9 +182,9 @@ impl Manager for NonMovingHeap {
     }
 
     // Changes the length of an object, as the trait says. The physical words of the other objects
-    // stay (clause `others`). Costs at most 38 + 3(s + t)/2 steps if the class changes, for an old slot
-    // of s words and t words of the smaller slot; fewer in the same slot, and at most 6 if refused
-    // (`resize_steps`).
+    // stay (clause `others`). Costs at most 38 + 3(s + t)/2 steps if the class changes, where the old slot
+    // has s words, and the smaller of the old and the new slot has t; fewer in the same slot, and at
+    // most 6 if refused (`resize_steps`).
     fn resize(&mut self, h: Handle, bytes: u32, steps: &mut Steps) -> Result<Resized, ResizeFault>
         requires open { IsTrue self.old.state.is_open }
         requires room { steps.old ≤ 2 ^ 63 }
@@ -340,8 +340,9 @@ impl NonMovingHeap {
         }
     }
 
-    /// For its contract, which holds between any two calls: word `4 * F(v) + j` of the region is the
-    /// virtual word `4 * v + j`, where F is the block table. The call does nothing.
+    /// For its contract, which holds between any two calls: for each virtual block v and j from 0 to 3,
+    /// word `4 * F(v) + j` of the region is the virtual word `4 * v + j`, where F is the block table. The
+    /// call does nothing.
     pub fn physical_words_are_mapped(&self)
         requires { IsTrue self.now.state.is_open }
         ensures kind { self.now.state.kind ≡ NonMoving }

@@ -1,6 +1,8 @@
-//! The moving manager as a library for C. `include/norphuen.h` describes each export for C. An export calls
-//! the function of `held_heap` that its comment names, and its contract is that function's. While the heap is
-//! closed, each export but `nph_open` and `nph_close` returns `CLOSED` and changes nothing (`IsCallOnOpen`).
+//! The moving manager as a library for C. `include/norphuen.h` describes each export for C. An export calls the
+//! function of `held_heap` that its comment names, and its contract is that function's. Each export but
+//! `nph_close` returns a code: 0 (`DONE`) if the call is done, else the cause (`held_heap`, file `codes`).
+//! While the heap is closed, each export but `nph_open` and `nph_close` returns `CLOSED` and changes nothing
+//! (`IsCallOnOpen`).
 #![tactic(auto)]
 
 ghost use Rattle.std.specs.Prelude.{◌≡◌, None};
@@ -14,10 +16,9 @@ use held_heap::moving::NphHeap;
 use held_heap::{CLOSED, NphClass, NphFreed, NphHeapTotals, NphResized};
 use std::rt::Memory;
 
-/// Opens the heap with these settings; `page_bytes` are the bytes of a page, `k` bounds
-/// the partly full pages of each class, and at most `proxies` objects are live at a time (`NphHeap::open`).
-/// `memory`, here and in `nph_close`, is the kit's value for the memory of the process; a caller in C passes
-/// none.
+/// Opens the heap with these settings: `pages` pages of `page_bytes` bytes, at most `k` partly full pages in
+/// each class, and at most `proxies` live objects (`NphHeap::open`). `memory`, here and in `nph_close`, is the
+/// kit's value for the memory of the process; a caller in C passes none.
 #[unsafe(no_mangle)]
 pub extern "C" fn nph_open(
     heap: &mut NphHeap,
@@ -53,7 +54,8 @@ pub extern "C" fn nph_malloc(heap: &mut NphHeap, bytes: u32, handle: &mut u32) -
     }
 }
 
-/// Frees an object. Writes into `freed` the words of its slot, and which object moved into it (`Held::free`).
+/// Frees an object. Writes into `freed` how many words its slot has, and which object moved into it
+/// (`Held::free`).
 #[unsafe(no_mangle)]
 pub extern "C" fn nph_free(heap: &mut NphHeap, handle: u32, freed: &mut NphFreed) -> i32
     ensures { IsCallOnOpen (held_in heap.old) result (held_in heap.new) (freed.new ≡ freed.old)
@@ -66,8 +68,8 @@ pub extern "C" fn nph_free(heap: &mut NphHeap, handle: u32, freed: &mut NphFreed
     }
 }
 
-/// Changes an object's length to `bytes` bytes. Writes into `resized` the words of its slots, and which other
-/// object moved (`Held::resize`).
+/// Changes an object's length to `bytes` bytes. Writes into `resized` how many words its old
+/// and its new slot have, and which other object moved (`Held::resize`).
 #[unsafe(no_mangle)]
 pub extern "C" fn nph_resize(
     heap: &mut NphHeap,

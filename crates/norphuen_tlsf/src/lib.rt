@@ -1,7 +1,8 @@
 //! The TLSF manager as a library for C, to compare it with the other two. `include/norphuen.h` describes each
 //! export for C. An export calls the function of `held_heap` that its comment names, and its contract is that
-//! function's. While the heap is closed, each export but `nph_open` and `nph_close` returns `CLOSED` and changes
-//! nothing (`IsCallOnOpen`).
+//! function's. Each export but `nph_close` returns a code: 0 (`DONE`) if the call is done, else the cause
+//! (`held_heap`, file `codes`). While the heap is closed, each export but `nph_open` and `nph_close` returns
+//! `CLOSED` and changes nothing (`IsCallOnOpen`).
 #![tactic(auto)]
 
 ghost use Rattle.std.specs.Prelude.{◌≡◌, None};
@@ -15,8 +16,8 @@ use held_heap::tlsf::NphHeap;
 use held_heap::{CLOSED, NphClass, NphFreed, NphHeapTotals, NphResized};
 use std::rt::Memory;
 
-/// Opens the heap with these settings; `page_bytes` are the bytes of a page, `k` is tested and else without
-/// effect, and at most `proxies` objects are live at a time (`NphHeap::open`). `memory`, here and in
+/// Opens the heap with these settings: a region of `pages` times `page_bytes` bytes, and at most `proxies` live
+/// objects. `k` must be in its range, 1 to 64, and has no other effect (`NphHeap::open`). `memory`, here and in
 /// `nph_close`, is the kit's value for the memory of the process; a caller in C passes none.
 #[unsafe(no_mangle)]
 pub extern "C" fn nph_open(

@@ -1,4 +1,5 @@
--- For the laws of `figures.rt`: how counts and sums of the reports change when an object is added, removed or written, and bounds on them.
+-- For the laws of `figures.rt`: how adding, removing or rewriting an object changes the live objects of its class, the bytes asked and the bytes taken. Used
+-- and free pages add up to all pages.
 use Rattle.std.proofs.Common.{◌≡◌, ℕ, ◌+◌, ◌*◌, ◌≤◌, List, Some, None, length, arith, ap}
 use Rattle.std.specs.Prelude.{nat_eq}
 use Rattle.std.specs.FinMap.{get, insert, remove, len}
@@ -52,7 +53,7 @@ live_few p m c =
     let l = len-objects m in
     omega arith
 
--- and a class has at most all pages
+-- a class has at most all pages
 pub home_at_most : (p : Paging) (m : Held) (c : ℕ) → pages_of_class p m c ≤ p.pages
 unfolding pages_of_class
 home_at_most p m c = count_at_most _ 0 p.pages

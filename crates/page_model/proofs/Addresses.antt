@@ -1,4 +1,4 @@
--- For the law `slots_have_addresses`: slots by class, page and number, and their addresses.
+-- For the law `slots_have_addresses`: the page and the number of a slot determine its address, and each slot's address determines them.
 use Rattle.std.proofs.Common.{◌≡◌, ℕ, ◌+◌, ◌*◌, ◌/◌, ◌%◌, ◌<◌, ◌≤◌, arith, ap}
 use Rattle.std.proofs.lemmas.Nat.{div-add-mod', mul-le}
 use Rattle.std.proofs.Math.Nat.{mul-mod_left}
@@ -34,7 +34,7 @@ module _ (p : Paging) (ok : IsPaging p) (c : ℕ) (lt : c < classes p) where
       let aligned = mul-mod_left slot (slot_words p c) in
       (record { class = lt; page = rw by_page page_in; aligned = rw rest aligned; fits = rw rest ends }, by_page, rw rest number)
 
-  -- and the address of each slot is that of its page and its number there
+  -- the address of each slot is the one of its page number and its slot number (`address_of`)
   pub slot_is_address : (a : ℕ) → IsSlotAt p c a → (a ≡ address_of p c (page_of p a) (a % p.page_words / slot_words p c))
       × (a % p.page_words / slot_words p c < slots_of p c)
   slot_is_address a s =

@@ -1,4 +1,5 @@
--- For the laws of `blocks.rt`: what a free (`RemovesObject`) and a resize (`RefitsObject`) do to the frames, the block table of the non-moving heap.
+-- For the laws of `blocks.rt`: after a free or a resize the block table is still a permutation. The other objects keep their physical blocks, and so does an
+-- object resized within its class.
 use Rattle.std.proofs.Common.{◌≡◌, ◌≢◌, ℕ, ◌*◌, ◌/◌, ◌<◌, List, Some, length, ◌∙◌, inl, inr, ap, refl}
 use Rattle.std.specs.FinMap.{get}
 use Rattle.cf_lemmas.proofs.Maps.{get_inserted, get_insert_other}

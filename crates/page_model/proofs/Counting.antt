@@ -1,5 +1,5 @@
--- For every proof about counts: counts over the values of a map. The objects on each page determine how many pages have an object, and how many are partly
--- full.
+-- How many objects are on a page, counted over the values of a map. If two arrangements differ on one page at most, their counts of a class's pages and of its
+-- partly full pages differ as that page does.
 use Rattle.std.proofs.Common.{◌≡◌, ◌≢◌, ℕ, Bool, true, false, ◌+◌, ◌<◌, ◌≤◌, Some, None, arith, sym, ◌∙◌, inl, inr, ap, refl}
 use Rattle.std.specs.Prelude.{◌⊎◌, ◌&&◌, nat_lt, nat_eq, count_by}
 use Rattle.std.proofs.lemmas.Bool.{cases_eq, false≢true}
@@ -92,11 +92,11 @@ module _ (p : Paging) where
   unfolding objects_on
   here m q y f = counted (is_on p (class_at p y) (page_of p y.place)) m q y f (on_yes _ _ y refl refl)
 
-  pub stands_here : (m : Held) (q : ℕ) (y : Placed) → get m q ≡ Some y → 0 < count_on p m (page_of p y.place)
+  pub counted_here : (m : Held) (q : ℕ) (y : Placed) → get m q ≡ Some y → 0 < count_on p m (page_of p y.place)
   unfolding count_on
-  stands_here m q y f = counted (λ (x : Placed). nat_eq (page_of p x.place) (page_of p y.place)) m q y f (eq_yes _ _ refl)
+  counted_here m q y f = counted (λ (x : Placed). nat_eq (page_of p x.place) (page_of p y.place)) m q y f (eq_yes _ _ refl)
 
-  -- a page with an object of the class
+  -- if a page's count of a class isn't 0, an object of the class is on it
   pub on_page : (m : Held) (c page : ℕ) → 0 < objects_on p m c page
       → (q : ℕ) × (y : Placed) × (get m q ≡ Some y) × (page_of p y.place ≡ page) × (class_at p y ≡ c)
   unfolding objects_on
@@ -117,7 +117,7 @@ module _ (p : Paging) where
 
   -- no object is on a page whose count is 0
   pub nothing_on : (m : Held) (page : ℕ) → count_on p m page ≡ 0 → (q : ℕ) (y : Placed) → get m q ≡ Some y → page_of p y.place ≢ page
-  nothing_on m page none q y f is = (let s = stands_here m q y f in let t : count_on p m (page_of p y.place) ≡ 0 = rw is none in omega arith)
+  nothing_on m page none q y f is = (let s = counted_here m q y f in let t : count_on p m (page_of p y.place) ≡ 0 = rw is none in omega arith)
 
 -- Two arrangements with the same objects of a class on every page but one.
 module _ (p : Paging) (m n : Held) (c page : ℕ) (others : (g : ℕ) → g ≢ page → objects_on p n c g ≡ objects_on p m c g) where

@@ -1,4 +1,5 @@
--- For the opening of a heap: the order with all pages and numbers in rising order is an order of the arrangement without objects.
+-- For the opening of a heap: the order with all pages and all numbers, each in rising order, lists what the arrangement without objects leaves free
+-- (`IsOrderOf`).
 use Rattle.std.proofs.Common.{◌≡◌, ℕ, ◌<◌, List, [], get_or, replicate, arith, sym, subst}
 use Rattle.std.specs.Prelude.{nat_eq, ◌↔◌}
 use Rattle.std.specs.List.{Contains, IsDistinct}

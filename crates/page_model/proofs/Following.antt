@@ -1,4 +1,5 @@
--- For the law `an_order_leaves_no_choice`: mallocs and frees that follow an order have one outcome.
+-- For the law `an_order_leaves_no_choice`: two mallocs of one length, or two frees of one object, that follow the same order take the same slot or move the
+-- same object, and leave the same order.
 use Rattle.std.proofs.Common.{◌≡◌, ℕ, List, [], ◌∷◌, Option, Some, None, arith, refl, sym, ◌∙◌, ap, subst, inl, inr}
 use Rattle.std.specs.FinMap.{get}
 use Rattle.std.proofs.lemmas.Bool.{cases_eq, cases_lt}

@@ -1,4 +1,5 @@
--- For the laws of `blocks.rt`: a free or a resize keeps the blocks of the other objects, and no two objects share a block.
+-- For the laws of `blocks.rt`: slots are whole blocks, and no two objects share a block. A free, or the freeing half of a resize, keeps the other objects'
+-- physical blocks and the block table a permutation.
 use Rattle.std.proofs.Common.{◌≡◌, ◌≢◌, ℕ, ◌+◌, ◌*◌, ◌/◌, ◌%◌, ◌<◌, ◌≤◌, List, Option, Some, None, length, get_or, arith, sym, ◌∙◌, subst, inl, inr, ap, refl}
 use Rattle.std.specs.Prelude.{◌⊎◌}
 use Rattle.std.proofs.Math.Nat.{mul-mod_left}
@@ -92,7 +93,7 @@ moved_kept frames a b n i apart lt inside =
     get_or-exchanged frames a b n (b + i) (omega arith) ∙ ap (λ v. get_or frames v 0)
     (partner_second a b n apart (b + i) (omega arith) (omega arith) ∙ omega arith)
 
--- A free, or the part of a resize that frees object h. Apart from h, the objects afterwards are those that the free leaves.
+-- A free of object h, or the second half of a resize, which frees its old slot. All objects but h are then those that the free leaves.
 module _ (p : Paging) (ok : IsPaging p) (b : AreBlocks p) (m : Held) (s : IsSound p m) (h : ℕ) (x : Placed) (is-x : get m h ≡ Some x)
     (frames : List ℕ) (len : length frames ≡ p.pages * p.page_words / 4) (after : CallResult)
     (left : (r : ℕ) → r ≢ h → get after.held r ≡ get (without m h x.place after.moved) r) where

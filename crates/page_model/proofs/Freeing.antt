@@ -1,4 +1,5 @@
--- For `FreeSteps`: the two ways of a free, to remove an object without a move, and to let another object take its address. Both keep the arrangement sound.
+-- For `FreeSteps`: an arrangement stays sound if an object is removed where no move is due, or if another object of its class takes its address. The counts of
+-- objects on each page in both cases.
 use Rattle.std.proofs.Common.{◌≡◌, ◌≢◌, ℕ, ◌+◌, ◌<◌, ◌≤◌, List, Some, None, arith, sym, ◌∙◌, inl, inr, ap, refl}
 use Rattle.std.specs.Prelude.{◌⊎◌, ◌&&◌, nat_eq}
 use Rattle.std.proofs.lemmas.Bool.{cases_eq}

@@ -1,4 +1,5 @@
--- For the laws of `words.rt`: which words are right for the objects after a malloc, after other bytes at the same address, and after a move.
+-- For the laws of `words.rt`: the words are the image of the objects after a malloc, after an object gets other bytes, and after its words move. Two images of
+-- the same objects, of one length, are equal.
 use Rattle.std.proofs.Common.{◌≡◌, ℕ, zero, suc, ◌+◌, ◌-◌, ◌*◌, ◌<◌, ◌≤◌, List, Some, None, length, get_or, set, replicate, take, arith, sym, ◌∙◌, subst, inl}
 use Rattle.std.proofs.Common.{inr, ap, refl}
 use Rattle.std.proofs.lemmas.List.{get_or-set_same, get_or-set_other, drop-replicate, drop_all, length-replicate}
@@ -66,12 +67,12 @@ module _ (extent : ℕ → ℕ) (m : Held) (words : List ℕ) (im : IsImageOver 
         (λ i l _. mo.left_zeros i l)
         mo.others
 
--- after its own words an object has zeros
+-- after its header and bytes an object has zeros
 past_object : (h : ℕ) (v : List ℕ) (i : ℕ) → need (length v) ≤ i → object_word h v i ≡ 0
 past_object h v zero l = absurd (omega arith)
 past_object h v (suc i) l = ap (λ xs. word_of_bytes (take 8 xs)) (drop_all (8 * i) v (omega arith))
 
--- if each object's whole slot is right, so are its own words
+-- an image of larger extents, such as whole slots, is an image of the objects' headers and bytes
 pub image_narrowed : (extent : ℕ → ℕ) (m : Held) (words : List ℕ) → ((h : ℕ) (x : Placed) → get m h ≡ Some x → need (length x.bytes) ≤ extent (length x.bytes))
     → IsImageOver extent m words → IsImageOver need m words
 image_narrowed extent m words wide im = record {

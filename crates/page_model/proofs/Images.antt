@@ -1,4 +1,5 @@
--- For the laws of `words.rt`: the words of a region after an object is removed, added or replaced are right for the objects that it then holds.
+-- For the laws of `words.rt`: if an object is removed, added or replaced, and its words are changed so, the words are the image of the new objects, provided
+-- that no two share a word. Also disjoint ranges of words.
 use Rattle.std.proofs.Common.{◌≡◌, ℕ, ◌+◌, ◌-◌, ◌<◌, List, Some, None, length, get_or, arith, sym, ◌∙◌, subst, inl, inr}
 use Rattle.std.specs.Prelude.{◌⊎◌}
 use Rattle.std.proofs.lemmas.Bool.{cases_eq, cases_lt}

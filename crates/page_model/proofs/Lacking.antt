@@ -1,4 +1,5 @@
--- For the laws of `room.rt`: when a sound arrangement has no slot left for an object of a class.
+-- For the laws of `room.rt`: a class has no slot left if and only if none of its pages is partly full and no page is free. How many pages there then are at
+-- most, and which are in use.
 use Rattle.std.proofs.Common.{◌≡◌, ℕ, zero, suc, Bool, true, false, ◌+◌, ◌-◌, ◌*◌, ◌/◌, ◌%◌, ◌<◌, ◌≤◌, List, [], ◌∷◌, Some, arith, sym, ◌∙◌, inl, inr, ap}
 use Rattle.std.proofs.Common.{refl}
 use Rattle.std.specs.Prelude.{sum_by, count_by, ◌&&◌, ◌↔◌, nat_eq, nat_lt, filter, not}
@@ -14,12 +15,12 @@ use Rattle.page_model.specs.Counts.{LieOn, most_pages}
 use Rattle.page_model.specs.Arrangement.{class_at, live, objects_on, count_on, pages_of_class, not_full_pages, used_pages, free_pages, most_pages_besides}
 use Rattle.page_model.specs.Arrangement.{IsSound, LacksRoom}
 use Rattle.cf_lemmas.proofs.Tests.{eq_yes, eq_no}
-use Rattle.page_model.proofs.Counting.{less_counts, not_less_counts_none, here, stands_here, on_page, standing}
+use Rattle.page_model.proofs.Counting.{less_counts, not_less_counts_none, here, counted_here, on_page, standing}
 use Rattle.page_model.proofs.Totals.{sum_same, sum_plus, sum_zeros, count_at}
 use Rattle.page_model.proofs.PageCounts.{slots_some, sound_stand, sound_can_hold}
 use Rattle.page_model.proofs.PageLaws.{between_multiples, most_pages_least}
 
--- two sums may change places
+-- a sum over xs of sums over ys is the sum over ys of sums over xs
 swap_sums : {X Y : Type 0} (f : X → Y → ℕ) (xs : List X) (ys : List Y) → sum_by (λ x. sum_by (f x) ys) xs ≡ sum_by (λ y. sum_by (λ x. f x y) xs) ys
 swap_sums f [] ys = sym (sum_zeros (λ y. 0) ys (λ _. refl))
 swap_sums f (x ∷ xs) ys =
@@ -112,8 +113,8 @@ module _ (f : ℕ → Bool) where
 
 module _ (p : Paging) (m : Held) (s : IsSound p m) where
   -- the number of pages that hold an object
-  abbrev pub standing_pages : ℕ
-  standing_pages = count_by (λ g. nat_lt 0 (count_on p m g)) (range_with_len 0 p.pages)
+  abbrev pub occupied_pages : ℕ
+  occupied_pages = count_by (λ g. nat_lt 0 (count_on p m g)) (range_with_len 0 p.pages)
 
   -- the objects of a page have one class
   one_home : (g : ℕ) → one (nat_lt 0 (count_on p m g)) ≡ sum_by (λ c. one (nat_lt 0 (objects_on p m c g))) (range_with_len 0 (classes p))
@@ -125,7 +126,7 @@ module _ (p : Paging) (m : Held) (s : IsSound p m) where
         let e = not_less_counts_none 0 (count_on p m g) none in
         let z = sum_zeros (λ c. one (nat_lt 0 (objects_on p m c g))) (range_with_len 0 (classes p))
         (λ c. not_less_counts_none 0 (objects_on p m c g) (elim (cases_lt 0 (objects_on p m c g)) [
-          | inl some ↦ absurd (let o = on_page p m c g some in let t = stands_here p m o.0 o.1 o.2 in let t' : 0 < count_on p m g =
+          | inl some ↦ absurd (let o = on_page p m c g some in let t = counted_here p m o.0 o.1 o.2 in let t' : 0 < count_on p m g =
               rw (← o.3) t in omega arith)
           | inr le ↦ le
         ])) in
@@ -149,7 +150,7 @@ module _ (p : Paging) (m : Held) (s : IsSound p m) where
           omega arith
 
   -- the pages in use are those that hold an object
-  pub used_is : used_pages p m ≡ standing_pages
+  pub used_is : used_pages p m ≡ occupied_pages
   unfolding used_pages pages_of_class
   used_is = sym (sum_same (λ g. one (nat_lt 0 (count_on p m g))) (λ g. sum_by (λ c. one (nat_lt 0 (objects_on p m c g))) (range_with_len 0 (classes p)))
       (range_with_len 0 p.pages) one_home

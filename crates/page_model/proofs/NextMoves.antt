@@ -1,4 +1,5 @@
--- For the law `a_free_can_follow_an_order`: a free can move the object that is next in the order, or none.
+-- For the law `a_free_can_follow_an_order`: if a free must move an object, the next one of the order can move; else none does. The page whose slot becomes free
+-- then has one object less.
 use Rattle.std.proofs.Common.{◌≡◌, ℕ, ◌+◌, ◌/◌, ◌%◌, ◌<◌, List, ◌∷◌, Option, Some, None, arith, refl, sym, ◌∙◌, ap, subst, inl, inr}
 use Rattle.std.specs.Prelude.{◌⊎◌}
 use Rattle.std.specs.List.{Contains}
@@ -17,7 +18,7 @@ use Rattle.page_model.proofs.OpenPages.{classed, open_page, some_move, taken_or_
 use Rattle.page_model.proofs.OrderLists.{IsList}
 use Rattle.page_model.proofs.Parts.{freed_counts, moved_counts}
 
--- what moves if x is removed; then the slot of `left`, x or another object, becomes free
+-- a free of x follows the order o: it moves object `moved`, or none; the slot that becomes free is that of `left`, x or the object that moves
 pub record HasLeft (p : Paging) (m : Held) (h : ℕ) (x : Placed) (o : Order) : Type 0 where
   pub moved : Option ℕ
   pub moves : Moves p m x moved
@@ -26,7 +27,7 @@ pub record HasLeft (p : Paging) (m : Held) (h : ℕ) (x : Placed) (o : Order) : 
   pub follows : SlotFollows p m x moved o (slot_freed p m o (class_at p x) (page_of p left.place))
   pub counts : (d g : ℕ) → objects_on p (without m h x.place moved) d g + one (is_on p d g left) ≡ objects_on p m d g
 
--- the next object of class c to move
+-- the object of class c that is next to move by the order o, on a page that isn't full
 record HasMover (p : Paging) (m : Held) (c : ℕ) (o : Order) : Type 0 where
   number : ℕ
   object : Placed
@@ -37,7 +38,7 @@ record HasMover (p : Paging) (m : Held) (c : ℕ) (o : Order) : Type 0 where
 
 module _ (p : Paging) (ok : IsPaging p) (m : Held) (s : IsSound p m) (o : Order) where
   module _ (c : ℕ) (lt : c < classes p) (is : IsList p m c (not_full_in o c)) where
-    -- an object on the page has a slot number
+    -- if an object of class c is on the page, one of the page's slots is taken
     taken_slot : (page : ℕ) → 0 < objects_on p m c page → (k : ℕ) × (k < slots_of p c) × IsTaken m (address_of p c page k)
     taken_slot page some =
         let f = on_page p m c page some in

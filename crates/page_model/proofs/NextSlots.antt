@@ -1,5 +1,5 @@
--- For the law `a_malloc_can_follow_an_order`: if a class has a slot left, the order determines the next one. The order after it is taken is one of the new
--- arrangement.
+-- For the law `a_malloc_can_follow_an_order`: if a class has a slot left, the order determines the next one. Once it is taken, the order lists the free and the
+-- partly full pages of the new arrangement.
 use Rattle.std.proofs.Common.{◌≡◌, ℕ, Bool, true, false, zero, suc, ◌+◌, ◌<◌, List, [], ◌∷◌, arith, refl, sym, ◌∙◌, ap, subst, inl, inr}
 use Rattle.std.specs.Prelude.{◌⊎◌, nat_eq, if◌then◌else◌}
 use Rattle.std.specs.List.{Contains}
@@ -17,7 +17,7 @@ use Rattle.page_model.proofs.OrderLists.{HasOneMore, ListsPages}
 use Rattle.page_model.proofs.OrderTake.{listed_free, listed_open}
 use Rattle.page_model.proofs.PageCounts.{slots_some}
 
--- the least number of the second kind below n, if there is one
+-- if A or B holds of each number: the least number below n of which B holds; if there is none, A holds of all
 pub least_below : (A B : ℕ → Type 0) → ((k : ℕ) → A k ⊎ B k) → (n : ℕ) → ((k : ℕ) → k < n → A k) ⊎ ((k : ℕ) × (k < n) × B k × ((j : ℕ) → j < k → A j))
 least_below A B test zero = inl (λ k lt. absurd (omega arith))
 least_below A B test (suc n) = elim (least_below A B test n) [

@@ -1,4 +1,5 @@
--- For every proof that looks for a slot: partly full pages, their free slots, and the object that a free moves from one.
+-- A partly full page has a free slot; the page of a free slot isn't full. A class has such a page exactly if their count isn't 0. If a free must move an
+-- object, there is one that it may move.
 use Rattle.std.proofs.Common.{◌≡◌, ◌≢◌, ℕ, zero, suc, true, ◌+◌, ◌/◌, ◌%◌, ◌<◌, ◌≤◌, Option, Some, None, arith, refl, sym, ◌∙◌, ap, inl, inr}
 use Rattle.std.specs.Prelude.{◌⊎◌, ◌&&◌, count_by, nat_eq, nat_lt}
 use Rattle.std.proofs.lemmas.Bool.{cases_eq, cases_lt, false≢true, and_parts as both, eqb-true}
@@ -9,6 +10,7 @@ use Rattle.cf_lemmas.proofs.Ranges.{some_in_range}
 use Rattle.cf_lemmas.proofs.Tests.{eq_yes}
 use Rattle.page_model.specs.Arrangement.{IsSlotAt, IsSound, LacksRoom, class_at, not_full_pages, objects_on}
 use Rattle.page_model.specs.Held.{Held, Placed}
+use Rattle.page_model.specs.Order.{IsTaken}
 use Rattle.page_model.specs.Paging.{IsPaging, Paging, address_of, bound_of, class_for, classes, page_of, slot_words, slots_of}
 use Rattle.page_model.specs.Steps.{IsFreePlace, Moves}
 use Rattle.page_model.proofs.Counting.{none_counted, on_page, part_yes, some_counted}
@@ -17,10 +19,6 @@ use Rattle.page_model.proofs.Addresses.{address_is_slot}
 use Rattle.page_model.proofs.PageCounts.{size_some}
 use Rattle.page_model.proofs.Totals.{page_below}
 use Rattle.cf_lemmas.proofs.Searches.{counted_in_range, search_below}
-
--- an object is at the address
-abbrev pub IsTaken : Held → ℕ → Type 0
-IsTaken m a = (q : ℕ) × (y : Placed) × (get m q ≡ Some y) × (y.place ≡ a)
 
 -- no object is at the address
 abbrev pub IsVacant : Held → ℕ → Type 0
@@ -40,13 +38,13 @@ pub record IsOpen (p : Paging) (m : Held) (c page : ℕ) : Type 0 where
   pub some : 0 < objects_on p m c page
   pub less : objects_on p m c page < slots_of p c
 
--- then the class's count of partly full pages isn't 0
+-- if a page is partly full with a class, the class's count of partly full pages isn't 0
 pub open_counts : (p : Paging) (m : Held) (c page : ℕ) → IsOpen p m c page → 0 < not_full_pages p m c
 unfolding not_full_pages
 open_counts p m c page o = some_in_range (λ g. nat_lt 0 (objects_on p m c g) && nat_lt (objects_on p m c g) (slots_of p c)) 0 p.pages page (omega arith)
     (omega (arith, o.within)) (part_yes (objects_on p m c page) (slots_of p c) o.some o.less)
 
--- and if that count isn't 0, there is such a page
+-- if a class's count of partly full pages isn't 0, a page is partly full with it
 pub open_page : (p : Paging) (m : Held) (c : ℕ) → 0 < not_full_pages p m c → (page : ℕ) × IsOpen p m c page
 unfolding not_full_pages
 open_page p m c some =

@@ -1,4 +1,5 @@
--- For every proof about an order: its lists of free and of partly full pages depend on the counts of objects on each page alone.
+-- When an order lists exactly the free and the partly full pages of an arrangement, each once (`ListsPages`). That depends only on the counts of objects on
+-- each page, not on the order's free numbers.
 use Rattle.std.proofs.Common.{◌≡◌, ◌≢◌, ℕ, ◌+◌, ◌<◌, List, [], length, get_or, set, arith, refl, sym, ◌∙◌, ap, subst, inl, inr}
 use Rattle.std.specs.Prelude.{◌⊎◌, ◌↔◌, nat_eq}
 use Rattle.std.specs.List.{Contains, IsDistinct}
@@ -9,12 +10,12 @@ use Rattle.page_model.specs.Held.{Held, Placed}
 use Rattle.page_model.specs.Paging.{Paging, classes, page_of}
 use Rattle.page_model.specs.Arrangement.{class_at, is_on, objects_on, count_on}
 use Rattle.page_model.specs.Order.{Order, IsOrderOf, IsPartlyFull, not_full_in}
-use Rattle.page_model.proofs.Counting.{here, on_no, on_page, on_yes, standing, stands_here}
+use Rattle.page_model.proofs.Counting.{here, on_no, on_page, on_yes, standing, counted_here}
 
 module _ (p : Paging) (m : Held) where
   -- a page with objects of a class has objects
   pub occupied : (c g : ℕ) → 0 < objects_on p m c g → 0 < count_on p m g
-  occupied c g some = (let f = on_page p m c g some in subst (λ j. 0 < count_on p m j) f.3 (stands_here p m f.0 f.1 f.2))
+  occupied c g some = (let f = on_page p m c g some in subst (λ j. 0 < count_on p m j) f.3 (counted_here p m f.0 f.1 f.2))
 
   -- a page without objects of any class has none
   pub bare_page : (g : ℕ) → ((d : ℕ) → objects_on p m d g ≡ 0) → count_on p m g ≡ 0
@@ -41,7 +42,7 @@ module _ (p : Paging) (m : Held) where
   abbrev pub IsList : ℕ → List ℕ → Type 0
   IsList d xs = (g : ℕ) → Contains xs g ↔ ((g < p.pages) × IsPartlyFull p m d g)
 
--- a page with the same counts of each class is without objects in both arrangements
+-- a page without objects in m has none in n, if the arrangements have the same counts of each class on it
 pub bare_same : (p : Paging) (n m : Held) (g : ℕ) → ((d : ℕ) → objects_on p n d g ≡ objects_on p m d g) → count_on p m g ≡ 0 → count_on p n g ≡ 0
 bare_same p n m g same bare = bare_page p n g (λ d. same d ∙ bare_class p m g bare d)
 
@@ -52,7 +53,7 @@ list_same p n m d xs same is g =
       λ (l, (a, b)). (is g).1 (l, (omega arith, omega arith)),
     )
 
--- the order lists the pages of this arrangement, each once; its numbers don't matter here
+-- the order lists the pages of the arrangement m, each once; nothing is said of its spare numbers
 pub record ListsPages (p : Paging) (m : Held) (o : Order) : Type 0 where
   pub pool : IsPool p m o.pool
   pub pool_once : IsDistinct nat_eq o.pool
@@ -69,7 +70,7 @@ pages_listed p m limit o is = record {
   not_full_once = is.not_full_once;
 }
 
--- other numbers
+-- with other spare numbers, it lists the same pages
 pub renumbered : (p : Paging) (m : Held) (o : Order) (spare : List ℕ) → ListsPages p m o → ListsPages p m (record o { spare = spare })
 renumbered p m o spare is = record {
   pool = is.pool;
@@ -92,7 +93,7 @@ still_listed p n m o same is = record {
   not_full_once = is.not_full_once;
 }
 
--- what changes for class c alone: the pool, and perhaps the class's list
+-- only the pool changes, or the pool and the list of class c
 module _ (p : Paging) (m : Held) (o : Order) (c : ℕ) (as_many : length o.not_full ≡ classes p) (free : List ℕ) (pool : IsPool p m free)
     (pool_once : IsDistinct nat_eq free)
     (others : (d : ℕ) → d < classes p → d ≢ c → IsList p m d (not_full_in o d)) (once : (d : ℕ) → d < classes p → IsDistinct nat_eq (not_full_in o d)) where

@@ -1,4 +1,5 @@
--- For every proof about an order: its free numbers, after a malloc, a free and a resize.
+-- When a list has exactly the numbers below a limit that no object has (`AreSpare`), before and after a malloc, a free and a resize. An order with such a list
+-- and the right pages is one of the arrangement.
 use Rattle.std.proofs.Common.{◌≡◌, ◌≢◌, ℕ, ◌+◌, ◌<◌, List, ◌∷◌, Option, Some, None, length, arith, sym, ◌∙◌, ap, subst, inl, inr}
 use Rattle.std.specs.Prelude.{nat_eq}
 use Rattle.std.specs.List.{Contains, IsDistinct}
@@ -24,7 +25,7 @@ pub record AreSpare (m : Held) (limit : ℕ) (spare : List ℕ) : Type 0 where
 pub numbers_spare : (p : Paging) (m : Held) (limit : ℕ) (o : Order) → IsOrderOf p m limit o → AreSpare m limit o.spare
 numbers_spare p m limit o is = record { below = is.spare; once = is.spare_once; all = is.spare_all }
 
--- pages and numbers make the order
+-- an order that lists the pages and the spare numbers of an arrangement is an order of it
 pub order_is : (p : Paging) (m : Held) (limit : ℕ) (o : Order) → ListsPages p m o → AreSpare m limit o.spare → IsOrderOf p m limit o
 order_is p m limit o pages numbers = record {
   pool = pages.pool;

@@ -1,4 +1,5 @@
--- For the laws of `order.rt`: a malloc, a free and a resize can follow an order, and leave an order of the new arrangement.
+-- For the laws of `order.rt`: a malloc, a free and a resize that have a number and a slot can follow the order, and leave an order of the new arrangement
+-- (`CanMalloc`, `CanFree`, `CanResize`).
 use Rattle.std.proofs.Common.{◌≡◌, ◌≢◌, ℕ, ◌+◌, ◌<◌, List, ◌∷◌, Option, Some, None, length, arith, refl, sym, ◌∙◌, ap, subst, inl, inr}
 use Rattle.std.proofs.lemmas.Bool.{cases_eq}
 use Rattle.std.proofs.lemmas.List.{length-replicate}

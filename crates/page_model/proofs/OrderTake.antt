@@ -1,4 +1,5 @@
--- For `NextSlots`: the order after a slot is taken is one of the arrangement with the new object.
+-- For `NextSlots`: the order after a slot is taken, on the first partly full page or on the first free one, lists the free and the partly full pages of the
+-- arrangement with one object more.
 use Rattle.std.proofs.Common.{◌≡◌, ◌≢◌, ℕ, Bool, ◌+◌, ◌<◌, List, [], ◌∷◌, arith, sym, subst, inl, inr}
 use Rattle.std.specs.Prelude.{nat_eq, if◌then◌else◌}
 use Rattle.std.specs.List.{Contains, IsDistinct}

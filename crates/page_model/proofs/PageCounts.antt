@@ -1,4 +1,5 @@
--- For the law `page_counts_of_a_sound_arrangement`: in a sound arrangement the number of pages of a class is one that its objects can be on.
+-- For the law `page_counts_of_a_sound_arrangement`: a class of n objects, m to a page, with at most k partly full pages, has a number of pages that arithmetic
+-- allows (`CanHold`): at most ⌊n/m⌋ + k.
 use Rattle.std.proofs.Common.{◌≡◌, ℕ, zero, suc, ◌+◌, ◌-◌, ◌*◌, ◌/◌, ◌%◌, ◌<◌, ◌≤◌, ◌∷◌, arith, sym, ◌∙◌, inl, inr}
 use Rattle.std.specs.Prelude.{sum_by, count_by, nat_lt}
 use Rattle.std.specs.List.{range_with_len}
@@ -25,13 +26,13 @@ module _ (on : ℕ → ℕ) (m : ℕ) (some : 0 < m) where
   abbrev pub part : ℕ → ℕ → ℕ
   part a n = count_by (λ p. part_full (on p) m) (range_with_len a n)
 
-  -- of the n pages from a on f are full: the least and the greatest number of objects on them
-  pub record Stands (a n f : ℕ) : Type 0 where
+  -- f of the n pages from a on are full: how many pages have an object, and the least and the greatest number of objects on the n pages
+  pub record HasFull (a n f : ℕ) : Type 0 where
     pub all : home a n ≡ f + part a n
     pub least : f * m + part a n ≤ sum_by on (range_with_len a n)
     pub most : sum_by on (range_with_len a n) ≤ f * m + part a n * (m - 1)
 
-  pub stands : (a n : ℕ) → ((p : ℕ) → on p ≤ m) → (f : ℕ) × Stands a n f
+  pub stands : (a n : ℕ) → ((p : ℕ) → on p ≤ m) → (f : ℕ) × HasFull a n f
   stands a zero few = (0, record { all = omega arith; least = omega arith; most = omega arith })
   stands a (suc n) few =
       let r = range_with_len (a + 1) n in

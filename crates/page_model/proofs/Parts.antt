@@ -1,5 +1,5 @@
--- For the laws `objects_after_a_step` and `counts_after_a_free`: what a malloc, a free and a resize do to the bytes alone, to the addresses alone, and to the
--- objects on each page.
+-- For the laws `objects_after_a_step` and `counts_after_a_free`: what a malloc, a free and a resize in place do to the bytes by number, to the addresses by
+-- number, and to the counts of objects on each page.
 use Rattle.std.proofs.Common.{◌≡◌, ◌≢◌, ℕ, ◌+◌, List, Option, Some, None, length, replicate, arith, sym, ◌∙◌, inl, inr, ap, refl}
 use Rattle.std.specs.Prelude.{option_map}
 use Rattle.std.proofs.lemmas.Bool.{cases_eq}
@@ -48,13 +48,13 @@ malloc_objects m h a n = map_values-insert (λ (x : Placed). x.bytes) m h (zeros
 pub malloc_places : (m : Held) (h a n : ℕ) → places (insert m h (zeros_at a n)) ≡ insert (places m) h a
 malloc_places m h a n = map_values-insert (λ (x : Placed). x.place) m h (zeros_at a n)
 
--- a free without a move removes one address
 -- other bytes at the same address change no address
 pub rewritten_places : (m : Held) (h : ℕ) (x y : Placed) → get m h ≡ Some x → y.place ≡ x.place → places (insert m h y) ≡ places m
 rewritten_places m h x y there same =
     map_values-insert (λ (z : Placed). z.place) m h y ∙ ap (insert (places m) h) same
     ∙ inserted_there (places m) h x.place (get-map_values (λ (z : Placed). z.place) m h ∙ ap (option_map (λ (z : Placed). z.place)) there)
 
+-- a free without a move removes one address
 pub still_places : (m : Held) (h a : ℕ) → places (without m h a None) ≡ remove (places m) h
 still_places m h a = map_values-remove (λ (x : Placed). x.place) m h
 

@@ -1,4 +1,5 @@
--- For the laws `words_show_what_is_held` and `held_at_has_places`: the words at an object's address determine its bytes.
+-- For the laws `words_show_what_is_held` and `held_at_has_places`: the words at an object's address determine its length and its bytes. So words and addresses
+-- determine the objects (`held_at`).
 use Rattle.std.proofs.Common.{◌≡◌, ℕ, zero, suc, ◌+◌, ◌*◌, ◌/◌, ◌%◌, ◌^◌, ◌<◌, List, [], ◌∷◌, Option, Some, None, length, get_or, take, drop, arith, lit<, sym}
 use Rattle.std.proofs.Common.{◌∙◌, inl, inr, ap, refl}
 use Rattle.std.specs.Prelude.{option_map}
@@ -15,7 +16,7 @@ use Rattle.cf_lemmas.proofs.Maps.{equal_maps}
 use Rattle.cf_lemmas.proofs.MapValues.{get-map_values}
 use Rattle.page_model.specs.Bytes.{byte_of, bytes_at, held_at, AreBytes, AreStorable}
 
--- byte j of the word of a list of bytes
+-- byte j of the number that a list of bytes represents is byte j of the list
 pub byte_of_word : (bs : List ℕ) (j : ℕ) → AreBytes bs → byte_of j (word_of_bytes bs) ≡ get_or bs j 0
 byte_of_word [] zero b = refl
 byte_of_word [] (suc j) b = byte_of_word [] j b

@@ -1,4 +1,5 @@
--- For the law `an_order_leaves_no_choice`: a resize that follows an order has one outcome.
+-- For the law `an_order_leaves_no_choice`: two resizes of one object to one length that follow the same order leave the same objects and the same order, within
+-- the class and to another one.
 use Rattle.std.proofs.Common.{◌≡◌, ℕ, Some, sym, ◌∙◌, ap, subst, inl, inr}
 use Rattle.std.specs.FinMap.{get, insert}
 use Rattle.cf_lemmas.proofs.Maps.{found_once, get_inserted}
@@ -10,7 +11,7 @@ use Rattle.page_model.specs.Steps.{ChangesClass, CallResult, Moves, RefitsObject
 use Rattle.page_model.proofs.Following.{next_once, slot_once}
 use Rattle.page_model.proofs.Resizing.{change_is}
 
--- x changes its class, by an order
+-- a resize of x to another class turns the order `old` into `new`: it takes a slot, which leaves `between`, then frees the old slot
 record Changed (p : Paging) (m : Held) (asked : Request) (x : Placed) (after : CallResult) (old new : Order) : Type 0 where
   place : ℕ
   between : Order

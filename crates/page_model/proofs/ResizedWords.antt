@@ -1,4 +1,5 @@
--- For the law `words_after_a_resize`: the words after a resize to another class.
+-- For the law `words_after_a_resize`: after a resize to another class the words are the image of the new objects, whether the old slot is cleared or another
+-- object's words move into it.
 use Rattle.std.proofs.Common.{◌≡◌, ◌≢◌, ℕ, ◌+◌, ◌*◌, ◌<◌, ◌≤◌, List, Some, None, length, get_or, take, drop, arith, sym, ◌∙◌, subst, inl, inr, ap, length-drop}
 use Rattle.std.proofs.lemmas.List.{length-take, get_or-take, get_or-drop}
 use Rattle.std.specs.FinMap.{get, insert, remove}
@@ -14,7 +15,7 @@ use Rattle.page_model.proofs.FreeSteps.{mover_is_other}
 use Rattle.page_model.proofs.SlotImages.{image_exchanged, sound_apart_from, slot_inside, place_apart}
 use Rattle.page_model.proofs.Writing.{written_before, written_inside, written_behind}
 
--- the list with the words of a run put back
+-- `new`, with the n words from a on as they were in `old`
 module _ (old new : List ℕ) (a n : ℕ) (inside : a + n ≤ length old) (inside' : a + n ≤ length new) where
   length-part : length (take n (drop a old)) ≡ n
   length-part = (let x = length-take n (drop a old) in let y = length-drop a old in omega arith)
@@ -82,7 +83,7 @@ module _ (p : Paging) (ok : IsPaging p) (m : Held) (s : IsSound p m) (old mid ne
   within_new : a + slot_for p (length bytes) ≤ length new
   within_new = (let i = slot_inside p (class_for p (length bytes)) a free.slot in rw len' i)
 
-  -- the object's old slot is cleared
+  -- the resize clears the object's old slot
   pub image_after_change : Clears mid new (record { from = x.place; count = slot_for p (length x.bytes) })
       → IsSlotImage p (insert (remove m h) h (record { place = a; bytes = bytes })) new
   image_after_change c =
@@ -96,7 +97,7 @@ module _ (p : Paging) (ok : IsPaging p) (m : Held) (s : IsSound p m) (old mid ne
       (first_last old mid new a (slot_for p (length bytes)) (object_word h bytes) re within_old within_new
       (λ i lt. c.others (a + i) (disjoint_outside x.place (slot_for p (length x.bytes)) a (slot_for p (length bytes)) i (turned _ _ _ _ (apart h x is-x)) lt)))
 
-  -- another object's slot moves to the old slot
+  -- the resize moves the words of another object's slot into the old slot
   pub image_after_change_and_move : (q : ℕ) (y : Placed) → get m q ≡ Some y → MustMove p m x → MayFill p m x y
       → MovesWords mid new (record { from = y.place; count = slot_for p (length y.bytes) }) x.place
       → IsSlotImage p (insert (insert (remove m h) q (record { place = x.place; bytes = y.bytes })) h (record { place = a; bytes = bytes })) new

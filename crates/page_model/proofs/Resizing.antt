@@ -1,4 +1,5 @@
--- For the laws `a_resize_keeps_soundness` and `a_resize_in_two_steps`: a resize, within the class and to another one.
+-- For the laws `a_resize_keeps_soundness` and `a_resize_in_two_steps`: a resize keeps the arrangement sound. To another class it leaves what a free of the
+-- object leaves, and the object at a free address, with its new length.
 use Rattle.std.proofs.Common.{◌≡◌, ◌≢◌, ℕ, ◌-◌, List, Option, Some, None, length, take, replicate, arith, sym, ◌∙◌, inl, inr, ap, refl, subst, length-append}
 use Rattle.std.proofs.lemmas.List.{length-replicate, length-take}
 use Rattle.std.proofs.lemmas.Bool.{cases_eq}
@@ -49,7 +50,7 @@ module _ (p : Paging) (ok : IsPaging p) (old : Held) (s : IsSound p old) (h n a 
   found_still : get with_both h ≡ Some x
   found_still = (still old spare new unused h x found).1
 
-  -- the object's old class has the same objects on each page
+  -- with the copy added, the object's old class has the same objects on each page as before
   same_on : (g : ℕ) → objects_on p with_both (class_at p x) g ≡ objects_on p old (class_at p x) g
   same_on g = objects_on-elsewhere p old spare new unused (class_at p x) g (inr (λ e. other (sym (class-resized p a n x) ∙ e)))
 
@@ -113,7 +114,7 @@ module _ (p : Paging) (ok : IsPaging p) (old : Held) (s : IsSound p old) (h n a 
       get_remove_other (without with_both h x.place moved) spare h (λ e. spare_is_other (sym e)) ∙ stays.1 in
       sound_exchanged p (without with_both h x.place moved) spare new stays.0 h (resized x.bytes n) gone refl left
 
-  -- the spare number isn't in use afterwards
+  -- the spare number leaves no trace: the objects are those after a free of h, with the resized object as h
   module _ (q : ℕ) where
     no_trace : (moved : Option ℕ) → Moves p old x moved → get (insert (remove (without with_both h x.place moved) spare) h new) q ≡ get
         (insert (without old h x.place moved) h new) q
@@ -141,7 +142,7 @@ module _ (p : Paging) (ok : IsPaging p) (old : Held) (s : IsSound p old) (h n a 
                   ∙ sym (get_remove_other old h q ne) ∙ sym (get_insert_other _ r _ q nr)
             ])
 
--- A resize to another class as a manager does it: the object at a free address, and the rest as a free of its old address leaves it.
+-- A resize to another class as a manager does it: the resized object is at a free address, and the other objects are as a free of the old one leaves them.
 pub changes_class : (p : Paging) → IsPaging p → (old : Held) → IsSound p old → (h n a spare : ℕ) (x : Placed) (moved : Option ℕ) → get old h ≡ Some x
     → class_for p n ≢ class_at p x → get old spare ≡ None
     → IsFreePlace p old n a → Moves p old x moved

@@ -1,4 +1,5 @@
--- For the laws of `classes.rt`: the slot sizes of the rule rise from 4 words to the page, and each request that fits a page has a class.
+-- For the laws of `classes.rt`: settings in range have slot sizes that rise to the page (`IsPaging`). A request that fits a page has a class, the least whose
+-- slots hold it. Sizes counted in blocks are whole blocks.
 use Rattle.std.proofs.Common.{◌≡◌, ℕ, Bool, true, false, ◌-◌, ◌*◌, ◌/◌, ◌<◌, ◌≤◌, List, Some, None, length, get_or, arith, sym, ◌∙◌, inl, inr, refl}
 use Rattle.std.specs.Prelude.{IsTrue, nat_le, nat_lt}
 use Rattle.std.specs.List.{position_or_len}

@@ -1,4 +1,5 @@
--- For the laws of `words.rt`: the words of a sound arrangement, by whole slots, after a malloc, a write, a free and a move.
+-- For the laws of `words.rt`: in a sound arrangement no two slots share a word, and free slots have zeros. The words are the image of the objects' whole slots
+-- after a malloc, a write, a free and a move.
 use Rattle.std.proofs.Common.{◌≡◌, ◌≢◌, ℕ, ◌+◌, ◌*◌, ◌/◌, ◌%◌, ◌<◌, ◌≤◌, List, Some, None, length, get_or, set, replicate, arith, sym, ◌∙◌, subst, inl, inr, ap}
 use Rattle.std.proofs.lemmas.List.{length-replicate}
 use Rattle.std.proofs.lemmas.Bool.{cases_eq, cases_lt, cases_order}
@@ -187,6 +188,6 @@ module _ (p : Paging) (ok : IsPaging p) (m : Held) (s : IsSound p m) (words : Li
         image_exchanged (slot_for p) m words words' im h q x y found there (mover_is_other p ok m s h x found q y there must may)
         (sound_apart_from p m s h x found) (sound_apart_from p m s q y there) (ap (slot_words p) may.class) mo
 
-  -- the objects' own words, without the rest of their slots
+  -- an image of whole slots is an image of the objects' headers and bytes
   pub own_words : IsImage m words
   own_words = image_narrowed (slot_for p) m words (λ h x e. class_holds p ok (length x.bytes) (s.slots h x e).class) im

@@ -1,4 +1,5 @@
--- For every proof about counts of pages: the objects of a class are the sum over its pages, and a page has at most one object for each slot.
+-- The objects of a class are the sum of those on each page. A page has at most as many objects as slots, and fewer if a slot has none. Also sums over lists and
+-- over the values of maps.
 use Rattle.std.proofs.Common.{◌≡◌, ◌≢◌, ℕ, Bool, true, false, ◌+◌, ◌*◌, ◌/◌, ◌%◌, ◌<◌, ◌≤◌, List, [], ◌∷◌, Some, None, length, arith, sym, ◌∙◌, inl, inr, ap}
 use Rattle.std.proofs.Common.{refl}
 use Rattle.std.specs.Prelude.{sum_by, count_by, ◌&&◌, nat_eq}
@@ -78,7 +79,7 @@ module _ (p : Paging) (c : ℕ) where
   live_none : live_in p empty c ≡ 0
   live_none = ap (count_by (λ (x : Placed). nat_eq (class_at p x) c)) no_values
 
-  -- they are the sum over the pages
+  -- the objects of class c are the sum of those on each page
   pub live_by_pages : (m : Held) → ((q : ℕ) (x : Placed) → get m q ≡ Some x → page_of p x.place < p.pages)
       → sum_by (objects_on p m c) (range_with_len 0 p.pages) ≡ live_in p m c
   live_by_pages = map_induction (λ m. ((q : ℕ) (x : Placed) → get m q ≡ Some x → page_of p x.place < p.pages)
@@ -206,7 +207,7 @@ module _ (p : Paging) (c page : ℕ) where
       let n = length-le_from_distinct_below o.0 (slots_of p c) o.1.distinct (taken_below m o.0 pos has o.1) in
       omega (arith, o.1.count)
 
-  -- and fewer if a slot of the page has no object
+  -- if a slot of the page has no object, the page has fewer objects than slots
   pub page_below : (m : Held) (a : ℕ) → 0 < slot_words p c → IsSound p m → IsSlotAt p c a → page_of p a ≡ page
       → ((q : ℕ) (y : Placed) → get m q ≡ Some y → y.place ≢ a) → objects_on p m c page < slots_of p c
   unfolding IsDistinct

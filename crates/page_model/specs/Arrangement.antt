@@ -1,5 +1,5 @@
--- The addresses that objects may have, which arrangements are sound, and counts of objects and pages. `p` holds the pages and the classes, `m` the objects with
--- their addresses, and c is a class: an index into the slot sizes.
+-- The addresses that objects may have, sound arrangements, how many objects and pages a class has, and when it has no slot left. `p` holds the pages and the
+-- classes, `m` the objects; a class c is an index into the slot sizes.
 use Rattle.std.specs.Prelude.{◌≡◌, ◌≢◌, ℕ, Bool, ◌&&◌, ◌+◌, ◌-◌, ◌%◌, ◌≤◌, ◌<◌, Some, length, filter, not, nat_lt, nat_eq, count_by, sum_by, cond}
 use Rattle.std.specs.List.{range_with_len}
 use Rattle.std.specs.FinMap.{get, values}

@@ -1,4 +1,5 @@
--- The block table of the non-moving manager, as a list of numbers (`frames`). A block is four words; virtual block v is physical block `frames[v]`.
+-- The block table of the non-moving manager as a list (`frames`): virtual block v, of four words, is physical block `frames[v]`. How a free or a resize changes
+-- the list, and where in the region a word then is.
 use Rattle.std.specs.Prelude.{◌≡◌, ℕ, ◌+◌, ◌*◌, ◌/◌, ◌%◌, ◌<◌, List, Option, Some, None, length, slice_index}
 use Rattle.std.specs.List.{range_with_len}
 use Rattle.std.specs.List.Sorted.{IsPermutation}
@@ -17,7 +18,8 @@ first_frames n = range_with_len 0 n
 abbrev pub IsPermuted : List ℕ → Type 0
 IsPermuted frames = IsPermutation (first_frames (length frames)) frames
 
--- the block table after an object moved from y to z: the blocks of its old slot and of its new one have changed places; without an object nothing changes
+-- the block table after an object moved, y before and z after: the blocks of its old slot and of its new one have changed places; if there is none, nothing
+-- changes
 abbrev pub frames_moved : Paging → Option Placed → Option Placed → List ℕ → List ℕ
 frames_moved p None z frames = frames
 frames_moved p (Some y) None frames = frames
@@ -36,7 +38,7 @@ frames_after p old after frames = frames_moved p (found old after.moved) (found 
 abbrev pub block_of : List ℕ → ℕ → ℕ → ℕ
 block_of frames a i = slice_index frames (a / 4 + i)
 
--- `physical` are the words of the region as they lie there, `words` the same words as objects see them: word 4v+j of `words` is word j of physical block
+-- `physical` are the words of the region in its own order, `words` the same words as objects see them: word 4v+j of `words` is word j of physical block
 -- `frames[v]`
 pub record IsPhysical (frames words physical : List ℕ) : Type 0 where
   pub count : length physical ≡ 4 * length frames

@@ -1,4 +1,5 @@
--- The words of a region that objects determine, and how a call changes words. Words and addresses are counted from the start of the region.
+-- The words of a region that objects determine (`IsImage`), and three changes of words: to rewrite, clear or move a range. Words and addresses are counted from
+-- the start of the region.
 use Rattle.std.specs.Prelude.{◌≡◌, ◌≢◌, ℕ, zero, suc, ◌+◌, ◌*◌, ◌^◌, ◌≤◌, ◌<◌, ◌⊎◌, List, [], ◌∷◌, Some, length, take, drop, slice_index}
 use Rattle.std.specs.FinMap.{get}
 use Rattle.cf_base.specs.Classes.{need}
@@ -39,13 +40,13 @@ IsOutsideOf extent x w = IsOutside x.place (extent (length x.bytes)) w
 abbrev pub AreDisjoint : (ℕ → ℕ) → Placed → Placed → Type 0
 AreDisjoint extent x y = IsDisjoint x.place (extent (length x.bytes)) y.place (extent (length y.bytes))
 
--- each object's words are at its address, and every other word is 0; an object of n bytes has `extent n` words: `need n` without the rest of its slot,
--- `slot_for n` with it
+-- each object's words are at its address, and every other word is 0; an object of n bytes has `extent n` words: `need n` for its header and bytes alone,
+-- `slot_for n` for its whole slot
 pub record IsImageOver (extent : ℕ → ℕ) (m : Held) (words : List ℕ) : Type 0 where
   pub held : (h : ℕ) (x : Placed) → get m h ≡ Some x → (i : ℕ) → i < extent (length x.bytes) → slice_index words (x.place + i) ≡ object_word h x.bytes i
   pub zeros : (w : ℕ) → ((h : ℕ) (x : Placed) → get m h ≡ Some x → IsOutsideOf extent x w) → slice_index words w ≡ 0
 
--- the words are those of the objects, each without the rest of its slot, and zeros elsewhere
+-- the words are those of the objects' headers and bytes, and zeros elsewhere
 abbrev pub IsImage : Held → List ℕ → Type 0
 IsImage m words = IsImageOver need m words
 
@@ -61,21 +62,21 @@ pub record IsApart (extent : ℕ → ℕ) (m : Held) : Type 0 where
 abbrev pub IsApartFrom : (ℕ → ℕ) → Held → ℕ → Placed → Type 0
 IsApartFrom extent m h x = (q : ℕ) (y : Placed) → get m q ≡ Some y → q ≢ h → AreDisjoint extent x y
 
--- a run of words: `count` words from word `from` on
+-- a range of words: `count` words from word `from` on
 pub record WordRange : Type 0 where
   pub from : ℕ
   pub count : ℕ
 
--- the words `old` become `new`: those of the run become f 0, f 1 and so on; every other word stays
+-- the words `old` become `new`: those of the range `run` become f 0, f 1 and so on; every other word stays
 pub record Rewrites (old new : List ℕ) (run : WordRange) (f : ℕ → ℕ) : Type 0 where
   pub within : (i : ℕ) → i < run.count → slice_index new (run.from + i) ≡ f i
   pub others : (w : ℕ) → IsOutside run.from run.count w → slice_index new w ≡ slice_index old w
 
--- the words `old` become `new`: those of the run become zeros; every other word stays
+-- the words `old` become `new`: those of the range `run` become zeros; every other word stays
 abbrev pub Clears : List ℕ → List ℕ → WordRange → Type 0
 Clears old new run = Rewrites old new run (λ _. 0)
 
--- the words `old` become `new`: those of the run move to address b, and zeros are left in their old place; every other word stays
+-- the words `old` become `new`: those of the range `run` move to address b, and zeros are left in their old place; every other word stays
 pub record MovesWords (old new : List ℕ) (run : WordRange) (b : ℕ) : Type 0 where
   pub arrived : (i : ℕ) → i < run.count → slice_index new (b + i) ≡ slice_index old (run.from + i)
   pub left_zeros : (i : ℕ) → i < run.count → slice_index new (run.from + i) ≡ 0

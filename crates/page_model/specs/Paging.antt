@@ -1,4 +1,5 @@
--- Pages and size classes as numbers. A class is an index into the list of slot sizes.
+-- The pages and size classes of a heap as numbers (`Paging`): slot sizes, bounds, the class of a request, and the addresses of slots. A class is an index into
+-- the list of slot sizes.
 use Rattle.std.specs.Prelude.{ℕ, ◌≡◌, ◌+◌, ◌*◌, ◌/◌, ◌≤◌, ◌<◌, List, length, slice_index, replicate, nat_le}
 use Rattle.std.specs.List.{position_or_len}
 use Rattle.cf_base.specs.Settings.{Profile}

@@ -60,7 +60,7 @@ abbrev pub without : Held → ℕ → ℕ → Option ℕ → Held
 without m h a None = remove m h
 without m h a (Some q) = moved_to (remove m h) q (get m q) a
 
--- a free of object h turns the objects `old` into `after`: h is removed, and if `MustMove` holds one other object of its class moves to its address
+-- a free of object h turns the objects `old` into `after`: h is removed, and if `MustMove` holds, another object of its class moves to its address
 pub record RemovesObject (p : Paging) (old : Held) (h : ℕ) (after : CallResult) : Type 0 where
   pub freed : Placed
   pub found : get old h ≡ Some freed

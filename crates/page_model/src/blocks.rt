@@ -1,6 +1,6 @@
-//! Laws of the non-moving manager's block table. `frames` lists the physical block of each virtual
-//! block, and a block is four words. `old` are the objects before a call; `after` are those that it
-//! leaves, and which other object moved.
+//! Laws of the non-moving manager's block table: it stays a permutation, a free or a resize keeps
+//! other objects' physical blocks, and no two objects share one. `p` holds the pages, `m` or `old`
+//! the objects, `after` what a call leaves.
 ghost use Rattle.std.specs.Prelude.{ℕ, ◌≡◌, ◌≢◌, ◌+◌, ◌*◌, ◌/◌, ◌%◌, ◌<◌, List, Some, length, slice_index};
 ghost use Rattle.std.specs.FinMap.{get};
 ghost use Rattle.page_model.specs.Frames.{IsPermuted, IsPhysical, AreFramed, block_of, first_frames, frames_after};
@@ -24,7 +24,7 @@ pub fn frames_stay_permuted()
 
 /// A free of object `h`, or a resize (`asked`), keeps each physical block of every other object
 /// `q`, even if `q` moves (clauses `free`, `resize`). A resize within the class also keeps the
-/// blocks of its own object (`same_class`). `y` is the object before the call, `z` the same one
+/// blocks of the resized object (`same_class`). `y` is the object before the call, `z` the same one
 /// after it, and `i` a block of its slot. `frames` is the block table before the call. A malloc has
 /// no clause here, since it moves no object.
 pub fn blocks_of_others_stay()
@@ -56,9 +56,10 @@ pub fn live_objects_share_no_block()
         → block_of frames x.place i ≢ block_of frames y.place j }
 {}
 
-/// The table (`frames`) names a physical block for block i / 4 of the slot of object `x`. Word `i`
-/// of the slot is word i modulo 4 of that block. So a call that keeps an object's blocks and bytes
-/// keeps its words in the region (`physical`).
+/// `words` are the words as objects see them, `physical` those of the region. The table (`frames`)
+/// names a physical block for block i / 4 of the slot of object `x`. Word `i` of the slot is word i
+/// modulo 4 of that block. So a call that keeps an object's blocks and bytes keeps its words in the
+/// region.
 pub fn slots_are_in_their_blocks()
     ensures { (p : Paging) (m : Held) (frames words physical : List ℕ) → AreFramed p m frames
         → IsSlotImage p m words → IsPhysical frames words physical

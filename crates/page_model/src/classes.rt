@@ -11,8 +11,8 @@ ghost use Rattle.page_model.specs.Paging.{EveryBoundIsOne, IsPaging, Paging, add
 ghost use Rattle.page_model.specs.Arrangement.{IsSlotAt};
 
 /// The slot sizes of a page, in words or in whole blocks (`layout`), rise from at least 4 words to
-/// the page. `first`: each class has the bound of the settings `s`. `bounded`: the same holds with
-/// other bounds of at least 1, one for each class.
+/// the page, and each class has a bound of at least 1 (`IsPaging`). `first`: each class has the
+/// bound k of the settings `s`. `bounded`: the classes have other bounds of at least 1.
 pub fn slot_sizes_rise()
     ensures first { (s : Profile) (layout : Layout) → IsTrue (is_page_size s.page_words) → 1 ≤ s.k
         → IsPaging (paging_of s layout (first_bounds s layout)) }
@@ -35,8 +35,9 @@ pub fn slots_are_few_and_in_blocks()
         → 4 * slots_of p c ≤ p.page_words }
 {}
 
-/// A request of `n` bytes that fits a page of the paging `p` has a class: the least class `c` whose
-/// slots hold it. A request that doesn't fit a page has none.
+/// A request of `n` bytes that fits a page has a class (`fits`): the least one whose slots hold it
+/// (`holds`, `least`). `class_of` returns it (`known`), or none for a request that doesn't fit a
+/// page (`none`).
 pub fn a_class_holds_its_requests()
     ensures fits { (p : Paging) (n : ℕ) → IsPaging p → need n ≤ p.page_words
         → class_for p n < classes p }

@@ -1,5 +1,6 @@
 //! Laws of the order in which a manager uses pages, slots and numbers (`Order`). The order leaves a
-//! call no choice, and each call that may succeed can follow it.
+//! call no choice, and each call that may succeed can follow it. In the clauses the numbers of
+//! objects are below `limit`.
 ghost use Rattle.std.specs.Prelude.{ℕ, ◌≡◌, ◌≢◌, ◌<◌, Option, Some, None};
 ghost use Rattle.std.specs.FinMap.{get, insert, len};
 ghost use Rattle.page_model.specs.Arrangement.{IsSound, LacksRoom, class_at};
@@ -37,9 +38,9 @@ pub fn a_malloc_can_follow_an_order()
         × IsOrderOf p (insert m h (zeros_at place n)) limit new }
 {}
 
-/// A free of each live object `h` can follow the order `o`, whether it moves an object or not. It
-/// leaves an order of the arrangement without the object. `m` are the objects before, on the pages
-/// `p`.
+/// A free of each live object `h`, which is `x`, can follow the order `o`, whether it moves an
+/// object or not. It leaves an order of the arrangement without the object. `m` are the objects
+/// before, on the pages `p`.
 pub fn a_free_can_follow_an_order()
     ensures { (p : Paging) (m : Held) (limit h : ℕ) (x : Placed) (o : Order) → IsPaging p → IsSound p m → IsOrderOf p m limit o
         → get m h ≡ Some x → h < limit
@@ -47,9 +48,9 @@ pub fn a_free_can_follow_an_order()
         × IsOrderOf p (without m h x.place moved) limit new }
 {}
 
-/// Let the new length have a class, and if this is another class, let a slot of it be left. Then a
-/// resize of a live object can follow the order `o`, and leaves an order of the new arrangement.
-/// `m` are the objects before, on the pages `p`.
+/// Let the new length have a class; if this isn't the object's class, let it have a slot left. Then
+/// a resize of the live object `x` can follow the order `o`, and leaves an order of the new
+/// arrangement. `m` are the objects before, on the pages `p`.
 pub fn a_resize_can_follow_an_order()
     ensures { (p : Paging) (m : Held) (limit : ℕ) (asked : Request) (x : Placed) (o : Order) → IsPaging p → IsSound p m → IsOrderOf p m limit o
         → get m asked.number ≡ Some x → class_for p asked.length < classes p

@@ -1,5 +1,6 @@
-//! Laws of when a sound arrangement has no slot left for one more object of a class. In the clauses
-//! `p` holds the pages and the classes, `m` the objects with their addresses.
+//! Laws of when a sound arrangement has no slot left for one more object of a class, and of how
+//! many pages its objects need. `p` holds the pages and the classes, `m` the objects with their
+//! addresses.
 ghost use Rattle.std.specs.Prelude.{ℕ, ◌≡◌, ◌+◌, ◌/◌, ◌%◌, ◌<◌, ◌≤◌, ◌↔◌, List, None, length};
 ghost use Rattle.std.specs.FinMap.{get, insert};
 ghost use Rattle.page_model.specs.Arrangement.{IsSound, LacksRoom, free_pages, live, most_pages_besides, not_full_pages, pages_needed, pages_needed_with};

@@ -1,6 +1,6 @@
-//! Laws of sound arrangements: a malloc, a free and a resize keep an arrangement sound, and change
-//! its counts as stated here. In the clauses `p` holds the pages and the classes, `m` or `old` the
-//! objects with their addresses.
+//! Laws of sound arrangements: a malloc, a free and a resize keep an arrangement sound; what they
+//! do to objects and counts; how many pages a class uses. `p` holds the pages and the classes, `m`
+//! or `old` the objects.
 ghost use Rattle.std.specs.Prelude.{ℕ, ◌≡◌, ◌≢◌, ◌+◌, ◌/◌, ◌<◌, ◌≤◌, ◌&&◌, Option, Some, None, cond, length, nat_lt, replicate};
 ghost use Rattle.std.specs.FinMap.{empty, get, insert, remove};
 ghost use Rattle.page_model.specs.Arrangement.{IsSound, class_at, pages_of_class, is_on, live, not_full_pages, objects_on};
@@ -10,7 +10,7 @@ ghost use Rattle.page_model.specs.Paging.{IsPaging, Paging, bound_of, class_for,
 ghost use Rattle.page_model.specs.Steps.{ChangesClass, IsFreePlace, RemovesObject, PlacesObject, RefitsObject, MayFill, Moves, MustMove, CallResult, Request};
 ghost use Rattle.page_model.specs.Steps.{resized_at, without, zeros_at};
 
-/// The arrangement without objects is sound on all pages `p`, whatever the bounds. No class `c`
+/// The arrangement without objects is sound on any pages `p`, whatever the bounds. No class `c`
 /// uses a page there.
 pub fn nothing_is_a_sound_arrangement()
     ensures sound { (p : Paging) → IsSound p empty }
@@ -102,7 +102,8 @@ pub fn counts_after_a_malloc()
 
 /// Object `x` with the number `h` is freed. If no object moves and `x` was of class `c` and on
 /// `page`, the count of such objects falls by one (`still`). If object `y` moves to the address of
-/// `x`, the count falls if `y` was one of them instead (`moved`). Otherwise it stays.
+/// `x`, the count falls by one if `y` was of class `c` and on `page` (`moved`). Otherwise the count
+/// stays.
 pub fn counts_after_a_free()
     ensures still { (p : Paging) (m : Held) (h a c page : ℕ) (x : Placed) → get m h ≡ Some x
         → objects_on p (without m h a None) c page + cond (is_on p c page x) 1 0

@@ -10,8 +10,8 @@ ghost use Rattle.page_model.specs.Image.{Clears, IsImage, IsSlotImage, MovesWord
 ghost use Rattle.page_model.specs.Paging.{IsPaging, Paging, class_for};
 ghost use Rattle.page_model.specs.Steps.{IsFreePlace, MayFill, MustMove, resized, without, zeros_at};
 
-/// The objects determine the words: two lists `u` and `v` of one length that are right for the same
-/// objects `m` are equal (`one`). The words of an empty region of `n` words are zeros (`empty`).
+/// The objects determine the words: two images `u` and `v` of the same objects `m`, if they are of
+/// one length, are equal (`one`). The words of an empty region of `n` words are zeros (`empty`).
 /// Words that are an image of the objects' whole slots (`IsSlotImage`) are also an image of the
 /// objects alone (`IsImage`; clause `own`).
 pub fn objects_determine_words()
@@ -59,8 +59,8 @@ pub fn words_after_a_write()
 {}
 
 /// A free of object `h`, which is `x`, changes the words from `old` to `new`. It clears the slot
-/// (`still`). Or it moves the words of the slot of object `q`, which is `y`, there, and clears them
-/// at their old address (`moved`). Then the words are those of the objects that are left.
+/// (`still`), or moves the words of the slot of object `q`, which is `y`, into it, and clears them
+/// at their old address (`moved`). Then the words are those of the other objects.
 pub fn words_after_a_free()
     ensures still { (p : Paging) (m : Held) (old new : List ℕ) (h : ℕ) (x : Placed)
         → IsPaging p → IsSound p m → IsSlotImage p m old → get m h ≡ Some x
@@ -79,7 +79,7 @@ pub fn words_after_a_free()
 
 /// A resize of object `h`, which is `x`, to another class writes the new slot, at `a`, while the
 /// old one is still there: `mid` are the words in between. Then it clears the old slot (`still`),
-/// or moves the words of the slot of object `q`, which is `y`, there (`moved`). Then the words,
+/// or moves the words of the slot of object `q`, which is `y`, into it (`moved`). Then the words,
 /// `new`, are those of the objects after the resize. `spare` is any number that no object has: in
 /// between, the copy is an object of this number.
 pub fn words_after_a_resize()

@@ -61,7 +61,7 @@ free_within n free h = length-le_from_distinct_below free n (distinct_by_test fr
 pub free_room : (n page : ℕ) (free : List ℕ) → Pooled n free → page < n → is_in_pool free page ≡ false → length free < n
 free_room n page free h lt gone = let all = free_within n (page ∷ free) (pooled_front n page free h lt gone) in omega arith
 
--- the numbers from a on have none below a
+-- no page below a is among the numbers from a on
 range_absent : (a n page : ℕ) → page < a → is_in_pool (range_with_len a n) page ≡ false
 range_absent a zero page lt = refl
 range_absent a (suc n) page lt = both_false (eqb page a) (is_in_pool (range_with_len (a + 1) n) page) (ne_eqb page a (omega arith))

@@ -14,7 +14,7 @@ laid_taken stack first h lt =
     let old : Pooled (length stack) (get_or stack first 0 ∷ drop (first + 1) stack) = rw e at h.pool in
     record { within = omega arith; small = h.small; pool = pooled_rest _ _ _ old }
 
--- returning a page to the pool: the stack and the first index before and after
+-- the page may return to the pool: the stack has a place for it, and the stack with the page in it is valid
 pub record Given (stack : List ℕ) (first page : ℕ) (old : Pool) : Type 0 where
   pub some : 0 < first
   pub laid : IsValid (set stack (first - 1) page) (first - 1)

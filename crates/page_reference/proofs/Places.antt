@@ -1,4 +1,5 @@
--- For `ReferencePages::number_at` and `ReferenceOrder`: the object at an address, searched number by number, and the first page of a list.
+-- For `ReferencePages::number_at` and `ReferenceOrder`: the object at an address, searched number by number. When an order has a next slot or a next object to
+-- move, and when it has none.
 use Rattle.std.proofs.Common.{◌≡◌, ◌≢◌, ℕ, ◌+◌, ◌<◌, ◌≤◌, ◌∙◌, List, [], ◌∷◌, Option, Some, None, arith, drop, inl, inr, refl, subst, sym}
 use Rattle.std.specs.Prelude.{if◌then◌else◌, nat_eq, slice_get}
 use Rattle.std.proofs.lemmas.Bool.{cases_lt}

@@ -1,4 +1,4 @@
--- For the loops over pages and classes, as in `ReferencePages::pages_of_class`: sums over the numbers below a bound, extended by one number.
+-- For the loops over pages and classes, as in `ReferencePages::pages_of_class`: sums and counts over the numbers below a bound, extended by one number.
 use Rattle.std.proofs.Common.{◌≡◌, ℕ, zero, suc, ◌+◌, [], ◌∷◌, Bool, arith, ap, ◌∙◌, add-one}
 use Rattle.std.specs.Prelude.{sum_by, count_by}
 use Rattle.std.specs.List.{range_with_len}

@@ -1,4 +1,5 @@
--- For `Pages::total`: sums over a table of objects are sums over the values of the map that it represents.
+-- For `Pages::total`: sums over a table of objects, such as the live objects of a class or on a page, are the model's counts and sums over the map that the
+-- table represents.
 use Rattle.std.proofs.Common.{◌≡◌, ℕ, ◌+◌, List, [], ◌∷◌, Option, Some, None, length, map, arith, sym, ◌∙◌, ap}
 use Rattle.std.specs.Prelude.{option_map, sum_by}
 use Rattle.std.proofs.lemmas.List.Sums.{sum_by-cons}

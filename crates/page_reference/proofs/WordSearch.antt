@@ -1,4 +1,5 @@
--- For `word_at` and `ReferencePages::image`: a word of the region, searched object by object.
+-- For `word_at` and `ReferencePages::image`: the word of the region that a search object by object finds is the right one. If all words are right, they are the
+-- image of the objects.
 use Rattle.std.proofs.Common.{◌≡◌, ℕ, ◌+◌, ◌*◌, ◌<◌, ◌≤◌, List, [], ◌∷◌, ◌++◌, Option, Some, None, length, get_or, map, arith, sym, ◌∙◌, ap, refl, inl, inr}
 use Rattle.std.proofs.Common.{subst}
 use Rattle.std.specs.Prelude.{option_map}

@@ -1,4 +1,5 @@
--- What each object adds to a sum, by its address and its length, and such sums over a table of objects. No public clause cites this module.
+-- The objects of a table by number, and what each adds to a sum, by its address and its length; such sums over the table. Also when a free of an entry's object
+-- must move another one.
 use Rattle.std.specs.Prelude.{ℕ, ◌&&◌, ◌^◌, ◌<◌, List, Option, Some, None, cond, nat_eq, map, option_map, sum_by}
 use Rattle.cf_lemmas.specs.Maps.{numbered}
 use Rattle.page_model.specs.Held.{Held, Placed}

@@ -10,7 +10,7 @@ use Rattle.page_model.specs.Steps.{CallResult, Request, resized_at}
 use Rattle.page_reference.specs.Amounts.{MustMoveAnother}
 use Rattle.page_reference.specs.declared.order.ReferenceOrder.{ReferenceOrder}
 
--- the order, as the model sees it, that the lists of the `ReferenceOrder` o are
+-- the lists of the `ReferenceOrder` o as an order of the model
 abbrev pub order_of : ReferenceOrder → Order
 order_of o = record { pool = o.pool.items; not_full = map (λ pages. pages.items) o.not_full.items; spare = o.spare.items }
 
@@ -45,7 +45,8 @@ abbrev pub BeginsWithNoPage : Paging → List ℕ → Type 0
 BeginsWithNoPage p [] = ⊤
 BeginsWithNoPage p (page ∷ rest) = p.pages ≤ page
 
--- of this list of partly full pages of class c, the first has no free slot, or is no page; or the list is empty, and the pool of o begins with no page
+-- class c has no next slot, if the list is that of its partly full pages: its first number is no page, or that page has no free slot; or the list is empty,
+-- and the pool of o is empty or begins with a number that is no page
 abbrev pub HasNoSlot : Paging → Held → Order → ℕ → List ℕ → Type 0
 HasNoSlot p m o c [] = BeginsWithNoPage p o.pool
 HasNoSlot p m o c (page ∷ rest) = page < p.pages → IsFullPage p m c page
@@ -54,7 +55,7 @@ HasNoSlot p m o c (page ∷ rest) = page < p.pages → IsFullPage p m c page
 abbrev pub HasNoNext : Paging → Held → Order → ℕ → Type 0
 HasNoNext p m o c = HasNoSlot p m o c (not_full_in o c)
 
--- the list is empty, or no slot of class c on its first page is taken, or that is no page
+-- the list is empty, or its first number is no page, or no slot of class c on that page is taken
 abbrev pub HasNoObject : Paging → Held → ℕ → List ℕ → Type 0
 HasNoObject p m c [] = ⊤
 HasNoObject p m c (page ∷ rest) = page < p.pages → IsFreePage p m c page

@@ -1,5 +1,5 @@
-//! The block table of the non-moving manager, as a list: entry v is the physical block of virtual
-//! block v. A block is four words.
+//! The block table of the non-moving manager, as a list that the reference implementation computes:
+//! entry v is the physical block of virtual block v. A block is four words.
 ghost use Rattle.std.specs.Prelude.{◌≡◌, ◌+◌, ◌/◌, ◌^◌, ◌<◌, ◌≤◌, IfOk, length};
 ghost use Rattle.std.specs.List.{range_with_len};
 ghost use Rattle.page_model.specs.Frames.{block_of as physical_block, first_frames};

@@ -1,6 +1,6 @@
-//! What a manager with pages uses next, computed by the definitions of its order (`page_model`,
-//! `Order`). Tests compare a manager's choices with it. A call fails only if memory runs out; no
-//! clause says what the order is then.
+//! Which page, slot and number a manager with pages uses next, and which object it moves next,
+//! computed by the definitions of its order (`page_model`, `Order`). Tests compare a manager's
+//! choices with these. A call fails only if memory runs out; no clause says what the order is then.
 ghost use Rattle.std.specs.Prelude.{◌≡◌, ◌+◌, ◌<◌, ◌≤◌, ◌⊎◌, ◌∷◌, [], IfNone, IfOk, IfSome, OnOk, Some, drop, if◌then◌else◌, nat_eq, not, slice_get};
 ghost use Rattle.std.specs.List.{filter};
 ghost use Rattle.page_model.specs.Order.{FreeFollows, MallocFollows, TakesNext, TakesOnFreePage, TakesOnPartlyFullPage, first_order, not_full_in, slot_freed, with_not_full};
@@ -28,8 +28,8 @@ pub struct Next {
     pub place: u32,
 }
 
-/// What a resize leaves: the address of the resized object, and the object that moves to its old
-/// one, if one does.
+/// What a resize leaves: the address of the resized object, and the number of the object that moves
+/// to its old slot, if one does.
 #[derive(Clone, Copy, Debug, PartialEq, Eq)]
 pub struct ResizedTo {
     pub place: u32,
@@ -71,16 +71,16 @@ impl ReferenceOrder {
         let Some(number) = self.spare.first().copied() else {
             return Ok(None);
         };
-        self.spare = behind_first(alloc, &self.spare)?;
+        self.spare = after_first(alloc, &self.spare)?;
         match self.take(alloc, reference_pages, reference_pages.class_for(bytes))? {
             Some(place) => Ok(Some(Next { number, place })),
             None => Ok(None),
         }
     }
 
-    /// Follows a free of the object with this number in the heap `reference_pages`. Returns the object that
-    /// moves to its address: `Some(None)` if none does. Returns `None` if no object has the number,
-    /// or if an object must move and none is next; no clause says what the order is then.
+    /// Follows a free of the object with this number in the heap `reference_pages`. Returns the number of
+    /// the object that moves to its slot: `Some(None)` if none does. Returns `None` if no object has the
+    /// number, or if an object must move and none is next; no clause says what the order is then.
     pub fn free(
         &mut self,
         alloc: Global,
@@ -99,9 +99,9 @@ impl ReferenceOrder {
     }
 
     /// Follows a resize of the object with this number to `bytes` bytes in the heap `reference_pages`.
-    /// Returns the address that it gets, and the object that moves to its old one, if one does.
-    /// None if there is no such object or no slot, or if an object must move and none is next; no
-    /// clause says what the order is then.
+    /// Returns the address that it gets, and the number of the object that moves to its old slot, if
+    /// one does. None if there is no such object or no slot, or if an object must move and none is
+    /// next; no clause says what the order is then.
     pub fn resize(
         &mut self,
         alloc: Global,
@@ -212,7 +212,7 @@ impl ReferenceOrder {
         if u64::from(reference_pages.objects_on(c, page)) + 1
             == u64::from(reference_pages.slots(c))
         {
-            let rest = behind_first(alloc, self.not_full_in(c))?;
+            let rest = after_first(alloc, self.not_full_in(c))?;
             self.set_not_full(c, rest);
         }
         Ok(())
@@ -240,7 +240,7 @@ impl ReferenceOrder {
         if reference_pages.slots(c) != 1 {
             self.set_not_full(c, with_first(alloc, page, &[])?);
         }
-        self.pool = behind_first(alloc, &self.pool)?;
+        self.pool = after_first(alloc, &self.pool)?;
         Ok(Some(reference_pages.address_of(c, page, 0)))
     }
 
@@ -288,9 +288,9 @@ impl ReferenceOrder {
     }
 
     /// Updates the order after the object with this number leaves its slot in the heap `reference_pages`: the
-    /// slot becomes free, or the next object to move moves there and its own slot becomes free.
-    /// Returns that object: `Some(None)` if none moves. Returns `None` if no object has the number,
-    /// or if an object must move and none is next.
+    /// slot becomes free, or the next object to move takes it, and the slot of that object becomes free.
+    /// Returns the number of that object: `Some(None)` if none moves. Returns `None` if no object has
+    /// the number, or if an object must move and none is next.
     fn leave(
         &mut self,
         alloc: Global,
@@ -327,7 +327,7 @@ impl ReferenceOrder {
 }
 
 /// The list without its first entry; empty if it has none.
-fn behind_first(alloc: Global, list: &[u32]) -> Result<Vec<u32>, AllocError>
+fn after_first(alloc: Global, list: &[u32]) -> Result<Vec<u32>, AllocError>
     ensures { IfOk result (λ rest. rest.items ≡ drop 1 list.now) }
 {
     if list.is_empty() {

@@ -60,9 +60,9 @@ impl ReferencePages {
         })
     }
 
-    /// Puts an object of `length` bytes at word `place` under this number, in place of one that has
-    /// it. Its contents are `bytes`, cut to its length, then zeros. Fails only if memory runs out;
-    /// then the objects stay.
+    /// Puts an object of `length` bytes at word `place` under this number. An object that had the
+    /// number is removed. The contents of the new one are `bytes`, cut to `length`, then zeros. Fails
+    /// only if memory runs out; then the objects stay.
     pub fn put(
         &mut self,
         alloc: Global,

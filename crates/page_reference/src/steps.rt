@@ -1,5 +1,6 @@
 //! The steps of the parts of a call, by slow code for tests: the reference implementation of
-//! `page_model`'s rules of cost. The numbers for slots are those of `page_model/specs/Order`.
+//! `page_model`'s rules of cost. `page_model/specs/Order` defines the constants for taking and
+//! freeing a slot.
 ghost use Rattle.std.specs.Prelude.{◌≡◌, ◌*◌, ◌<◌, ◌≤◌};
 ghost use Rattle.page_model.specs.Order.{open_steps as opening, steps_to_drop as dropping, steps_to_fill as filling, steps_to_take as taking, word_steps as word};
 ghost use Rattle.page_model.specs.Arrangement.{objects_on};
@@ -82,7 +83,7 @@ pub fn word_steps(kind: Kind) -> u64
     }
 }
 
-/// In how many blocks of four words the `n` words from word `i` on are.
+/// The number of blocks of four words that contain one of the `n` words from word `i` on.
 fn blocks_of(i: u32, n: u32) -> u64
     ensures value { result ≡ blocks i n }
     ensures few { result ≤ n }

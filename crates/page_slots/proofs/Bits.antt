@@ -1,4 +1,5 @@
--- For `OccupiedAfterTake`, `OccupiedAfterFree` and `NextSlots`: the list of a page's slots after one of them becomes used or free.
+-- A list with a truth value for each slot of a page (true for used): its entries after one of them changes. For the proofs of the tables after a slot becomes
+-- used or free.
 use Rattle.std.proofs.Common.{◌≡◌, ◌≢◌, ℕ, Bool, true, false, ◌<◌, List, length, get_or, set, replicate, Some, arith, sym, ◌∙◌, ap, inl, inr}
 use Rattle.std.specs.Prelude.{slice_get}
 use Rattle.std.proofs.lemmas.Bool.{cases_lt}

@@ -1,4 +1,5 @@
--- What other crates' proofs may cite: objects at the used slots, before and after each call.
+-- Lemmas that other crates' proofs may cite: the objects are at the used slots of the tables (`Occupies`) before and after a slot is taken, freed or filled.
+-- The tables of another owner of pages stay.
 use Rattle.std.proofs.Common.{◌≡◌, ℕ, Bool, true, false, ◌<◌, ◌≤◌, List, length, Some, None, arith, refl, sym, ◌∙◌, ap, subst, inl, inr}
 use Rattle.std.specs.Prelude.{◌⊎◌, ◌↔◌, slice_get}
 use Rattle.std.specs.List.{Contains}
@@ -28,8 +29,10 @@ use Rattle.page_slots.proofs.Occupied.{free_bare, occupied_renamed, stands_at}
 use Rattle.page_slots.proofs.OccupiedAfterTake.{gained_address, gained_unused, occupied_gained}
 use Rattle.page_slots.proofs.OccupiedAfterFree.{occupied_lost}
 use Rattle.page_slots.proofs.PageNumbers.{lacks_room}
--- re-exported: the head of a list, the order of the tables, and the next slot
-pub use Rattle.page_slots.proofs.TablesAfterTake.{front_listed}
+-- re-exported: free slots and pages, the head of a list, the tables after a slot is taken, their order, and the next slot
+pub use Rattle.page_slots.proofs.Occupied.{free_bare, free_of_none}
+pub use Rattle.page_slots.proofs.Pages.{free_page, one_class}
+pub use Rattle.page_slots.proofs.TablesAfterTake.{Gains, front_listed, taken_gains}
 pub use Rattle.page_slots.proofs.NextSlots.{drop_same, fill_same, filler_next, open_empty, order_is, steps_same, taken_next, vacated_order}
 -- re-exported: the tables of a heap without objects, and the numbers of pages
 pub use Rattle.page_slots.proofs.Start.{first_occupied, first_table, first_tables, first_whole, new_serve, no_pages}
@@ -72,7 +75,7 @@ module _ {p : Paging} (ok : IsPaging p) {m : Held} {old new : Tables} (serve : F
               ]));
         }
 
-    -- so the class had a slot left
+    -- the class had a free slot
     pub taken_has_room : LacksRoom p m c → ⊥
     taken_has_room l = elim gains.was [
       | inl (there, _) ↦ (
@@ -286,7 +289,7 @@ module _ (k : ClassTable) (old new : Tables) (kept : AreTables k new) (pages : n
   others_slots c page (inl h) = keeps.slots page (of_others c page Full h)
   others_slots c page (inr h) = keeps.slots page (of_others c page NotFull h)
 
-  -- and its objects still occupy its slots
+  -- the other owner's objects still occupy its slots
   pub others_occupied : (p : Paging) (m : Held) → Occupies p m (tables old.maps others old.pool) → Occupies p m (tables new.maps others new.pool)
   others_occupied p m o = record {
     stands = λ h x f. (let u = o.stands h x f in

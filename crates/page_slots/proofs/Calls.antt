@@ -1,4 +1,5 @@
--- For the calls that take or free a slot: what their code needs of the tables, and what each part of it costs.
+-- For the calls that take or free a slot: the tables meet what each part of the code requires. What taking a slot on the first partly full or the first free
+-- page does, and what each part costs.
 use Rattle.std.proofs.Common.{◌≡◌, ◌≢◌, ℕ, Bool, true, false, not, ◌+◌, ◌*◌, ◌^◌, ◌<◌, ◌≤◌, List, [], ◌∷◌, length, drop, get_or, set, replicate, Some, None, arith, inl, inr}
 use Rattle.std.proofs.Common.{refl, sym, ◌∙◌, ap, subst}
 use Rattle.std.specs.Prelude.{slice_get, if◌then◌else◌, is_some, nat_eq}
@@ -30,7 +31,7 @@ finds_free xs some none = false≢true (ap is_some none ∙ some_free xs some)
 pub finds_used : (xs : List Bool) → 0 < used_in xs → None ≡ position (λ used. used) xs → ⊥
 finds_used xs some none = false≢true (ap is_some none ∙ some_used xs some)
 
--- a list with a head is its head and the rest
+-- a list with a head is its head, then its other entries
 pub front_is : (xs : List ℕ) (page : ℕ) → slice_get xs 0 ≡ Some page → xs ≡ page ∷ drop 1 xs
 front_is [] page e = absurd (let lt = slice_get_within [] 0 page e in omega arith)
 front_is (x ∷ xs) page e = (let same : Some x ≡ Some page = e in let is : x ≡ page = cc in ap (λ y. y ∷ xs) is)
@@ -79,7 +80,7 @@ module _ (k : ClassTable) (t : Tables) (a : AreTables k t) where
     pub front_slot : (slot : ℕ) (b : Bool) → slice_get (slots_on t page) slot ≡ Some b → slot < slots_in k c
     front_slot slot b is = (let lt = slice_get_within (slots_on t page) slot b is in let l = front_placed.slots in omega arith)
 
-    -- its slots, as they are read
+    -- the slots of that page, as they are read from the maps
     module _ (slots : List Bool) (read : slots ≡ get_or t.maps page slots) where
       same_map : slots ≡ slots_on t page
       same_map = read ∙ get_or_default t.maps page slots [] front_inside
@@ -209,7 +210,7 @@ used_still maps page slot count slots map inside read used wrote many =
     let w : used_in map ≡ used_in (set (get_or maps page []) slot false) = ap used_in (wrote ∙ ap (λ xs. set xs slot false) same) in
     omega arith
 
--- the steps of freeing it, whether that empties its page or not
+-- the steps of freeing a slot, whether that empties its page or not
 module _ (maps : List (List Bool)) (page count : ℕ) (few : count + 1 ≡ used_in (get_or maps page [])) (which : Which) (a b c d : ℕ)
     (first : RoseBy a b 3) (second : RoseBy b c 1) where
   pub emptied_steps : (e : ℕ) → count ≡ 0 → RoseBy c d 4 → RoseBy d e 1 → RoseBy a e (steps_to_vacate which (used_in (get_or maps page [])))
@@ -226,7 +227,7 @@ module _ (maps : List (List Bool)) (page count : ℕ) (few : count + 1 ≡ used_
       by_list Full third = rose_both a c d 4 8 (rose_both a b c 3 1 first second) third
       by_list NotFull third = rose_both a c d 4 0 (rose_both a b c 3 1 first second) third
 
--- the steps of freeing it, with the step that finds the page's list
+-- the steps of freeing a slot, with the step that finds the page's list
 pub dropped_steps : (xs map : List Bool) (which : Which) (a b c : ℕ) → map ≡ xs → (used_in map ≡ length map → which ≡ Full)
     → (used_in map ≢ length map → which ≡ NotFull) → RoseBy a b 1 → RoseBy b c (steps_to_vacate which (used_in xs))
     → RoseBy a c (drop_steps (used_in xs) (length xs))

@@ -1,4 +1,4 @@
--- For `NextSlots` and `PageNumbers`: how many pages a list has, counted over all pages.
+-- For `NextSlots` and `PageNumbers`: a list of pages without repeats is as long as the count, over all pages, of those in it. Two tests of membership agree.
 use Rattle.std.proofs.Common.{◌≡◌, ℕ, zero, suc, Bool, true, false, ◌+◌, ◌<◌, ◌≤◌, List, [], ◌∷◌, length, arith, refl, sym, ◌∙◌, ap, inl, inr}
 use Rattle.std.specs.Prelude.{nat_eq, count_by}
 use Rattle.std.specs.List.{Contains, IsDistinct, range_with_len}
@@ -50,7 +50,7 @@ tail_free x q xs is = elim (cases_eq q x) [
   | inr ne ↦ other_free xs x q ne ∙ is
 ]
 
--- the numbers below n that pass the test are counted by the length of the list
+-- if a list of numbers below n has no repeats, its length is the count of the numbers below n that are in it
 pub count_members : (n : ℕ) (xs : List ℕ) → HasNoRepeats xs → ((q : ℕ) → is_in_pool xs q ≡ true → q < n)
     → count_by (is_in_pool xs) (range_with_len 0 n) ≡ length xs
 count_members n [] d below = sum_zeros (λ q. one (is_in_pool [] q)) (range_with_len 0 n) (λ _. refl)

@@ -1,4 +1,5 @@
--- For `leave_if_filled`, `move_if_full` and the tables after a call: which pages are in a list after one joined or left it.
+-- For `leave_if_filled`, `move_if_full` and the tables after a call: which pages each list of a class has after one page joined or left it. A page that left
+-- its list is in none.
 use Rattle.std.proofs.Common.{◌≡◌, ◌≢◌, ℕ, List, ◌∷◌, refl, sym, ◌∙◌, ap, subst, inl, inr}
 use Rattle.std.specs.Prelude.{◌⊎◌}
 use Rattle.std.specs.List.{Contains}
@@ -19,7 +20,7 @@ which_or Full NotFull = inr (λ e. cc)
 which_or NotFull Full = inr (λ e. cc)
 which_or NotFull NotFull = inl refl
 
--- either the list is this one or another one
+-- the list v of class d is the list w of class c, or another one
 pub list_or : (c d : ℕ) (w v : Which) → ((d ≡ c) × (v ≡ w)) ⊎ ((d ≢ c) ⊎ (v ≢ w))
 list_or c d w v = elim (cases_eq d c) [
   | inl is ↦ elim (which_or v w) [

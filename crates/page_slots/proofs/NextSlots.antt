@@ -1,4 +1,5 @@
--- For the laws of `following`: the slots that the tables take and free, and the object that moves, are the next ones in their order.
+-- For the laws of `following.rt`: the slots that the tables take and free, and the object that moves, are the next ones of their order. The order afterwards
+-- and the steps are the model's.
 use Rattle.std.proofs.Common.{◌≡◌, ◌≢◌, ℕ, Bool, true, false, ◌+◌, ◌*◌, ◌<◌, List, [], ◌∷◌, length, drop, get_or, set, replicate, Some, arith, refl, sym, ◌∙◌, ap, subst, inl, inr}
 use Rattle.std.specs.Prelude.{◌↔◌, None, not, nat_eq, slice_get, if◌then◌else◌}
 use Rattle.std.specs.FinMap.{get, len}
@@ -38,21 +39,21 @@ use Rattle.page_slots.proofs.TablesAfterTake.{Gains, front_listed, taken_gains, 
 use Rattle.page_slots.proofs.OccupiedAfterTake.{gained_unused}
 
 module _ (n : ℕ) where
-  -- the list of one class
+  -- the order lists the partly full pages of class c as the tables do
   pub open_at : (t : Tables) (spare : List ℕ) (c : ℕ) → c < n → not_full_in (order_of n t spare) c ≡ pages_in t.lists c NotFull
   open_at t spare c lt = get_or-map-range_with_len (λ c. pages_in t.lists c NotFull) 0 n c c [] lt (omega arith)
 
   long : (lists : PageLists) → length (partly_full_lists n lists) ≡ n
   long lists = length-map-range_with_len (λ c. pages_in lists c NotFull) 0 n
 
-  -- all lists stay
+  -- if the partly full pages of each class stay, the lists of all classes do
   pub open_same : (old new : PageLists) → ((d : ℕ) → pages_in new d NotFull ≡ pages_in old d NotFull) → partly_full_lists n new ≡ partly_full_lists n old
   open_same old new same = same_lists _ _ (long new ∙ sym (long old)) (λ k d lt. (
       let l = long new in
       get_or-map-range_with_len (λ c. pages_in new c NotFull) 0 n k k d (omega arith) (omega arith) ∙ same k
       ∙ sym (get_or-map-range_with_len (λ c. pages_in old c NotFull) 0 n k k d (omega arith) (omega arith))))
 
-  -- one list changes
+  -- if only the partly full pages of class c change, only its list does
   pub open_set : (old new : PageLists) (c : ℕ) (pages : List ℕ) → c < n → pages_in new c NotFull ≡ pages
       → ((d : ℕ) → d ≢ c → pages_in new d NotFull ≡ pages_in old d NotFull) → partly_full_lists n new ≡ set (partly_full_lists n old) c pages
   open_set old new c pages inside here others = same_lists _ _ (long new ∙ sym (length-set (partly_full_lists n old) c pages ∙ long old)) (λ k d lt. (
@@ -156,7 +157,7 @@ module _ {p : Paging} (ok : IsPaging p) {m : Held} {old new : Tables} (serve : F
       left = left_free;
     })
 
-  -- in both cases
+  -- in both cases: the slot is on a partly full page, or on a page that was free
   pub taken_next : {a : ℕ} → TakesAt (class_table p) old c a new → TakesNext p m before c a after
   taken_next t = elim t.taken [
     | inl on ↦ next_open t.address on (taken_gains (class_table p) old serve.tables c class _ new t kept.lists kept.pool)
@@ -375,7 +376,7 @@ module _ {p : Paging} {m : Held} {t : Tables} (serve : FitPagesShared p t) (o : 
       rw (order_fill, open_at (classes p) t spare c class ∙ first) refl in
       by_table ∙ ap fill_steps (sym counts) ∙ sym by_order
 
--- empty lists
+-- in the lists of a heap without objects no class has a partly full page
 pub open_empty : (n classes pages : ℕ) → partly_full_lists n (empty_lists classes pages) ≡ replicate n []
 open_empty n classes pages = same_lists _ _ (long n (empty_lists classes pages) ∙ sym (length-replicate n [])) (λ k d lt. (
     let l = long n (empty_lists classes pages) in

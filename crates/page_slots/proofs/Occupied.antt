@@ -1,4 +1,5 @@
--- For `OccupiedAfterTake`, `OccupiedAfterFree`, `PageNumbers` and `NextSlots`: what follows if objects are at the used slots of the tables (`Occupies`).
+-- What follows if the objects are at the used slots of the tables (`Occupies`): the pages with objects of a class, those without objects, and the address of
+-- each object.
 use Rattle.std.proofs.Common.{◌≡◌, ℕ, true, ◌<◌, List, Some, None, arith, refl, sym, ◌∙◌, ap, subst, inl, inr}
 use Rattle.std.proofs.lemmas.Bool.{cases_eq, cases_lt}
 use Rattle.std.proofs.lemmas.Option.{slice_get_within}

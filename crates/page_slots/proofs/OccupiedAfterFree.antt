@@ -1,4 +1,4 @@
--- For callers that free a slot: the objects without the freed one are at the used slots of the tables afterwards.
+-- For callers that free a slot: after its object is removed, the other objects are at the used slots of the tables (`Occupies`).
 use Rattle.std.proofs.Common.{◌≡◌, ◌≢◌, ℕ, true, false, ◌+◌, ◌<◌, length, Some, arith, refl, sym, ◌∙◌, ap, subst, inl, inr}
 use Rattle.std.specs.Prelude.{slice_get}
 use Rattle.std.proofs.lemmas.Bool.{cases_eq}

@@ -1,4 +1,5 @@
--- For callers' figures: how many pages are free, of a class, or partly full, by the lengths of the pool and of the lists.
+-- For callers' figures: the lengths of the pool and of the page lists are the numbers of free pages, of a class's pages and of its partly full ones. Without
+-- partly full and free pages no slot is left.
 use Rattle.std.proofs.Common.{◌≡◌, ℕ, Bool, true, false, ◌+◌, ◌<◌, ◌≤◌, [], length, arith, refl, sym, ◌∙◌, ap, subst, inl, inr}
 use Rattle.std.specs.Prelude.{nat_lt, count_by}
 use Rattle.std.specs.List.{Contains, range_with_len}
@@ -12,7 +13,7 @@ use Rattle.page_pool.specs.Pool.{is_in_pool}
 use Rattle.page_model.specs.Held.{Held}
 use Rattle.page_model.specs.Paging.{Paging, IsPaging, slots_of}
 use Rattle.page_model.specs.Arrangement.{objects_on, count_on, pages_of_class, not_full_pages, used_pages, free_pages, IsSound, LacksRoom}
-use Rattle.page_model.proofs.CallerLemmas.{part_full, less_counts as lt_yes, not_less_counts_none as lt_no, on_page, stands_here, sum_same, sum_plus, used_is}
+use Rattle.page_model.proofs.CallerLemmas.{part_full, less_counts as lt_yes, not_less_counts_none as lt_no, on_page, counted_here, sum_same, sum_plus, used_is}
 use Rattle.page_slots.specs.Tables.{Tables, HasUsed, IsOf, IsPageOf, NoneForeign, slots_on, used_in}
 use Rattle.page_slots.specs.Occupying.{Occupies, FitPagesShared, class_table}
 use Rattle.page_slots.proofs.Pages.{placed_in, listed_page, list_of, free_page, taken_page}
@@ -41,8 +42,8 @@ module _ (p : Paging) (ok : IsPaging p) (m : Held) (t : Tables) (serve : FitPage
 
   -- a page of class c
   module _ (c page : ℕ) where
-    is_part : is_in_pool (pages_in t.lists c NotFull) page ≡ true → part_full (objects_on p m c page) (slots_of p c) ≡ true
-    is_part e =
+    has_inner_object : is_in_pool (pages_in t.lists c NotFull) page ≡ true → part_full (objects_on p m c page) (slots_of p c) ≡ true
+    has_inner_object e =
         let h = any_contains page (pages_in t.lists c NotFull) e in
         let n = counts c page NotFull h in
         let f = (listed c page NotFull h).fills in
@@ -63,7 +64,7 @@ module _ (p : Paging) (ok : IsPaging p) (m : Held) (t : Tables) (serve : FitPage
       where
         by_tests : (n f : Bool) → is_in_pool (pages_in t.lists c NotFull) page ≡ n → is_in_pool (pages_in t.lists c Full) page ≡ f
             → part_full (objects_on p m c page) (slots_of p c) ≡ is_in_pool (pages_in t.lists c NotFull) page
-        by_tests true f a b = is_part a ∙ sym a
+        by_tests true f a b = has_inner_object a ∙ sym a
         by_tests false true a b = (let e = is_full b in part_not (objects_on p m c page) (slots_of p c) (omega arith) ∙ sym a)
         by_tests false false a b = part_none (objects_on p m c page) (slots_of p c) (is_none b a) ∙ sym a
 
@@ -128,7 +129,7 @@ module _ (p : Paging) (ok : IsPaging p) (m : Held) (t : Tables) (serve : FitPage
         let n = counts c page w q.listed in
         let some = used_there w _ _ q.fills q.some in
         let f = on_page p m c page (omega arith) in
-        subst (λ g. 0 < count_on p m g) f.3 (stands_here p m f.0 f.1 f.2)
+        subst (λ g. 0 < count_on p m g) f.3 (counted_here p m f.0 f.1 f.2)
       where
         used_there : (w : Which) (n s : ℕ) → HasUsed w n s → 0 < s → 0 < n
         used_there Full n s e some = omega arith

@@ -1,4 +1,5 @@
--- For all calls: what the tables show of one page, and that a change of another page keeps it.
+-- For all calls: what the tables show of one page, which is free, foreign, or in one list of one class. A call that changes one page keeps every other
+-- (`IsSame`), and the rules of the tables.
 use Rattle.std.proofs.Common.{◌≡◌, ◌≢◌, ℕ, Bool, true, false, ◌<◌, ◌≤◌, List, [], ◌∷◌, length, get_or, set, arith, refl, sym, ◌∙◌, ap, subst, inl, inr, eqb}
 use Rattle.std.specs.List.{Contains}
 use Rattle.std.proofs.lemmas.Bool.{cases_eq, true≢false, ne_eqb}
@@ -12,7 +13,7 @@ use Rattle.page_pool.specs.Pool.{IsPool, is_in_pool}
 use Rattle.page_slots.specs.Tables.{Tables, AreTables, IsOf, IsPlaced, IsPageOf, IsFreePage, IsForeign, NoneForeign}
 use Rattle.page_slots.specs.Tables.{KeepsForeign, slots_in, slots_on, used_in}
 
--- the page, its lists and its slots stay
+-- page g is unchanged: whether it is free, the list that it is in, and its slots
 pub record IsSame (old new : Tables) (g : ℕ) : Type 0 where
   pub free : is_in_pool new.pool.free g ≡ is_in_pool old.pool.free g
   pub comes : (d : ℕ) (v : Which) → Contains (pages_in old.lists d v) g → Contains (pages_in new.lists d v) g
@@ -36,7 +37,7 @@ was_elsewhere old new g s e = record { taken = sym s.free ∙ e.taken; unlisted 
 pub keeps_all : (t : Tables) → KeepsForeign t t
 keeps_all t = record { still = λ _ e. e; slots = λ _ _. refl }
 
--- if one page changes that isn't foreign, the foreign pages stay as they are
+-- if only one page changes, and it isn't foreign, the foreign pages stay as they are
 pub keeps_elsewhere : (old new : Tables) (page : ℕ) → ¬ IsForeign old page → ((g : ℕ) → g ≢ page → IsSame old new g) → KeepsForeign old new
 keeps_elsewhere old new page there others = record {
   still = λ g e. same_elsewhere old new g (others g (other g e)) e;
@@ -46,7 +47,7 @@ keeps_elsewhere old new page there others = record {
     other : (g : ℕ) → IsForeign old g → g ≢ page
     other g e is = there (subst (IsForeign old) is e)
 
--- if no page is foreign and the changed page isn't afterwards, none is afterwards
+-- if no page is foreign, only one page changes, and that page isn't foreign afterwards, then no page is foreign afterwards
 pub still_whole : (old new : Tables) (page : ℕ) → new.pool.pages ≡ old.pool.pages → ¬ IsForeign new page → ((g : ℕ) → g ≢ page → IsSame old new g)
     → NoneForeign old → NoneForeign new
 still_whole old new page pages there others whole g lt e = elim (cases_eq g page) [

@@ -1,4 +1,5 @@
--- For `drop_slot` and `fill_slot`: the tables keep their rules after a slot became free.
+-- For `drop_slot` and `fill_slot`: the tables keep their rules after a slot became free (`Loses`). Only its page changes; it stays in its class or, if it is
+-- empty, is free.
 use Rattle.std.proofs.Common.{◌≡◌, ◌≢◌, ℕ, true, false, ◌+◌, ◌<◌, length, set, Some, arith, refl, sym, ◌∙◌, ap, subst, inl, inr}
 use Rattle.std.specs.Prelude.{◌⊎◌, slice_get}
 use Rattle.std.specs.List.{Contains}
@@ -60,7 +61,7 @@ module _ (k : ClassTable) (old : Tables) (a : AreTables k old) (c page slot : �
   long : length (slots_on new page) ≡ slots_in k c
   long = ap length after ∙ length-set (slots_on old page) slot false ∙ was.slots
 
-  -- what stays of the other pages' lists and of the pool, and the page afterwards
+  -- the other pages stay in their lists and in the pool, and the page is free or in a list of class c afterwards
   record Left : Type 0 where
     free : (g : ℕ) → g ≢ page → is_in_pool new.pool.free g ≡ is_in_pool old.pool.free g
     comes : (g d : ℕ) (w : Which) → g ≢ page → Contains (pages_in old.lists d w) g → Contains (pages_in new.lists d w) g

@@ -1,4 +1,5 @@
--- For `take_slot`: the tables keep their rules after a slot was taken.
+-- For `take_slot`: the tables keep their rules after a slot was taken (`Gains`). Only its page changes; it was partly full or, if its class had no such page,
+-- free.
 use Rattle.std.proofs.Common.{◌≡◌, ◌≢◌, ℕ, zero, suc, Bool, true, false, ◌+◌, ◌<◌, ◌≤◌, List, [], ◌∷◌, length, set, replicate, Some, arith, refl, sym, ◌∙◌, ap}
 use Rattle.std.proofs.Common.{subst, inl, inr}
 use Rattle.std.specs.Prelude.{◌⊎◌, slice_get}
@@ -97,7 +98,7 @@ module _ (k : ClassTable) (old : Tables) (a : AreTables k old) (c page : ℕ) (n
     pool_same : (g : ℕ) → is_in_pool new.pool.free g ≡ is_in_pool old.pool.free g
     pool_same g = ap (λ (p : Pool). is_in_pool p.free g) t.pool
 
-    -- what stays of the other pages' lists, and the page afterwards, whether it is filled or not
+    -- the other pages stay in their lists, and the page is in a list of class c afterwards, whether it is filled or not
     record Listed : Type 0 where
       comes : (g d : ℕ) (v : Which) → g ≢ page → Contains (pages_in old.lists d v) g → Contains (pages_in new.lists d v) g
       stays : (g d : ℕ) (v : Which) → g ≢ page → Contains (pages_in new.lists d v) g → Contains (pages_in old.lists d v) g
@@ -258,7 +259,7 @@ module _ (k : ClassTable) (old : Tables) (a : AreTables k old) (c page : ℕ) (n
         kept = tables_after k old new page a (maps_long old.maps new.maps page _ t.maps) (joined_pages _ c joined_free.which page _ joined_free.joins)
             (joined_classes _ c joined_free.which page _ joined_free.joins) t.front.1 pool apart same_free (inr (inr (c, joined_free.which, joined_free.here)))
 
--- in both cases
+-- in both cases: the slot is on a partly full page, or on a page of the pool
 module _ (k : ClassTable) (old : Tables) (a : AreTables k old) (c : ℕ) (class : c < length k.sizes) (place : ℕ) (new : Tables)
     (t : TakesAt k old c place new) (apart : AreApart new.lists) (pool : IsPool new.pool) where
   pub taken_gains : Gains k old new c t.page t.slot

@@ -1,4 +1,4 @@
--- The tables that all owners of a region's pages share, as one owner sees them, and as a new heap has them.
+-- The tables that all owners of a region's pages share, as one owner sees them, and as a new heap has them. An owner is a heap, or a task of the heap of tasks.
 use Rattle.std.specs.Prelude.{◌≡◌, false, replicate}
 use Rattle.std.specs.List.{range_with_len}
 use Rattle.cf_base.specs.declared.kind.Layout.{Layout}
@@ -8,7 +8,7 @@ use Rattle.size_classes.specs.Table.{table_of}
 use Rattle.page_slots.specs.Tables.{Tables, tables}
 use Rattle.page_slots.specs.declared.page_tables.PageTables.{PageTables}
 
--- the tables as one owner sees them: the shared ones t with its own lists
+-- the tables as one owner sees them: the shared tables t, with the lists of that owner
 abbrev pub tables_with : PageTables → PageLists → Tables
 tables_with t lists = tables t.maps.items lists t.pool
 

@@ -8,7 +8,7 @@ use Rattle.class_lists.specs.PageLists.{PageLists, pages_in}
 use Rattle.page_model.specs.Order.{drop_steps, fill_steps}
 use Rattle.page_slots.specs.Tables.{Tables, JoinsList, LeavesList, address_in, slots_on, used_in}
 
--- a page of class c moves from the full pages to the partly full ones, of which it becomes the first
+-- a page of class c leaves the full pages and becomes the first of the partly full ones
 pub record MakesPagePartlyFull (old : PageLists) (c page : ℕ) (new : PageLists) : Type 0 where
   pub between : PageLists
   pub leaves : LeavesList old c Full page between
@@ -41,7 +41,7 @@ pub record HasUsedSlot (maps : List (List Bool)) (page : ℕ) : Type 0 where
   pub within : page < length maps
   pub some : 0 < used_in (slice_index_or maps page [])
 
--- the object at address a is chosen to move into a freed slot of class c, as by `IsFiller`, and its own slot becomes free
+-- the object at address a is chosen to move into a freed slot of class c, as by `IsFiller`, and the slot at a becomes free
 pub record FillsFrom (k : ClassTable) (old : Tables) (c a : ℕ) (new : Tables) : Type 0 where
   pub page : ℕ
   pub slot : ℕ
@@ -50,8 +50,8 @@ pub record FillsFrom (k : ClassTable) (old : Tables) (c a : ℕ) (new : Tables) 
   pub least : position (λ used. used) (slots_on old page) ≡ Some slot
   pub vacates : Vacates old c page slot new
 
--- a free of a slot must move an object: its page, whose slots these are (true for used), is full and has several slots; and its class has `not_full` partly
--- full pages, as many as its bound
+-- a free of a slot must move an object: its page is full and has several slots, which are `slots` (true for used); and its class has `not_full` partly full
+-- pages, as many as its bound
 pub record MovesObject (slots : List Bool) (not_full bound : ℕ) : Type 0 where
   pub full : used_in slots ≡ length slots
   pub several : 1 < length slots

@@ -65,7 +65,7 @@ pub record IsFreePage (t : Tables) (page : ℕ) : Type 0 where
   pub unlisted : IsUnlisted t.lists page
   pub unused : used_in (slots_on t page) ≡ 0
 
--- the page is in this list of class c, has as many slots as a page of the class, and has all of them used, or some but not all, as `HasUsed` says
+-- the page is in the list `which` of class c, and has the slots of a page of the class, used as the list asks: all, or some but not all (`HasUsed`)
 pub record IsPageOf (k : ClassTable) (t : Tables) (page c : ℕ) (which : Which) : Type 0 where
   pub taken : is_in_pool t.pool.free page ≡ false
   pub listed : Contains (pages_in t.lists c which) page

@@ -8,7 +8,7 @@ use Rattle.page_pool.specs.Pool.{TakesFront}
 use Rattle.page_model.specs.Order.{new_page_steps, open_steps}
 use Rattle.page_slots.specs.Tables.{Tables, JoinsList, LeavesList, address_in, slots_in, slots_on, used_in}
 
--- a page of class c moves from the partly full pages to the full ones, of which it becomes the first
+-- a page of class c leaves the partly full pages and becomes the first of the full ones
 pub record FillsPage (old : PageLists) (c page : ℕ) (new : PageLists) : Type 0 where
   pub between : PageLists
   pub leaves : LeavesList old c NotFull page between
@@ -24,8 +24,8 @@ pub record TakesOnPartlyFullPage (old : Tables) (c page slot : ℕ) (new : Table
   pub filled : used_in (slots_on new page) ≡ length (slots_on new page) → FillsPage old.lists c page new.lists
   pub not_filled : used_in (slots_on new page) ≢ length (slots_on new page) → new.lists ≡ old.lists
 
--- class c has no partly full page, and a call takes slot 0 of the first page of the pool, which joins the partly full pages of the class, or the full ones if
--- it has no other slot
+-- class c has no partly full page, and a call takes slot 0 of the first page of the pool; the page joins the partly full pages of the class, or the full ones
+-- if it has no other slot
 pub record TakesOnFreePage (k : ClassTable) (old : Tables) (c page : ℕ) (new : Tables) : Type 0 where
   pub none : pages_in old.lists c NotFull ≡ []
   pub front : TakesFront old.pool (Some page) new.pool

@@ -1,6 +1,6 @@
-//! Laws of the order in which the tables use slots (`order_of`). `p` describes the pages and their
-//! classes, and `m` are the objects in the used slots. `spare` are the numbers without an object,
-//! which these calls leave unchanged. The functions do nothing; each contract is a law.
+//! Laws of the order in which the tables use slots (`order_of`): each call uses the next slot, and
+//! leaves the model's order in the model's steps. `p` holds the pages and classes, `m` the objects,
+//! `spare` the numbers without one.
 ghost use Rattle.std.specs.Prelude.{ℕ, ◌≡◌, ◌+◌, ◌<◌, List, None, Some, length, nat_eq, slice_get};
 ghost use Rattle.std.specs.List.{Contains, IsDistinct};
 ghost use Rattle.std.specs.FinMap.{get, len};
@@ -16,8 +16,8 @@ ghost use Rattle.page_slots.specs.Take.{TakesAt, steps_to_take};
 ghost use Rattle.class_lists.specs.declared.Which.TheVariants.{NotFull};
 ghost use Rattle.class_lists.specs.PageLists.{pages_in};
 
-/// When the tables take a slot of class c, at address a, it is the next one in their order, and the
-/// order afterwards is the one that the model computes.
+/// When the tables take a slot of class c, at address a, it is the next one in their order. The order
+/// afterwards is the one that the model computes.
 pub fn the_next_slot_is_taken()
     ensures { (p : Paging) (m : Held) (old new : Tables) (c a : ℕ) (spare : List ℕ)
         → IsPaging p → FitPagesShared p old → Occupies p m old → AreTables (class_table p) new → c < classes p

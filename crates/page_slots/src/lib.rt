@@ -1,6 +1,6 @@
-//! The tables that every heap with pages uses, which show the used slots of each page: a map of the
-//! slots of each page, lists of the pages of each class, and a pool of free pages. The rules are
-//! those of Compact-fit (2008) for slots alone; this crate knows no objects.
+//! The tables that every heap with pages uses: a map of the used slots of each page, lists of the
+//! pages of each class, and a pool of free pages. Slots are taken and freed by the rules of
+//! Compact-fit (2008). The code knows slots and pages, but no objects.
 #![tactic(auto)]
 
 mod following;

@@ -9,8 +9,8 @@ use slot_bitmap::{SlotMap, free_maps};
 use std::alloc::Global;
 
 /// What all owners of a region's pages share: the size classes, a map of the slots of each page,
-/// and the pool of free pages. Which pages have which class is not in it: each owner has its own
-/// `ClassLists`.
+/// and the pool of free pages. An owner is a heap, or a task of the heap of tasks; it lists the
+/// pages that it uses, by class, in a `ClassLists`.
 #[derive(Drop)]
 pub struct PageTables {
     pub classes: Classes,
@@ -20,7 +20,7 @@ pub struct PageTables {
 
 impl PageTables {
     /// Returns tables in which all pages of the settings are free, with slot sizes of this layout.
-    /// Only this call allocates.
+    /// Fails if out of memory; no other call of `PageTables` allocates.
     pub fn new(alloc: Global, s: &Settings, layout: Layout) -> Result<PageTables, OutOfMemory>
         ensures { IfOk result (λ t. AreFirst s.now layout t) }
     {

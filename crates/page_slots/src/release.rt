@@ -1,5 +1,6 @@
 //! Frees a used slot of a page; or chooses the object that moves into it, and frees that object's
-//! slot. `lists` has for each class the pages that one owner uses.
+//! slot. `must_move` returns which of the two a free does. `lists` has for each class the pages that
+//! one owner uses.
 ghost use Rattle.std.specs.Prelude.{◌≡◌, ◌≢◌, ℕ, ◌<◌, ◌≤◌, [], ◌↔◌, IsTrue, length, false, true, slice_get, slice_index_or};
 ghost use Rattle.std.specs.List.{Contains, position};
 ghost use Rattle.step_ledger.specs.Counting.{RoseAtMost, RoseBy};
@@ -63,7 +64,7 @@ impl PageTables {
     }
 
     /// Returns the address of the object that moves into a freed slot of class c: the one at the
-    /// lowest used slot of the first partly full page of the class. Both slots stay used.
+    /// lowest used slot of the first partly full page of the class. Changes nothing.
     pub fn filler(&self, lists: &ClassLists, c: u32, steps: &mut Steps) -> u32
         requires tables { AreTables self.now.classes (tables_with self.now lists.now) }
         requires class { c < length self.now.classes.sizes }
@@ -76,7 +77,8 @@ impl PageTables {
     }
 
     /// Returns the address of the object that moves into a freed slot of class c, as `filler` does, and
-    /// frees its own slot. The freed slot stays used. A page that is then empty returns to the pool.
+    /// frees the slot at this address. The slot that the object moves into stays marked as used. A page
+    /// that is then empty returns to the pool.
     pub fn fill_slot(&mut self, lists: &mut ClassLists, c: u32, steps: &mut Steps) -> u32
         requires tables { AreTables self.old.classes (tables_with self.old lists.old) }
         requires class { c < length self.old.classes.sizes }

@@ -1,4 +1,5 @@
-//! Takes a free slot of a class. `lists` has for each class the pages that one owner uses.
+//! Takes a free slot of a class: on its first partly full page, else on the first free page.
+//! `lists` has for each class the pages that one owner uses.
 ghost use Rattle.std.specs.Prelude.{◌≡◌, ◌≢◌, ◌<◌, [], if◌then◌else◌, is_some, length, nat_eq, not, false, true, slice_get, slice_set};
 ghost use Rattle.std.specs.List.{Contains, position};
 ghost use Rattle.step_ledger.specs.Counting.{RoseAtMost, RoseBy};
@@ -103,8 +104,8 @@ fn leave_if_filled(map: &SlotMap, lists: &mut ClassLists, c: u32, page: u32, ste
     }
 }
 
-/// Adds a page of class c with `slots` slots, one of them used, to the full pages if it has no
-/// other slot, else to the partly full ones.
+/// Adds a page of class c, which has `slots` slots and uses one, to a list of its class: to the full
+/// pages if that is its only slot, else to the partly full ones.
 #[inline(always)]
 fn join_with_one(lists: &mut ClassLists, c: u32, page: u32, slots: u32, steps: &mut Steps)
     requires class { c < lists.old.classes }

@@ -1,4 +1,5 @@
--- For `set_bound` and `class_with`: the heap stays valid with another bound of a class, while no object is live.
+-- For `set_bound`: while no object is live, the heap keeps its invariant when a class gets another bound. For `class_with`: the class that a search by slot
+-- size finds.
 use Rattle.std.proofs.Common.{◌≡◌, ◌≢◌, ℕ, ◌<◌, ◌≤◌, length, set, get_or, Some, None, arith, refl, sym, ◌∙◌, ap, subst, inl, inr}
 use Rattle.std.specs.Prelude.{◌⊎◌, nat_eq, position}
 use Rattle.std.proofs.lemmas.Bool.{cases_eq}
@@ -70,7 +71,7 @@ module _ (h : Heap) (k : IsValid h) (none : held_in h ≡ empty) (c b : ℕ) (lt
   pub rebound_state : state_of (rebound h c b) ≡ with_bound (state_of h) (Some c) b
   rebound_state = ap (λ bs. record (state_of h) { bounds = bs }) (take-set-lt (length h.classes.sizes) h.bounds c b lt)
 
--- the class with slots of this many words is the first of that size
+-- the class that `class_with` returns for `words` words is the first with slots of that size; none if there is no such class
 module _ (h : Heap) (k : IsValid h) (words : ℕ) where
   pub class_found : (c : ℕ) → c < length h.classes.sizes → ((j : ℕ) → j < c → get_or h.classes.sizes j 0 ≢ words) → get_or h.classes.sizes c 0 ≡ words
       → Some c ≡ position (λ w. nat_eq w words) (paging_at h).sizes

@@ -1,4 +1,5 @@
--- The lemmas that the managers' proofs cite: what follows from an open heap's invariant. Declares nothing itself.
+-- Lemmas that the proofs of the two managers with pages cite, re-exported: an open heap keeps the rules and promises an order; the address, bytes and slot of
+-- each object. Declares nothing itself.
 pub use Rattle.paged_heap.proofs.LayoutFacts.{no_place, order_of_value, order_promised, rules, rules_in, rules_of}
 pub use Rattle.paged_heap.proofs.ByKind.{in_region}
 pub use Rattle.paged_heap.proofs.Preserved.{has_place}

@@ -1,4 +1,5 @@
--- For the clauses `cost` of `malloc_inner` and `free_inner`: the exact steps of a call's parts, as the order determines them.
+-- For the clauses `cost` of `malloc_inner` and `free_inner`: the steps of a call's parts add up to its exact cost, which the order determines. The tables and
+-- the order yield the same steps.
 use Rattle.std.proofs.Common.{◌≡◌, ℕ, ◌+◌, ◌<◌, length, get_or, Option, None, Some, Ok, arith, sym, ◌∙◌, ap, subst}
 use Rattle.std.specs.Prelude.{slice_get}
 use Rattle.cf_base.specs.Classes.{class_of}

@@ -1,4 +1,5 @@
--- For calls that count: the largest values of an open heap's counts, so that they don't overflow; and the class of a request.
+-- Upper bounds of an open heap's counts, so that they don't overflow: 65,536 objects, each of at most 131,072 bytes. Also: a class that the table finds is the
+-- model's.
 use Rattle.std.proofs.Common.{◌≡◌, ℕ, ◌*◌, ◌<◌, ◌≤◌, length, get_or, Option, Some, None, arith, refl, sym, ◌∙◌, ap, subst, inl, inr}
 use Rattle.std.specs.Prelude.{nat_eq, option_map}
 use Rattle.std.proofs.lemmas.Bool.{cases_lt}

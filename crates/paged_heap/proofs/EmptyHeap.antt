@@ -1,4 +1,4 @@
--- For `empty`: an open heap that was just put together is valid, and its state is an empty heap.
+-- For `empty`: an open heap of new parts (`IsFirst`) keeps its invariant, and its state is that of an empty heap, with pages and numbers in rising order.
 use Rattle.std.proofs.Common.{◌≡◌, ℕ, false, ◌*◌, ◌<◌, ◌≤◌, [], length, take, replicate, get_or, arith, sym, ◌∙◌, ap, subst}
 use Rattle.std.specs.List.{range_with_len}
 use Rattle.std.proofs.lemmas.List.{get_or-replicate, length-replicate, take-replicate}

@@ -1,4 +1,5 @@
--- For `figures` and `totals`: each number that the code returns is the model's.
+-- For `figures` and `totals`: the lengths of the page lists, of the pool and of the proxies are the model's counts of pages and objects. So each number that
+-- the code returns is the model's.
 use Rattle.std.proofs.Common.{◌≡◌, ℕ, ◌+◌, ◌*◌, ◌≤◌, length, arith, refl, sym, ◌∙◌}
 use Rattle.std.specs.Prelude.{if◌then◌else◌, nat_eq}
 use Rattle.std.specs.FinMap.{len}

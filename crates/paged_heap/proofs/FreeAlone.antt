@@ -1,4 +1,4 @@
--- For `free_alone`: a free that moves no other object.
+-- For `free_alone`, a free that moves no other object: the heap keeps its invariant, holds the other objects, and has the order that the model computes.
 use Rattle.std.proofs.Common.{◌≡◌, ℕ, ◌-◌, ◌*◌, length, get_or, set, None, sym, ◌∙◌, ap, subst}
 use Rattle.std.specs.FinMap.{remove}
 use Rattle.page_model.specs.Bytes.{bytes_at}
@@ -69,7 +69,7 @@ module _ {h : Heap} (k : IsValid h) {q a size c : ℕ} (o : IsObjectAt h q a siz
       subst (λ s. Clears h.words n.words (record { from = a; count = s })) (it_slot k o)
       (subst (λ w. Clears h.words w (record { from = a; count = get_or h.classes.sizes c 0 })) (sym region_is) gone)
 
-  -- the slot that becomes free is the next one in the order
+  -- the order after the free is the one that the model computes
   pub alone_follows : FreeFollows (paging_at h) (held_in h) q None (order_in h) (order_in n)
   alone_follows =
       let p = paging_at h in let m = held_in h in

@@ -1,4 +1,5 @@
--- For `free_and_fill`: a free that moves another object to the freed slot.
+-- For `free_and_fill`, a free that moves another object to the freed slot: that object is the next one of the order, its words and its proxy can be moved, and
+-- the heap keeps its invariant.
 use Rattle.std.proofs.Common.{◌≡◌, ◌≢◌, ℕ, ◌+◌, ◌-◌, ◌*◌, ◌/◌, ◌%◌, ◌^◌, ◌<◌, ◌≤◌, ◌∷◌, List, length, get_or, set, Some, arith, sym, ◌∙◌, ap, subst, inl, inr}
 use Rattle.std.specs.Prelude.{◌⊎◌, IsSome, is_some}
 use Rattle.std.specs.FinMap.{get, insert, remove}
@@ -28,7 +29,8 @@ use Rattle.paged_heap.proofs.LayoutFacts.{as_many, number_small, paging_ok, plac
 use Rattle.paged_heap.proofs.Preserved.{Becomes, places_are, rest_from}
 use Rattle.paged_heap.proofs.FreedObject.{follows_from, goes, it, it_class, it_found, it_inside, it_slot, must, rest_held}
 
--- A free that moves another object to the freed slot: its own slot, at b, is free in the new tables.
+-- A free of object q (address a, `size` bytes, class c) in the heap h that moves another object to a. The slot that this object leaves, at b, is free in the
+-- tables `new`.
 pub record Fills (h : Heap) (q a size c b : ℕ) (new : Tables) : Type 0 where
   pub valid : IsValid h
   pub object : IsObjectAt h q a size c
@@ -144,7 +146,7 @@ module _ {h : Heap} {q a size c b : ℕ} {new : Tables} (f : Fills h q a size c 
   pub whole_words : IsWhole h.kind words
   whole_words = subst (IsWhole h.kind) (sym same_slot) (whole_slot h k r y there).1
 
-  -- all but the tables is as it was, with what the free does to it
+  -- the heap n after the free, by its fields: the tables are those of t, and the others are those of h after what the free does
   module _ (t : Heap) {n : Heap}
       (whole : n ≡ record h {
         maps = t.maps;
@@ -177,7 +179,7 @@ module _ {h : Heap} {q a size c b : ℕ} {new : Tables} (f : Fills h q a size c 
         (ap (λ (x : Heap). x.proxies.limit) whole)
         handles
 
-    -- the object that moves is the next one, and its slot becomes free
+    -- the object that moves is the one that the order lists next, and its slot becomes free
     pub fill_follows : n.proxies.free ≡ q ∷ h.proxies.free → FreeFollows (paging_at h) (held_in h) q (Some r) (order_in h) (order_in n)
     fill_follows free =
         let p = paging_at h in let m = held_in h in let d = class_at p (it k o) in
@@ -203,7 +205,8 @@ module _ {h : Heap} {q a size c b : ℕ} {new : Tables} (f : Fills h q a size c 
         ∙ ap (λ p. exchanged h.frames (p / 4) (a / 4) (slot_for (paging_at h) (length y.bytes) / 4)) (sym at)
         ∙ sym (frames_change h.kind h k.framed (rest_held k o n (Some r) mover) r y (record { place = a; bytes = y.bytes }) there e)
 
-  -- The slot was found, the number released and the object taken out of the counts; w are the slot's words and i is the other's number.
+  -- The heap before the move: the slot to fill from is found (t), the number is released, and the object is taken out of the counts (g). w is the words of the
+  -- slot, and i is the number of the other object.
   pub record CallResult (t g : Heap) (w i : ℕ) : Type 0 where
     pub size_w : w ≡ words
     pub is : i ≡ r
@@ -250,7 +253,7 @@ module _ {h : Heap} {q a size c b : ℕ} {new : Tables} (f : Fills h q a size c 
         ∙ ap (λ (x : Heap). record x { live = set x.live c (get_or x.live c 0 - 1); asked = x.asked - size; taken = x.taken - 8 * get_or x.classes.sizes c 0 })
         (l.released_is ∙ ap (λ (x : Heap). record x { proxies = without_place x.proxies q }) l.found)
 
-    -- the number that was released is the next
+    -- the released number is the next one
     pub free_is : {free : List ℕ} → free ≡ g.proxies.free → free ≡ q ∷ h.proxies.free
     free_is e = e ∙ ap (λ (x : Heap). x.proxies.free) counted_is
 

@@ -1,4 +1,5 @@
--- For both kinds of a free: the freed object, and the objects and counts after the free.
+-- For a free, with a move or without one: the freed object and its slot, whether another object must move, and the heap afterwards, which keeps its invariant
+-- if objects, words, tables and counts change together.
 use Rattle.std.proofs.Common.{◌≡◌, ℕ, ◌+◌, ◌-◌, ◌*◌, ◌<◌, ◌≤◌, ◌∷◌, length, get_or, set, Option, Some, arith, sym, ◌∙◌, ap, subst}
 use Rattle.std.specs.Prelude.{nat_eq}
 use Rattle.std.proofs.lemmas.List.{length-set}
@@ -126,7 +127,7 @@ module _ {h : Heap} (k : IsValid h) {q a size c : ℕ} (o : IsObjectAt h q a siz
         ∙ ap (order_of (length h.classes.sizes) (tables_in n)) free;
   }
 
-  -- what a free leaves, by the other object that moves
+  -- the heap n after the free, in which the object `moved`, if there is one, has moved to the freed slot
   module _ (n : Heap) (moved : Option ℕ) (mv : Moves (paging_at h) (held_in h) it moved) where
     abbrev pub rest_held : Held
     rest_held = without (held_in h) q a moved

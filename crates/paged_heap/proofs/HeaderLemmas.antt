@@ -1,4 +1,5 @@
--- For `free_inner` and `resize_inner`: the object at a live number's address, as its header shows it.
+-- For `free_inner` and `resize_inner`: the proxy and the header of a live number determine its object with its class (`IsObjectAt`). What a free does is
+-- independent of the stored cost.
 use Rattle.std.proofs.Common.{◌≡◌, ℕ, ◌/◌, ◌^◌, ◌<◌, length, get_or, Some, None, Result, Ok, Err, arith, sym, ◌∙◌, ap, subst}
 use Rattle.std.specs.FinMap.{get}
 use Rattle.cf_base.specs.Classes.{class_of}
@@ -39,7 +40,7 @@ module _ (h : Heap) (k : IsValid h) (q a : ℕ) (some : get h.proxies.places q �
   pub object_at : (c : ℕ) → Some c ≡ class_of h.classes.sizes size → IsObjectAt h q a size c
   object_at c found = (let is = class_is h k size c found in record { known = some; long = long; class = is.1; in_range = is.2 })
 
--- the tables have the object's page
+-- the tables have a map of the object's page
 pub page_there : {h : Heap} (k : IsValid h) {q a size c : ℕ} (o : IsObjectAt h q a size c) → page_at h.classes a < length h.maps
 page_there {h} k {q} o =
     let lt = found_page (paging_ok h k) k.serve.part k.occupied q (it_found k o) in

@@ -1,4 +1,5 @@
--- For all calls: what follows from an open heap's invariant: its paging, its tables, and the rules of a manager.
+-- What follows from an open heap's invariant: its tables have the pages and classes of its settings, a live number's proxy has its object's address, and it
+-- keeps the rules of a manager and promises an order.
 use Rattle.std.proofs.Common.{◌≡◌, ℕ, ◌<◌, ◌≤◌, length, take, get_or, Option, Some, None, arith, refl, sym, ◌∙◌, ap, subst, inl, inr}
 use Rattle.std.specs.Prelude.{IsSome, IsTrue, is_some, option_map}
 use Rattle.std.proofs.lemmas.Bool.{cases_lt, false≢true}
@@ -32,7 +33,7 @@ use Rattle.cf_lemmas.proofs.Values.{len-map_values}
 abbrev pub with_tables : OpenHeap → PageTables → PageLists → OpenHeap
 with_tables h t lists = record h { tables = t; lists = lists }
 
--- if they have the same classes, nothing else changes
+-- if the other tables have the same classes, only maps, lists and pool of the heap change
 pub retabled : (kind : Kind) (h : OpenHeap) (t : PageTables) (lists : PageLists) → t.classes ≡ h.tables.classes
     → seen kind (with_tables h t lists) ≡ record (seen kind h) { maps = t.maps.items; lists = lists; pool = t.pool }
 retabled kind h t lists same = ap (λ k. record (seen kind h) { classes = k; maps = t.maps.items; lists = lists; pool = t.pool }) same

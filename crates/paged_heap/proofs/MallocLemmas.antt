@@ -1,4 +1,5 @@
--- For `malloc_inner` and `has_room`: the parts of a malloc, put together.
+-- For `malloc_inner` and `has_room`: when a slot and a number are free, why a malloc is refused otherwise, and the parts of a malloc put together: the slot,
+-- the number, the counts.
 use Rattle.std.proofs.Common.{◌≡◌, ◌≢◌, ℕ, ◌+◌, ◌*◌, ◌<◌, ◌≤◌, List, [], ◌∷◌, true, length, get_or, set, None, Some, Result, Ok, Err, arith, refl, sym, ◌∙◌, ap, subst, inl, inr}
 use Rattle.std.proofs.lemmas.Bool.{cases_lt}
 use Rattle.std.specs.FinMap.{get, len}
@@ -18,13 +19,13 @@ use Rattle.proxy_table.specs.Proxies.{Proxies, AreBelowLimit, with_place}
 use Rattle.page_slots.specs.Tables.{AreTables, Tables}
 use Rattle.page_slots.specs.Take.{TakesAt}
 use Rattle.page_slots.specs.Occupying.{class_table}
-use Rattle.page_slots.proofs.Occupied.{free_bare}
-use Rattle.page_slots.proofs.Pages.{free_page}
+use Rattle.page_slots.proofs.CallerLemmas.{free_bare}
+use Rattle.page_slots.proofs.CallerLemmas.{free_page}
 use Rattle.page_slots.proofs.CallerLemmas.{refused_lacks_room, taken_is_free}
 use Rattle.cf_model.specs.Rules.{IsPaged}
 use Rattle.cf_model.specs.State.{HeapState}
 use Rattle.cf_model.specs.Steps.{ChangesCost, IsMallocStep, IsRefusedBy, LacksProxy, LacksSpace}
-use Rattle.cf_model.proofs.Exactly.{given_is_not_refused, one_cause}
+use Rattle.cf_model.proofs.CallerLemmas.{given_is_not_refused, one_cause}
 use Rattle.paged_heap.specs.Heap.{Heap}
 use Rattle.paged_heap.specs.Layout.{IsValid, held_in, paging_at, state_of, tables_in}
 use Rattle.paged_heap.specs.Room.{HasSlot, without_handle}
@@ -107,7 +108,7 @@ module _ (h : Heap) (k : IsValid h) (bytes c : ℕ) (found : Some c ≡ class_of
         let long = k.words_long in
         omega arith
 
-  -- a slot is taken, the object is bound, and it is counted
+  -- the parts of a malloc: in the heap t a slot is taken, in b the number is bound to its address, and in n the object is counted
   pub comes : (t b n : Heap) (a q : ℕ) → len h.proxies.places ≢ h.settings.proxies
       → TakesAt h.classes (tables_in h) c a (tables_in t) → AreTables h.classes (tables_in t)
       → t ≡ record h { maps = t.maps; lists = t.lists; pool = t.pool }

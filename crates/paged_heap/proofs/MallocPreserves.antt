@@ -1,4 +1,4 @@
--- For `malloc_inner`: the heap stays valid with a new object in a free slot.
+-- For `malloc_inner`: the heap keeps its invariant with a new object in a free slot (`IsAdded`), and the number and the slot are the next ones of the order.
 use Rattle.std.proofs.Common.{◌≡◌, ℕ, ◌+◌, ◌*◌, ◌^◌, ◌<◌, ◌≤◌, ◌∷◌, length, get_or, set, replicate, Option, Some, None, arith, refl, sym, ◌∙◌, ap, subst}
 use Rattle.std.specs.Prelude.{IfSome, nat_eq, option_map}
 use Rattle.std.proofs.lemmas.List.{length-set, length-replicate}
@@ -31,7 +31,7 @@ use Rattle.paged_heap.proofs.ByKind.{framed_kept, placed_in}
 use Rattle.paged_heap.proofs.LayoutFacts.{as_many, few_classes, held_len, no_place, paged_kind, paging_ok}
 use Rattle.paged_heap.proofs.Preserved.{Becomes, becomes_kept, becomes_state, held_is, places_are, stored, with_parts}
 
--- n has a new object of this many bytes in the free slot of class c at the address a, under number q
+-- the heap n is h with a new object of `bytes` bytes in the free slot of class c at the address a, under number q
 pub record IsAdded (h n : Heap) (c a bytes q : ℕ) : Type 0 where
   pub rest : n ≡ with_parts h n
   pub fits : need bytes ≤ h.settings.page_words

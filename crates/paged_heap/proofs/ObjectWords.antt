@@ -20,7 +20,7 @@ word_byte q v i j lt all =
     let d : (8 * i + j) / 8 ≡ i = omega arith in
     sym (ap (λ b. byte_of b (object_word q v (suc ((8 * i + j) / 8)))) r ∙ ap (λ e. byte_of j (object_word q v (suc e))) d) ∙ byte_of_object q v (8 * i + j) all
 
--- a word of 64 bits with those bytes is that word
+-- a word of 64 bits that has the bytes of word i after the header is that word
 pub word_is : (q : ℕ) (v : List ℕ) (i w : ℕ) → q < 2 ^ 32 → length v < 2 ^ 32 → AreBytes v → w < 2 ^ 64
     → ((j : ℕ) → j < 8 → byte_of j w ≡ get_or v (8 * i + j) 0) → w ≡ object_word q v (suc i)
 word_is q v i w few short all small each =
@@ -30,7 +30,7 @@ pub zero_byte : (j : ℕ) → byte_of j 0 ≡ 0
 zero_byte zero = refl
 zero_byte (suc j) = zero_byte j
 
--- bytes with another length
+-- the bytes v, cut or extended by zeros to `size` bytes
 module _ (v : List ℕ) (size : ℕ) where
   pub past_new : (b : ℕ) → size ≤ b → get_or (resized v size) b 0 ≡ 0
   past_new b le = get_or_past (resized v size) b 0 (let l = length-resized v size in omega arith)

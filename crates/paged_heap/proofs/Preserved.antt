@@ -1,4 +1,5 @@
--- For all calls: an open heap stays valid if its objects, words, tables, proxies and counts change together.
+-- For all calls: an open heap keeps its invariant if its objects, words, tables, proxies and counts change together (`Becomes`). Its state then has the new
+-- objects.
 use Rattle.std.proofs.Common.{◌≡◌, ℕ, ◌<◌, length, get_or, Some, arith, sym, ◌∙◌, ap, subst}
 use Rattle.std.specs.FinMap.{get}
 use Rattle.std.specs.Prelude.{option_map}
@@ -18,7 +19,7 @@ use Rattle.paged_heap.specs.Heap.{Heap}
 use Rattle.paged_heap.specs.Layout.{IsFramed, IsValid, held_in, paging_at, state_of, tables_in}
 use Rattle.paged_heap.proofs.LayoutFacts.{number_small, paging_ok}
 
--- h, with all of n that the calls change
+-- the heap h, with those fields of n that calls change
 abbrev pub with_parts : Heap → Heap → Heap
 with_parts h n = record h {
   live = n.live;
@@ -33,7 +34,7 @@ with_parts h n = record h {
   proxies = n.proxies;
 }
 
--- n has the objects m, and is h in what no call changes
+-- the heap n has the objects m, and the fields of h that no call changes
 pub record Becomes (h n : Heap) (m : Held) : Type 0 where
   pub rest : n ≡ with_parts h n
   pub framed : IsFramed h.kind n
@@ -124,7 +125,7 @@ module _ (h : Heap) (k : IsValid h) where
   has_place q a e = get-map_values (λ a. record { place = a; bytes = bytes_at h.words a }) h.proxies.places q
       ∙ ap (option_map (λ a. record { place = a; bytes = bytes_at h.words a })) e
 
--- n has the parts of h that no call changes
+-- the heap n has the fields of h that no call changes
 pub rest_from : (h n : Heap) → n.kind ≡ h.kind → n.settings ≡ h.settings → n.classes ≡ h.classes → n.bounds ≡ h.bounds → n ≡ with_parts h n
 rest_from h n k s c b =
     ap (λ x. record n { kind = x }) k

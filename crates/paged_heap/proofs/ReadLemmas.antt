@@ -1,4 +1,5 @@
--- For `find` and `read`: the object at an address, and the bytes that are read.
+-- For `find` and `read`: a live number's proxy has its object's address. Whether a range of bytes is within the object, where its words are, and that the bytes
+-- that are read are the object's.
 use Rattle.std.proofs.Common.{◌≡◌, ℕ, ◌+◌, ◌/◌, ◌%◌, ◌^◌, ◌<◌, ◌≤◌, List, length, get_or, take, drop, Some, arith, sym, ◌∙◌, ap}
 use Rattle.std.specs.Prelude.{option_map}
 use Rattle.std.proofs.lemmas.Grind.{same_number_lists}
@@ -51,14 +52,14 @@ module _ (h : Heap) (k : IsValid h) (q a : ℕ) (some : get h.proxies.places q �
   pub bytes_few : length bytes ≤ 131072
   bytes_few = (let o = holds in let s = slot_small in omega arith)
 
-  -- a part that passes the end, and one that doesn't
+  -- `count` bytes from byte `at` on pass the end of the object, or they are in it
   pub passes : (at count : ℕ) → length bytes < at + count → PassesEnd (state_of h) (record { number = q; from = at }) count
   passes at count more = record { object = record { place = a; bytes = bytes }; found = held; past = more }
 
   pub lies : (at count : ℕ) → at + count ≤ length bytes → HoldsBytesAt h (record { number = q; from = at }) count a
   lies at count fits = record { found = held; within = fits }
 
--- the words of a part are in the region
+-- the words of `count` bytes from byte `at` on are in the region
 module _ (h : Heap) (k : IsValid h) (q at count a : ℕ) (l : HoldsBytesAt h (record { number = q; from = at }) count a) where
   abbrev pub object : Placed
   object = record { place = a; bytes = bytes_at h.words a }

@@ -1,4 +1,5 @@
--- For `resize_to_class`: the heap before the old slot is freed, with the object in both slots, and the heap after the resize.
+-- For `resize_to_class`, a resize to another class: the heap while the object is in both slots, as two objects; and the heap after its old slot is freed, which
+-- keeps its invariant and follows the order.
 use Rattle.std.proofs.Common.{◌≡◌, ◌≢◌, ℕ, ◌+◌, ◌-◌, ◌<◌, ◌≤◌, List, ◌∷◌, length, get_or, set, Option, Some, None, arith, refl, sym, ◌∙◌, ap, subst, inr}
 use Rattle.std.specs.Prelude.{if◌then◌else◌, nat_eq, not}
 use Rattle.std.specs.List.{filter}
@@ -248,7 +249,7 @@ module _ {h : Heap} (k : IsValid h) {x : Change} (is : IsChange h x) {b : ℕ} {
         let z : one (nat_eq (class_for (paging_at h) (length object.bytes)) d) ≡ one (nat_eq x.class d) = ap (λ e. one (nat_eq e d)) object_class in
         omega arith
 
-    -- m is that heap but for its tables, its words and its proxies
+    -- the heap m is n but for its tables, its words and the addresses of its proxies
     pub record Keeps (m : Heap) : Type 0 where
       pub kind : m.kind ≡ n.kind
       pub settings : m.settings ≡ n.settings
@@ -324,7 +325,7 @@ module _ {h : Heap} (k : IsValid h) {x : Change} (is : IsChange h x) {b : ℕ} {
               }) (sym (held_is h m k after be));
         }
 
-        -- the new slot is the next one, and the old one is left in the order
+        -- the resize follows the order: it takes the next slot, then leaves the old one
         pub change_chosen : SlotFollows (paging_at h) (held_in h) object moved order_between (order_of (length h.classes.sizes) (tables_in m) h.proxies.free)
             → m.proxies.free ≡ h.proxies.free → (shown : Option ℕ) → shown ≡ moved
             → ResizeFollows (paging_at h) (held_in h) asked (record { held = held_in m; moved = shown }) (order_in h) (order_in m)

@@ -1,4 +1,5 @@
--- For `resize_class_alone`: a change of class that moves no other object.
+-- For `resize_class_alone`, a resize to another class that moves no other object: the object's old slot becomes free as the order requires, and the heap keeps
+-- its invariant.
 use Rattle.std.proofs.Common.{◌≡◌, ℕ, length, None, sym, ◌∙◌, ap, subst}
 use Rattle.std.specs.FinMap.{insert, remove}
 use Rattle.cf_lemmas.proofs.Maps.{get_inserted, get_remove_other, get_removed}

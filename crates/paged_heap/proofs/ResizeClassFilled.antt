@@ -1,4 +1,5 @@
--- For `resize_class_and_fill`: a change of class that moves another object to the old slot.
+-- For `resize_class_and_fill`, a resize to another class that moves another object (the filler) to the old slot: the filler is the next one of the order, and
+-- the heap keeps its invariant.
 use Rattle.std.proofs.Common.{◌≡◌, ◌≢◌, ℕ, ◌+◌, ◌/◌, ◌%◌, ◌^◌, ◌<◌, ◌≤◌, List, length, get_or, Some, None, arith, sym, ◌∙◌, ap, subst, inl, inr}
 use Rattle.std.specs.Prelude.{◌⊎◌, IsSome, is_some}
 use Rattle.std.proofs.lemmas.Bool.{cases_eq}
@@ -42,7 +43,7 @@ use Rattle.paged_heap.proofs.ResizeClass.{Keeps, after, after_is, both, both_occ
 use Rattle.paged_heap.proofs.ResizeClass.{middle, moves_before, must_still, new, new_free, object, place_free, rewritten, spare, spare_is_other, then_moved}
 use Rattle.paged_heap.proofs.ResizeClass.{freed_same, next_same, order_between, unused}
 
--- two addresses, in either order
+-- two numbers can get their addresses in either order
 pub placed_in_turn : (m : FinMap nat_cmp ℕ) (q r a b : ℕ) → r ≢ q → insert (insert m q b) r a ≡ insert (insert (remove m q) r a) q b
 placed_in_turn m q r a b ne = equal_maps _ _ (λ t. elim (cases_eq t q) [
   | inl is ↦ rw is (get_insert_other (insert m q b) r a q (λ e. ne (sym e)) ∙ get_inserted m q b ∙ sym (get_inserted (insert (remove m q) r a) q b))
@@ -57,7 +58,7 @@ module _ {h : Heap} (k : IsValid h) {x : Change} (is : IsChange h x) {b : ℕ} {
   still_due : MustMove (paging_at h) (both k is en) (object k is en)
   still_due = must_still k is en (must k is.object moves)
 
-  -- there is another object that fills the slot
+  -- the old class has a partly full page, so there is an object that can fill the slot
   pub some_fills : 1 ≤ length (pages_in n.lists x.class NotFull)
   some_fills =
       let e = it_class k is.object in
@@ -65,7 +66,8 @@ module _ {h : Heap} (k : IsValid h) {x : Change} (is : IsChange h x) {b : ℕ} {
       (let lt = is.object.in_range in omega arith) in
       subst (λ d. 1 ≤ length (pages_in n.lists d NotFull)) e l
 
--- The object is in its new class, and another one is found that moves to its old slot: its own slot, at f, is free in the tables t.
+-- The heap h becomes n when the resize x has put the object's copy at address b, in its new class. Another object is found that moves to the old slot (the
+-- filler). The slot that the filler leaves, at f, is free in the tables t.
 pub record Refills (h : Heap) (x : Change) (b : ℕ) (n : Heap) (f : ℕ) (t : Tables) : Type 0 where
   pub valid : IsValid h
   pub change : IsChange h x
@@ -271,7 +273,7 @@ module _ {h : Heap} {x : Change} {b : ℕ} {n : Heap} {f : ℕ} {t : Tables} (fs
   occupied = renumbered_occupied refilled (spare k is en) new_stays x.handle.0
       (get_remove_other (left k is en (Some r) mover) (spare k is en) x.handle.0 (λ e. spare_is_other k is en (sym e)) ∙ old_gone)
 
-  -- the filler has moved: w are the slot's words, and i is the other's number
+  -- the filler moves, from the heap u to m: w is the words of its slot, and i is its number
   pub record Lands (u m : Heap) (w i : ℕ) : Type 0 where
     pub size_w : w ≡ words
     pub shown : i ≡ r
@@ -283,7 +285,7 @@ module _ {h : Heap} {x : Change} {b : ℕ} {n : Heap} {f : ℕ} {t : Tables} (fs
     pub framed : IsFramed h.kind m
     pub handles : AreBelowLimit m.proxies
 
-  -- the number that is read from its header is its own
+  -- the number that is read from the filler's header is the filler's
   pub shown_by : {u : Heap} {i word : ℕ} → u ≡ record n { maps = u.maps; lists = u.lists; pool = u.pool } → word ≡ get_or u.words f 0 → i ≡ word % 2 ^ 32 → i ≡ r
   shown_by found read number = number ∙ ap (λ w. w % 2 ^ 32) read ∙ ap (λ (o : Heap). get_or o.words f 0 % 2 ^ 32) found ∙ number_shown
 
@@ -333,7 +335,7 @@ module _ {h : Heap} {x : Change} {b : ℕ} {n : Heap} {f : ℕ} {t : Tables} (fs
       limit = ap (λ (o : Heap). o.proxies.limit) whole;
     }
 
-    -- the object that moves is the next one, and its slot becomes free
+    -- the filler is the object that the order lists next to move, and its slot becomes free
     pub fill_follows : SlotFollows (paging_at h) (held_in h) (object k is en) (Some r) (order_between k is en)
         (order_of (length h.classes.sizes) (tables_in m) h.proxies.free)
     fill_follows =

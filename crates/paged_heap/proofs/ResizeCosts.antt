@@ -1,4 +1,4 @@
--- For the clauses `cost` of a resize: its exact steps, as the order determines them.
+-- For the clauses `cost` of a resize: the steps of its parts, in the same slot and to another class, add up to its exact cost, which the order determines.
 use Rattle.std.proofs.Common.{◌≡◌, ℕ, ◌+◌, ◌*◌, ◌^◌, ◌<◌, List, true, false, length, Option, None, Some, Result, Ok, Err, arith, sym, ◌∙◌, ap, subst}
 use Rattle.std.specs.Prelude.{IfErr, if◌then◌else◌, nat_eq, slice_get}
 use Rattle.cf_base.specs.declared.answers.Handle.{Handle}
@@ -40,7 +40,7 @@ use Rattle.paged_heap.proofs.TakeKeeps.{drop_keeps, fill_keeps, lists_keep}
 use Rattle.paged_heap.proofs.WholeBlocks.{whole_slot}
 
 module _ {h : Heap} (k : IsValid h) {x : Change} (is : IsChange h x) where
-  -- a slot is taken, and the object brought there
+  -- the steps of taking a slot and copying the object there
   pub entering_sum : (b : ℕ) (new : Tables) → TakesAt h.classes (tables_in h) x.to b new → IsWhole h.kind b → (s t u : ℕ)
       → RoseBy s t (steps_to_take h.classes (tables_in h) x.to)
       → RoseBy t u (copy_steps h.kind (x.place + 1) (kept_words x) + tail_steps h.kind b x.bytes (8 * kept_words x) + word_steps h.kind + 1)
@@ -61,7 +61,7 @@ module _ {h : Heap} (k : IsValid h) {x : Change} (is : IsChange h x) where
     used_of : IsOf (tables_in h) x.class (page_at h.classes x.place)
     used_of = (it_used k is.object).of
 
-    -- its old slot is cleared and becomes free
+    -- the steps if then the old slot is cleared and becomes free
     pub left_alone : (words : ℕ) → words ≡ old_words h x → (s t u v d : ℕ) → d ≡ steps_to_drop (tables_in n) (page_at n.classes x.place)
         → RoseBy s t (entering_cost h x) → RoseBy t u (run_steps h.kind x.place words) → RoseBy u v d
         → RoseBy s v (entering_cost h x + leaving_cost (state_of h) (order_in h) (it k is.object) None)
@@ -76,7 +76,7 @@ module _ {h : Heap} (k : IsValid h) {x : Change} (is : IsChange h x) where
         let e = drops_by k is.object in
         rose_by s v _ _ (omega arith) (rose_both s u v _ _ (rose_both s t u _ _ r1 r2) r3)
 
-    -- or another object moves to the old slot
+    -- the steps if instead another object moves to the old slot
     pub left_filled : (words : ℕ) → words ≡ old_words h x → (y : Handle) (a : ℕ) (new : Tables) → FillsFrom n.classes (tables_in n) x.class a new
         → (s t u v w : ℕ) → RoseBy s t (entering_cost h x) → RoseBy t u (steps_to_fill (tables_in n) x.class) → RoseBy u v (word_steps h.kind)
         → RoseBy v w (slot_steps h.kind words + 1) → RoseBy s w (entering_cost h x + leaving_cost (state_of h) (order_in h) (it k is.object) (Some y))
@@ -89,7 +89,7 @@ module _ {h : Heap} (k : IsValid h) {x : Change} (is : IsChange h x) where
         let e = fills_by k is.object f.page front in
         rose_by s w _ _ (omega arith) (rose_both s v w _ _ (rose_both s u v _ _ (rose_both s t u _ _ r1 r2) r3) r4)
 
-  -- a resize to another class
+  -- the steps of a resize to another class
   pub change_sum : (r : Result Resized ResizeFault) → IfErr r (λ e. e ≡ resize.Space) → (s t u v w z : ℕ) → RoseBy s t 1 → RoseBy t u 1
       → RoseBy u v (word_steps h.kind) → RoseBy v w 1 → RoseBy w z (1 + changing_cost h x r)
       → RoseBy s z (resize_cost (state_of h) (order_in h) (record { number = x.handle.0; length = x.bytes }) r)
@@ -113,7 +113,7 @@ module _ {h : Heap} (k : IsValid h) {x : Change} (is : IsChange h x) where
       subst (λ f. RoseBy s z (resize_cost (state_of h) (order_in h) (record { number = x.handle.0; length = x.bytes }) (Err f))) (sym cause)
       (rose_by s z _ _ (omega arith) (rose_both s w z _ _ (rose_both s v w _ _ (rose_both s u v _ _ (rose_both s t u _ _ r1 r2) r3) r4) r5))
 
--- a resize in its slot
+-- the steps of a resize in the same slot
 pub stay_sum : (h : Heap) (k : IsValid h) {q a size c : ℕ} (o : IsObjectAt h q a size c) (n : ℕ) → class_for (paging_at h) n ≡ c → (done : Resized)
     → (s t u v w z : ℕ) → RoseBy s t 1 → RoseBy t u 1 → RoseBy u v (word_steps h.kind) → RoseBy v w 1
     → RoseBy w z (tail_steps h.kind a n size + word_steps h.kind)
@@ -131,7 +131,7 @@ stay_sum h k {q} {a} {size} {c} o n same done s t u v w z r1 r2 r3 r4 r5 =
     let long = ap (tail_steps h.kind 0 n) o.long in
     rose_by s z _ _ (omega arith) (rose_both s w z _ _ (rose_both s v w _ _ (rose_both s u v _ _ (rose_both s t u _ _ r1 r2) r3) r4) r5)
 
--- a resize takes few steps
+-- the most steps of a resize are below 2^62
 pub few_resize : (h : Heap) (k : IsValid h) (q n : ℕ) (r : Result Resized ResizeFault) (s : HeapState)
     → IsResizeStep (state_of h) (record { number = q; length = n }) r s → resize_bound r < 2 ^ 62
 few_resize h k q n (Ok done) s g =

@@ -1,4 +1,5 @@
--- For `enter_class`: an object takes a slot of its new class, or no slot is free.
+-- For `enter_class`, the first half of a resize to another class: the object takes a free slot, apart from its old one, and both classes are counted anew; or
+-- no slot is free, and nothing changes.
 use Rattle.std.proofs.Common.{◌≡◌, ℕ, ◌+◌, ◌-◌, ◌*◌, ◌/◌, ◌≤◌, length, get_or, set, Option, Some, None, Err, arith, refl, sym, ◌∙◌, ap, subst, inl, inr}
 use Rattle.std.proofs.lemmas.List.{get_or-set_other}
 use Rattle.proxy_table.specs.Proxies.{AreBelowLimit, with_place}
@@ -31,7 +32,7 @@ use Rattle.paged_heap.proofs.FreedObject.{it, it_class, it_found, it_slot}
 use Rattle.paged_heap.proofs.ReadLemmas.{holds}
 use Rattle.paged_heap.proofs.MallocLemmas.{same_state}
 
--- no object has the number of proxies as its own number
+-- no object has the number `proxies` of the settings, since all numbers are below it
 pub none_spare : (h : Heap) → IsValid h → get (held_in h) h.settings.proxies ≡ None
 none_spare h k = go (get (held_in h) h.settings.proxies) refl
   where

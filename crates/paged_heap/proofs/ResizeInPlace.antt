@@ -1,4 +1,5 @@
--- For `resize_in_place` and `zero_tail`: an object gets another length in its slot.
+-- For `resize_in_place` and `zero_tail`: an object gets another length in its slot, and the bytes that are cut off become zeros. The heap keeps its invariant
+-- and its order.
 use Rattle.std.proofs.Common.{◌≡◌, ◌≢◌, ℕ, zero, suc, ◌+◌, ◌-◌, ◌*◌, ◌/◌, ◌%◌, ◌^◌, ◌<◌, ◌≤◌, List, length, get_or, set, take, drop, replicate, None, arith}
 use Rattle.std.proofs.Common.{sym, ◌∙◌, ap, subst, inl, inr}
 use Rattle.std.proofs.lemmas.Bool.{cases_eq, cases_lt}
@@ -283,7 +284,7 @@ module _ (h t n : Heap) (k : IsValid h) (q a m c : ℕ) (o : IsObjectAt h q a m 
         (sym (held_is h n k (insert (held_in h) q (record { place = a; bytes = new })) becomes));
   }
 
-  -- the tables and the numbers are as they were
+  -- the resize leaves the order unchanged
   pub fits_chosen : (after : CallResult) → ResizeFollows (paging_at h) (held_in h) (record { number = q; length = size }) after (order_in h) (order_in n)
   fits_chosen after = record {
     object = record { place = a; bytes = old };

@@ -1,4 +1,5 @@
--- For `resize_inner`: the parts of a resize, put together.
+-- For `resize_inner`: a length without a class is larger than a page, and a length of another class makes a change of class (`IsChange`). The most steps of a
+-- resize. What it does is independent of the stored cost.
 use Rattle.std.proofs.Common.{◌≡◌, ◌≢◌, ℕ, ◌+◌, ◌/◌, ◌<◌, ◌≤◌, length, get_or, Some, None, Result, Ok, Err, arith, sym, ◌∙◌, ap, subst, inl, inr}
 use Rattle.std.specs.Prelude.{IfErr}
 use Rattle.cf_base.specs.declared.answers.ResizeFault.TheVariants as resize
@@ -53,7 +54,7 @@ passes_page h k q a n some none = record {
   ];
 }
 
--- a change of class, if the new length has one
+-- a resize to a length of another class is a change of class (`IsChange`)
 pub change_at : (h : Heap) (k : IsValid h) (q : Handle) (a m n c d : ℕ) → IsObjectAt h q.0 a m c → Some d ≡ class_of h.classes.sizes n → d ≢ c
     → IsChange h (record { handle = q; place = a; length = m; class = c; bytes = n; to = d })
 change_at h k q a m n c d o found other =
@@ -107,7 +108,7 @@ changed_steps h k {x} is (Err e) m step cause s t u v w z r1 r2 r3 r4 r5 =
     let all : RoseAtMost s z (resize_steps h.kind x.bytes (Err resize.Space)) = record { kept = omega arith; bound = omega arith } in
     subst (λ e. RoseAtMost s z (resize_steps h.kind x.bytes (Err e))) (sym cause) all
 
--- the cost of a resize
+-- what a resize does (`IsResizeStep`) does not depend on the cost that is stored after it
 pub resize_with_cost : (o : Heap) → IsPaged o.kind → (q n : ℕ) (r : Result Resized ResizeFault) (h : Heap) (cost : ℕ)
     → IsResizeStep (state_of o) (record { number = q; length = n }) r (state_of h)
     → IsResizeStep (state_of o) (record { number = q; length = n }) r (state_of (record h { cost = cost }))

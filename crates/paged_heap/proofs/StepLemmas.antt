@@ -1,4 +1,5 @@
--- For the clauses `steps` and `bound`: sums of the steps of a call's parts.
+-- For the clauses `steps` and `bound`: a range of words within a slot costs the same wherever the slot begins. The steps of a read, a write, a cut and a copy,
+-- and the most of a resize in place.
 use Rattle.std.proofs.Common.{◌≡◌, ◌≢◌, ℕ, ◌+◌, ◌-◌, ◌*◌, ◌/◌, ◌%◌, ◌<◌, ◌≤◌, List, get_or, Ok, arith, refl, sym, ◌∙◌, ap, subst, inl, inr}
 use Rattle.std.specs.Prelude.{if◌then◌else◌, length, min, nat_lt}
 use Rattle.std.proofs.lemmas.Bool.{cases_lt}

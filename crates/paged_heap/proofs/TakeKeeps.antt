@@ -11,9 +11,9 @@ use Rattle.size_classes.specs.Table.{ClassTable}
 use Rattle.page_slots.specs.Release.{steps_to_drop, steps_to_fill}
 use Rattle.page_slots.specs.Tables.{AreTables, IsOf, Tables, slots_in, slots_on, used_in}
 use Rattle.page_slots.specs.Take.{TakesAt}
-use Rattle.page_slots.proofs.Occupied.{free_of_none}
-use Rattle.page_slots.proofs.Pages.{one_class}
-use Rattle.page_slots.proofs.TablesAfterTake.{Gains, taken_gains}
+use Rattle.page_slots.proofs.CallerLemmas.{free_of_none}
+use Rattle.page_slots.proofs.CallerLemmas.{one_class}
+use Rattle.page_slots.proofs.CallerLemmas.{Gains, taken_gains}
 
 module _ (k : ClassTable) (old new : Tables) (a : AreTables k old) (kept : AreTables k new) (c place : ℕ) (class : c < length k.sizes)
     (t : TakesAt k old c place new) (d : ℕ) (ne : d ≢ c) where

@@ -1,4 +1,4 @@
--- For reads, writes and moves with a block table: each slot begins and ends at the border of a block.
+-- For reads, writes and moves with a block table: the address and the size of each slot are multiples of four words (`IsWhole`).
 use Rattle.std.proofs.Common.{◌≡◌, ℕ, List, length, Some}
 use Rattle.std.specs.Prelude.{IsTrue, take}
 use Rattle.std.specs.FinMap.{get}
@@ -29,13 +29,13 @@ whole_by NonMoving p s bounds size ok m sound q x e = (
 whole_by Tlsf p s bounds size ok m sound q x e = (tt, tt)
 whole_by HalfFit p s bounds size ok m sound q x e = (tt, tt)
 
--- the slot of an object
+-- the address and the size of an object's slot are whole blocks
 pub whole_slot : (h : Heap) (k : IsValid h) (q : ℕ) (x : Placed) → get (held_in h) q ≡ Some x → IsWhole h.kind x.place
     × IsWhole h.kind (slot_for (paging_at h) (length x.bytes))
 whole_slot h k q x e = whole_by h.kind (paged_kind h k) (profile_of h.settings) (take (length h.classes.sizes) h.bounds) h.settings.page_size
     (paging_ok h k) (held_in h) k.sound q x e
 
--- a slot for this many bytes
+-- the size of a slot for n bytes is whole blocks
 size_by : (kind : Kind) → IsPaged kind → (s : Profile) (bounds : List ℕ) → IsTrue (is_page_size s.page_words) → (n : ℕ)
     → IsWhole kind (slot_for (paging_of s (layout_of kind) bounds) n)
 size_by Moving p s bounds size n = tt

@@ -1,4 +1,5 @@
--- For `write` and `resize_in_place`: the heap stays valid when an object gets other bytes in its slot.
+-- For `write` and `resize_in_place`: the heap keeps its invariant when an object gets other bytes of its class in its slot. A write replaces just the bytes of
+-- its range; without bytes it changes nothing.
 use Rattle.std.proofs.Common.{◌≡◌, ℕ, suc, ◌+◌, ◌-◌, ◌*◌, ◌/◌, ◌%◌, ◌<◌, ◌≤◌, List, [], ◌∷◌, length, get_or, Some, arith, refl, sym, ◌∙◌, ap, subst, inl, inr}
 use Rattle.std.specs.Prelude.{nat_eq}
 use Rattle.std.proofs.lemmas.Bool.{cases_lt}
@@ -116,7 +117,7 @@ module _ (h n : Heap) (k : IsValid h) (q a : ℕ) (some : get (held_in h) q ≡ 
   pub changed_kept : IsValid n
   changed_kept = becomes_kept h n k changed changes
 
--- the bytes of a part are written
+-- `bytes` are written into object q from byte `at` on
 module _ (h n : Heap) (k : IsValid h) (q at a : ℕ) (bytes : List ℕ) (l : HoldsBytesAt h (record { number = q; from = at }) (length bytes) a)
     (each : AreBytes bytes) (rest : n ≡ record h { words = n.words })
     (w : Overwrites h.words n.words (record { from = a + 1 + at / 8; count = (at % 8 + length bytes + 7) / 8 }) (at % 8) bytes) where

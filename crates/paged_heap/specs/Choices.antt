@@ -1,4 +1,4 @@
--- The numbers, slots and moved objects of each call are those that the order lists next. No public clause cites this module.
+-- For `malloc`, `free` and `resize`: each uses the number and the slot, and moves the object, that the order lists next. No public clause cites this module.
 use Rattle.std.specs.Prelude.{ℕ, IfOk, IfSome, Result}
 use Rattle.cf_base.specs.declared.answers.Freed.{Freed}
 use Rattle.cf_base.specs.declared.answers.Handle.{Handle}
@@ -11,12 +11,12 @@ use Rattle.cf_model.specs.Steps.{number_of}
 use Rattle.paged_heap.specs.Heap.{Heap}
 use Rattle.paged_heap.specs.Layout.{held_in, order_in, paging_at, state_of}
 
--- a malloc of `bytes` bytes, if it succeeds, uses the number and the slot that the order of the heap `old` lists next, and leaves the order of the heap `new`
+-- a malloc of `bytes` bytes that succeeds uses the number and the slot that the order of the heap `old` lists next; the order changes to that of the heap `new`
 abbrev pub MallocChooses : Heap → ℕ → Result Handle Refusal → Heap → Type 0
 MallocChooses old bytes answer new = IfOk answer (λ q. IfSome (place_of (state_of new) q.0)
     (λ a. MallocFollows (paging_at old) (held_in old) (record { number = q.0; length = bytes }) a (order_in old) (order_in new)))
 
--- a free of object q that moves an object moves the one that the order of the heap `old` lists next; in the order of the heap `new` the freed number is next
+-- if a free of object q moves an object, it is the one that the order of the heap `old` lists next; in the order of the heap `new` the freed number is next
 abbrev pub FreeChooses : Heap → ℕ → Freed → Heap → Type 0
 FreeChooses old q freed new = FreeFollows (paging_at old) (held_in old) q (number_of freed.moved) (order_in old) (order_in new)
 

@@ -1,4 +1,4 @@
--- The most steps of each call; for each there is a call that takes as many. Those of reads and writes are exact.
+-- The most steps of each call; some call takes exactly that number. The steps of reads and writes are exact for every call.
 use Rattle.std.specs.Prelude.{ℕ, ◌+◌, ◌-◌, ◌*◌, ◌/◌, Result, Ok, Err, if◌then◌else◌, min, nat_eq}
 use Rattle.cf_base.specs.declared.answers.AccessFault.{AccessFault}
 use Rattle.cf_base.specs.declared.answers.AccessFault.TheVariants as access
@@ -13,29 +13,29 @@ use Rattle.page_model.specs.Order.{word_steps}
 use Rattle.virtual_words.specs.Words.{run_steps, slot_steps}
 
 -- a malloc: 17 moving, 18 non-moving
--- (the class, a slot that fills its page, the proxy and the header; a refused one takes fewer)
+-- (for the class, the last free slot of a page, the proxy and the header; a refused malloc takes fewer)
 abbrev pub malloc_steps : Kind → ℕ
 malloc_steps kind = 16 + word_steps kind
 
--- a free: 20 + s moving, 22 + s + s / 2 non-moving, for a slot of s words
--- (two headers, the tables of two pages, two proxies, and the s words of the slot that moves or is cleared; refused, the proxy)
+-- a free: 20 + s moving, 22 + s + s / 2 non-moving, for a slot of s words; 1 if refused
+-- (for two headers, the tables of two pages, two proxies, and the s words that are moved or cleared; if refused, for the proxy)
 abbrev pub free_steps : Kind → Result Freed NotLive → ℕ
 free_steps kind (Ok freed) = 18 + 2 * word_steps kind + slot_steps kind freed.slot_words
 free_steps kind (Err e) = 1
 
--- a resize to n bytes that stays in its slot of s words: 6 moving, 9 non-moving, and one for each word after the one that byte n is in; non-moving also
--- one for each block of these words
--- (the proxy, two classes, two headers, the word of byte n, and the words after it)
+-- a resize to n bytes in the same slot, of s words: 6 moving, 9 non-moving, and one for each word of the slot after that of byte n; non-moving also one for
+-- each block of these words
+-- (for the proxy, two classes, two headers, the word of byte n, and the words after it)
 abbrev pub stay_steps : Kind → ℕ → ℕ → ℕ
 stay_steps kind n s = 3 + 3 * word_steps kind + run_steps kind (2 + n / 8) (s - 2 - n / 8)
 
--- a resize to another class: 34 + s + t moving, 38 + 3 (s + t) / 2 non-moving; s are the words of the old slot, and t those of the smaller
--- of the two slots
--- (three headers, the tables of three pages, two proxies, the words that stay, and the slot that moves or is cleared)
+-- a resize to another class: 34 + s + t moving, 38 + 3 (s + t) / 2 non-moving, where s is the words of the old slot (`old`), and t those of the smaller of
+-- the two slots (`old` and `new`)
+-- (for three headers, the tables of three pages, two proxies, the words that are kept, and the slot that moves or is cleared)
 abbrev pub change_steps : Kind → ℕ → ℕ → ℕ
 change_steps kind old new = 30 + 4 * word_steps kind + slot_steps kind old + slot_steps kind (min old new)
 
--- the most steps of a resize to n bytes, by its result: one that stays in its slot, or goes to another class; those of a refused one are exact
+-- the most steps of a resize to n bytes, by its result: in the same slot, or in a slot of another class; those of a refused resize are exact
 abbrev pub resize_steps : Kind → ℕ → Result Resized ResizeFault → ℕ
 resize_steps kind n (Ok done) =
     if nat_eq done.slot_words done.old_slot_words then stay_steps kind n done.slot_words else change_steps kind done.old_slot_words done.slot_words
@@ -49,8 +49,9 @@ abbrev pub fault_steps : Kind → AccessFault → ℕ
 fault_steps kind access.Unknown = 1
 fault_steps kind access.Range = 1 + word_steps kind
 
--- a read or a write of `count` bytes from byte `from` on: 2 + t moving, for t words; non-moving 3 + t, and one for each block
--- (exact: the proxy, the header, and the words that hold one of the bytes, with their blocks)
+-- the exact steps of a read or a write of `count` bytes from byte `from` on, which are in t words: 2 + t moving; 3 + t non-moving, and one for each block
+-- of these words
+-- (for the proxy, the header, and the t words)
 abbrev pub access_steps : Kind → ℕ → ℕ → Result Unit AccessFault → ℕ
 access_steps kind from count (Ok u) = 1 + word_steps kind + run_steps kind (1 + from / 8) (words_touched from count)
 access_steps kind from count (Err e) = fault_steps kind e

@@ -29,8 +29,8 @@ placed_at h a = record { place = a; bytes = bytes_at h.words a }
 abbrev pub MustMoveInto : Heap → ℕ → ℕ → Type 0
 MustMoveInto h place c = MovesObject (slots_on (tables_in h) (page_at h.classes place)) (length (pages_in h.lists c NotFull)) (slice_index h.bounds c)
 
--- the object of the slot of n words at b moves to the slot at a, from the heap `old` to `new`: its words are copied to a, and those at b become zeros; with a
--- block table the two slots exchange their blocks
+-- the heap `new` is `old` after an object moved from the slot at b to the slot at a, both of n words: its words are copied to a, and those at b become zeros;
+-- with a block table the two slots exchange their blocks
 pub record MovesSlot (old new : Heap) (b a n : ℕ) : Type 0 where
   pub long : length new.words ≡ length old.words
   pub words : MovesWords old.words new.words (record { from = b; count = n }) a

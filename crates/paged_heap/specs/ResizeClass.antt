@@ -90,7 +90,7 @@ abbrev pub changing_cost : Heap → Change → Result Resized ResizeFault → �
 changing_cost h x (Ok done) = entering_cost h x + leaving_cost (state_of h) (order_in h) (placed_at h x.place) done.moved
 changing_cost h x (Err e) = 0
 
--- the most steps of a change of class of either kind, by the words of the larger slot
+-- a bound of the steps of a change of class of either kind, by the words of the larger slot
 abbrev pub changing_bound : Result Resized ResizeFault → ℕ
 changing_bound (Ok done) = 120 + 3 * max done.old_slot_words done.slot_words
 changing_bound (Err e) = 80

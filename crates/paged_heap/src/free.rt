@@ -1,4 +1,4 @@
-//! `free` of an open heap: it clears the object's slot, or another object moves into it.
+//! `free` of an open heap: it clears the freed object's slot, or moves another object into that slot.
 ghost use Rattle.std.specs.Prelude.{◌≡◌, ◌≢◌, ◌+◌, ◌-◌, ◌*◌, ◌/◌, ◌^◌, ◌<◌, ◌≤◌, None, Some, IfOk, IsSome, length, slice_index, slice_set};
 ghost use Rattle.std.specs.FinMap as map;
 ghost use Rattle.step_ledger.specs.Counting.{RoseAtMost, RoseBy};
@@ -23,11 +23,11 @@ use virtual_words::Mapping;
 use word_bytes::Header;
 
 impl OpenHeap {
-    /// Frees an object; fails if the handle is not live, and then changes only `cost`. If its page
-    /// is full and has several slots, and its class already has as many partly full pages as its
-    /// bound, the object that the order lists next moves to the freed slot. The next malloc uses
-    /// the freed number. Sets `cost` to the steps of this call, which the order and the result
-    /// determine.
+    /// Frees an object; fails if the handle is not live, and then changes only `cost`. A full page of
+    /// several slots would become partly full: if its class already has as many partly full pages as
+    /// its bound, the object that the order lists next moves to the freed slot. Else the slot is
+    /// cleared. The next malloc uses the freed number. Sets `cost` to the steps of this call, which
+    /// the order and the result determine.
     pub fn free<A: Mapping>(&mut self, h: Handle, steps: &mut Steps) -> Result<Freed, NotLive>
         requires kept { Holds A.kind self.old }
         requires room { steps.old ≤ 2 ^ 63 }

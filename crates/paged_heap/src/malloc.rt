@@ -86,7 +86,7 @@ impl OpenHeap {
     }
 
     /// Returns the class of an object of `bytes` bytes, if a number and a slot of this class are
-    /// free. Else fails with the refusal that a malloc of it returns.
+    /// free. Else fails with the refusal that a malloc of `bytes` bytes returns.
     fn class_with_room<A: Mapping>(&self, bytes: u32, steps: &mut Steps) -> Result<u32, Refusal>
         requires { Holds A.kind self.now }
         ensures class { IfOk result (λ c. Some c ≡ class_of self.now.tables.classes.sizes bytes) }

@@ -23,9 +23,9 @@ pub const CLASSES: usize = 128;
 
 /// An open heap. By class, `bounds` is how many pages may be partly full, and `live` the number of
 /// live objects. `asked` and `taken` are the bytes of all objects and of their slots. `cost` is the
-/// steps of the last malloc, free or resize. `blocks` maps the words of `region`; only the
-/// non-moving manager has it. `tables` and `lists` show the used slots of each page, the free pages
-/// and those of each class, and `proxies` has the objects' addresses by number.
+/// steps of the last malloc, free or resize, 0 before the first. `blocks` is the block table, which
+/// only the non-moving manager has. `tables` has the slot sizes, the used slots of each page and the
+/// free pages, `lists` the pages of each class, and `proxies` the objects' addresses by number.
 #[derive(Drop)]
 pub struct OpenHeap {
     pub settings: Settings,
@@ -43,8 +43,7 @@ pub struct OpenHeap {
 
 impl OpenHeap {
     /// Opens a heap without objects, with the settings s, the slot sizes of this layout, and this
-    /// block table, if the kind has one. Of the functions here it alone allocates; fails if out of
-    /// memory.
+    /// block table, if the kind has one. Fails if out of memory; no other call of the heap allocates.
     pub fn new<A: Mapping>(
         alloc: Global,
         s: &Settings,

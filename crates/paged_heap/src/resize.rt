@@ -24,11 +24,11 @@ use virtual_words::Mapping;
 use word_bytes::Header;
 
 impl OpenHeap {
-    /// Changes an object's length to `bytes` bytes; added bytes are zeros. If its class changes, it
-    /// moves to the next slot of the new class, and its old slot is freed as `free` does. Fails, in
-    /// this order, if the handle is not live, the length needs more than a page, or the class
-    /// changes and the new one has no free slot; then only `cost` changes. Sets `cost` to the steps
-    /// of this call, which the order and the result determine.
+    /// Changes an object's length to `bytes` bytes; added bytes are zeros. If its class changes, the
+    /// object moves to the slot of the new class that the order lists next. Its old slot is then freed
+    /// as `free` does. Fails, in this order, if the handle is not live, the length needs more than a
+    /// page, or the class changes and the new one has no free slot; then only `cost` changes. Sets
+    /// `cost` to the steps of this call, which the order, the lengths and the result determine.
     pub fn resize<A: Mapping>(
         &mut self,
         h: Handle,

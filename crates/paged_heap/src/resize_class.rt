@@ -1,4 +1,5 @@
-//! The resize of an object to a length of another class: it moves to a slot of that class.
+//! The resize of an object to a length of another class: it is copied to a slot of that class, and
+//! its old slot is cleared, or another object moves into it.
 ghost use Rattle.std.specs.Prelude.{◌≡◌, ◌+◌, ◌-◌, ◌*◌, ◌/◌, ◌^◌, ◌<◌, ◌≤◌, IfErr, IfOk, IsNone, IsSome, length};
 ghost use Rattle.std.specs.FinMap as map;
 ghost use Rattle.step_ledger.specs.Counting.{RoseAtMost, RoseBy};
@@ -33,7 +34,8 @@ pub(crate) struct Change {
 }
 
 impl Change {
-    /// The number of words that hold the bytes that the resize keeps, without the header.
+    /// The number of words that the kept bytes fill, without the header. The kept bytes are those
+    /// that both the old and the new length have.
     fn words(self) -> u32
         ensures { result ≡ kept_words self }
     {
@@ -136,9 +138,9 @@ impl OpenHeap {
         })
     }
 
-    /// Begins the resize `x`: takes a slot of the new class, copies the object there, and returns the
-    /// new address; the old slot stays used in the tables. Returns none if no slot of this class is
-    /// free; then nothing changes.
+    /// Begins the resize `x`: takes a slot of the new class, copies the object there, changes the counts
+    /// of both classes, and returns the new address. The old slot stays used in the tables. Returns none
+    /// if no slot of the new class is free; then nothing changes.
     fn enter_class<A: Mapping>(&mut self, x: Change, steps: &mut Steps) -> Option<u32>
         requires kept { Holds A.kind self.old }
         requires change { IsChange (seen A.kind self.old) x }
@@ -162,8 +164,8 @@ impl OpenHeap {
     }
 
     /// Copies the bytes that the resize `x` keeps to the slot at the address `to`, whose words are
-    /// zeros, clears their words in the old slot, writes a header with the new length at `to`, and
-    /// changes the address in the proxy. The caller clears or fills the old slot.
+    /// zeros, and clears their words in the old slot. Then writes a header with the new length at
+    /// `to`, and changes the address in the proxy. The caller clears or fills the old slot.
     fn copy_to_slot<A: Mapping>(&mut self, x: Change, to: u32, steps: &mut Steps)
         requires laid { FitTable A.kind self.old.blocks self.old.region }
         requires live { IsSome (map.get self.old.proxies.places x.handle.0) }

@@ -1,4 +1,4 @@
--- For the calls of `ProxyTable`: the free numbers, by the stack that holds them.
+-- For the calls of `ProxyTable`: the free numbers, by the stack that holds them, each once and none live, and the list of them after one is taken or released.
 use Rattle.std.proofs.Common.{◌≡◌, ◌≢◌, ℕ, zero, suc, ◌+◌, ◌-◌, ◌<◌, ◌≤◌, List, ◌∷◌, Option, None, length, get_or, set, arith, refl, sym, ◌∙◌, ap, eqb, cond}
 use Rattle.std.specs.Prelude.{not}
 use Rattle.std.specs.List.{Contains, IsDistinct, range_with_len}

@@ -1,4 +1,4 @@
--- For the calls of `ProxyTable`: the stack of free numbers after each call.
+-- For the calls of `ProxyTable`: after each call the stack of free numbers keeps its invariant. It has each number without an address once.
 use Rattle.std.proofs.Common.{◌≡◌, ◌≢◌, ℕ, zero, suc, ◌+◌, ◌-◌, ◌^◌, ◌<◌, List, Option, Some, None, length, get_or, set, cond, arith, sym, ◌∙◌, inl, inr, ap}
 use Rattle.std.proofs.Common.{refl}
 use Rattle.std.specs.Prelude.{count_by, is_some, IsSome}
@@ -42,7 +42,7 @@ stack_new n numbers small f =
       distinct = λ i j lt within e. (let a = falls i (omega arith) in let b = falls j within in omega arith);
     }
 
--- the number that was read on top of the stack
+-- a number read on top of the stack is the stack's entry, whatever default the read has
 pub top : (places : List (Option ℕ)) (stack : List ℕ) (left : ℕ) → IsValid places stack left → 0 < left → (h : ℕ) → h ≡ get_or stack (left - 1) h
     → h ≡ get_or stack (left - 1) 0
 top places stack left s some h read = get_or_read stack (left - 1) h (omega (arith, s.counted, s.as_long)) read 0

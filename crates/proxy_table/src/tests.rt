@@ -1,4 +1,4 @@
-//! A test of the fields of `ProxyTable`.
+//! A test that names each field of `ProxyTable` with its type, so that no field is added unseen.
 use super::ProxyTable;
 use counted_cells::Cells;
 use std::test::Fail;

@@ -1,4 +1,5 @@
--- For all other files here: what follows from the invariants of the shared pages (`ArePages`) and of one task on them (`IsTask`).
+-- For all other files here: what follows from the invariants of what all tasks share (`ArePages`) and of one task (`IsTask`) for classes, proxies, counts, and
+-- the slots of the task's objects.
 use Rattle.std.proofs.Common.{◌≡◌, ℕ, ◌+◌, ◌/◌, ◌<◌, ◌≤◌, length, get_or, Some, None, arith, sym, ◌∙◌, ap, subst, inl, inr}
 use Rattle.std.specs.Prelude.{option_map}
 use Rattle.std.proofs.lemmas.Bool.{cases_lt}

@@ -1,4 +1,5 @@
--- For `free_and_fill`: the object that is found to fill a freed slot.
+-- For `free_and_fill`: the object found to fill a freed slot is another live object of the same task, as its header shows; its slot is in the region and
+-- doesn't overlap the freed one.
 use Rattle.std.proofs.Common.{◌≡◌, ℕ, ◌+◌, ◌-◌, ◌*◌, ◌%◌, ◌^◌, ◌<◌, ◌≤◌, length, get_or, Some, arith, sym, ◌∙◌, ap, subst}
 use Rattle.std.specs.FinMap.{get, remove}
 use Rattle.cf_lemmas.proofs.Maps.{get_remove_other}
@@ -13,7 +14,7 @@ use Rattle.quota_heap.specs.declared.task.Task.{Task}
 use Rattle.quota_heap.proofs.Facts.{place_known}
 use Rattle.quota_heap.proofs.FreeKinds.{filled_account, is_other, number_shown, other, slots_apart, source_in}
 
--- w, the key in the header at address b, is that of a live object of task t (in g and x) other than object q, and b is that object's address
+-- w, read from the header at address b, is the key of a live object of task t, whose record is x; b is this object's address, and it isn't object q
 pub record IsFiller (g : SharedPages) (x : Task) (t q b w : ℕ) : Type 0 where
   pub above : t * 65536 ≤ w
   pub there : get x.proxies.places (w - t * 65536) ≡ Some b

@@ -1,4 +1,5 @@
--- For `free_alone` and `free_and_fill`: the heap is valid after a free that moves no other object, and after one that does.
+-- For `free_alone` and `free_and_fill`: a free of a task that moves no other object, and one that moves an object into the freed slot, leave the heap valid and
+-- are frees as contracts show them.
 use Rattle.std.proofs.Common.{◌≡◌, ◌≢◌, ℕ, ◌+◌, ◌%◌, ◌^◌, ◌<◌, ◌≤◌, List, length, get_or, set, Option, Some, None, arith, refl, sym, ◌∙◌, ap, subst, inl, inr}
 use Rattle.std.specs.Prelude.{◌⊎◌, option_map}
 use Rattle.std.proofs.lemmas.List.{get_or-set_same, length-set, set-set}
@@ -24,7 +25,7 @@ use Rattle.page_slots.proofs.CallerLemmas.{filled_occupied, filled_part, filler,
 use Rattle.proxy_table.specs.Proxies.{Proxies}
 use Rattle.quota_model.specs.Joined.{AreNumbers, joined, places_at}
 use Rattle.quota_model.proofs.CallerLemmas.{joined_insert, joined_remove, moved_image, numbers_set, removed_image}
-use Rattle.quota_model.specs.Parts.{key_of, part_of}
+use Rattle.quota_model.specs.Parts.{key_of, objects_of_task}
 use Rattle.quota_model.proofs.CallerLemmas.{found_whole}
 use Rattle.quota_heap.specs.Calls.{FreesAndFills, FreesAlone, MustMoveInto, IsObjectAt, IsRemoved}
 use Rattle.quota_heap.specs.Layout.{ArePages, IsTask, IsTaskIn, IsValid, held_in, held_of, paging_at, places_of, state_of, tables_of}
@@ -39,7 +40,7 @@ use Rattle.quota_heap.proofs.PagesAfter.{used_after}
 use Rattle.quota_heap.proofs.Preserved.{Becomes, places_are}
 use Rattle.quota_heap.proofs.Tasks.{length_map, map_set, numbers, part_is, places_here}
 
--- the tables `new` after the slot of object q of task t is freed: they still serve the task
+-- the tables `new` after the slot of object q of task t is freed: they are still tables for this task and these pages (`FitPagesShared`)
 module _ {g : SharedPages} (k : ArePages g) {t : ℕ} {x : Task} (i : IsTask g t x) {q a size c : ℕ} (o : IsObjectAt g x q a size c) (new : Tables)
     (tables : AreTables g.tables.classes new) where
   of_table : AreTables (class_table (paging_at g)) new
@@ -200,7 +201,7 @@ module _ (h n : OpenTasks) (k : IsValid h) (t : ℕ) (x x' : Task) (at : IsTaskI
   other_small : r < 65536
   other_small = number_small h.shared_pages k.shared_pages t x i' r fi.from fi.there
 
-  part_there : get (part_of (held_in h) t) r ≡ Some y
+  part_there : get (objects_of_task (held_in h) t) r ≡ Some y
   part_there = ap (λ m. get m r) (part_is h k t x at) ∙ there
 
   whole_there : get (held_in h) (key_of t r) ≡ Some y
@@ -212,7 +213,7 @@ module _ (h n : OpenTasks) (k : IsValid h) (t : ℕ) (x x' : Task) (at : IsTaskI
   abbrev gone : List (FinMap nat_cmp ℕ)
   gone = set all t (remove (places_at all t) q)
 
-  -- the addresses after the move
+  -- the addresses of all tasks' objects, by key, after the free and the move
   places_moved : joined (places_of (set h.tasks.items t x')) ≡ places (without (held_in h) (key_of t q) a (Some (key_of t r)))
   places_moved =
       let at_gone : places_at gone t ≡ remove (places_at all t) q = get_or-set_same all t (remove (places_at all t) q) empty few' in

@@ -1,4 +1,5 @@
--- For `free_inner`: the freed object of a task, and the task's objects after the free.
+-- For `free_inner`: the freed object of a task, its class and slot; the code moves another object if and only if the model must; the objects and counts of the
+-- tasks after the free.
 use Rattle.std.proofs.Common.{◌≡◌, ℕ, ◌+◌, ◌-◌, ◌<◌, ◌≤◌, length, get_or, set, Option, Some, arith, refl, sym, ◌∙◌, ap, subst}
 use Rattle.std.specs.Prelude.{nat_eq, option_map}
 use Rattle.std.proofs.lemmas.List.{length-set}
@@ -23,7 +24,7 @@ use Rattle.page_slots.specs.Occupying.{Occupies, FitPagesShared, class_table}
 use Rattle.page_slots.specs.Tables.{IsUsed, page_at, slot_at, slots_on}
 use Rattle.page_slots.proofs.CallerLemmas.{found_page, moves_is, moves_some}
 use Rattle.quota_model.specs.Joined.{joined}
-use Rattle.quota_model.specs.Parts.{key_of, part_of}
+use Rattle.quota_model.specs.Parts.{key_of, objects_of_task}
 use Rattle.quota_model.specs.Shared.{IsShared, RemovesForTask}
 use Rattle.quota_model.proofs.CallerLemmas.{free_quotas, free_shared, others_kept, own_freed, own_without}
 use Rattle.size_classes.specs.Table.{ClassTable}
@@ -122,23 +123,23 @@ module _ (h n : OpenTasks) (k : IsValid h) (t : ℕ) (x x' : Task) (at : IsTaskI
   abbrev pub after : Held
   after = without (held_in h) (key_of t q) a (option_map (key_of t) moved)
 
-  part : part_of (held_in h) t ≡ held_of h.shared_pages x
+  part : objects_of_task (held_in h) t ≡ held_of h.shared_pages x
   part = part_is h k t x at
 
-  pub part_found : get (part_of (held_in h) t) q ≡ Some (it k.shared_pages i o)
+  pub part_found : get (objects_of_task (held_in h) t) q ≡ Some (it k.shared_pages i o)
   part_found = ap (λ m. get m q) part ∙ it_found k.shared_pages i o
 
-  pub part_moves : Moves (paging_at h.shared_pages) (part_of (held_in h) t) (it k.shared_pages i o) moved
+  pub part_moves : Moves (paging_at h.shared_pages) (objects_of_task (held_in h) t) (it k.shared_pages i o) moved
   part_moves = subst (λ m. Moves (paging_at h.shared_pages) m (it k.shared_pages i o) moved) (sym part) mv
 
   unfoldable pub removed : RemovesForTask (profile_of h.shared_pages.settings) (held_in h) t q moved after
   removed = record { freed = it k.shared_pages i o; found = part_found; moves = part_moves; left = refl }
 
-  own_part : part_of after t ≡ without (held_of h.shared_pages x) q a moved
+  own_part : objects_of_task after t ≡ without (held_of h.shared_pages x) q a moved
   own_part = own_without (profile_of h.shared_pages.settings) (held_in h) t q (it k.shared_pages i o) part_found moved part_moves
       ∙ ap (λ m. without m q a moved) part
 
-  objects_are : objects (part_of after t) ≡ remove (objects_of h.shared_pages x) q
+  objects_are : objects (objects_of_task after t) ≡ remove (objects_of h.shared_pages x) q
   objects_are = own_freed (profile_of h.shared_pages.settings) (held_in h) t q moved after h.shared_pages.settings.page_size k.shared removed
       ∙ ap (λ m. remove (objects m) q) part
 
@@ -146,11 +147,11 @@ module _ (h n : OpenTasks) (k : IsValid h) (t : ℕ) (x x' : Task) (at : IsTaskI
   shared_after = free_shared (profile_of h.shared_pages.settings) (held_in h) t q moved after h.shared_pages.settings.page_size k.shared removed
 
   module _ (rest : KeepsRest h.shared_pages x n.shared_pages x') (live_is : x'.live ≡ set x.live c (get_or x.live c 0 - 1)) where
-    counts : (d : ℕ) → d < classes (paging_at h.shared_pages) → get_or x'.live d 0 ≡ live (paging_at h.shared_pages) (objects (part_of after t)) d
+    counts : (d : ℕ) → d < classes (paging_at h.shared_pages) → get_or x'.live d 0 ≡ live (paging_at h.shared_pages) (objects (objects_of_task after t)) d
     counts d l =
         let less = live_taken (paging_at h.shared_pages) (objects_of h.shared_pages x) q (bytes_at h.shared_pages.region a) d (it_bytes k.shared_pages i o) in
         let was = i.counted d l in
-        let all : live (paging_at h.shared_pages) (objects (part_of after t)) d ≡ live (paging_at h.shared_pages) (remove (objects_of h.shared_pages x) q) d =
+        let all : live (paging_at h.shared_pages) (objects (objects_of_task after t)) d ≡ live (paging_at h.shared_pages) (remove (objects_of h.shared_pages x) q) d =
         ap (λ v. live (paging_at h.shared_pages) v d) objects_are in
         let now : get_or x'.live d 0 ≡ get_or (set x.live c (get_or x.live c 0 - 1)) d 0 = ap (λ v. get_or v d 0) live_is in
         let out = counted_out x.live c d (class_live k.shared_pages i o) (live_some k.shared_pages i o) in
@@ -163,7 +164,7 @@ module _ (h n : OpenTasks) (k : IsValid h) (t : ℕ) (x x' : Task) (at : IsTaskI
         → Occupies (paging_at h.shared_pages) (without (held_of h.shared_pages x) q a moved) (tables_of n.shared_pages x') → x'.proxies.limit ≡ x.proxies.limit
         → Accounts (tables_of h.shared_pages x) (tables_of n.shared_pages x') c → Becomes h n t x x' after
     goes at_places long image serve occupied limit accounts =
-        let occupied' : Occupies (paging_at h.shared_pages) (part_of after t) (tables_of n.shared_pages x') =
+        let occupied' : Occupies (paging_at h.shared_pages) (objects_of_task after t) (tables_of n.shared_pages x') =
         subst (λ m. Occupies (paging_at h.shared_pages) m (tables_of n.shared_pages x')) (sym own_part) occupied in
         record {
           at = at;
@@ -183,7 +184,7 @@ module _ (h n : OpenTasks) (k : IsValid h) (t : ℕ) (x x' : Task) (at : IsTaskI
           limit = limit;
           live_long = ap length live_is ∙ length-set x.live c (get_or x.live c 0 - 1) ∙ i.live_long;
           counted = counts;
-          pages = pages_after h.shared_pages k.shared_pages t x i c o.in_range (part_of after t) (tables_of n.shared_pages x') serve occupied' accounts (shared_after.sound t)
+          pages = pages_after h.shared_pages k.shared_pages t x i c o.in_range (objects_of_task after t) (tables_of n.shared_pages x') serve occupied' accounts (shared_after.sound t)
               x'.pages rest.account;
         }
 
@@ -201,7 +202,7 @@ module _ (h n : OpenTasks) (k : IsValid h) (t : ℕ) (x x' : Task) (at : IsTaskI
           removed = record {
             freed = it k.shared_pages i o;
             found = part_found;
-            moves = subst (Moves (paging_at h.shared_pages) (part_of (held_in h) t) (it k.shared_pages i o)) (sym is) part_moves;
+            moves = subst (Moves (paging_at h.shared_pages) (objects_of_task (held_in h) t) (it k.shared_pages i o)) (sym is) part_moves;
             left = held ∙ ap (λ v. without (held_in h) (key_of t q) a (option_map (key_of t) v)) (sym is);
           };
           slot = words ∙ it_slot k.shared_pages i o;

@@ -1,4 +1,5 @@
--- For `malloc_inner`: the heap is valid after a malloc of a task.
+-- For `malloc_inner`: a malloc of a task takes a slot on a page that no other task uses, adds an object of zeros, changes no other task's objects, and leaves
+-- the heap valid.
 use Rattle.std.proofs.Common.{◌≡◌, ◌≢◌, ℕ, ◌+◌, ◌<◌, ◌≤◌, length, get_or, set, replicate, Some, None, arith, refl, sym, ◌∙◌, ap, subst, inl, inr}
 use Rattle.std.specs.Prelude.{nat_eq}
 use Rattle.std.proofs.lemmas.Bool.{cases_eq}
@@ -23,7 +24,7 @@ use Rattle.page_slots.proofs.CallerLemmas.{taken_is_free, taken_occupied, taken_
 use Rattle.proxy_table.specs.Proxies.{Proxies}
 use Rattle.quota_model.specs.Joined.{joined}
 use Rattle.quota_model.proofs.CallerLemmas.{image_of_malloc, joined_insert}
-use Rattle.quota_model.specs.Parts.{key_of, number_of, part_of, task_of}
+use Rattle.quota_model.specs.Parts.{key_of, number_of, objects_of_task, task_of}
 use Rattle.quota_model.specs.Shared.{PlacesForTask}
 use Rattle.quota_model.proofs.CallerLemmas.{found_part, others_stay, part_inserted, quotas_stay, stays_shared}
 use Rattle.quota_heap.specs.Calls.{IsAdded}
@@ -49,7 +50,7 @@ use Rattle.quota_model.specs.Shared.{IsShared}
 use Rattle.quota_heap.specs.State.{QuotaState}
 use Rattle.quota_heap.specs.Steps.{with_held}
 
--- The tables `new` after task t took the slot of class c at address a: they still serve the task.
+-- The tables `new` after task t took the slot of class c at address a: they are still tables for this task and these pages (`FitPagesShared`).
 module _ (g : SharedPages) (k : ArePages g) (t : ℕ) (x : Task) (i : IsTask g t x) (c : ℕ) (lt : c < classes (paging_at g)) (a : ℕ) (new : Tables)
     (taken : TakesAt g.tables.classes (tables_of g x) c a new) (tables : AreTables g.tables.classes new) where
   abbrev at_table : TakesAt (class_table (paging_at g)) (tables_of g x) c a new
@@ -152,7 +153,7 @@ module _ (h n : OpenTasks) (k : IsValid h) (t : ℕ) (x x' : Task) (at : IsTaskI
             | inr l ↦ not_elsewhere (subst (IsForeign (tables_of h.shared_pages x)) page (away (class_at (paging_at h.shared_pages) y) NotFull l))
           ]
 
-  part : part_of (held_in h) t ≡ held_of h.shared_pages x
+  part : objects_of_task (held_in h) t ≡ held_of h.shared_pages x
   part = part_is h k t x at
 
   pub placed : PlacesForTask (profile_of h.shared_pages.settings) (held_in h) t (record { number = q; length = bytes }) after
@@ -169,17 +170,17 @@ module _ (h n : OpenTasks) (k : IsValid h) (t : ℕ) (x x' : Task) (at : IsTaskI
   sixteen : t < 16
   sixteen = task_below h k t x at
 
-  own_part : part_of after t ≡ insert (held_of h.shared_pages x) q (zeros_at co.place bytes)
+  own_part : objects_of_task after t ≡ insert (held_of h.shared_pages x) q (zeros_at co.place bytes)
   own_part = part_inserted (held_in h) t q small (zeros_at co.place bytes) ∙ ap (λ m. insert m q (zeros_at co.place bytes)) part
 
-  objects_are : objects (part_of after t) ≡ insert (objects_of h.shared_pages x) q (replicate bytes 0)
+  objects_are : objects (objects_of_task after t) ≡ insert (objects_of h.shared_pages x) q (replicate bytes 0)
   objects_are = ap objects own_part ∙ malloc_objects (held_of h.shared_pages x) q co.place bytes
 
-  counts : (d : ℕ) → d < classes (paging_at h.shared_pages) → get_or x'.live d 0 ≡ live (paging_at h.shared_pages) (objects (part_of after t)) d
+  counts : (d : ℕ) → d < classes (paging_at h.shared_pages) → get_or x'.live d 0 ≡ live (paging_at h.shared_pages) (objects (objects_of_task after t)) d
   counts d l =
       let add = live_added (paging_at h.shared_pages) (objects_of h.shared_pages x) q (replicate bytes 0) d (bytes_missing (held_of h.shared_pages x) q unused) in
       let was = i.counted d l in
-      let all : live (paging_at h.shared_pages) (objects (part_of after t)) d ≡ live (paging_at h.shared_pages) (insert (objects_of h.shared_pages x) q (replicate bytes 0)) d =
+      let all : live (paging_at h.shared_pages) (objects (objects_of_task after t)) d ≡ live (paging_at h.shared_pages) (insert (objects_of h.shared_pages x) q (replicate bytes 0)) d =
       ap (λ o. live (paging_at h.shared_pages) o d) objects_are in
       let now : get_or x'.live d 0 ≡ get_or (set x.live c (get_or x.live c 0 + 1)) d 0 = ap (λ v. get_or v d 0) co.live in
       let inside : c < length x.live = (let f = few_classes h.shared_pages k.shared_pages t x i in let long = i.live_long in omega arith) in
@@ -222,7 +223,7 @@ module _ (h n : OpenTasks) (k : IsValid h) (t : ℕ) (x x' : Task) (at : IsTaskI
     limit = ap (λ (p : Proxies). p.limit) co.proxies;
     live_long = ap length co.live ∙ length-set x.live c (get_or x.live c 0 + 1) ∙ i.live_long;
     counted = counts;
-    pages = pages_after h.shared_pages k.shared_pages t x i c lt (part_of after t) (tables_of n.shared_pages x')
+    pages = pages_after h.shared_pages k.shared_pages t x i c lt (objects_of_task after t) (tables_of n.shared_pages x')
         (taken_serves h.shared_pages k.shared_pages t x i c lt co.place (tables_of n.shared_pages x') co.taken co.rest.tables)
         (subst (λ m. Occupies (paging_at h.shared_pages) m (tables_of n.shared_pages x')) (sym own_part) occupied_own)
         (take_accounts h.shared_pages.tables.classes (tables_of h.shared_pages x) (tables_ok h.shared_pages k.shared_pages t x i) c (tables_of n.shared_pages x')

@@ -1,4 +1,4 @@
--- For `refusal`: one more object needs one more page if and only if no page of its class is partly full.
+-- For `refusal`: one more object of a task needs one more page if no page of its class is partly full, else none, since each class has bound 1.
 use Rattle.std.proofs.Common.{◌≡◌, ℕ, zero, suc, ◌+◌, ◌-◌, ◌*◌, ◌<◌, ◌≤◌, cond, arith, refl, sym, subst, inl, inr}
 use Rattle.std.specs.Prelude.{nat_eq}
 use Rattle.std.proofs.lemmas.Bool.{cases_eq, cases_lt}
@@ -10,7 +10,7 @@ use Rattle.page_model.specs.Held.{Held, objects}
 use Rattle.page_model.specs.Paging.{EveryBoundIsOne, IsPaging, Paging, class_for, classes, slots_of}
 use Rattle.page_model.proofs.CallerLemmas.{can_hold_one, slots_some, sound_stand, home_at_one}
 
--- if n objects are on some pages, these pages, with one more if none of them is partly full, can hold n + 1 objects
+-- let n objects be on h pages of m slots, where q pages (0 or 1) are partly full; then h + (1 - q) pages can hold n + 1 objects
 one_more : (h n m q : ℕ) → 0 < m → LieOn h n m 1 q → CanHold (h + (1 - q)) (n + 1) m 1
 one_more h n m zero pos s =
     let e : h - 0 ≡ h = omega arith in

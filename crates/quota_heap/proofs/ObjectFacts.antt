@@ -1,4 +1,4 @@
--- For `object`: the object at the address of a live number has a class; and the pool has at most 4,096 pages.
+-- For `object`: at the address of a live number of a task, the header shows the object's length, which has a class. Also, the pool has at most 4,096 pages.
 use Rattle.std.proofs.Common.{◌≡◌, ℕ, ◌/◌, ◌^◌, ◌≤◌, length, get_or, Some, None, arith, sym, ◌∙◌, ap}
 use Rattle.std.specs.FinMap.{get}
 use Rattle.cf_base.specs.Classes.{class_of}

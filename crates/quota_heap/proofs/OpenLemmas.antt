@@ -1,4 +1,4 @@
--- For `new`: a heap that was just opened is valid.
+-- For `new`: a heap of tasks that was just opened is valid, and contracts show it with no objects, all quotas 0 and all words 0.
 use Rattle.std.proofs.Common.{◌≡◌, ℕ, zero, suc, ◌+◌, ◌*◌, ◌<◌, ◌∷◌, length, get_or, map, replicate, Some, None, arith, refl}
 use Rattle.std.proofs.Common.{sym, ◌∙◌, ap, subst}
 use Rattle.std.specs.Prelude.{slice_get, sum, sum_by}
@@ -27,7 +27,7 @@ use Rattle.page_slots.proofs.CallerLemmas.{first_occupied, first_table, new_serv
 use Rattle.proxy_table.specs.Proxies.{AreBelowLimit, no_proxies}
 use Rattle.quota_model.specs.Joined.{AreNumbers, joined, places_at}
 use Rattle.quota_model.proofs.CallerLemmas.{get_by_key}
-use Rattle.quota_model.specs.Parts.{number_of, part_of, task_of}
+use Rattle.quota_model.specs.Parts.{number_of, objects_of_task, task_of}
 use Rattle.quota_model.specs.Shared.{AreQuotas, IsShared}
 use Rattle.quota_model.proofs.CallerLemmas.{first_quotas, first_shared, no_part, sum_zeros_list}
 use Rattle.size_classes.specs.Table.{ClassTable, table_of}
@@ -128,7 +128,7 @@ module _ (s : Settings) (h : OpenTasks) (f : AreFirstPages s h.shared_pages) (n 
         ∙ ap (λ m. pages_needed (paging_at h.shared_pages) (objects m)) (sym (no_part 0)) ∙ none_needed);
   }
     where
-      none_needed : pages_needed (paging_at h.shared_pages) (objects (part_of empty 0)) ≡ 0
+      none_needed : pages_needed (paging_at h.shared_pages) (objects (objects_of_task empty 0)) ≡ 0
       none_needed = (
           let le = (first_quotas (profile_of h.shared_pages.settings)).enough 0 in
           let z : get_or (replicate {A = ℕ} 16 0) 0 0 ≡ 0 = refl in

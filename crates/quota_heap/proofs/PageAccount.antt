@@ -71,7 +71,7 @@ pub record Accounts (old new : Tables) (c : ℕ) : Type 0 where
   pub others : (d : ℕ) → d ≢ c → paged new.lists d ≡ paged old.lists d
 
 module _ (k : ClassTable) (old : Tables) (a : AreTables k old) (c : ℕ) (new : Tables) where
-  -- a page moves from one list of the class to the other
+  -- if a page moves from one list of class c to another list of c, each class has as many pages as before
   moves : (v w : Which) (page : ℕ) (between : PageLists) → Contains (pages_in old.lists c v) page → LeavesList old.lists c v page between
       → JoinsList between c w page new.lists → (paged new.lists c ≡ paged old.lists c) × KeepsClasses old.lists new.lists c
   moves v w page between there l j =

@@ -1,4 +1,5 @@
--- For the count `pages` of a task: it changes by the number of pages that leave or enter the pool.
+-- For the count `pages` of a task: if it changes by the number of pages that leave or enter the pool, it stays the number of pages that the task's objects
+-- need.
 use Rattle.std.proofs.Common.{◌≡◌, ℕ, ◌+◌, ◌<◌, length, arith}
 use Rattle.page_model.specs.Arrangement.{IsSound, pages_needed, used_pages}
 use Rattle.page_model.specs.Held.{Held, objects}

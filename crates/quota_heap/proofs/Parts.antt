@@ -1,4 +1,5 @@
--- For `find`, `read` and `write`: the bytes of a task's object that are read or written.
+-- For `find`, `read` and `write`: the object found for a task, or the fault, is the one that contracts show; a read returns its bytes, and a write changes
+-- these bytes alone and leaves the heap valid.
 use Rattle.std.proofs.Common.{◌≡◌, ℕ, suc, ◌+◌, ◌-◌, ◌*◌, ◌/◌, ◌%◌, ◌^◌, ◌<◌, ◌≤◌, List, [], ◌∷◌, length, get_or, set, take, drop, Some, None, Result}
 use Rattle.std.proofs.Common.{Ok, Err, arith, refl, sym, ◌∙◌, ap, subst, inl, inr}
 use Rattle.std.specs.Prelude.{IfNone, IfSome, Option}
@@ -21,7 +22,7 @@ use Rattle.page_slots.specs.Occupying.{Occupies}
 use Rattle.page_slots.proofs.CallerLemmas.{rewritten_occupied}
 use Rattle.quota_model.specs.Joined.{joined}
 use Rattle.quota_model.proofs.CallerLemmas.{image_of_write, live_same, needed_same, others_rewritten, own_rewritten, rewritten_quotas, rewritten_shared}
-use Rattle.quota_model.specs.Parts.{key_of, part_of}
+use Rattle.quota_model.specs.Parts.{key_of, objects_of_task}
 use Rattle.quota_model.proofs.CallerLemmas.{found_whole}
 use Rattle.cf_model.specs.Steps.{Position}
 use Rattle.word_bytes.specs.Cells.{overwritten}
@@ -115,7 +116,7 @@ module _ (h : OpenTasks) (k : IsValid h) (t : ℕ) (x : Task) (at : IsTaskIn h t
         ∙ sym (get_or-take count (drop position.from (bytes_at h.shared_pages.region a)) j 0 (omega arith)));
   }
 
-  -- a read of no bytes
+  -- a read of no bytes meets the contract of a read
   pub reads_nothing : (out : List ℕ) → length out ≡ count → count ≡ 0 → ReadsOfTask (state_of h) t position count out
   reads_nothing out long none = read_is out long (λ j less. absurd (omega arith))
 
@@ -150,7 +151,7 @@ module _ (h : OpenTasks) (k : IsValid h) (t : ℕ) (x : Task) (at : IsTaskIn h t
   found : get (held_of h.shared_pages x) q ≡ Some it
   found = has_place h.shared_pages k.shared_pages t x own q a l.found
 
-  part_found : get (part_of (held_in h) t) q ≡ Some it
+  part_found : get (objects_of_task (held_in h) t) q ≡ Some it
   part_found = ap (λ m. get m q) (part_is h k t x at) ∙ found
 
   whole_found : get (held_in h) key ≡ Some it
@@ -246,7 +247,7 @@ module _ (h : OpenTasks) (k : IsValid h) (t : ℕ) (x : Task) (at : IsTaskIn h t
   class : class_for (paging_at h.shared_pages) (length new) ≡ class_for (paging_at h.shared_pages) (length old)
   class = ap (class_for (paging_at h.shared_pages)) size
 
-  own_part : part_of changed t ≡ insert (held_of h.shared_pages x) q (record { place = a; bytes = new })
+  own_part : objects_of_task changed t ≡ insert (held_of h.shared_pages x) q (record { place = a; bytes = new })
   own_part = own_rewritten (profile_of h.shared_pages.settings) (held_in h) t q it part_found new class
       ∙ ap (λ m. insert m q (record { place = a; bytes = new })) (part_is h k t x at)
 

@@ -1,4 +1,5 @@
--- For each call that changes a heap: if it changed only one task and the shared pages, and both still fit each other, the heap keeps its invariant.
+-- For each call that changes a heap of tasks: if only one task and what all tasks share changed, and both fit the objects, words and counts after the call
+-- (`Becomes`), the heap is valid.
 use Rattle.std.proofs.Common.{◌≡◌, ◌≢◌, ℕ, ◌+◌, ◌<◌, length, get_or, set, Some, arith, sym, ◌∙◌, ap, subst, inl, inr}
 use Rattle.std.specs.Prelude.{slice_get, sum}
 use Rattle.std.proofs.lemmas.Bool.{cases_eq}
@@ -18,7 +19,7 @@ use Rattle.page_slots.specs.Tables.{AreOthers, AreTables}
 use Rattle.page_slots.proofs.CallerLemmas.{mine_elsewhere, others_elsewhere, others_occupied, others_tables}
 use Rattle.quota_model.specs.Joined.{AreNumbers, joined}
 use Rattle.quota_model.proofs.CallerLemmas.{own_image, numbers_set, part_joined}
-use Rattle.quota_model.specs.Parts.{key_of, part_of}
+use Rattle.quota_model.specs.Parts.{key_of, objects_of_task}
 use Rattle.quota_model.specs.Shared.{AreQuotas, IsShared}
 use Rattle.size_classes.specs.Table.{ClassTable}
 use Rattle.quota_model.proofs.CallerLemmas.{found_whole}
@@ -43,13 +44,13 @@ pub record Becomes (h n : OpenTasks) (t : ℕ) (x x' : Task) (m : Held) : Type 0
   pub image : IsSlotImage (paging_at h.shared_pages) m n.shared_pages.region
   pub shared : IsShared (profile_of h.shared_pages.settings) m
   pub quotas : AreQuotas (profile_of h.shared_pages.settings) (quotas_of h.tasks.items) m
-  pub others : (u : ℕ) → u ≢ t → part_of m u ≡ part_of (held_in h) u
+  pub others : (u : ℕ) → u ≢ t → objects_of_task m u ≡ objects_of_task (held_in h) u
   pub serve : FitPagesShared (paging_at h.shared_pages) (tables_of n.shared_pages x')
-  pub occupied : Occupies (paging_at h.shared_pages) (part_of m t) (tables_of n.shared_pages x')
+  pub occupied : Occupies (paging_at h.shared_pages) (objects_of_task m t) (tables_of n.shared_pages x')
   pub limit : x'.proxies.limit ≡ x.proxies.limit
   pub live_long : length x'.live ≡ 128
-  pub counted : (c : ℕ) → c < classes (paging_at h.shared_pages) → get_or x'.live c 0 ≡ live (paging_at h.shared_pages) (objects (part_of m t)) c
-  pub pages : x'.pages ≡ pages_needed (paging_at h.shared_pages) (objects (part_of m t))
+  pub counted : (c : ℕ) → c < classes (paging_at h.shared_pages) → get_or x'.live c 0 ≡ live (paging_at h.shared_pages) (objects (objects_of_task m t)) c
+  pub pages : x'.pages ≡ pages_needed (paging_at h.shared_pages) (objects (objects_of_task m t))
 
 -- heap n with these settings and classes in place of its own
 abbrev pub with_rest : OpenTasks → Settings → ClassTable → OpenTasks
@@ -68,7 +69,7 @@ module _ (h n : OpenTasks) (k : IsValid h) (t : ℕ) (x x' : Task) (m : Held) (b
   lt : t < length h.tasks.items
   lt = slice_get_within h.tasks.items t x b.at
 
-  -- the tasks of w: the changed one, and those of h
+  -- task t of w is the changed one; below, each other task of w is that of h
   own_in : IsTaskIn w t x'
   own_in = ap (λ ts. slice_get ts t) b.tasks ∙ set_here h.tasks.items t x' lt
 
@@ -93,12 +94,12 @@ module _ (h n : OpenTasks) (k : IsValid h) (t : ℕ) (x x' : Task) (m : Held) (b
       long_places : length (places_of h.tasks.items) ≡ length h.tasks.items
       long_places = length_map (λ (y : Task). y.proxies.places) h.tasks.items
 
-  -- the objects of each task are its part of m
-  part_here : (u : ℕ) (y : Task) → IsTaskIn w u y → held_of w.shared_pages y ≡ part_of m u
+  -- the objects of each task are those that m has under the task's keys (`objects_of_task`)
+  part_here : (u : ℕ) (y : Task) → IsTaskIn w u y → held_of w.shared_pages y ≡ objects_of_task m u
   part_here u y e = sym (
       part_joined n.shared_pages.region (places_of n.tasks.items) new_numbers u
       ∙ ap (held_at n.shared_pages.region) (mapped_here (λ (z : Task). z.proxies.places) n.tasks.items u y
-      empty e)) ∙ ap (λ a. part_of a u) held_is
+      empty e)) ∙ ap (λ a. objects_of_task a u) held_is
 
   sound : (u : ℕ) (y : Task) → IsTaskIn w u y → IsSound (paging_at h.shared_pages) (held_of w.shared_pages y)
   sound u y e = subst (IsSound (paging_at h.shared_pages)) (sym (part_here u y e)) (b.shared.sound u)
@@ -106,7 +107,7 @@ module _ (h n : OpenTasks) (k : IsValid h) (t : ℕ) (x x' : Task) (m : Held) (b
   headed : (u : ℕ) (y : Task) → IsTaskIn w u y → (q : ℕ) (z : Placed) → get (held_of w.shared_pages y) q ≡ Some z
       → get_or n.shared_pages.region z.place 0 ≡ header_word (key_of u q) (length z.bytes)
   headed u y e q z f =
-      let there : get (part_of m u) q ≡ Some z = sym (ap (λ a. get a q) (part_here u y e)) ∙ f in
+      let there : get (objects_of_task m u) q ≡ Some z = sym (ap (λ a. get a q) (part_here u y e)) ∙ f in
       let some = class_holds (paging_at h.shared_pages) (paging_ok h.shared_pages) (length z.bytes) ((b.shared.sound u).slots q z there).class in
       let at0 : z.place + 0 ≡ z.place = omega arith in
       sym (ap (λ i. get_or n.shared_pages.region i 0) at0) ∙ b.image.held (key_of u q) z (found_whole m u q z there) 0 (omega arith)

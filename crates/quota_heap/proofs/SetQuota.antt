@@ -1,4 +1,5 @@
--- For `set_quota` and `grant`: the heap stays valid with another quota of a task.
+-- For `set_quota` and `grant`: the tests find the cause for which a new quota of a task is refused; if there is none, the heap with the new quota is valid, and
+-- nothing else changes.
 use Rattle.std.proofs.Common.{◌≡◌, ℕ, Bool, true, false, cond, zero, suc, ◌+◌, ◌<◌, ◌≤◌, List, [], ◌∷◌, length, get_or, set, Option, Some, None, arith, refl}
 use Rattle.std.proofs.Common.{sym, ◌∙◌, ap, subst, inl, inr}
 use Rattle.std.specs.Prelude.{nat_lt, slice_get, sum}

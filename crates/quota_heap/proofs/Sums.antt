@@ -1,4 +1,5 @@
--- For the sum of the quotas and that of the tasks' pages: a sum over a list with one element changed, and two sums compared element by element.
+-- For the sum of the tasks' quotas and that of their pages: a sum over a list of which one element changes, two sums compared element by element, and one term
+-- compared with its sum.
 use Rattle.std.proofs.Common.{◌≡◌, ℕ, zero, suc, ◌+◌, ◌<◌, ◌≤◌, List, [], ◌∷◌, set, Some, arith, ap, refl, sym}
 use Rattle.std.specs.Prelude.{slice_get, sum_by}
 use Rattle.std.proofs.lemmas.List.Sums.{sum_by-cons}

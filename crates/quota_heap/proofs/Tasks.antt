@@ -1,4 +1,5 @@
--- For all other files here: what the invariant of an open heap says of task t, and which part of the common map of objects is the task's own.
+-- For all other files here: what the invariant of an open heap says of its task t, and which objects of the map of all tasks are those of t. Also, lists of
+-- which one element changes.
 use Rattle.std.proofs.Common.{◌≡◌, ◌≢◌, ℕ, zero, suc, ◌<◌, ◌≤◌, List, [], ◌∷◌, length, get_or, set, map, Option, Some, None, arith, refl, sym, ◌∙◌, ap, subst}
 use Rattle.std.proofs.Common.{inl, inr}
 use Rattle.std.specs.Prelude.{slice_get}
@@ -8,7 +9,7 @@ use Rattle.std.specs.FinMap.{empty, get, get-empty}
 use Rattle.page_model.specs.Bytes.{held_at}
 use Rattle.quota_model.specs.Joined.{AreNumbers, places_at}
 use Rattle.quota_model.proofs.CallerLemmas.{part_joined}
-use Rattle.quota_model.specs.Parts.{part_of}
+use Rattle.quota_model.specs.Parts.{objects_of_task}
 use Rattle.quota_heap.specs.Layout.{IsTaskIn, IsValid, held_in, held_of, places_of, quotas_of}
 use Rattle.quota_heap.specs.declared.open_tasks.OpenTasks.{OpenTasks}
 use Rattle.quota_heap.specs.declared.task.Task.{Task}
@@ -67,8 +68,8 @@ module _ (h : OpenTasks) (k : IsValid h) where
           let z : Some a ≡ None = sym f ∙ ap (λ m. get m q) m ∙ get-empty nat_cmp q in cc)
       by (Some x) e = number_small h.shared_pages k.shared_pages t x (k.task t x e) q a (sym (ap (λ m. get m q) (places_here t x e)) ∙ f)
 
-  -- of the map of all tasks' objects, the part of task t is the objects in its own record x
-  pub part_is : (t : ℕ) (x : Task) → IsTaskIn h t x → part_of (held_in h) t ≡ held_of h.shared_pages x
+  -- the objects of task t in the map of all tasks' objects (`objects_of_task`) are those of its record x
+  pub part_is : (t : ℕ) (x : Task) → IsTaskIn h t x → objects_of_task (held_in h) t ≡ held_of h.shared_pages x
   part_is t x at = part_joined h.shared_pages.region (places_of h.tasks.items) numbers t ∙ ap (held_at h.shared_pages.region) (places_here t x at)
 
   pub task_below : (t : ℕ) (x : Task) → IsTaskIn h t x → t < 16

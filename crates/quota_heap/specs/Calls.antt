@@ -1,5 +1,5 @@
--- What a call of one task does to the pages that tasks share, and to the task: g are these pages and x is the task before the call, g' and x' after it. No
--- public clause cites this module.
+-- What a call of one task finds and does in what all tasks share (g: settings, region, used slots, free pages) and in the task (x); after it they are g' and
+-- x'. No public clause cites this module.
 use Rattle.std.specs.Prelude.{◌≡◌, ℕ, ◌+◌, ◌-◌, ◌<◌, ◌≤◌, Option, Some, None, Result, Ok, Err, length, slice_get, slice_index, slice_set}
 use Rattle.std.specs.FinMap.{get}
 use Rattle.class_lists.specs.PageLists.{pages_in}
@@ -22,7 +22,7 @@ use Rattle.quota_heap.specs.declared.open_tasks.OpenTasks.{OpenTasks}
 use Rattle.quota_heap.specs.declared.task.Task.{Task}
 
 -- what a malloc or a free of task x leaves unchanged: settings, classes, the task's quota, the tables of foreign pages, and the sum of the task's pages and
--- the free ones; the tables and the proxies keep their own rules
+-- the free ones; the tables and the proxies stay valid
 pub record KeepsRest (g : SharedPages) (x : Task) (g' : SharedPages) (x' : Task) : Type 0 where
   pub settings : g'.settings ≡ g.settings
   pub classes : g'.tables.classes ≡ g.tables.classes
@@ -96,7 +96,8 @@ abbrev pub IsFound : SharedPages → Task → Position → ℕ → Result ℕ Ac
 IsFound g x position count (Ok place) = HoldsBytesAt g x position count place
 IsFound g x position count (Err e) = IsMissing g x position count e
 
--- what `free_inner` does to the object q of class c at the address `place`: it removes the object; exactly if the slot must be filled, it moves object r there
+-- what `free_inner` does to the object q of class c at the address `place`: it removes the object, and moves object r into its slot if and only if the slot
+-- must be filled
 abbrev pub IsRemoved : SharedPages → Task → ℕ → ℕ → ℕ → Option ℕ → SharedPages → Task → Type 0
 IsRemoved g x q place c None g' x' = (MustMoveInto g x place c → ⊥) × FreesAlone g x q place c g' x'
 IsRemoved g x q place c (Some r) g' x' = MustMoveInto g x place c × FreesAndFills g x q place c r g' x'

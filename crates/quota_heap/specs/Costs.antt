@@ -1,4 +1,4 @@
--- The most steps that each call on a heap of tasks costs. For each there is a call that costs as many.
+-- The most steps that each call on a heap of tasks costs. Each bound is reached by some call.
 use Rattle.std.specs.Prelude.{ℕ, ◌+◌, Option, Some, None, Result, Ok, Err}
 use Rattle.cf_base.specs.declared.answers.AccessFault.{AccessFault}
 use Rattle.cf_base.specs.declared.answers.AccessFault.TheVariants.{Unknown, Range}

@@ -1,4 +1,5 @@
--- The state that contracts show of an open heap of tasks, computed from the heap's fields, and the heap's invariant. No public clause cites this module.
+-- The state that contracts show of an open heap of tasks, and the heap's invariant. g is what all tasks share (settings, region, used slots, free pages), x a
+-- task, h the heap. No public clause cites this module.
 use Rattle.std.specs.Prelude.{◌≡◌, ◌≢◌, ℕ, ◌+◌, ◌*◌, ◌<◌, List, true, Option, Some, None, length, map, replicate, slice_get, slice_index, sum, sum_by}
 use Rattle.std.specs.Ordering.{nat_cmp}
 use Rattle.std.specs.FinMap.{FinMap, get}
@@ -25,7 +26,7 @@ use Rattle.quota_heap.specs.declared.shared_pages.SharedPages.{SharedPages}
 use Rattle.quota_heap.specs.declared.open_tasks.OpenTasks.{OpenTasks}
 use Rattle.quota_heap.specs.declared.task.Task.{Task}
 
--- the pages and classes of the tasks
+-- the pages and size classes that all tasks share, each class with the bound 1
 abbrev pub paging_at : SharedPages → Paging
 paging_at g = task_paging (profile_of g.settings)
 
@@ -41,7 +42,7 @@ held_of g x = held_at g.region x.proxies.places
 abbrev pub objects_of : SharedPages → Task → Objects
 objects_of g x = objects (held_of g x)
 
--- the shared pages keep their own rules: the class table is that of the page size, and the region has the words of all pages
+-- the invariant of the shared pages: the class table is that of the page size, and the region has the words of all pages
 pub record ArePages (g : SharedPages) : Type 0 where
   pub table : g.tables.classes ≡ table_of g.settings.page_words Words
   pub words_long : length g.region ≡ g.settings.pages * g.settings.page_words
@@ -63,11 +64,11 @@ pub record IsTask (g : SharedPages) (t : ℕ) (x : Task) : Type 0 where
 abbrev pub IsTaskIn : OpenTasks → ℕ → Task → Type 0
 IsTaskIn h t x = slice_get h.tasks.items t ≡ Some x
 
--- the addresses by number of each task in turn
+-- for each task in turn, the addresses of its objects by their numbers
 abbrev pub places_of : List Task → List (FinMap nat_cmp ℕ)
 places_of tasks = map (λ (x : Task). x.proxies.places) tasks
 
--- the quota in pages of each task in turn
+-- for each task in turn, its quota in pages
 abbrev pub quotas_of : List Task → List ℕ
 quotas_of tasks = map (λ (x : Task). x.quota) tasks
 
@@ -89,9 +90,9 @@ state_of h = record {
   words = h.shared_pages.region;
 }
 
--- The invariant of an open heap of sixteen tasks. `task`: each task keeps its own invariant. `others`: the pages of one task are foreign to each other one.
+-- The invariant of an open heap of sixteen tasks. `task`: each task keeps its own invariant. `others`: the pages of one task are foreign to every other task.
 -- `shared`: no page has objects of two tasks. `image`: the words are those of all tasks' objects, and zeros elsewhere. `quotas` and `granted`: the quotas
--- are valid, and their sum is kept. `accounted`: the free pages and those that tasks use are all pages of the region.
+-- are valid, and the heap's field `granted` is their sum. `accounted`: the free pages and those that tasks use are all pages of the region.
 pub record IsValid (h : OpenTasks) : Type 0 where
   pub shared_pages : ArePages h.shared_pages
   pub many : length h.tasks.items ≡ 16

@@ -7,7 +7,7 @@ use Rattle.cf_base.specs.Settings.{Profile}
 use Rattle.cf_model.specs.State.{no_profile, profile_code, region_words}
 use Rattle.page_model.specs.Held.{Held, Objects, objects, placed_code}
 use Rattle.page_model.specs.Image.{IsImage, IsSlotImage}
-use Rattle.quota_model.specs.Parts.{part_of}
+use Rattle.quota_model.specs.Parts.{objects_of_task}
 use Rattle.quota_model.specs.Refusals.{task_paging}
 use Rattle.quota_model.specs.Shared.{AreQuotas, IsShared}
 
@@ -30,7 +30,7 @@ empty_state p = record { is_open = true; profile = p; quotas = replicate 16 0; h
 
 -- the objects of a task by their numbers in it, each with its address and its bytes
 abbrev pub held_by : QuotaState → ℕ → Held
-held_by s task = part_of s.held task
+held_by s task = objects_of_task s.held task
 
 -- the objects of a task by their numbers in it, each as its bytes alone
 abbrev pub objects_by : QuotaState → ℕ → Objects

@@ -1,4 +1,4 @@
--- What each call of a task does to the state of a heap of tasks: `old` is the state before the call, `new` after it.
+-- What each call of a task, by its result, does to the state of the heap that tasks share: `old` is the state before the call, `new` after it.
 use Rattle.std.specs.Prelude.{◌≡◌, ℕ, ◌+◌, ◌<◌, ◌≤◌, List, Option, Some, None, Result, Ok, Err, length, take, drop, if◌then◌else◌, nat_lt, slice_set}
 use Rattle.std.specs.FinMap.{get, insert}
 use Rattle.cf_base.specs.declared.answers.AccessFault.{AccessFault}

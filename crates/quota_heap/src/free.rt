@@ -1,4 +1,5 @@
-//! A free of a task, on the pages that all tasks share.
+//! How a task frees an object on the pages that all tasks share: with no other object moved (`free_alone`),
+//! or with one moved into the freed slot (`free_and_fill`).
 ghost use Rattle.std.specs.Prelude.{◌≡◌, ◌+◌, ◌*◌, ◌<◌, ◌≤◌, IfSome, IsSome, None, slice_index};
 ghost use Rattle.step_ledger.specs.Counting.{RoseAtMost};
 ghost use Rattle.cf_model.specs.Steps.{number_of};

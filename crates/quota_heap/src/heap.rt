@@ -1,4 +1,5 @@
-//! The heap of sixteen tasks, closed or open, with its public calls. All the work is done in `OpenTasks`.
+//! The heap that sixteen tasks share, closed or open, with its public calls: quotas, malloc, free, read, write,
+//! figures and `peek`. `OpenTasks` does all the work.
 ghost use Rattle.std.specs.Prelude.{◌≡◌, ◌+◌, ◌^◌, ◌<◌, ◌≤◌, IsTrue, IfErr, IfOk, false, length, slice_get, sum};
 ghost use Rattle.step_ledger.specs.Counting.{RoseAtMost};
 ghost use Rattle.cf_base.specs.Settings.{profile_of};
@@ -107,9 +108,9 @@ impl QuotaHeap {
         }
     }
 
-    /// Sets the quota of a task to `pages` pages. Fails, with nothing changed, with `Sum` if the quotas of
-    /// all tasks would sum to more pages than the region has, else with `Used` if the task already uses
-    /// more than `pages` pages.
+    /// Sets the quota of a task to `pages` pages. If it fails, nothing changes. The causes, tested in this
+    /// order: `Sum`, the quotas of all tasks would sum to more pages than the region has; `Used`, the task
+    /// already uses more than `pages` pages.
     pub fn set_quota(&mut self, task: u32, pages: u32) -> Result<(), QuotaFault>
         requires opened { IsTrue self.old.is_open }
         requires sixteen { task < 16 }
@@ -123,9 +124,9 @@ impl QuotaHeap {
     }
 
     /// Makes an object of `bytes` bytes, all zero, for a task, under a handle that was not live in this
-    /// task. Fails, with nothing changed, with `Size` if it is larger than a page, else with `Proxy` if
-    /// the task's proxies are all in use, else with `Space` if the task's objects with this one need more
-    /// pages than its quota.
+    /// task. If it fails, nothing changes. The causes, tested in this order: `Size`, the object is larger
+    /// than a page; `Proxy`, the task's proxies are all in use; `Space`, the task's objects with this one
+    /// need more pages than its quota.
     pub fn malloc(&mut self, task: u32, bytes: u32, steps: &mut Steps) -> Result<Handle, Refusal>
         requires opened { IsTrue self.old.is_open }
         requires sixteen { task < 16 }
@@ -185,8 +186,8 @@ impl QuotaHeap {
     }
 
     /// Fills `out` with the bytes of object `h` of a task from byte `at` on. Fails, with `out` unchanged,
-    /// with `Unknown` if the handle is not live in this task, else with `Range` if the object has fewer
-    /// bytes from there on than `out`.
+    /// with `Unknown` if the handle is not live in this task, else with `Range` if `out` is longer than the
+    /// object's bytes from byte `at` on.
     pub fn read(
         &self,
         task: u32,
@@ -208,8 +209,8 @@ impl QuotaHeap {
         }
     }
 
-    /// The figures of class `c` of a task: the slot's words, the slots of a page, the task's live objects,
-    /// its pages, and those of them that are partly full. `None` if the heap has no such class.
+    /// The figures of class `c` of a task: the slot's words, the slots of a page, and how many live objects,
+    /// pages and partly full pages of the class the task has. `None` if the heap has no such class.
     pub fn figures(&self, task: u32, c: u32) -> Option<Figures>
         requires opened { IsTrue self.now.is_open }
         requires sixteen { task < 16 }

@@ -1,6 +1,5 @@
-//! The heap of mode `quota`: a moving heap that sixteen tasks share, by the rules of Compact-fit (2008).
-//! Each task has its own objects, handles, page lists and quota, the most pages that it may use. A free
-//! moves only objects of its own task, and no page has objects of two tasks.
+//! The heap of mode `quota`: a moving heap with bound 1 that sixteen tasks share, each with its own objects,
+//! handles, page lists and quota, the most pages that it may use. No page has objects of two tasks.
 #![tactic(auto)]
 
 mod free;

@@ -1,4 +1,5 @@
-//! A malloc of a task that is not refused, on the pages that all tasks share.
+//! How a task makes an object on the pages that all tasks share, once no cause of refusal holds: it takes a
+//! slot, binds a proxy of the task, and writes the header.
 ghost use Rattle.std.specs.Prelude.{◌≡◌, ◌≢◌, ◌+◌, ◌<◌, ◌≤◌, [], length};
 ghost use Rattle.std.specs.FinMap.{get, len};
 ghost use Rattle.step_ledger.specs.Counting.{RoseAtMost};

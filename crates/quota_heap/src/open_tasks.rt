@@ -1,4 +1,5 @@
-//! The body of an open heap of sixteen tasks: each call finds its task and works on the shared pages.
+//! The body of an open heap of sixteen tasks, with all calls and their tests for refusals. Each call works on
+//! its task's own tables and on the pages that all tasks share.
 ghost use Rattle.std.specs.Prelude.{◌≡◌, ℕ, ◌+◌, ◌<◌, ◌≤◌, None, Some, IfErr, IfNone, IfOk, IfSome, length, slice_get, slice_set, sum};
 ghost use Rattle.std.specs.FinMap.{get};
 ghost use Rattle.step_ledger.specs.Counting.{RoseAtMost};
@@ -112,9 +113,9 @@ impl OpenTasks {
         self.granted = granted;
     }
 
-    /// Makes an object of `bytes` bytes, all zero, for task `t`, and returns its handle. Refused, with
-    /// nothing changed, with `Size` if it is larger than a page, else with `Proxy` if the task's proxies
-    /// are all in use, else with `Space` if the task would need more pages than its quota.
+    /// Makes an object of `bytes` bytes, all zero, for task `t`, and returns its handle. If it is refused,
+    /// nothing changes. The causes, tested in this order: `Size`, the object is larger than a page; `Proxy`,
+    /// the task's proxies are all in use; `Space`, the task would need more pages than its quota.
     pub(crate) fn malloc(
         &mut self,
         t: u32,
@@ -157,8 +158,9 @@ impl OpenTasks {
         None
     }
 
-    /// Frees object `h` of task `t`, as `free_inner` does. Fails, with nothing changed, if the handle is not
-    /// live in this task.
+    /// Frees object `h` of task `t`. If its class would then have two partly full pages, another object of the
+    /// task moves into the slot. Returns the words of the slot, and the handle of the object that moved, if one
+    /// did. Fails, with nothing changed, if the handle is not live in this task.
     pub(crate) fn free(&mut self, t: u32, h: Handle, steps: &mut Steps) -> Result<Freed, NotLive>
         requires kept { IsValid self.old }
         requires sixteen { t < 16 }
@@ -279,8 +281,8 @@ impl OpenTasks {
         }
     }
 
-    /// The figures of class `c` of task `t`, where c is one of the heap's classes: in `live` the task's
-    /// objects, in `pages` its pages, in `not_full` those of them that are partly full.
+    /// The figures of class `c` of task `t`; c must be one of the heap's classes. `live`, `pages` and
+    /// `not_full` count the task's live objects, pages and partly full pages of the class.
     fn figures_of(&self, t: u32, c: u32) -> Figures
         requires kept { IsValid self.now }
         requires sixteen { t < 16 }

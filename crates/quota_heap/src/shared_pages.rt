@@ -1,4 +1,5 @@
-//! The pages of the region, which all tasks share, and what a call of one task reads or changes there.
+//! What all tasks share (`SharedPages`): the settings, the region, the used slots of each page, and the free
+//! pages. Also the lookup of a task's object, and the clearing and moving of a slot's words.
 ghost use Rattle.std.specs.Prelude.{◌≡◌, ℕ, ◌*◌, ◌+◌, ◌<◌, ◌≤◌, false, length, replicate, slice_get, slice_index, None, IfErr, IfNone, IfOk, IfSome};
 ghost use Rattle.std.specs.List.{range_with_len};
 ghost use Rattle.std.specs.FinMap.{get};
@@ -16,8 +17,8 @@ use std::alloc::Global;
 use step_ledger::Steps;
 use word_bytes::Header;
 
-/// The words of the region, and in `tables` the size classes, the used slots of each page, and the pool.
-/// Pages that no task uses are in the pool.
+/// The settings, the words of the region, and in `tables` the size classes, the used slots of each page, and
+/// the pool. Pages that no task uses are in the pool.
 #[derive(Drop)]
 pub(crate) struct SharedPages {
     pub(crate) settings: Settings,

@@ -1,4 +1,5 @@
-//! One task of the heap: its quota, and the tables and counts that it shares with no other task.
+//! One task of the heap of tasks: its quota, its counts, page lists and proxies, which it shares with no other
+//! task; and how sixteen tasks without objects are made.
 ghost use Rattle.std.specs.Prelude.{◌≡◌, IfOk, replicate};
 ghost use Rattle.proxy_table.specs.Proxies.{AreBelowLimit, no_proxies};
 ghost use Rattle.quota_heap.specs.Layout.{first_task};
@@ -30,8 +31,8 @@ pub(crate) struct Task {
 }
 
 impl Task {
-    /// Makes a task without objects, whose quota is 0. Its tables are for this number of size classes, of
-    /// pages in the region, and of proxies. Fails if out of memory.
+    /// Makes a task without objects, whose quota is 0. Its tables are for `classes` size classes, a region of
+    /// `pages` pages, and `proxies` proxies. Fails if out of memory.
     pub(crate) fn new(
         alloc: Global,
         classes: u32,
@@ -53,8 +54,8 @@ impl Task {
     }
 }
 
-/// Makes sixteen tasks without objects, whose quotas are 0. The tables of each are for this number of
-/// size classes, of pages in the region, and of proxies. Fails if out of memory.
+/// Makes sixteen tasks without objects, whose quotas are 0. The tables of each task are for `classes` size
+/// classes, a region of `pages` pages, and `proxies` proxies. Fails if out of memory.
 pub(crate) fn first_tasks(
     alloc: Global,
     classes: u32,

@@ -1,4 +1,5 @@
--- For `an_admitted_task_is_served`: after `yes`, no malloc of the task is refused while it stays within what it declared. Also: `admit` has one result.
+-- For `an_admitted_task_is_served`: after `yes` to `admit`, no malloc of the task is refused while it stays within what it declared. Also, `admit` has one
+-- result.
 use Rattle.std.proofs.Common.{◌≡◌, ℕ, suc, Bool, true, false, ◌+◌, ◌≤◌, List, [], ◌∷◌, ◌++◌, Option, Some, None, Err, length, drop, get_or}
 use Rattle.std.proofs.Common.{arith, ap, sym, ◌∙◌, refl, inl, inr, subst}
 use Rattle.std.specs.Prelude.{◌⊎◌, codes, nat_eq, nat_lt}
@@ -114,7 +115,7 @@ module _ (task : ℕ) (admitted : TaskState) (asked : CanBeAsked admitted.tasks.
   served (asks c ∷ rest) now same within =
       (one_served now same c within.0, served rest (state_after now c) (profile_kept now c ∙ same) within.1)
 
--- the replies from an item on
+-- the first reply after those to `before` is the reply to the first item of `rest` in the state that `before` leaves
 reply_there : (before rest : List Item) (s : Option TaskState)
     → get_or (task_replies s (before ++ rest)) (length before) [] ≡ get_or (task_replies (states_in s before) rest) 0 []
 reply_there [] rest s = refl

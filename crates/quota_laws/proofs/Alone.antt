@@ -1,4 +1,5 @@
--- For `a_reply_follows_from_the_task_alone`: the reply and what it leaves follow from the settings, the quota and the objects of the task.
+-- For `a_reply_follows_from_the_task_alone`: the reply to a command of a task, and its objects after it, follow from the settings, its quota and its objects;
+-- so does the cause of a refused malloc.
 use Rattle.std.proofs.Common.{◌≡◌, ℕ, ap, refl, slice_index, cond}
 use Rattle.page_model.specs.Arrangement.{live, pages_needed_with}
 use Rattle.page_model.specs.Held.{Objects}
@@ -14,7 +15,7 @@ use Rattle.quota_model.specs.Refusals.{malloc_refusal}
 use Rattle.quota_laws.specs.Tasks.{Tasks, own_heap, is_for_task, task_leaves, task_reply}
 use Rattle.run_model.specs.Texts.{said}
 
--- a heap of its own, from its parts
+-- the heap that a task would have for itself, from its settings, quota and objects
 abbrev heap_from : Profile → ℕ → Objects → ById
 heap_from s quota objects = record (begun Moving (record s { pages = quota; k = 1 })) { objects = objects }
 
@@ -29,7 +30,7 @@ module _ (one other : Tasks) (task : ℕ) (profile : other.profile ≡ one.profi
   pub same_leaves : (command : Command) → task_leaves other task command ≡ task_leaves one task command
   same_leaves command = λ i. cond (is_for_task command) (objects_after (same_heap i) command) (objects i)
 
--- the cause of a refusal is the one that a heap of its own has
+-- a heap that the task has for itself refuses a malloc for the cause that `malloc_refusal` has
 pub same_refusal : (one : Tasks) (task bytes : ℕ)
     → malloc_fault (own_heap one task) bytes ≡ malloc_refusal one.profile (slice_index one.quotas task) (one.objects task) bytes
 unfolding pages_needed_with live class_for

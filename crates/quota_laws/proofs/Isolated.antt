@@ -1,4 +1,5 @@
--- For `tasks_are_isolated` and `tasks_are_isolated_in_a_script`: step by step, the replies to a task are the same without the lines of the other tasks.
+-- For `tasks_are_isolated` and `tasks_are_isolated_in_a_script`: without the lines of other tasks and refused quota lines, a task keeps the same quota and
+-- objects, line by line, and has the same replies.
 use Rattle.std.proofs.Common.{◌≡◌, ◌≢◌, ℕ, suc, Bool, true, false, cond, ◌<◌, ◌≤◌, List, [], ◌∷◌, Option, Some, None, length, get_or, set}
 use Rattle.std.proofs.Common.{arith, ap, sym, ◌∙◌, refl, inl, inr, subst}
 use Rattle.std.specs.Prelude.{◌&&◌, nat_eq, nat_lt, not, sum}
@@ -22,7 +23,7 @@ use Rattle.quota_laws.specs.Tasks.{Tasks, after_item, calls, quotas_after, set_r
 use Rattle.quota_laws.specs.Transcript.{MeetsTasks, TaskState, admission, admission_text, command_reply, first_state, need_text, one_more, present_after, state_after, task_replies}
 use Rattle.quota_laws.proofs.Alone.{same_leaves, same_reply}
 
--- smaller entries have a smaller sum
+-- if each entry of a list is at most that of another list, so is the sum
 sum_below : (xs ys : List ℕ) → length xs ≡ length ys → ((i : ℕ) → get_or xs i 0 ≤ get_or ys i 0) → sum xs ≤ sum ys
 sum_below [] ys len le = omega arith
 sum_below (x ∷ xs) [] len le = absurd (omega arith)
@@ -43,7 +44,7 @@ pub record IsOwn (task : ℕ) (all own : Tasks) : Type 0 where
   pub as_many : length own.quotas ≡ 16
 
 module _ (task : ℕ) (lt : task < 16) where
-  -- a call of the task
+  -- a call of the task, done in both, keeps `IsOwn`
   pub own_call : (all own : Tasks) (u : ℕ) (command : Command) → u ≡ task → IsOwn task all own
       → IsOwn task (after_item all (calls u command)) (after_item own (calls u command))
   own_call all own u command is o =
@@ -64,7 +65,7 @@ module _ (task : ℕ) (lt : task < 16) where
         as_many = o.as_many;
       }
 
-  -- a call of another task
+  -- a call of another task, done in `all` only, keeps `IsOwn`
   pub others_call : (all own : Tasks) (u : ℕ) (command : Command) → u ≢ task → IsOwn task all own → IsOwn task (after_item all (calls u command)) own
   others_call all own u command ne o =
       let no : nat_eq task u ≡ false = eq_no task u (λ e. ne (sym e)) in
@@ -77,7 +78,7 @@ module _ (task : ℕ) (lt : task < 16) where
         as_many = o.as_many;
       }
 
-  -- a quota line that is left out: it is refused, or another task's
+  -- a quota line that is left out, as it is refused or another task's, keeps `IsOwn`
   pub left_set : (all own : Tasks) (u pages : ℕ) (r : Option QuotaFault) → ((nat_eq u task && is_accepted r) ≡ false) → IsOwn task all own
       → IsOwn task (record all { quotas = quotas_after r all.quotas u pages }) own
   left_set all own u pages (Some e) out o = o
@@ -124,13 +125,13 @@ module _ (task : ℕ) (lt : task < 16) where
             omega arith)
       ])
 
-  -- an accepted quota line passes two tests
+  -- if a quota line is accepted, neither of the causes of refusal, a and b, holds
   both_pass : (a b : Bool) → is_accepted (cond a (Some Sum) (cond b (Some Used) None)) ≡ true → (a ≡ false) × (b ≡ false)
   both_pass true b e = absurd (let e' : false ≡ true = e in cc)
   both_pass false true e = absurd (let e' : false ≡ true = e in cc)
   both_pass false false e = (refl, refl)
 
-  -- a quota line that is accepted is accepted without the others
+  -- if a quota line of the task is accepted in `all`, it is accepted in `own`, where no other task has a quota
   accepted_own : (all own : Tasks) (pages : ℕ) → IsOwn task all own → is_accepted (set_refusal all task pages) ≡ true → set_refusal own task pages ≡ None
   accepted_own all own pages o e =
       let both = both_pass (nat_lt all.profile.pages (sum (set all.quotas task pages)))
@@ -150,7 +151,7 @@ module _ (task : ℕ) (lt : task < 16) where
   accepted_is None e = refl
   accepted_is (Some f) e = absurd (let e' : false ≡ true = e in cc)
 
-  -- a quota line of the task that is accepted
+  -- a quota line of the task that is accepted, done in both, keeps `IsOwn`
   pub kept_set : (all own : Tasks) (u pages : ℕ) → (nat_eq u task && is_accepted (set_refusal all u pages)) ≡ true → IsOwn task all own
       → IsOwn task (after_item all (sets u pages)) (after_item own (sets u pages))
   kept_set all own u pages is o = elim (cases_eq u task) [
@@ -170,7 +171,7 @@ module _ (task : ℕ) (lt : task < 16) where
         (record own { quotas = quotas_after (set_refusal own v pages) own.quotas v pages })) (sym same) done)
   ]
 
-  -- `own` is what `all` is for the task, with its entries
+  -- the states agree for the task (`IsOwn`), also in the entries that it declared; and if it is the present task in `all`, so it is in `own`
   record AreOwn (all own : TaskState) : Type 0 where
     tasks : IsOwn task all.tasks own.tasks
     present : all.present ≡ task → own.present ≡ task
@@ -199,7 +200,7 @@ module _ (task : ℕ) (lt : task < 16) where
   unequal : (a b : ℕ) → not (nat_eq a b) ≡ true → a ≢ b
   unequal a b e is = (let e' : false ≡ true = sym (ap not (eq_yes a b is)) ∙ e in absurd cc)
 
-  -- a command that is left out
+  -- a command that is left out keeps `AreOwn`, and isn't one of the task's own
   record Skips (all own : TaskState) (c : Command) : Type 0 where
     state : AreOwn (state_after all c) own
     foreign : is_own task all.present c ≡ false
@@ -241,7 +242,7 @@ module _ (task : ℕ) (lt : task < 16) where
     foreign = not-true (nat_eq all.present task) out;
   }
 
-  -- a command that isn't left out
+  -- a command that isn't left out, done in both, keeps `AreOwn`; if it is the task's own, it has the same reply in both
   record Keeps (all own : TaskState) (c : Command) : Type 0 where
     state : AreOwn (state_after all c) (state_after own c)
     own_too : is_own task own.present c ≡ is_own task all.present c
@@ -302,7 +303,7 @@ module _ (task : ℕ) (lt : task < 16) where
   by_own true one other reply same = λ i. reply refl i ∷ same i
   by_own false one other reply same = same
 
-  -- one command more; `left` has the items after this command that are not left out
+  -- if the replies to the task are the same after command c, they are the same from c on; `left` has the items after c that are not left out
   module _ (all own : TaskState) (o : AreOwn all own) (c : Command) (left rest : List Item) (replies : List Reply) where
     with_command : (b : Bool) → is_left_out task all c ≡ b
         → (AreOwn (state_after all c) own
@@ -345,7 +346,7 @@ module _ (task : ℕ) (lt : task < 16) where
   isolated_in items replies shown meets met =
       ap (replies_of task 0 (own_items task None items)) met ∙ isolated_first items 0 ∙ sym (ap (replies_of task 0 items) meets)
 
-  -- two scripts with the same lines of the task
+  -- if two scripts have the same lines that are not left out, the replies to the task are the same
   pub isolated_alike : (items others : List Item) (replies shown : List Reply) → own_items task None others ≡ own_items task None items
       → MeetsTasks items replies → MeetsTasks others shown → replies_of task 0 others shown ≡ replies_of task 0 items replies
   isolated_alike items others replies shown same meets met =

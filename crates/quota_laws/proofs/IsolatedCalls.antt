@@ -1,4 +1,5 @@
--- For `tasks_are_isolated`: over a list of calls and quota lines, the replies to a task are the same without the others' calls and quota lines.
+-- For `tasks_are_isolated`: over a list of calls and quota lines, the replies to a task are the same without the others' calls and quota lines and without
+-- refused quota lines.
 use Rattle.std.proofs.Common.{◌≡◌, ℕ, Bool, true, false, cond, ◌<◌, List, [], ◌∷◌, ap, sym, ◌∙◌, refl, inl, inr}
 use Rattle.std.specs.Prelude.{◌&&◌, nat_eq}
 use Rattle.std.proofs.lemmas.Bool.{cases_eq}

@@ -1,4 +1,5 @@
--- For `a_task_has_a_heap_of_its_own`: while no line sets the quota of a task, the replies to the task are those of a heap of its own.
+-- For `a_task_has_a_heap_of_its_own`: while no line sets the quota of a task, the replies to it are those of a moving heap that it has alone, with its quota as
+-- the number of pages.
 use Rattle.std.proofs.Common.{◌≡◌, ◌≢◌, ℕ, true, false, cond, List, [], ◌∷◌, Option, Some, None, ap, sym, ◌∙◌, refl, inl, inr}
 use Rattle.std.specs.Prelude.{nat_eq, codes}
 use Rattle.std.proofs.lemmas.Bool.{cases_eq}
@@ -38,7 +39,7 @@ bounds_stay h (Need t n m) e = absurd (let e' : false ≡ true = e in cc)
 bounds_stay h (Admit t) e = absurd (let e' : false ≡ true = e in cc)
 
 module _ (task : ℕ) where
-  -- after a call of the task, the task's own heap is the one that the command leaves
+  -- after a call of the task, its own heap (`own_heap`) is what the command leaves of the own heap before it
   heap_after : (s : Tasks) (u : ℕ) (command : Command) → u ≡ task → is_for_task command ≡ true
       → own_heap (after_item s (calls u command)) task ≡ after_by_id (own_heap s task) command
   heap_after s u command is served =

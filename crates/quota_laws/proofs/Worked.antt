@@ -1,4 +1,4 @@
--- For `wrong_task_replies_fall_short`: each small script with its wrong replies doesn't meet the claim.
+-- For `wrong_task_replies_fall_short`: small scripts in mode `quota` with their right replies computed, each with wrong replies that don't meet the claim.
 use Rattle.std.proofs.Common.{◌≡◌, ℕ, true, List, [], ◌∷◌, Some, None, length, get_or, refl, ◌∙◌, ap, arith}
 use Rattle.std.specs.Prelude.{codes, if◌then◌else◌, nat_eq, replicate}
 use Rattle.std.specs.Fmt.{digits}

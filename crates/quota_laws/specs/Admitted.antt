@@ -1,5 +1,5 @@
--- What the reply `yes` to `admit` promises a task: if its mallocs stay within the needs that it declared, none is refused. In this file `admitted` is the state
--- in which `admit` was asked, and `now` the state before a later item.
+-- What the reply `yes` to `admit` promises a task: if its mallocs stay within the needs that it declared, none is refused. `admitted` is the state in which
+-- `admit` was asked, `now` that before a later item.
 use Rattle.std.specs.Prelude.{◌≡◌, ⊤, ◌⊎◌, ℕ, ◌≤◌, List, [], ◌∷◌, Option, Some, None, codes, replicate, slice_index}
 use Rattle.std.specs.FinMap.{get, insert}
 use Rattle.quota_model.specs.Admission.{declared, live_of}
@@ -32,12 +32,12 @@ abbrev pub StayWithin : TaskState → ℕ → Option TaskState → List Item →
 StayWithin admitted task now [] = ⊤
 StayWithin admitted task now (item ∷ rest) = StaysWithin admitted task now item × StayWithin admitted task (state_in now item) rest
 
--- if the item is a malloc while the task is present, its reply is `ok`, or `live` if its id is live, but no refusal; other items may have any reply
+-- if the item is a malloc while the task is present, its reply is `ok` or `live`, but no refusal; other items may have any reply
 abbrev pub IsServed : ℕ → ℕ → Item → Reply → Type 0
 IsServed task present (asks (Malloc id n)) reply = present ≡ task → (reply ≡ said (codes "ok")) ⊎ (reply ≡ said (codes "live"))
 IsServed task present item reply = ⊤
 
--- each item has a reply, and no malloc of the task is refused; `present` is the task that is present before the first item
+-- each item has a reply, and no malloc of the task is refused; `present` is the number of the present task before the first item
 abbrev pub AreServed : ℕ → ℕ → List Item → List Reply → Type 0
 AreServed task present [] replies = ⊤
 AreServed task present (item ∷ rest) [] = ⊥

@@ -1,5 +1,5 @@
--- For isolation in a script: the lines that concern one task, and the replies to the commands of that task. `task` is that task's number, `present` the number
--- of the present task, whose objects the calls are about: the task that the last `t` named, 0 before the first.
+-- For isolation in a script: the lines that concern task number `task`, and the replies to its commands. `present` is the number of the present task, which the
+-- last `t` named, 0 before the first.
 use Rattle.std.specs.Prelude.{ℕ, Bool, false, ◌&&◌, List, [], ◌∷◌, Option, Some, if◌then◌else◌, nat_eq, not}
 use Rattle.run_model.specs.Texts.{Reply}
 use Rattle.script_reader.specs.Items.{Item, asks, bad, starts}
@@ -23,13 +23,13 @@ abbrev pub is_own_item : ℕ → ℕ → Item → Bool
 is_own_item task present (asks command) = is_own task present command
 is_own_item task present item = false
 
--- the task that is present after an item; a `heap` line makes task 0 present
+-- the number of the present task after an item, if it was `present` before it; a `heap` line makes task 0 present
 abbrev pub present_in : ℕ → Item → ℕ
 present_in present (starts p) = 0
 present_in present (asks command) = present_after present command
 present_in present (bad n) = present
 
--- the replies to the task's own commands, in order; `present` is the task that is present before the first item
+-- the replies to the task's own commands, in order; `present` is the number of the present task before the first item
 abbrev pub replies_of : ℕ → ℕ → List Item → List Reply → List Reply
 replies_of task present [] replies = []
 replies_of task present (item ∷ rest) [] = []

@@ -1,4 +1,4 @@
--- For isolation of calls: lists of calls and quota lines of many tasks (`TaskItem`), the part of such a list that concerns one task, and the replies to it.
+-- For isolation of calls: in a list of calls and quota lines of many tasks (`TaskItem`), the items that concern one task, and the replies to it.
 use Rattle.std.specs.Prelude.{◌≡◌, ◌≢◌, ⊤, ℕ, Bool, true, false, ◌&&◌, List, [], ◌∷◌, Option, Some, None, if◌then◌else◌, nat_eq}
 use Rattle.quota_model.specs.declared.answers.QuotaFault.{QuotaFault}
 use Rattle.run_model.specs.Texts.{Reply}

@@ -1,4 +1,5 @@
--- The tasks of a script in mode `quota`, which share one region. Each has a quota of pages and objects of its own, here by the ids of the script.
+-- The tasks of a script in mode `quota`, each with a quota of pages and its objects by id; and for a call of a task and a quota line the reply and the state
+-- after it.
 use Rattle.std.specs.Prelude.{ℕ, Bool, true, false, List, Option, Some, None, codes, if◌then◌else◌, nat_eq, replicate, slice_index, slice_set}
 use Rattle.std.specs.FinMap.{empty}
 use Rattle.cf_base.specs.Settings.{Profile}

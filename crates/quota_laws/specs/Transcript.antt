@@ -1,4 +1,5 @@
--- What is claimed of every script in mode `quota`: each reply is a function of the lines before it.
+-- The claim of every script in mode `quota` (`MeetsTasks`): each reply is a function of its line and the lines before it. The definitions compute the reply to
+-- each line and the state after it.
 use Rattle.std.specs.Prelude.{◌≡◌, ℕ, ◌++◌, Bool, true, false, List, [], ◌∷◌, Option, Some, None, codes, if◌then◌else◌, length, nat_eq, nat_lt, slice_index}
 use Rattle.std.specs.FinMap.{empty}
 use Rattle.cf_base.specs.Settings.{Profile, at_bound_one}
@@ -18,7 +19,8 @@ pub record TaskState : Type 0 where
   pub tasks : Tasks
   pub needs : ℕ → List Need
 
--- the state after the `heap` line: task 0 is present, all quotas are 0, no object is live, nothing is declared; each class has the bound 1, whatever K is
+-- the state after the `heap` line: task 0 is present, all quotas are 0, no object is live, nothing is declared; each class has the bound 1, whatever bound the
+-- line has
 abbrev pub first_state : Profile → TaskState
 first_state p = record { present = 0; tasks = no_tasks (at_bound_one p); needs = λ task. [] }
 
@@ -63,7 +65,7 @@ command_reply s (command.Need task bytes count) = said (need_text (s.needs task)
 command_reply s (command.Admit task) = said (admission_text (admission (share_of s.tasks task) (s.needs task)))
 command_reply s command = task_reply s.tasks s.present command
 
--- the command as a call of the present task or as a quota line; None for `t`, `need` and `admit`, which change no object and no quota
+-- the command as a call of the present task, whose number is `present`, or as a quota line; None for `t`, `need` and `admit`, which change no object and no quota
 abbrev pub item_of : ℕ → Command → Option TaskItem
 item_of present (command.Task task) = None
 item_of present (command.Quota task pages) = Some (sets task pages)
@@ -76,7 +78,7 @@ abbrev pub after_if : Tasks → Option TaskItem → Tasks
 after_if s None = s
 after_if s (Some item) = after_item s item
 
--- the task that is present after a command
+-- the number of the present task after a command, if it was `present` before it: `t` sets it, and no other command changes it
 abbrev pub present_after : ℕ → Command → ℕ
 present_after present (command.Task task) = task
 present_after present command = present

@@ -1,6 +1,5 @@
-//! What is claimed of every script in mode `quota` (`MeetsTasks`), and theorems on it: tasks that share the
-//! pages of a region don't see one another, and an admitted task is served. The public functions do nothing:
-//! the contract of each is a theorem.
+//! Theorems on mode `quota`: the replies to every script are a function of its lines (`MeetsTasks`), tasks that
+//! share a region don't see one another, an admitted task is served, and wrong replies violate the claim.
 #![tactic(auto)]
 
 ghost use Rattle.std.specs.Prelude.{◌≡◌, ℕ, ◌+◌, ◌<◌, ◌++◌, true, codes, drop, length, List, [], ◌∷◌, None, Some, slice_index, slice_index_or};
@@ -20,9 +19,9 @@ ghost use Rattle.quota_laws.specs.Runs.{AreTaskCommands, LeaveQuota, commands_of
 ghost use Rattle.quota_laws.specs.Tasks.{TaskItem, Tasks, no_tasks, own_heap, task_leaves, task_reply};
 ghost use Rattle.quota_laws.specs.Transcript.{MeetsTasks, TaskState};
 
-/// If two states have the same settings, and a task has the same quota and the same objects by id in both,
-/// then a command of the task has the same reply in both (`reply`) and leaves the task the same objects
-/// (`left`). `refusal`: the cause of a refused malloc in these replies is the one of `malloc_refusal`, the
+/// Let two states have the same settings, and let a task have the same quota and the same objects by id in
+/// both. Then a command of the task has the same reply in both (`reply`), and leaves the task the same
+/// objects (`left`). `refusal`: the cause of a refused malloc in these replies is the one of `malloc_refusal`, the
 /// definition for the heap of tasks.
 pub fn a_reply_follows_from_the_task_alone()
     ensures reply { (one other : Tasks) (task : ℕ) (command : Command)
@@ -50,8 +49,8 @@ pub fn tasks_are_isolated()
 
 /// Isolation: remove from a script every line of the other tasks, and every refused quota line. The
 /// replies to the commands of the task are the same, in the same order. If two scripts have the same
-/// lines after this, the replies to the task are the same in both, whatever the other tasks do. The two
-/// scripts may be run separately: only their replies are compared.
+/// lines after this removal, the replies to the task are the same in both, whatever the other tasks do.
+/// The two scripts may be run separately: only their replies are compared.
 pub fn tasks_are_isolated_in_a_script()
     ensures own { (items : List Item) (task : ℕ) (replies shown : List Reply) → task < 16
         → MeetsTasks items replies → MeetsTasks (own_items task None items) shown
@@ -62,9 +61,10 @@ pub fn tasks_are_isolated_in_a_script()
         → replies_of task 0 others shown ≡ replies_of task 0 items replies }
 {}
 
-/// Admission: suppose `admit` of a task prints `yes`, each later malloc of the task asks for an object
-/// that it had declared, and its quota does not fall. Then each of these mallocs prints `ok`, or `live`
-/// if its id is live, whatever the other tasks do.
+/// Admission: suppose `admit` of a task prints `yes`. Suppose too that each later malloc of the task stays
+/// within the numbers of objects declared before this `admit`, and that the quota is then at least as large
+/// (`StayWithin`). Then each of these mallocs prints `ok`, or `live` if its id is live, whatever the other
+/// tasks do.
 pub fn an_admitted_task_is_served()
     ensures { (before later : List Item) (task : ℕ) (admitted : TaskState) (replies : List Reply)
         → states_in None before ≡ Some admitted
@@ -75,9 +75,9 @@ pub fn an_admitted_task_is_served()
 {}
 
 /// Wrong replies violate the claim, so it isn't empty. The scripts have two pages of 64 words and a quota of
-/// one page for task 0. The claim fails for a refusal of both commands (`refused`); for a malloc that fits,
-/// with `refused space` (`room`), a reply without a line (`silent`), no reply (`missing`) or one reply too
-/// many (`over`); for `ok` to a malloc beyond the quota (`beyond`); for the bytes of another task
+/// one page for task 0. The claim fails for a refusal of the quota line and of the malloc (`refused`); for a
+/// malloc that fits, with `refused space` (`room`), a reply without a line (`silent`), no reply (`missing`) or
+/// one reply too many (`over`); for `ok` to a malloc beyond the quota (`beyond`); for the bytes of another task
 /// (`foreign`); for `yes` to two objects that need a page each (`admitted`); and for `ok` to quotas of three
 /// pages (`sum`).
 pub fn wrong_task_replies_fall_short()
@@ -102,9 +102,9 @@ pub fn wrong_task_replies_fall_short()
         (said (codes "ok") ∷ said (codes "ok") ∷ said (codes "ok") ∷ []) }
 {}
 
-/// If no line sets the quota of a task, and each of its commands is one on its objects (`is_for_task`),
-/// the replies to them are those of a moving heap of its own, with its quota as the number of pages and
-/// the bound 1 in each class.
+/// Suppose no line sets the quota of a task, and each of its commands is one on its objects (`is_for_task`).
+/// Then the replies to these commands are those of a moving heap that only this task uses. The quota is this
+/// heap's number of pages, and each class has the bound 1.
 pub fn a_task_has_a_heap_of_its_own()
     ensures { (one : Tasks) (task : ℕ) (items : List TaskItem) → LeaveQuota task items
         → AreTaskCommands task items

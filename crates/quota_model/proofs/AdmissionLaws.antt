@@ -1,5 +1,5 @@
--- For the laws of `admitting.rt`: a quota is enough if and only if the pages suffice for all declared objects, and which malloc is the first that is
--- refused.
+-- For the laws of `admitting.rt`: a quota is enough if and only if all declared objects need at most its pages; which declared malloc is refused first; and the
+-- admission test has one result.
 use Rattle.std.proofs.Common.{◌≡◌, ℕ, zero, suc, Bool, ◌-◌, ◌<◌, ◌≤◌, List, [], ◌∷◌, Option, Some, None, length, take}
 use Rattle.std.proofs.Common.{arith, ap, sym, ◌∙◌, inl, inr, refl, subst}
 use Rattle.std.specs.Prelude.{◌↔◌, count_by, nat_eq}
@@ -83,7 +83,7 @@ module _ (t : Share) (needs : List Need) (asked : CanBeAsked t.profile needs) wh
     none_from (first_refused_for_space t empty 0 (in_order needs)) whole_shown,
   )
 
-  -- the first sum that passes the quota
+  -- malloc number `nth`, counted from 1, is the first with which the mallocs so far need more pages than the quota has
   abbrev pub IsFirst : ℕ → Type 0
   IsFirst nth = (1 ≤ nth) × (nth ≤ length (in_order needs)) × (pages_of (task_paging t.profile) (take (nth - 1) (in_order needs)) ≤ t.quota)
       × (t.quota < pages_of (task_paging t.profile) (take nth (in_order needs)))

@@ -1,4 +1,5 @@
--- The lemmas that other crates' proofs cite: admission, counts by class and the pages that they need, and the parts of tasks before and after a call.
+-- The lemmas that other crates' proofs cite: admission, counts by class and the pages that they need, the objects, quotas and addresses of tasks before and
+-- after a call, and the region's words after it.
 pub use Rattle.quota_model.proofs.Ceilings.{count-append, count-cons, pages_grow, pages_same, pages_of_none, pages_few}
 pub use Rattle.quota_model.proofs.Declared.{all_fail, length-in_order}
 pub use Rattle.quota_model.proofs.Enough.{granted_within, live_of-inserted}

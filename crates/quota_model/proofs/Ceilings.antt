@@ -1,4 +1,5 @@
--- The pages that objects need, counted by class and rounded up, grow with the counts. For the laws of `admitting.rt` and those on quotas.
+-- For the laws of `admitting.rt`: the pages that a list of lengths needs, counted by class and rounded up, grow with the list, are 0 for none, and are at most
+-- one for each object.
 use Rattle.std.proofs.Common.{◌≡◌, ◌≢◌, ℕ, zero, suc, Bool, cond, ◌+◌, ◌-◌, ◌<◌, ◌≤◌, List, [], ◌∷◌, ◌++◌, length, arith, ap, refl, inl, inr}
 use Rattle.std.specs.Prelude.{count_by, nat_eq, sum_by}
 use Rattle.std.specs.List.{range_with_len}
@@ -21,7 +22,7 @@ ceil_few : (n m : ℕ) → ceil_div n m ≤ n
 ceil_few n zero = (let none = div-zero (n + (0 - 1)) in omega arith)
 ceil_few n (suc m) = (let lt : ceil_div n (suc m) < n + 1 = (div-lt_iff_lt-mul {k = suc m} {x = n + (suc m - 1)} {y = n + 1} (omega arith)).1 (omega arith) in omega arith)
 
--- nothing needs no pages
+-- no objects need no pages
 pub pages_of_none : (p : Paging) → pages_of p [] ≡ 0
 pages_of_none p = sum_zeros (λ c. ceil_div 0 (slots_of p c)) (range_with_len 0 (classes p)) (λ c. ceil_nothing (slots_of p c))
 
@@ -37,7 +38,7 @@ pub pages_of_more : (p : Paging) (ns more : List ℕ) → pages_of p ns ≤ page
 pages_of_more p ns more = pages_grow p (count_of_class p ns) (count_of_class p (ns ++ more))
     (λ c. (let e = count-append (λ n. nat_eq (class_for p n) c) ns more in omega arith))
 
--- a number is one of a range once at most
+-- a number x below the range from a on doesn't occur in it; below, each number occurs in a range once at most
 missed : (x a n : ℕ) → x < a → count_by (λ c. nat_eq x c) (range_with_len a n) ≡ 0
 missed x a zero lt = refl
 missed x a (suc n) lt =
@@ -62,7 +63,7 @@ once x a (suc n) =
           omega arith)
     ]
 
--- the counts of all classes sum to no more than the mallocs
+-- the counts of the first n classes sum to at most the number of mallocs
 counts_few : (p : Paging) (n : ℕ) (ns : List ℕ) → sum_by (count_of_class p ns) (range_with_len 0 n) ≤ length ns
 counts_few p n [] = (let none = sum_zeros (count_of_class p []) (range_with_len 0 n) (λ c. refl) in omega arith)
 counts_few p n (m ∷ ms) =

@@ -1,4 +1,4 @@
--- If a list has each number at most as often as another list, it also has at most as many numbers with any property. For `a_quota_is_enough_by_ceilings`.
+-- For `a_quota_is_enough_by_ceilings`: if a list has each number at most as often as another list, it also has at most as many numbers with any given property.
 use Rattle.std.proofs.Common.{◌≡◌, ℕ, Bool, cond, ◌+◌, ◌<◌, ◌≤◌, List, [], ◌∷◌, arith, ap, inl, inr, refl}
 use Rattle.std.specs.Prelude.{count_by, nat_eq}
 use Rattle.std.proofs.lemmas.Bool.{cases_eq}
@@ -6,7 +6,7 @@ use Rattle.cf_lemmas.proofs.Ranges.{one}
 use Rattle.cf_lemmas.proofs.Tests.{eq_yes, eq_no}
 use Rattle.quota_model.proofs.Ceilings.{count-cons}
 
--- the list without its first n
+-- the list without its first element that equals n
 remove_first : ℕ → List ℕ → List ℕ
 remove_first n [] = []
 remove_first n (x ∷ xs) = cond (nat_eq x n) xs (x ∷ remove_first n xs)

@@ -1,4 +1,5 @@
--- How many objects of each length are declared, and the list of the declared mallocs in order. For the laws of `admitting.rt`.
+-- For the laws of `admitting.rt`: the list of the declared mallocs in order has each length as often as the entries declare it; if no entry is too large, each
+-- of these objects fits a page.
 use Rattle.std.proofs.Common.{◌≡◌, ℕ, zero, suc, Bool, true, false, cond, ◌*◌, ◌<◌, ◌≤◌, List, [], ◌∷◌, ◌++◌, Some, None, length, get_or, replicate}
 use Rattle.std.proofs.Common.{arith, ap, sym, ◌∙◌, inl, inr, refl}
 use Rattle.std.specs.Prelude.{⊤, nat_eq, nat_lt, position}
@@ -39,7 +40,7 @@ length-in_order (e ∷ es) =
     let rest = length-in_order es in
     omega arith
 
--- each of these requests fits a page
+-- an object of each of these lengths fits a page of P words
 abbrev pub AllFit : ℕ → List ℕ → Type 0
 AllFit P [] = ⊤
 AllFit P (n ∷ ns) = (need n ≤ P) × AllFit P ns

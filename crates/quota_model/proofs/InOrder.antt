@@ -1,4 +1,5 @@
--- For the laws of `admitting.rt`: which of the declared mallocs, made in order, is the first that is refused for space.
+-- For the laws of `admitting.rt`: of the declared mallocs, made in order, the first that is refused for space is the first with which the objects need more
+-- pages than the quota has.
 use Rattle.std.proofs.Common.{◌≡◌, ◌≢◌, ℕ, suc, Bool, true, false, cond, ◌+◌, ◌<◌, ◌≤◌, List, [], ◌∷◌, ◌++◌, Option, Some, None, length, replicate, take}
 use Rattle.std.proofs.Common.{arith, ap, sym, ◌∙◌, inl, inr, refl, subst}
 use Rattle.std.specs.Prelude.{count_by, nat_eq, nat_lt, ◌⊎◌}
@@ -24,13 +25,14 @@ use Rattle.quota_model.proofs.Contained.{times}
 use Rattle.quota_model.proofs.Declared.{AllFit}
 use Rattle.quota_model.proofs.Enough.{live_of-inserted}
 
--- after `pre`, entry i of `rest` is the first with which all up to it need more pages than the quota has
+-- if objects of the lengths in `pre` and then in `rest` are made, length i of `rest` is the first with which they need more pages than the quota has
 pub record FirstPast (p : Paging) (quota : ℕ) (pre rest : List ℕ) (i : ℕ) : Type 0 where
   pub within : i < length rest
   pub enough : pages_of p (pre ++ take i rest) ≤ quota
   pub past : quota < pages_of p (pre ++ take (suc i) rest)
 
--- the meaning of `first_refused_for_space`: None if `pre` and `rest` are within the quota; else the number of the first entry past it, from k + 1 on
+-- what a result of `first_refused_for_space` means: None if `pre` and `rest` are within the quota; else the number of the first length of `rest` past the
+-- quota, counted from k + 1 on
 abbrev pub IsInOrderAt : Paging → ℕ → List ℕ → List ℕ → ℕ → Option ℕ → Type 0
 IsInOrderAt p quota pre rest k None = pages_of p (pre ++ rest) ≤ quota
 IsInOrderAt p quota pre rest k (Some nth) = (i : ℕ) × (nth ≡ k + suc i) × FirstPast p quota pre rest i
@@ -52,7 +54,7 @@ lifted p quota pre n ns k (Some nth) shown =
       },
     )
 
--- There are k objects, with no number from k on, and as many of each length as `pre` has.
+-- There are k objects o, all with numbers below k, and as many of each length as `pre` has.
 pub record Agrees (o : Objects) (k : ℕ) (pre : List ℕ) : Type 0 where
   pub fresh : (h : ℕ) → k ≤ h → get o h ≡ None
   pub count : len o ≡ k

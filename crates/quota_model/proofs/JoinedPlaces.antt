@@ -1,4 +1,5 @@
--- For `addresses_are_found_by_key`: the map of all tasks' addresses, by its keys.
+-- For `addresses_are_found_by_key`: the joined map has each address of a task under the object's key (task times 65,536, plus number), also after an address of
+-- one task is added or removed.
 use Rattle.std.proofs.Common.{◌≡◌, ◌≢◌, ℕ, zero, suc, cond, ◌+◌, ◌<◌, ◌≤◌, List, [], ◌∷◌, ◌++◌, Option, Some, None, length, set, arith, ap}
 use Rattle.std.proofs.Common.{sym, ◌∙◌, refl, inl, inr}
 use Rattle.std.proofs.lemmas.Bool.{cases_eq, cases_lt}
@@ -12,7 +13,7 @@ use Rattle.cf_lemmas.proofs.MapValues.{get-map_values}
 use Rattle.cf_lemmas.proofs.Tests.{tied_no, tied_yes}
 use Rattle.page_model.specs.Bytes.{bytes_at, held_at}
 use Rattle.page_model.specs.Held.{Placed}
-use Rattle.quota_model.specs.Parts.{key_of, number_of, part_of, task_of}
+use Rattle.quota_model.specs.Parts.{key_of, number_of, objects_of_task, task_of}
 use Rattle.quota_model.proofs.TaskParts.{get_part, get_part_past}
 use Rattle.quota_model.specs.Joined.{AreNumbers, all_keyed, joined, keyed, places_at}
 
@@ -54,7 +55,7 @@ rest_small e es s = λ h a f. elim (cases_eq h e.0) [
   | inr ne ↦ s h a (ap (λ b. cond b (Some e.1) (find nat_cmp h es)) (tied_no h e.0 ne) ∙ f)
 ]
 
--- what is found under a key of the task is found under its number
+-- the task's entry under an object's key is the one under the object's number
 keyed_own : (task h : ℕ) (es : List (ℕ × ℕ)) → AreSmall es → h < 65536 → find nat_cmp (key_of task h) (keyed task es) ≡ find nat_cmp h es
 keyed_own task h [] s lt = refl
 keyed_own task h (e ∷ es) s lt =
@@ -111,7 +112,7 @@ find_joined from (suc t) h (m ∷ ms) small lt =
     ∙ ap (λ t. find nat_cmp (key_of t h) (all_keyed (from + 1) ms)) e
     ∙ find_joined (from + 1) t h ms (λ u q a f. small (suc u) q a f) lt
 
--- under the key of a task's object is its address
+-- the joined map has under an object's key the address that the object's task has under its number
 pub get_joined : (all : List (FinMap nat_cmp ℕ)) → AreNumbers all → (t h : ℕ) → h < 65536 → get (joined all) (key_of t h) ≡ get (places_at all t) h
 unfolding joined
 get_joined all small t h lt = get-from_entries nat_cmp_total (all_keyed 0 all) (key_of t h) ∙ ap (λ u. find nat_cmp (key_of u h) (all_keyed 0 all))
@@ -184,7 +185,7 @@ module _ (all : List (FinMap nat_cmp ℕ)) (small : AreNumbers all) (t : ℕ) (l
 
 -- a task's part of all objects at their addresses is its own objects at theirs
 pub part_joined : (words : List ℕ) (all : List (FinMap nat_cmp ℕ)) → AreNumbers all → (t : ℕ)
-    → part_of (held_at words (joined all)) t ≡ held_at words (places_at all t)
+    → objects_of_task (held_at words (joined all)) t ≡ held_at words (places_at all t)
 part_joined words all small t = equal_maps _ _ (λ q. elim (cases_lt q 65536) [
   | inl lt ↦ get_part (held_at words (joined all)) t q lt ∙ get-map_values f (joined all) (key_of t q) ∙ ap (option_map f) (get_joined all small t q lt)
       ∙ sym (get-map_values f (places_at all t) q)

@@ -1,4 +1,5 @@
--- For `quotas_fit`: the quotas of an empty heap, and after one is set.
+-- For `quotas_fit`: sixteen quotas of 0 pages are valid while no task has an object, and quotas stay valid when one is set to a number of pages that isn't
+-- refused.
 use Rattle.std.proofs.Common.{◌≡◌, ℕ, zero, suc, Bool, true, false, cond, ◌<◌, ◌≤◌, List, Some, None, length, get_or, replicate, set, arith, ap, sym, ◌∙◌, refl}
 use Rattle.std.proofs.Common.{inl, inr, subst}
 use Rattle.std.specs.Prelude.{count_by, nat_eq, nat_lt, sum}
@@ -15,14 +16,14 @@ use Rattle.page_model.specs.Arrangement.{IsSound, live, pages_needed}
 use Rattle.page_model.specs.Held.{Held, Placed, objects}
 use Rattle.page_model.specs.Paging.{Paging, class_for}
 use Rattle.page_model.proofs.CallerLemmas.{sound_empty}
-use Rattle.quota_model.specs.Parts.{key_of, part_of}
+use Rattle.quota_model.specs.Parts.{key_of, objects_of_task}
 use Rattle.quota_model.specs.Refusals.{quota_refusal, task_paging}
 use Rattle.quota_model.specs.Shared.{AreQuotas, IsShared}
 use Rattle.quota_model.specs.declared.answers.QuotaFault.TheVariants.{Sum, Used}
 use Rattle.quota_model.proofs.Ceilings.{pages_of_none, pages_same}
 use Rattle.quota_model.proofs.TaskParts.{get_part, get_part_past}
 
-pub no_part : (task : ℕ) → part_of empty task ≡ empty
+pub no_part : (task : ℕ) → objects_of_task empty task ≡ empty
 no_part task = equal_maps _ _ (λ q. elim (cases_lt q 65536) [
   | inl lt ↦ get_part empty task q lt ∙ get-empty nat_cmp (key_of task q) ∙ sym (get-empty nat_cmp q)
   | inr le ↦ get_part_past empty task q le ∙ sym (get-empty nat_cmp q)
@@ -56,7 +57,7 @@ first_quotas s = record {
   many = length-replicate {A = ℕ} 16 0;
   all = (let a = sum_zeros_list 16 in omega arith);
   enough = λ task. (
-      let a : pages_needed (task_paging s) (objects (part_of empty task)) ≡ pages_needed (task_paging s) (objects empty) =
+      let a : pages_needed (task_paging s) (objects (objects_of_task empty task)) ≡ pages_needed (task_paging s) (objects empty) =
       ap (λ m. pages_needed (task_paging s) (objects m)) (no_part task) in
       let b = needed_none (task_paging s) in
       omega arith);
@@ -68,9 +69,9 @@ both_pass false true e = absurd (let e' : Some Used ≡ None = e in cc)
 both_pass false false e = (refl, refl)
 
 pub granted_quotas : (s : Profile) (quotas : List ℕ) (m : Held) (task pages : ℕ) → task < 16 → AreQuotas s quotas m
-    → quota_refusal s quotas task pages (objects (part_of m task)) ≡ None → AreQuotas s (set quotas task pages) m
+    → quota_refusal s quotas task pages (objects (objects_of_task m task)) ≡ None → AreQuotas s (set quotas task pages) m
 granted_quotas s quotas m task pages lt are granted =
-    let both = both_pass (nat_lt s.pages (sum (set quotas task pages))) (nat_lt pages (pages_needed (task_paging s) (objects (part_of m task)))) granted in
+    let both = both_pass (nat_lt s.pages (sum (set quotas task pages))) (nat_lt pages (pages_needed (task_paging s) (objects (objects_of_task m task)))) granted in
     record {
       many = length-set quotas task pages ∙ are.many;
       all = elim (cases_lt s.pages (sum (set quotas task pages))) [
@@ -82,10 +83,10 @@ granted_quotas s quotas m task pages lt are granted =
             let many = are.many in
             let here : get_or (set quotas task pages) other 0 ≡ pages = ap (λ t. get_or (set quotas task pages) t 0) is
             ∙ get_or-set_same quotas task pages 0 (omega arith) in
-            let e : pages_needed (task_paging s) (objects (part_of m other)) ≡ pages_needed (task_paging s) (objects (part_of m task)) =
-            ap (λ t. pages_needed (task_paging s) (objects (part_of m t))) is in
-            let le : pages_needed (task_paging s) (objects (part_of m task)) ≤ pages =
-            elim (cases_lt pages (pages_needed (task_paging s) (objects (part_of m task)))) [
+            let e : pages_needed (task_paging s) (objects (objects_of_task m other)) ≡ pages_needed (task_paging s) (objects (objects_of_task m task)) =
+            ap (λ t. pages_needed (task_paging s) (objects (objects_of_task m t))) is in
+            let le : pages_needed (task_paging s) (objects (objects_of_task m task)) ≤ pages =
+            elim (cases_lt pages (pages_needed (task_paging s) (objects (objects_of_task m task)))) [
               | inl more ↦ absurd (false≢true (sym both.1 ∙ lt_yes _ _ more))
               | inr fine ↦ fine
             ] in

@@ -1,4 +1,5 @@
--- For `a_malloc_keeps_tasks_apart`: the objects of all tasks and the pages of each after a malloc of one task.
+-- For `a_malloc_keeps_tasks_apart`: a malloc adds an object to its task and changes no other task's objects; no page has two tasks, and if it isn't refused the
+-- quotas stay valid.
 use Rattle.std.proofs.Common.{◌≡◌, ◌≢◌, ℕ, Bool, true, false, cond, ◌+◌, ◌<◌, ◌≤◌, List, Some, None, length, get_or, replicate}
 use Rattle.std.proofs.Common.{arith, ap, sym, ◌∙◌, refl, inl, inr, subst}
 use Rattle.std.specs.Prelude.{IsTrue, nat_eq, nat_lt}
@@ -17,7 +18,7 @@ use Rattle.page_model.specs.Held.{Held, Objects, Placed, objects}
 use Rattle.page_model.specs.Paging.{Paging, class_for, page_of}
 use Rattle.page_model.specs.Steps.{Request, zeros_at}
 use Rattle.page_model.proofs.CallerLemmas.{live_added, malloc_objects, sound_malloc}
-use Rattle.quota_model.specs.Parts.{key_of, part_of, task_of}
+use Rattle.quota_model.specs.Parts.{key_of, objects_of_task, task_of}
 use Rattle.quota_model.specs.Refusals.{malloc_refusal, task_paging}
 use Rattle.quota_model.specs.Shared.{AreQuotas, IsShared, PlacesForTask}
 use Rattle.quota_model.proofs.Ceilings.{pages_same}
@@ -43,37 +44,37 @@ module _ (s : Profile) (old : Held) (task : ℕ) (asked : Request) (new : Held) 
   small : asked.number < 65536
   small = (let lt = step.in_range in omega arith)
 
-  own_part : part_of new task ≡ insert (part_of old task) asked.number (zeros_at step.place asked.length)
-  own_part = ap (λ m. part_of m task) step.placed ∙ part_inserted old task asked.number small (zeros_at step.place asked.length)
+  own_part : objects_of_task new task ≡ insert (objects_of_task old task) asked.number (zeros_at step.place asked.length)
+  own_part = ap (λ m. objects_of_task m task) step.placed ∙ part_inserted old task asked.number small (zeros_at step.place asked.length)
 
-  pub others_stay : (other : ℕ) → other ≢ task → part_of new other ≡ part_of old other
-  others_stay other ne = ap (λ m. part_of m other) step.placed ∙ part_other_inserted old task asked.number small other ne (zeros_at step.place asked.length)
+  pub others_stay : (other : ℕ) → other ≢ task → objects_of_task new other ≡ objects_of_task old other
+  others_stay other ne = ap (λ m. objects_of_task m other) step.placed ∙ part_other_inserted old task asked.number small other ne (zeros_at step.place asked.length)
 
-  pub own_objects : objects (part_of new task) ≡ insert (objects (part_of old task)) asked.number (replicate asked.length 0)
-  own_objects = ap objects own_part ∙ malloc_objects (part_of old task) asked.number step.place asked.length
+  pub own_objects : objects (objects_of_task new task) ≡ insert (objects (objects_of_task old task)) asked.number (replicate asked.length 0)
+  own_objects = ap objects own_part ∙ malloc_objects (objects_of_task old task) asked.number step.place asked.length
 
   pub quotas_stay : (quotas : List ℕ) → AreQuotas s quotas old
-      → malloc_refusal s (get_or quotas task 0) (objects (part_of old task)) asked.length ≡ None → AreQuotas s quotas new
+      → malloc_refusal s (get_or quotas task 0) (objects (objects_of_task old task)) asked.length ≡ None → AreQuotas s quotas new
   quotas_stay quotas are granted = record {
     many = are.many;
     all = are.all;
     enough = λ other. elim (cases_eq other task) [
       | inl is ↦ (
-          let unused : get (objects (part_of old task)) asked.number ≡ None =
-          get-map_values (λ (x : Placed). x.bytes) (part_of old task) asked.number ∙ ap (option_map (λ (x : Placed). x.bytes)) step.unused in
-          let a : pages_needed (task_paging s) (objects (part_of new other)) ≡ pages_needed_with (task_paging s) (objects (part_of old task)) asked.length =
-          ap (λ t. pages_needed (task_paging s) (objects (part_of new t))) is ∙ ap (pages_needed (task_paging s)) own_objects
-          ∙ needed_added (task_paging s) (objects (part_of old task)) asked.number asked.length unused in
-          let fails = pick_none _ _ (nat_lt (get_or quotas task 0) (pages_needed_with (task_paging s) (objects (part_of old task)) asked.length)) granted in
-          let le : pages_needed_with (task_paging s) (objects (part_of old task)) asked.length ≤ get_or quotas task 0 =
-          elim (cases_lt (get_or quotas task 0) (pages_needed_with (task_paging s) (objects (part_of old task)) asked.length)) [
+          let unused : get (objects (objects_of_task old task)) asked.number ≡ None =
+          get-map_values (λ (x : Placed). x.bytes) (objects_of_task old task) asked.number ∙ ap (option_map (λ (x : Placed). x.bytes)) step.unused in
+          let a : pages_needed (task_paging s) (objects (objects_of_task new other)) ≡ pages_needed_with (task_paging s) (objects (objects_of_task old task)) asked.length =
+          ap (λ t. pages_needed (task_paging s) (objects (objects_of_task new t))) is ∙ ap (pages_needed (task_paging s)) own_objects
+          ∙ needed_added (task_paging s) (objects (objects_of_task old task)) asked.number asked.length unused in
+          let fails = pick_none _ _ (nat_lt (get_or quotas task 0) (pages_needed_with (task_paging s) (objects (objects_of_task old task)) asked.length)) granted in
+          let le : pages_needed_with (task_paging s) (objects (objects_of_task old task)) asked.length ≤ get_or quotas task 0 =
+          elim (cases_lt (get_or quotas task 0) (pages_needed_with (task_paging s) (objects (objects_of_task old task)) asked.length)) [
             | inl more ↦ absurd (false≢true (sym fails ∙ lt_yes _ _ more))
             | inr fine ↦ fine
           ] in
           let b : get_or quotas other 0 ≡ get_or quotas task 0 = ap (λ t. get_or quotas t 0) is in
           omega arith)
       | inr ne ↦ (
-          let e : pages_needed (task_paging s) (objects (part_of new other)) ≡ pages_needed (task_paging s) (objects (part_of old other)) =
+          let e : pages_needed (task_paging s) (objects (objects_of_task new other)) ≡ pages_needed (task_paging s) (objects (objects_of_task old other)) =
           ap (λ m. pages_needed (task_paging s) (objects m)) (others_stay other ne) in
           let le = are.enough other in
           omega arith)
@@ -91,8 +92,8 @@ module _ (s : Profile) (old : Held) (task : ℕ) (asked : Request) (new : Held) 
       | inr (_, was) ↦ shared.numbers key x was
     ];
     sound = λ other. elim (cases_eq other task) [
-      | inl is ↦ subst (λ t. IsSound (task_paging s) (part_of (insert old (key_of task asked.number) (zeros_at step.place asked.length)) t)) (sym is)
-          (sound_malloc (task_paging s) (part_of old task) asked (part_of (insert old (key_of task asked.number) (zeros_at step.place asked.length)) task)
+      | inl is ↦ subst (λ t. IsSound (task_paging s) (objects_of_task (insert old (key_of task asked.number) (zeros_at step.place asked.length)) t)) (sym is)
+          (sound_malloc (task_paging s) (objects_of_task old task) asked (objects_of_task (insert old (key_of task asked.number) (zeros_at step.place asked.length)) task)
           (tasks_paged s is_page) (shared.sound task) (record {
             place = step.place;
             unused = step.unused;

@@ -1,4 +1,5 @@
--- For `a_page_is_there_for_each_quota`: while a task uses fewer pages than its quota, some page is free.
+-- For `a_page_is_there_for_each_quota`: each page in use is some task's and the quotas sum to at most all pages, so while a task uses fewer pages than its
+-- quota, some page is free.
 use Rattle.std.proofs.Common.{◌≡◌, ℕ, zero, suc, Bool, ◌+◌, ◌<◌, ◌≤◌, List, [], ◌∷◌, length, get_or, arith, ap, sym, ◌∙◌, refl, inl, inr, subst}
 use Rattle.std.specs.Prelude.{IsTrue, count_by, nat_lt, sum, sum_by}
 use Rattle.std.specs.List.{range_with_len}
@@ -11,9 +12,9 @@ use Rattle.cf_lemmas.proofs.Ranges.{one, sum_at_least, sum_grows}
 use Rattle.page_model.specs.Arrangement.{count_on, used_pages}
 use Rattle.page_model.specs.Held.{Held}
 use Rattle.page_model.specs.Paging.{EveryBoundIsOne, IsPaging}
-use Rattle.page_model.proofs.CallerLemmas.{first_ones, first_paged, less_counts, not_less_counts_none, one_le, standing, stands_here, sum_plus, sum_same}
+use Rattle.page_model.proofs.CallerLemmas.{first_ones, first_paged, less_counts, not_less_counts_none, one_le, standing, counted_here, sum_plus, sum_same}
 use Rattle.page_model.proofs.CallerLemmas.{sum_zeros, used_at_one, used_is}
-use Rattle.quota_model.specs.Parts.{number_of, part_of, task_of}
+use Rattle.quota_model.specs.Parts.{number_of, objects_of_task, task_of}
 use Rattle.quota_model.specs.Refusals.{task_paging}
 use Rattle.quota_model.specs.Shared.{AreQuotas, IsShared}
 use Rattle.quota_model.proofs.TaskParts.{found_part}
@@ -34,7 +35,7 @@ sums_swapped f (x ∷ xs) ys =
     let d = sum_same (λ y. sum_by (λ x. f x y) (x ∷ xs)) (λ y. f x y + sum_by (λ x. f x y) xs) ys (λ y. sum_by-cons (λ x. f x y) x xs) in
     omega arith
 
--- a sum that is smaller at one number, and nowhere larger
+-- if f is less than g at the number c of a range and nowhere larger, its sum over the range is less
 sum_less : (f g : ℕ → ℕ) (a n c : ℕ) → a ≤ c → c < a + n → ((d : ℕ) → f d ≤ g d) → f c < g c → sum_by f (range_with_len a n) < sum_by g (range_with_len a n)
 sum_less f g a zero c low high le lt = absurd (omega arith)
 sum_less f g a (suc n) c low high le lt =
@@ -50,7 +51,7 @@ sum_less f g a (suc n) c low high le lt =
       | inr ne ↦ (let rest = sum_less f g (a + 1) n c (omega arith) (omega arith) le lt in omega arith)
     ]
 
--- a sum of a list, by its places
+-- the sum of a list, as a sum over its positions
 sum_by_places : (f : ℕ → ℕ) (xs : List ℕ) (a : ℕ) → ((i : ℕ) → get_or xs i 0 ≡ f (a + i)) → sum xs ≡ sum_by f (range_with_len a (length xs))
 sum_by_places f [] a is = refl
 sum_by_places f (x ∷ xs) a is =
@@ -61,7 +62,7 @@ sum_by_places f (x ∷ xs) a is =
     let rest = sum_by_places f xs (a + 1) (λ i. is (suc i) ∙ ap f (omega arith)) in
     omega arith
 
--- if fewer numbers pass than there are, one doesn't
+-- if fewer than n of the n numbers of a range pass the test f, one of them fails it
 one_fails : (f : ℕ → Bool) (a n : ℕ) → count_by f (range_with_len a n) < n → (d : ℕ) × (d < a + n) × (one (f d) ≡ 0)
 one_fails f a zero less = absurd (omega arith)
 one_fails f a (suc n) less =
@@ -74,42 +75,42 @@ one_fails f a (suc n) less =
     ]
 
 module _ (s : Profile) (quotas : List ℕ) (m : Held) (shared : IsShared s m) (are : AreQuotas s quotas m) (is_page : IsTrue (is_page_size s.page_words)) where
-  -- what lies on a page is some task's
+  -- if page g has an object, some task has an object on it
   stands_for_one : (g : ℕ) → one (nat_lt 0 (count_on (task_paging s) m g))
-      ≤ sum_by (λ task. one (nat_lt 0 (count_on (task_paging s) (part_of m task) g))) (range_with_len 0 16)
+      ≤ sum_by (λ task. one (nat_lt 0 (count_on (task_paging s) (objects_of_task m task) g))) (range_with_len 0 16)
   stands_for_one g = elim (cases_lt 0 (count_on (task_paging s) m g)) [
     | inr none ↦ (let e = not_less_counts_none 0 (count_on (task_paging s) m g) none in omega arith)
     | inl some ↦ (
         let o = standing (task_paging s) m g some in
         let f = found_part m o.0 o.1 o.2 in
-        let there = stands_here (task_paging s) (part_of m (task_of o.0)) (number_of o.0) o.1 f in
-        let there' : 0 < count_on (task_paging s) (part_of m (task_of o.0)) g =
-        subst (λ k. 0 < count_on (task_paging s) (part_of m (task_of o.0)) k) o.3 there in
-        let yes = less_counts 0 (count_on (task_paging s) (part_of m (task_of o.0)) g) there' in
+        let there = counted_here (task_paging s) (objects_of_task m (task_of o.0)) (number_of o.0) o.1 f in
+        let there' : 0 < count_on (task_paging s) (objects_of_task m (task_of o.0)) g =
+        subst (λ k. 0 < count_on (task_paging s) (objects_of_task m (task_of o.0)) k) o.3 there in
+        let yes = less_counts 0 (count_on (task_paging s) (objects_of_task m (task_of o.0)) g) there' in
         let most = one_le (nat_lt 0 (count_on (task_paging s) m g)) in
         let t = shared.tasks o.0 o.1 o.2 in
-        let le = sum_at_least (λ task. one (nat_lt 0 (count_on (task_paging s) (part_of m task) g))) 0 16 (task_of o.0) (omega arith) (omega arith) in
+        let le = sum_at_least (λ task. one (nat_lt 0 (count_on (task_paging s) (objects_of_task m task) g))) 0 16 (task_of o.0) (omega arith) (omega arith) in
         omega arith)
   ]
 
   -- no task uses more than its quota
-  used_within : (task : ℕ) → used_pages (task_paging s) (part_of m task) ≤ get_or quotas task 0
+  used_within : (task : ℕ) → used_pages (task_paging s) (objects_of_task m task) ≤ get_or quotas task 0
   used_within task =
-      let e = used_at_one (task_paging s) (tasks_paged s is_page) (tasks_at_one s) (part_of m task) (shared.sound task) in
+      let e = used_at_one (task_paging s) (tasks_paged s is_page) (tasks_at_one s) (objects_of_task m task) (shared.sound task) in
       let le = are.enough task in
       omega arith
 
-  pub page_left : (task : ℕ) → task < 16 → used_pages (task_paging s) (part_of m task) < get_or quotas task 0
+  pub page_left : (task : ℕ) → task < 16 → used_pages (task_paging s) (objects_of_task m task) < get_or quotas task 0
       → (page : ℕ) × (page < s.pages) × (count_on (task_paging s) m page ≡ 0)
   page_left task lt less =
       let a : count_by (λ g. nat_lt 0 (count_on (task_paging s) m g)) (range_with_len 0 s.pages)
-      ≤ sum_by (λ g. sum_by (λ t. one (nat_lt 0 (count_on (task_paging s) (part_of m t) g))) (range_with_len 0 16)) (range_with_len 0 s.pages) =
+      ≤ sum_by (λ g. sum_by (λ t. one (nat_lt 0 (count_on (task_paging s) (objects_of_task m t) g))) (range_with_len 0 16)) (range_with_len 0 s.pages) =
       sum_grows (λ g. one (nat_lt 0 (count_on (task_paging s) m g)))
-      (λ g. sum_by (λ t. one (nat_lt 0 (count_on (task_paging s) (part_of m t) g))) (range_with_len 0 16)) (range_with_len 0 s.pages) stands_for_one in
-      let b = sums_swapped (λ g t. one (nat_lt 0 (count_on (task_paging s) (part_of m t) g))) (range_with_len 0 s.pages) (range_with_len 0 16) in
-      let c = sum_same (λ t. sum_by (λ g. one (nat_lt 0 (count_on (task_paging s) (part_of m t) g))) (range_with_len 0 s.pages))
-      (λ t. used_pages (task_paging s) (part_of m t)) (range_with_len 0 16) (λ t. sym (used_is (task_paging s) (part_of m t) (shared.sound t))) in
-      let d = sum_less (λ t. used_pages (task_paging s) (part_of m t)) (λ t. get_or quotas t 0) 0 16 task (omega arith) (omega arith) used_within less in
+      (λ g. sum_by (λ t. one (nat_lt 0 (count_on (task_paging s) (objects_of_task m t) g))) (range_with_len 0 16)) (range_with_len 0 s.pages) stands_for_one in
+      let b = sums_swapped (λ g t. one (nat_lt 0 (count_on (task_paging s) (objects_of_task m t) g))) (range_with_len 0 s.pages) (range_with_len 0 16) in
+      let c = sum_same (λ t. sum_by (λ g. one (nat_lt 0 (count_on (task_paging s) (objects_of_task m t) g))) (range_with_len 0 s.pages))
+      (λ t. used_pages (task_paging s) (objects_of_task m t)) (range_with_len 0 16) (λ t. sym (used_is (task_paging s) (objects_of_task m t) (shared.sound t))) in
+      let d = sum_less (λ t. used_pages (task_paging s) (objects_of_task m t)) (λ t. get_or quotas t 0) 0 16 task (omega arith) (omega arith) used_within less in
       let e = sum_by_places (λ t. get_or quotas t 0) quotas 0 (λ i. ap (λ j. get_or quotas j 0) (omega arith)) in
       let f : sum_by (λ t. get_or quotas t 0) (range_with_len 0 (length quotas)) ≡ sum_by (λ t. get_or quotas t 0) (range_with_len 0 16) =
       ap (λ n. sum_by (λ t. get_or quotas t 0) (range_with_len 0 n)) are.many in

@@ -1,4 +1,5 @@
--- For the laws of `images.rt`: the words of the region after a malloc, a free and a write of one task.
+-- For the laws of `images.rt`: if the words are the image of all tasks' objects, they are so after a malloc of a task, a free with or without another object
+-- that moves, and a write.
 use Rattle.std.proofs.Common.{◌≡◌, ◌≢◌, ℕ, zero, suc, ◌+◌, ◌-◌, ◌*◌, ◌/◌, ◌%◌, ◌<◌, ◌≤◌, List, Some, None, length, get_or, set, replicate, arith, ap, sym}
 use Rattle.std.proofs.Common.{◌∙◌, inl, inr, subst}
 use Rattle.std.specs.Prelude.{IsTrue}
@@ -16,7 +17,7 @@ use Rattle.page_model.specs.Steps.{MayFill, MustMove, Request, moved_to, zeros_a
 use Rattle.page_model.proofs.CallerLemmas.{fresh_word, disjoint_outside, image_added, image_after_bytes, image_after_free, image_exchanged, turned}
 use Rattle.page_model.proofs.CallerLemmas.{mover_is_other, own_words, slot_inside}
 use Rattle.page_model.proofs.CallerLemmas.{sound_apart_from}
-use Rattle.quota_model.specs.Parts.{key_of, part_of}
+use Rattle.quota_model.specs.Parts.{key_of, objects_of_task}
 use Rattle.quota_model.specs.Refusals.{task_paging}
 use Rattle.quota_model.specs.Shared.{IsShared, PlacesForTask, RemovesForTask}
 use Rattle.quota_model.proofs.SharedMalloc.{stays_shared}
@@ -26,12 +27,12 @@ use Rattle.quota_model.proofs.WholeSound.{from_wide, to_wide, whole_sound, wide,
 
 module _ (s : Profile) (m : Held) (shared : IsShared s m) (is_page : IsTrue (is_page_size s.page_words)) (words : List ℕ)
     (im : IsSlotImage (task_paging s) m words) where
-  -- the objects' own words, without the rest of their slots
+  -- the words are also an image in which no slots occur
   pub own_image : IsImage m words
   own_image = own_words (wide s) (wide_paged s is_page) m (whole_sound s m shared) words (to_wide s m words im)
 
   -- an object of a task shares no word with another one
-  pub apart_from : (t h : ℕ) (x : Placed) → get (part_of m t) h ≡ Some x → IsApartFrom (slot_for (wide s)) m (key_of t h) x
+  pub apart_from : (t h : ℕ) (x : Placed) → get (objects_of_task m t) h ≡ Some x → IsApartFrom (slot_for (wide s)) m (key_of t h) x
   apart_from t h x found = sound_apart_from (wide s) m (whole_sound s m shared) (key_of t h) x (found_whole m t h x found)
 
   -- a malloc of a task
@@ -105,7 +106,7 @@ module _ (s : Profile) (m : Held) (shared : IsShared s m) (is_page : IsTrue (is_
             elim out [ inl l ↦ omega arith | inr l ↦ omega arith ]
 
   -- a free, or a write, of a task's object
-  module _ (t h : ℕ) (x : Placed) (found : get (part_of m t) h ≡ Some x) (words' : List ℕ) where
+  module _ (t h : ℕ) (x : Placed) (found : get (objects_of_task m t) h ≡ Some x) (words' : List ℕ) where
     there : get m (key_of t h) ≡ Some x
     there = found_whole m t h x found
 
@@ -115,12 +116,12 @@ module _ (s : Profile) (m : Held) (shared : IsShared s m) (is_page : IsTrue (is_
         (image_after_free (wide s) (wide_paged s is_page) m (whole_sound s m shared) words (to_wide s m words im) (key_of t h) x there words'
         (subst (λ n. Clears words words' (record { from = x.place; count = n })) (sym (wide_slot s (length x.bytes))) clears))
 
-    pub image_of_move : (q : ℕ) (y : Placed) → get (part_of m t) q ≡ Some y → MustMove (task_paging s) (part_of m t) x
-        → MayFill (task_paging s) (part_of m t) x y
+    pub image_of_move : (q : ℕ) (y : Placed) → get (objects_of_task m t) q ≡ Some y → MustMove (task_paging s) (objects_of_task m t) x
+        → MayFill (task_paging s) (objects_of_task m t) x y
         → MovesWords words words' (record { from = y.place; count = slot_for (task_paging s) (length y.bytes) }) x.place
         → IsSlotImage (task_paging s) (insert (remove m (key_of t h)) (key_of t q) (record { place = x.place; bytes = y.bytes })) words'
     image_of_move q y other must may moves =
-        let ne = mover_is_other (task_paging s) (tasks_paged s is_page) (part_of m t) (shared.sound t) h x found q y other must may in
+        let ne = mover_is_other (task_paging s) (tasks_paged s is_page) (objects_of_task m t) (shared.sound t) h x found q y other must may in
         let h_small = found_small m t h x found in
         let q_small = found_small m t q y other in
         let size : slot_for (wide s) (length y.bytes) ≡ slot_for (wide s) (length x.bytes) =
@@ -138,22 +139,22 @@ module _ (s : Profile) (m : Held) (shared : IsShared s m) (is_page : IsTrue (is_
         (image_after_bytes (wide s) (wide_paged s is_page) m (whole_sound s m shared) words (to_wide s m words im) (key_of t h) x there words' at bytes
         within rewrites)
 
-  -- as above, from a free of a task (`RemovesForTask`)
+  -- the image after a free of a task (`RemovesForTask`): without and with another object that moves
   module _ (words' : List ℕ) (t h : ℕ) where
     pub removed_image : (new : Held) (step : RemovesForTask s m t h None new)
         → Clears words words' (record { from = (step.freed).place; count = slot_for (task_paging s) (length (step.freed).bytes) })
         → IsSlotImage (task_paging s) new words'
     removed_image new step clears = subst (λ n. IsSlotImage (task_paging s) n words') (sym step.left) (image_of_free t h step.freed step.found words' clears)
 
-    pub moved_image : (q : ℕ) (y : Placed) (new : Held) (step : RemovesForTask s m t h (Some q) new) → get (part_of m t) q ≡ Some y
+    pub moved_image : (q : ℕ) (y : Placed) (new : Held) (step : RemovesForTask s m t h (Some q) new) → get (objects_of_task m t) q ≡ Some y
         → MovesWords words words' (record { from = y.place; count = slot_for (task_paging s) (length y.bytes) }) (step.freed).place
         → IsSlotImage (task_paging s) new words'
     moved_image q y new step there moves =
         let moved = step.moves in
-        let must : MustMove (task_paging s) (part_of m t) step.freed = moved.0 in
+        let must : MustMove (task_paging s) (objects_of_task m t) step.freed = moved.0 in
         let z : Placed = moved.1.0 in
-        let is : moved.1.0 ≡ y = (let a : get (part_of m t) q ≡ Some moved.1.0 = moved.1.1 in let e : Some moved.1.0 ≡ Some y = sym a ∙ there in cc) in
-        let may : MayFill (task_paging s) (part_of m t) step.freed y = subst (MayFill (task_paging s) (part_of m t) step.freed) is moved.1.2 in
+        let is : moved.1.0 ≡ y = (let a : get (objects_of_task m t) q ≡ Some moved.1.0 = moved.1.1 in let e : Some moved.1.0 ≡ Some y = sym a ∙ there in cc) in
+        let may : MayFill (task_paging s) (objects_of_task m t) step.freed y = subst (MayFill (task_paging s) (objects_of_task m t) step.freed) is moved.1.2 in
         let whole : get m (key_of t q) ≡ Some y = found_whole m t q y there in
         let image = image_of_move t h step.freed step.found words' q y there must may moves in
         subst (λ n. IsSlotImage (task_paging s) n words') (sym step.left)

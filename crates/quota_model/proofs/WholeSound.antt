@@ -1,4 +1,5 @@
--- For the laws of `images.rt`: the objects of all tasks are one sound arrangement, if any number of pages of a class may be partly full.
+-- For the laws of `images.rt`: if any number of pages of a class may be partly full, the objects of all tasks together are a sound arrangement; their image is
+-- the same with bound 1.
 use Rattle.std.proofs.Common.{◌≡◌, ℕ, ◌+◌, ◌≤◌, List, Some, length, get_or, arith, ap, sym, ◌∙◌, refl, inl, inr}
 use Rattle.std.specs.Prelude.{IsTrue}
 use Rattle.std.proofs.lemmas.Bool.{cases_eq}
@@ -14,7 +15,7 @@ use Rattle.page_model.specs.Held.{Held, Placed}
 use Rattle.page_model.specs.Image.{IsSlotImage, slot_for}
 use Rattle.page_model.specs.Paging.{IsPaging, Paging, class_for, first_bounds, page_of, paging_of}
 use Rattle.page_model.proofs.CallerLemmas.{first_paged}
-use Rattle.quota_model.specs.Parts.{number_of, part_of, task_of}
+use Rattle.quota_model.specs.Parts.{number_of, objects_of_task, task_of}
 use Rattle.quota_model.specs.Refusals.{task_paging}
 use Rattle.quota_model.specs.Shared.{IsShared}
 use Rattle.quota_model.proofs.TaskParts.{found_part}
@@ -30,7 +31,7 @@ pub wide_slot : (s : Profile) (n : ℕ) → slot_for (wide s) n ≡ slot_for (ta
 unfolding class_for
 wide_slot s n = refl
 
--- the images are the same
+-- an image by the slots of the tasks' paging is one by the slots of `wide`: the slot sizes are the same
 pub to_wide : (s : Profile) (m : Held) (words : List ℕ) → IsSlotImage (task_paging s) m words → IsSlotImage (wide s) m words
 unfolding class_for
 to_wide s m words im = im
@@ -40,7 +41,7 @@ unfolding class_for
 from_wide s m words im = im
 
 module _ (s : Profile) (m : Held) (shared : IsShared s m) where
-  -- objects of one page are of one task
+  -- two objects on the same page are of the same task
   with_task : (h : ℕ) (x : Placed) (q : ℕ) (y : Placed) → get m h ≡ Some x → get m q ≡ Some y
       → page_of (task_paging s) x.place ≡ page_of (task_paging s) y.place → task_of h ≡ task_of q
   with_task h x q y e f page = shared.apart h x q y e f page
@@ -53,13 +54,13 @@ module _ (s : Profile) (m : Held) (shared : IsShared s m) where
         record { class = a.class; page = a.page; aligned = a.aligned; fits = a.fits });
     own_place = λ h x q y e f ne same. elim (cases_eq (task_of q) (task_of h)) [
       | inl is ↦ (
-          let g : get (part_of m (task_of h)) (number_of q) ≡ Some y = ap (λ t. get (part_of m t) (number_of q)) (sym is) ∙ found_part m q y f in
+          let g : get (objects_of_task m (task_of h)) (number_of q) ≡ Some y = ap (λ t. get (objects_of_task m t) (number_of q)) (sym is) ∙ found_part m q y f in
           (shared.sound (task_of h)).own_place (number_of h) x (number_of q) y (found_part m h x e) g (λ n. ne (omega arith)) same)
       | inr other ↦ other (sym (with_task h x q y e f (ap (page_of (task_paging s)) same)))
     ];
     one_class = λ h x q y e f page. (
         let is = with_task h x q y e f page in
-        let g : get (part_of m (task_of h)) (number_of q) ≡ Some y = ap (λ t. get (part_of m t) (number_of q)) is ∙ found_part m q y f in
+        let g : get (objects_of_task m (task_of h)) (number_of q) ≡ Some y = ap (λ t. get (objects_of_task m t) (number_of q)) is ∙ found_part m q y f in
         (shared.sound (task_of h)).one_class (number_of h) x (number_of q) y (found_part m h x e) g page);
     few_not_full = λ c lt. (
         let most : not_full_pages (wide s) m c ≤ s.pages = count_at_most _ 0 s.pages in

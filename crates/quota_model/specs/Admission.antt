@@ -1,5 +1,5 @@
--- Admission: the objects that a task declares before it runs, and whether a quota is enough for them. In these definitions o is the map of the task's
--- objects, from numbers to bytes.
+-- Admission: the objects that a task declares before it runs, and whether a quota is enough for them. t is a task's share, the settings and its quota; o is the
+-- map of its objects, from numbers to bytes.
 use Rattle.std.specs.Prelude.{◌≡◌, ⊤, ℕ, Bool, true, false, ◌+◌, ◌<◌, ◌≤◌, ◌⊎◌, List, [], ◌∷◌, ◌++◌, Option, Some, None, IsSome, count_by, if◌then◌else◌}
 use Rattle.std.specs.Prelude.{length, nat_eq, nat_lt}
 use Rattle.std.specs.Prelude.{position, replicate, sum_by}
@@ -115,9 +115,9 @@ pub record CanBeAsked (s : Profile) (needs : List Need) : Type 0 where
   pub none_large : first_large s needs ≡ None
   pub few : declared_in_all needs ≤ s.proxies
 
--- What each result of the test means. `Size`: this entry is the first whose objects are larger than a page. `Proxies`: there is no such entry, but more objects
--- are declared than there are proxies. Else `Yes`: the quota is enough; or `No`: if the declared objects are allocated in order, malloc number `nth`, counted
--- from 1, is the first that is refused for space.
+-- What each result of the admission test means. `Size`: this entry is the first whose objects are larger than a page. `Proxies`: there is no such entry, but
+-- more objects are declared than there are proxies. Else `Yes`: the quota is enough; or `No`: if the declared objects are allocated in order, malloc number
+-- `nth`, counted from 1, is the first that is refused for space.
 abbrev pub IsAdmission : Share → List Need → Admission → Type 0
 IsAdmission t needs (Size entry) = first_large t.profile needs ≡ Some entry
 IsAdmission t needs Proxies = (first_large t.profile needs ≡ None) × (t.profile.proxies < declared_in_all needs)

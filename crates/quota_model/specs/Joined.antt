@@ -1,5 +1,5 @@
--- One map of the addresses of all tasks' objects, under their keys (`key_of`). A list `all` has a map for each task, from its objects' numbers to their
--- addresses.
+-- One map of the addresses of all tasks' objects, under their keys (task times 65,536, plus number). A list `all` has a map for each task, from its objects'
+-- numbers to their addresses.
 use Rattle.std.specs.Prelude.{ℕ, ◌+◌, ◌<◌, ◌≡◌, List, [], ◌∷◌, ◌++◌, Some, map, slice_index_or}
 use Rattle.std.specs.Ordering.{nat_cmp}
 use Rattle.std.specs.FinMap.{FinMap, empty, entries, from_entries, get}

@@ -1,4 +1,4 @@
--- One map of the objects of all tasks. The key of an object in it is its task times 65,536, plus its number in that task.
+-- The objects of all tasks in one map, by key, and those of one task in it. The key of an object is its task times 65,536, plus its number in that task.
 use Rattle.std.specs.Prelude.{ℕ, ◌+◌, ◌*◌, ◌/◌, ◌%◌, filter, map, nat_eq}
 use Rattle.std.specs.Ordering.{nat_cmp}
 use Rattle.std.specs.FinMap.{entries, from_entries}
@@ -17,6 +17,6 @@ abbrev pub number_of : ℕ → ℕ
 number_of key = key % 65536
 
 -- the objects of one task, by their numbers in that task; m has the objects of all tasks by their keys
-unfoldable pub part_of : Held → ℕ → Held
-part_of m task = from_entries {R = nat_cmp} (map (λ (e : ℕ × Placed). (number_of e.0, e.1))
+unfoldable pub objects_of_task : Held → ℕ → Held
+objects_of_task m task = from_entries {R = nat_cmp} (map (λ (e : ℕ × Placed). (number_of e.0, e.1))
     (filter (λ (e : ℕ × Placed). nat_eq (task_of e.0) task) (entries m)))

@@ -1,5 +1,6 @@
-//! Laws on whether a quota of pages is enough for the objects that a task declares (`Need`), that
-//! is for each length the most objects of that length that are live at one time.
+//! Laws on whether a quota of pages is enough for the objects that a task declares (for each length
+//! the most that are live at one time), and which declared malloc is the first that is refused for
+//! space.
 ghost use Rattle.std.specs.Prelude.{ℕ, ◌≡◌, ◌-◌, ◌<◌, ◌≤◌, ◌↔◌, List, None, Some, length, take};
 ghost use Rattle.std.specs.FinMap.{empty};
 ghost use Rattle.quota_model.specs.Admission.{CanBeAsked, IsAdmission, IsEnough, Share, first_refused_for_space, in_order, pages_of};
@@ -19,9 +20,9 @@ pub fn a_quota_is_enough_by_ceilings()
 {}
 
 /// Let the declared objects be allocated one after the other, entry by entry. None is refused for
-/// space if and only if all together need at most the pages of the quota. The first that is refused
-/// is number `nth`, counted from 1, if and only if the objects before it need at most the quota's
-/// pages, and with it they need more.
+/// space if and only if all together need at most the pages of the quota. Number `nth`, counted from
+/// 1, is the first that is refused if and only if the first `nth` - 1 objects need at most the
+/// quota's pages, and the first `nth` need more.
 pub fn the_first_refusal_is_the_first_sum_past_the_quota()
     ensures none { (t : Share) (needs : List Need)
         → CanBeAsked t.profile needs
@@ -35,8 +36,8 @@ pub fn the_first_refusal_is_the_first_sum_past_the_quota()
         × (t.quota < pages_of (task_paging t.profile) (take nth (in_order needs)))) }
 {}
 
-/// Settings, quota and declared objects determine the result of the test (`Admission`): two results
-/// that are both right are equal.
+/// Settings, quota and declared objects determine the result of the test whether the quota is enough
+/// (`Admission`): two results that are both right are equal.
 pub fn there_is_one_admission()
     ensures { (t : Share) (needs : List Need) (a b : Admission) → IsAdmission t needs a
         → IsAdmission t needs b → a ≡ b }

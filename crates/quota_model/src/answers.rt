@@ -1,4 +1,5 @@
-//! Arguments and results of the calls that set a task's quota, or test whether one is enough.
+//! Arguments and results of the calls that set a task's quota, or test whether a quota is enough
+//! for the objects that the task declares.
 
 /// Why a new quota for a task is refused. The causes are tested in this order, and the first that
 /// holds is returned.

@@ -1,5 +1,6 @@
-//! Laws on the words of a region that tasks share: after a call of one task they still hold the
-//! objects of all tasks. An object's key is its task times 65,536, plus its number in the task.
+//! Laws on the words of a region that tasks share: they are the image of all tasks' objects, also
+//! after a malloc, a free or a write of one. An object's key is its task times 65,536, plus its
+//! number.
 ghost use Rattle.std.specs.Prelude.{ℕ, ◌≡◌, ◌≢◌, ◌+◌, ◌*◌, ◌/◌, ◌%◌, ◌<◌, ◌≤◌, IsTrue, List, None, Option, Some, length, option_map, slice_set};
 ghost use Rattle.std.specs.Ordering.{nat_cmp};
 ghost use Rattle.std.specs.FinMap.{FinMap, get, insert};
@@ -12,7 +13,7 @@ ghost use Rattle.page_model.specs.Image.{Clears, IsImage, IsSlotImage, MovesWord
 ghost use Rattle.page_model.specs.Paging.{class_for};
 ghost use Rattle.page_model.specs.Steps.{Request};
 ghost use Rattle.quota_model.specs.Joined.{AreNumbers, joined, places_at};
-ghost use Rattle.quota_model.specs.Parts.{key_of, part_of};
+ghost use Rattle.quota_model.specs.Parts.{key_of, objects_of_task};
 ghost use Rattle.quota_model.specs.Refusals.{task_paging};
 ghost use Rattle.quota_model.specs.Shared.{AreQuotas, IsShared, PlacesForTask, RemovesForTask};
 
@@ -23,12 +24,12 @@ pub fn addresses_are_found_by_key()
     ensures found { (all : List (FinMap nat_cmp ℕ)) (task h : ℕ) → AreNumbers all → h < 65536
         → get (joined all) (key_of task h) ≡ get (places_at all task) h }
     ensures part { (all : List (FinMap nat_cmp ℕ)) (task : ℕ) (words : List ℕ) → AreNumbers all
-        → part_of (held_at words (joined all)) task ≡ held_at words (places_at all task) }
+        → objects_of_task (held_at words (joined all)) task ≡ held_at words (places_at all task) }
 {}
 
-/// From an image by slots (`IsSlotImage`: each slot holds its object's words and then zeros, all
-/// other words are zeros) to one that does not mention slots (`IsImage`: each object's words are at
-/// its address, all other words are zeros).
+/// An image by slots (`IsSlotImage`) is also an image in which no slots occur (`IsImage`). By slots:
+/// each slot holds its object's words and then zeros, and all other words are zeros. Without: each
+/// object's words are at its address, and all other words are zeros.
 pub fn words_are_those_of_the_objects()
     ensures { (s : Profile) (m : Held) (words : List ℕ) → IsTrue (is_page_size s.page_words)
         → IsShared s m → IsSlotImage (task_paging s) m words → IsImage m words }
@@ -47,9 +48,9 @@ pub fn words_after_a_malloc_of_a_task()
         (slice_set words step.place (header_word (key_of task asked.number) asked.length)) }
 {}
 
-/// Let the words be an image of all tasks' objects. If a free of a task clears the object's slot,
-/// or moves another object's slot into it and clears that object's old slot, they are an image of
-/// all tasks' objects again.
+/// Let the words be an image of all tasks' objects. They are one again after a free of a task that
+/// clears the object's slot (`still`), and after one that moves another object's words there and
+/// clears that object's old slot (`moved`).
 pub fn words_after_a_free_of_a_task()
     ensures still { (s : Profile) (old : Held) (words left : List ℕ) (task h : ℕ) (new : Held)
         (step : RemovesForTask s old task h None new)
@@ -64,7 +65,7 @@ pub fn words_after_a_free_of_a_task()
         (new : Held) (step : RemovesForTask s old task h (Some q) new)
         → IsTrue (is_page_size s.page_words)
         → IsShared s old → IsSlotImage (task_paging s) old words
-        → get (part_of old task) q ≡ Some y
+        → get (objects_of_task old task) q ≡ Some y
         → MovesWords words left (record {
           from = y.place;
           count = slot_for (task_paging s) (length y.bytes);
@@ -79,7 +80,7 @@ pub fn words_after_a_write_of_a_task()
         (bytes : List ℕ)
         → IsTrue (is_page_size s.page_words)
         → IsShared s old → IsSlotImage (task_paging s) old words
-        → get (part_of old task) h ≡ Some x → at + length bytes ≤ length x.bytes
+        → get (objects_of_task old task) h ≡ Some x → at + length bytes ≤ length x.bytes
         → Rewrites words left
         (record { from = x.place + (1 + at / 8); count = (at % 8 + length bytes + 7) / 8 })
         (λ i. object_word (key_of task h) (written x.bytes at bytes) (1 + at / 8 + i))
@@ -87,23 +88,23 @@ pub fn words_after_a_write_of_a_task()
         (record { place = x.place; bytes = written x.bytes at bytes })) left }
 {}
 
-/// If an object of a task gets other bytes and stays in its class, each page still has objects of
+/// Let an object of a task get other bytes, of the same class. Then each page still has objects of
 /// one task alone, each task is still within its quota, and no object of another task changes.
 pub fn a_write_keeps_tasks_apart()
     ensures shared { (s : Profile) (old : Held) (task h : ℕ) (x : Placed) (bytes : List ℕ)
-        → IsShared s old → get (part_of old task) h ≡ Some x
+        → IsShared s old → get (objects_of_task old task) h ≡ Some x
         → class_for (task_paging s) (length bytes) ≡ class_at (task_paging s) x
         → IsShared s (insert old (key_of task h) (record { place = x.place; bytes = bytes })) }
     ensures quotas { (s : Profile) (quotas : List ℕ) (old : Held) (task h : ℕ) (x : Placed)
         (bytes : List ℕ)
-        → AreQuotas s quotas old → get (part_of old task) h ≡ Some x
+        → AreQuotas s quotas old → get (objects_of_task old task) h ≡ Some x
         → class_for (task_paging s) (length bytes) ≡ class_at (task_paging s) x
         → AreQuotas s quotas (insert old (key_of task h)
         (record { place = x.place; bytes = bytes })) }
     ensures others { (s : Profile) (old : Held) (task h : ℕ) (x : Placed) (bytes : List ℕ)
         (other : ℕ)
-        → get (part_of old task) h ≡ Some x
+        → get (objects_of_task old task) h ≡ Some x
         → class_for (task_paging s) (length bytes) ≡ class_at (task_paging s) x → other ≢ task
-        → part_of (insert old (key_of task h) (record { place = x.place; bytes = bytes })) other
-        ≡ part_of old other }
+        → objects_of_task (insert old (key_of task h) (record { place = x.place; bytes = bytes })) other
+        ≡ objects_of_task old other }
 {}

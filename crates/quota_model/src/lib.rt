@@ -1,7 +1,6 @@
-//! The model of sixteen tasks that share the pages of one region, each with a quota of pages: the
-//! causes of refusals, whether a quota is enough for the objects that a task declares, the rules
-//! for the objects of all tasks, and the words of the region after a call. The public functions do
-//! nothing: each one's contract is a law of these definitions.
+//! The model of sixteen tasks that share the pages of one region, each with a quota: refusals, the
+//! rules for all objects, the region's words after a call, and admission. The public functions do
+//! nothing: their contracts are laws.
 #![tactic(auto)]
 
 mod admitting;
@@ -20,5 +19,5 @@ pub use images::{
 };
 pub use sharing::{
     a_free_keeps_tasks_apart, a_malloc_keeps_tasks_apart, a_page_is_there_for_each_quota,
-    a_task_has_its_part, quotas_fit,
+    a_task_has_its_objects, quotas_fit,
 };

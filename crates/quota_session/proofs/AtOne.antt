@@ -1,4 +1,5 @@
--- The replies for a task follow from its settings, its quota and its objects by id: for `OwnTask`.
+-- For `OwnTask`: the cause of a refused malloc of a task, and its `walk` report, follow from the settings, the task's quota and its objects by id, without
+-- handles and addresses.
 use Rattle.std.proofs.Common.{◌≡◌, ℕ, ◌-◌, ◌<◌, List, cond, Some, None}
 use Rattle.std.proofs.Common.{map, arith, sym, ◌∙◌, ap, refl}
 use Rattle.std.specs.Prelude.{◌++◌, nat_eq, nat_lt, not}
@@ -23,7 +24,7 @@ use Rattle.transcript_laws.proofs.CallerLemmas.{figures_alike, figures_are, live
 use Rattle.frag_report.specs.Classes.{totals_with}
 use Rattle.quota_session.specs.TaskRun.{class_lines, task_classes, task_report, task_totals}
 
--- why a malloc is refused to a task
+-- the cause of refusal of a task's malloc is the same for the objects m and n, if they have the same counts (`CountAlike`)
 pub refusal_alike : (s : Profile) (quota bytes : ℕ) (m n : Objects) → CountAlike m n → malloc_refusal s quota n bytes ≡ malloc_refusal s quota m bytes
 refusal_alike s quota bytes m n a = λ i. cond (nat_lt s.page_words (need bytes)) (Some refusal.Size)
     (cond (nat_eq (a.count i) s.proxies) (Some refusal.Proxy)
@@ -37,11 +38,11 @@ own_live : (s : Tasks) (task c : ℕ) (o : Objects) → live (paging_by_id (own_
 unfolding live class_for
 own_live s task c o = refl
 
--- the last line of a report
+-- the last line of a report, with these numbers of live objects, of pages in use and of free pages
 abbrev total_of : ℕ → ℕ → ℕ → List ℕ
 total_of live used free = total_line (totals_with live used free)
 
--- the report of a task
+-- the report of a task is the same from its objects by handle and from its objects by id, `all task`
 module _ (s : QuotaState) (rules : KeepsTasks s) (task : ℕ) (all : ℕ → Objects) (a : CountAlike (objects_by s task) (all task)) where
   abbrev t : Tasks
   t = record { profile = s.profile; quotas = s.quotas; objects = all }

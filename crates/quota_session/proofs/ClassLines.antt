@@ -1,4 +1,5 @@
--- The lines of a task's classes and the pages that these use, class by class: for the loop of `put_classes`.
+-- For the loop of `put_classes`, which writes a task's report: up to each class, the figures are those of the task's objects, and the pages counted are those
+-- that the task uses.
 use Rattle.std.proofs.Common.{◌≡◌, ◌∙◌, ℕ, ◌+◌, ◌≤◌, ◌<◌, ◌++◌, List, [], ◌∷◌, Some, None, ap, arith}
 use Rattle.std.proofs.lemmas.List.Sums.{sum_by-cons}
 use Rattle.std.specs.Prelude.{sum_by}

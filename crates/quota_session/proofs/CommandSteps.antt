@@ -1,4 +1,5 @@
--- Each command of a run over tasks has a step, and the run can be continued to the end of its items.
+-- For `each_command_has_its_turn` and `a_run_of_tasks_can_always_go_on`: a run over tasks can begin with any settings in their ranges, and each command then
+-- has a reply and a state after it.
 use Rattle.std.proofs.Common.{◌≡◌, ℕ, ◌<◌, ◌≤◌, List, Some, None, arith, refl, inl, inr}
 use Rattle.std.specs.Prelude.{Option, codes}
 use Rattle.std.specs.Option.{MatchOption}
@@ -35,19 +36,19 @@ use Rattle.quota_session.specs.QuotaRun.{IsGoingQuotas, QuotaRun, QuotaStep, Ste
 use Rattle.quota_session.specs.QuotaRun.{present_run, quota_fault}
 use Rattle.quota_session.specs.QuotaRun.{with_ids, with_need, with_present}
 use Rattle.quota_session.specs.TaskRun.{FreesIdOfTask, MallocsForTask, StaysTask, TaskRun, TaskStep, WritesIdOfTask, task_run, task_shown}
-use Rattle.quota_session.proofs.CallsThere.{PageLaw, free_there, malloc_there, write_there}
+use Rattle.quota_session.proofs.CallResults.{PageLaw, free_there, malloc_there, write_there}
 use Rattle.quota_session.proofs.RunInvariant.{still_going}
 use Rattle.quota_session.proofs.OpenLemmas.{begins_going}
 use Rattle.quota_session.proofs.TaskKept.{bytes_by}
 
--- a reply to a task, and its ids and the heap after it
+-- a command of a task has a reply, and the task has ids and the heap a state after it, which the relation R admits
 record HasAnswer (old : TaskRun) (R : Reply → TaskRun → Type 0) : Type 0 where
   reply : Reply
   ids : Ids
   heap : QuotaState
   done : R reply (task_run old.task ids heap)
 
--- a command of a task
+-- each command of the task in `old` has a reply (`HasAnswer`)
 module _ (law : PageLaw) (old : TaskRun) (rules : KeepsTasks old.heap) (lt : old.task < 16) (named : (id h : ℕ) → get old.ids id ≡ Some h
     → (x : Placed) × (get (held_by old.heap old.task) h ≡ Some x)) where
   malloc_at : (o : Option ℕ) (id n : ℕ) → HasAnswer old (λ reply new. MatchOption o (MallocsForTask old id n reply new)
@@ -95,7 +96,7 @@ module _ (law : PageLaw) (old : TaskRun) (rules : KeepsTasks old.heap) (lt : old
   task_there (command.Write id at bytes) = write_at (get old.ids id) id at bytes refl
   task_there c = record { reply = task_shown old c; ids = old.ids; heap = old.heap; done = (refl, refl) }
 
--- the needs that a task declared have an admission
+-- for each share and all declared needs the admission test has a result
 admission_there : (t : Share) (needs : List Need) → (a : Admission) × IsAdmission t needs a
 admission_there t needs = by_large (first_large t.profile needs) refl
   where
@@ -148,26 +149,26 @@ module _ (law : PageLaw) (old : QuotaRun) (going : IsGoingQuotas old) where
       (a.reply, record old { session = with_ids old.session a.ids; heap = a.heap }, record { ids = a.ids; step = a.done; whole = refl })
 
   -- every command of the grammar has a reply
-  pub turn_there : (c : Command) → IsValidCommand c → (reply : Reply) × (new : QuotaRun) × QuotaStep old c reply new
-  turn_there (command.Task task) can = (said (codes "ok"), with_present old task, (refl, refl))
-  turn_there (command.Quota task pages) can = (
+  pub step_exists : (c : Command) → IsValidCommand c → (reply : Reply) × (new : QuotaRun) × QuotaStep old c reply new
+  step_exists (command.Task task) can = (said (codes "ok"), with_present old task, (refl, refl))
+  step_exists (command.Quota task pages) can = (
     said (quota_text (quota_fault old.heap task pages)),
     record old { heap = record old.heap { quotas = quotas_after (quota_fault old.heap task pages) old.heap.quotas task pages } },
     record { whole = refl; rules = quota_rules task pages (below task can.formed) (quota_fault old.heap task pages) refl; reply_is = refl },
   )
-  turn_there (command.Need task bytes count) can = (
+  step_exists (command.Need task bytes count) can = (
     said (need_text (needs_of old.session task)),
     record old { session = with_need old.session task (record { bytes = bytes; count = count }) },
     (refl, refl),
   )
-  turn_there (command.Admit task) can =
+  step_exists (command.Admit task) can =
       let a = admission_there (record { profile = old.heap.profile; quota = quota_of old.heap task }) (needs_of old.session task) in
       (said (admission_text a.0), old, (record { answer = a.0; meets = a.1; reply_is = refl }, refl))
-  turn_there c can = present_there c
+  step_exists c can = present_there c
 
 -- a run begins under any settings in their ranges
-pub begins_there : (p : Profile) → AreInRange p → (new : QuotaRun) × BeginsQuotas p new
-begins_there p can =
+pub begin_exists : (p : Profile) → AreInRange p → (new : QuotaRun) × BeginsQuotas p new
+begin_exists p can =
     let q = at_bound_one p in
     let slots = image_empty (slot_for (task_paging q)) (region_words q) in (
       record { settings = Some q; session = first_session; heap = empty_state q },
@@ -194,6 +195,6 @@ tasks_go_on law = record {
   is_going = IsGoingQuotas;
   begins_going = λ p reply s b. begins_going p s b.0;
   still_going = λ old c reply new going can step. still_going old going c reply new can.formed step;
-  begins_there = λ p can. (let b = begins_there p can in (said (codes "ok"), b.0, (b.1, refl)));
-  turn_there = λ old c going can. turn_there law old going c can;
+  begin_exists = λ p can. (let b = begin_exists p can in (said (codes "ok"), b.0, (b.1, refl)));
+  step_exists = λ old c going can. step_exists law old going c can;
 }

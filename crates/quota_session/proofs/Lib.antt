@@ -7,6 +7,6 @@ pub mod AtOne
 pub mod OwnTask
 pub mod ScriptShown
 pub mod TaskReads
-pub mod CallsThere
+pub mod CallResults
 pub mod CommandSteps
 pub mod CallerLemmas

@@ -1,4 +1,5 @@
--- How a run over tasks with quotas begins, and that it is then in progress: for `open` and the law `each_command_has_its_turn`.
+-- For `open` and the law `each_command_has_its_turn`: a run over tasks begins without objects and ids and with quotas of 0, and is then in progress
+-- (`IsGoingQuotas`): the heap keeps its rules, ids name its objects.
 use Rattle.std.proofs.Common.{◌≡◌, ℕ, zero, suc, List, [], Some, length, get_or, replicate, arith, sym, ◌∙◌, ap, refl, subst, lit<}
 use Rattle.std.proofs.lemmas.List.{length-replicate}
 use Rattle.std.specs.FinMap.{empty}

@@ -1,4 +1,5 @@
--- The reply to a call of the present task depends on its own objects by id, and the call changes no others.
+-- For `ScriptShown`: the reply to a call of the present task, and its objects by id after the call, are those of a heap that has this task's objects alone and
+-- its quota as its pages.
 use Rattle.std.proofs.Common.{◌≡◌, ℕ, ◌+◌, ◌<◌, ◌≤◌, List, Some, None, length, replicate, sym, ◌∙◌, ap, refl, subst}
 use Rattle.std.specs.Prelude.{Option, option_map, Result, Ok, Err, codes}
 use Rattle.std.specs.Option.{MatchOption}
@@ -69,12 +70,12 @@ module _ (old new : TaskRun) (rules : KeepsTasks old.heap) (tied : AreTiedTo old
   live : (id n : ℕ) (v : List ℕ) → get old.ids id ≡ Some n → get m n ≡ Some v → get (all old.task) id ≡ Some v
   live id n v named some = ap (λ (o : Objects). get o id) own ∙ live_by_id old.ids m id n v named some
 
-  -- the reply and the objects afterwards are those of the task's own heap
+  -- the reply to command c and the objects after it are those of a heap that only this task uses (`own_heap`)
   pub record IsOwnReply (c : Command) : Type 0 where
     pub reply_is : reply ≡ task_reply t old.task c
     pub left : objects_by_id new.ids (objects_by new.heap old.task) ≡ task_leaves t old.task c
 
-  -- if the command changes nothing, the objects by id are those of the task's own heap after it
+  -- for a command that changes nothing, the objects by id after it are those of `own_heap` too
   stays : (c : Command) → new ≡ old → reply ≡ task_reply t old.task c → all old.task ≡ task_leaves t old.task c → IsOwnReply c
   stays c same r l = record { reply_is = r; left = ap (λ (s : TaskRun). objects_by_id s.ids (objects_by s.heap old.task)) same ∙ sym own ∙ l }
 
@@ -144,7 +145,7 @@ module _ (old new : TaskRun) (rules : KeepsTasks old.heap) (tied : AreTiedTo old
           (write_past (past.object).bytes at (length bytes) past.past) r
           ((λ i. objects_by_id (w.ids i) (objects_by (same i) old.task)) ∙ sym own)
 
-  -- the object of an id, by id
+  -- the reply to a read through an id depends on the object that the task has by this id
   read_is : (id at count : ℕ) → said (read_text (task_object old id) at count) ≡ said (read_said (get (all old.task) id) at count)
   read_is id at count = go (get old.ids id) refl
     where

@@ -1,4 +1,5 @@
--- What a command of a session over tasks did and what was written of its reply, together.
+-- For `answer` and the functions that it calls: what a command does to the session and the heap of tasks is a step of the run, and the texts of `r` and `walk`
+-- are its replies.
 use Rattle.std.proofs.Common.{◌≡◌, ◌∙◌, ℕ, ◌-◌, ◌++◌, List, [], Some, None, ap, refl, sym, subst}
 use Rattle.std.specs.Prelude.{Option, Result, Err, codes}
 use Rattle.std.specs.FinMap.{empty, get, len}
@@ -40,7 +41,7 @@ use Rattle.quota_session.specs.QuotaRun.{QuotaRun, QuotaStep, StepsPresent, Task
 use Rattle.quota_session.specs.TaskRun.{TaskRun, TaskStep, task_classes, task_object, task_report, task_run, task_totals}
 use Rattle.quota_session.proofs.TaskKept.{bytes_by}
 
--- a report is neither good nor a refusal
+-- the outcome of a report is `Other`: it is neither good nor a refusal
 report_other : (s : QuotaState) (task : ℕ) → Other ≡ outcome_of (task_report s task)
 report_other s task = pages_other (λ c. figures_of (task_paging s.profile) (held_by s task) c) (task_totals s task) (task_classes s task)
 
@@ -60,11 +61,11 @@ shown_walk old c w y r answer is put shown =
       whole = ap (λ (s : TaskSession). record old { session = s }) (sym (same_ids old.session));
     }) (report_other old.heap old.session.present) put shown)
 
--- the object of a handle, if any
+-- the object that a task has under a handle; none if there is no handle
 abbrev object_at : TaskRun → Option ℕ → Option Placed
 object_at s o = elim o [ None ↦ None | Some h ↦ get (held_by s.heap s.task) h ]
 
--- The reply to a read.
+-- The reply to a read by each of its three cases: the id isn't live, the bytes are read, or the heap refuses.
 module _ (s : TaskRun) (id at count : ℕ) where
   object_is : (o : Option ℕ) → o ≡ get s.ids id → task_object s id ≡ object_at s o
   object_is o is = ap (object_at s) (sym is)
@@ -84,26 +85,26 @@ module _ (s : TaskRun) (id at count : ℕ) where
   read_fault h access.Range is past =
       ap (λ (o : Option Placed). read_text o at count) (object_is (Some h) is ∙ past.found) ∙ read_past past.object at count past.past
 
--- a task has one id for each object
+-- a task has as many live ids as objects
 pub as_many : (ids : Ids) (m : Objects) → AreTiedTo ids m → len ids ≡ len m
 as_many ids m tied =
     let names : AreTiedTo ids m = tied in
     sym (len-map_values _ ids) ∙ (by_id_counts ids m names).count
 
--- the last line of a report
+-- the line of the totals that the code prints is that of the task's report
 pub totals_are : (s : QuotaState) (task live used quota : ℕ) → live ≡ len (objects_by s task) → used ≡ used_pages (task_paging s.profile) (held_by s task)
     → quota ≡ quota_of s task → total_line (totals_with live used (quota - used)) ≡ total_line (task_totals s task)
 totals_are s task live used quota is so_many own =
     λ i. total_line (record (task_totals s task) { live = is i; used = so_many i; free = own i - so_many i })
 
--- the handle of a live id is one of an object
+-- the handle of a live id of a task names an object of the task
 pub free_found : (s : QuotaState) (task : ℕ) (ids : Ids) (id h : ℕ) → AreTiedTo ids (objects_by s task) → Some h ≡ get ids id
     → get (held_by s task) h ≡ None → ⊥
 free_found s task ids id h tied live none =
     let x = tied.named id h (sym live) in
     clash (get (objects_by s task) h) x.0 x.1 (bytes_by s task h None none)
 
--- a command of the present task is one of the session
+-- a step of the present task is a step of the run
 own_step : (old new : QuotaRun) (c : Command) (reply : Reply) → IsOfTask c → StepsPresent old c reply new → QuotaStep old c reply new
 own_step old new (command.Task task) reply own step = absurd own
 own_step old new (command.Quota task pages) reply own step = absurd own

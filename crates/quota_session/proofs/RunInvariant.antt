@@ -1,4 +1,5 @@
--- A run over tasks with quotas is in progress after each command: for clause `going` of `answer_ref` and the law `each_command_has_its_turn`.
+-- For clause `going` of `answer_ref` and the law `each_command_has_its_turn`: after each command the heap of tasks keeps its rules, and each task's ids name
+-- its objects (`IsGoingQuotas`).
 use Rattle.std.proofs.Common.{◌≡◌, ◌≢◌, ℕ, ◌<◌, ◌≤◌, List, [], ◌∷◌, ◌++◌, Some, cond, length, arith, sym}
 use Rattle.std.proofs.Common.{◌∙◌, ap, subst, inl, inr}
 use Rattle.std.specs.Prelude.{IsTrue, Option, Result, Ok, Err}
@@ -71,7 +72,7 @@ with_need_sixteen s task entry lt has = record {
   present = has.present;
 }
 
--- a command names a task from 0 to 15
+-- the number of a task, at most 15, is below 16
 below : (task : ℕ) → task ≤ 15 → task < 16
 below task le = omega arith
 

@@ -1,4 +1,5 @@
--- The replies to a script are those of its transcript, which depends on the lines alone and has no numbers or addresses of objects.
+-- For the laws of `laws.rt`: the replies of a run over tasks are those of the transcript, a function of the lines alone; so two runs that are alike for a task
+-- give it the same replies.
 use Rattle.std.proofs.Common.{◌≡◌, ℕ, ◌<◌, ◌≤◌, List, [], ◌∷◌, Some, None, true, false, cond, get_or, length, take, arith, sym, ◌∙◌, ap, refl}
 use Rattle.std.proofs.Common.{subst, inl, inr}
 use Rattle.std.specs.Prelude.{⊤, Option, nat_eq, nat_le, nat_lt, option_map, slice_set, sum}
@@ -20,7 +21,7 @@ use Rattle.quota_model.specs.declared.answers.Need.{Need}
 use Rattle.quota_model.specs.declared.answers.QuotaFault.{QuotaFault}
 use Rattle.quota_model.specs.declared.answers.QuotaFault.TheVariants.{Sum, Used}
 use Rattle.run_laws.specs.ValidItems.{AreValidItems, IsValidCommand, IsValidItem}
-use Rattle.run_laws.proofs.CallerLemmas.{items_sayable}
+use Rattle.run_laws.proofs.CallerLemmas.{all_items_valid}
 use Rattle.run_model.specs.Plays.{PlayStep}
 use Rattle.script_loop.specs.ScriptOutcome.{MOST_BYTES, items_within}
 use Rattle.script_loop.specs.Semantics.{RunBy}
@@ -102,7 +103,7 @@ module _ (old : QuotaRun) (going : IsGoingQuotas old) where
   below : (task : ℕ) → task ≤ 15 → task < 16
   below task le = omega arith
 
-  -- the tasks after a command, and the task that is present then
+  -- the tasks after a command are those of the transcript; below, so is the present task
   pub tasks_after : (c : Command) (reply : Reply) (new : QuotaRun) → IsValidCommand c → QuotaStep old c reply new → tasks_of new ≡ after_if t (item_of now c)
   tasks_after (command.Task task) reply new can step = ap tasks_of step.1
   tasks_after (command.Quota task pages) reply new can step = quota_after task pages reply new (below task can.formed) step
@@ -117,7 +118,7 @@ module _ (old : QuotaRun) (going : IsGoingQuotas old) where
   present_then (command.Admit task) reply new step = ap (λ (r : QuotaRun). r.session.present) step.1
   present_then c reply new step = call_present c reply new step
 
-  -- the reply to a call
+  -- the reply to a call of the present task is that of the transcript
   pub reply_shown : (c : Command) (reply : Reply) (new : QuotaRun) → is_for_task c ≡ true → QuotaStep old c reply new → reply ≡ task_reply t now c
   reply_shown (command.Task task) reply new own step = absurd (let e : false ≡ true = own in cc)
   reply_shown (command.Quota task pages) reply new own step = absurd (let e : false ≡ true = own in cc)
@@ -155,7 +156,7 @@ begun_shown p s b = λ i. record {
 }
 
 module _ (old : QuotaRun) (going : IsGoingQuotas old) where
-  -- the entries after a command
+  -- the declared entries of each task after a command are those of the transcript
   needs_shown : (c : Command) (reply : Reply) (new : QuotaRun) → IsValidCommand c → QuotaStep old c reply new → (u : ℕ)
       → needs_of new.session u ≡ needs_after (needs_of old.session) c u
   needs_shown (command.Task task) reply new can step u = ap (λ (r : QuotaRun). needs_of r.session u) step.1
@@ -182,7 +183,7 @@ module _ (old : QuotaRun) (going : IsGoingQuotas old) where
     needs = λ u. needs_shown c reply new can step u i;
   }
 
-  -- the reply to any command
+  -- the reply to any command is that of the transcript
   command_shown : (c : Command) (reply : Reply) (new : QuotaRun) → IsValidCommand c → QuotaStep old c reply new → reply ≡ command_reply (state_of old) c
   command_shown (command.Task task) reply new can step = step.0
   command_shown (command.Quota task pages) reply new can step = step.reply_is
@@ -197,7 +198,7 @@ abbrev GoesOn : Option QuotaRun → Type 0
 GoesOn None = ⊤
 GoesOn (Some s) = IsGoingQuotas s
 
--- the reply to an item, and the run after it
+-- the reply to an item and the state after it are those of the transcript, and the run goes on
 record IsShownItem (old : Option QuotaRun) (item : Item) (reply : Reply) (new : Option QuotaRun) : Type 0 where
   reply_is : reply ≡ reply_in (option_map state_of old) item
   state : option_map state_of new ≡ state_in (option_map state_of old) item
@@ -242,4 +243,4 @@ transcript_shown items replies end can run = run_shown items None replies end tt
 -- the replies to the bytes of a script are those of its transcript, from any state before its `heap` line
 pub tasks_met : (from : QuotaRun) (all : List ℕ) (replies : List Reply) (end : Option QuotaRun) → RunBy quota_tasks from None (items_within all) replies end
     → MeetsTasks (items_within all) replies
-tasks_met from all replies end run = transcript_shown (items_within all) replies end (items_sayable (take MOST_BYTES all) (nat_le (length all) MOST_BYTES)) run
+tasks_met from all replies end run = transcript_shown (items_within all) replies end (all_items_valid (take MOST_BYTES all) (nat_le (length all) MOST_BYTES)) run

@@ -1,4 +1,4 @@
--- What a command of a task keeps: the heap stays open and within its quotas, the ids of the task are those of its objects, and no other task has changed.
+-- What each command of a task keeps: the heap keeps its settings, quotas and rules, the task's ids name its objects, and no other task's objects change.
 use Rattle.std.proofs.Common.{◌≡◌, ◌≢◌, ℕ, List, Some, None, length, replicate, sym, ◌∙◌, ap, refl, subst}
 use Rattle.std.specs.Prelude.{Option, option_map, Result, Ok, Err, codes}
 use Rattle.std.specs.Option.{MatchOption}
@@ -39,7 +39,7 @@ pub record IsKept (old new : TaskRun) : Type 0 where
   pub rest : KeepsRest old.task old.heap new.heap
   pub tied : AreTiedTo new.ids (objects_by new.heap old.task)
 
--- the bytes of an object
+-- the bytes of object h of a task are those of what the task holds under h
 pub bytes_by : (s : QuotaState) (task h : ℕ) (o : Option Placed) → get (held_by s task) h ≡ o → get (objects_by s task) h
     ≡ option_map (λ (x : Placed). x.bytes) o
 bytes_by s task h o is = get-map_values (λ (x : Placed). x.bytes) (held_by s task) h ∙ ap (option_map (λ (x : Placed). x.bytes)) is

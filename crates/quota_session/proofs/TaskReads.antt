@@ -1,4 +1,5 @@
--- In the transcript of a script, each read returns the bytes of the present task that follow from the lines and their replies.
+-- For `reads_give_what_was_written`: in the transcript, the replies that a script's lines determine, each read returns the bytes of the present task's id that
+-- the lines and replies before it determine.
 use Rattle.std.proofs.Common.{◌≡◌, ℕ, Bool, true, false, cond, List, [], ◌∷◌, Option, Some, None, length, replicate, sym, ◌∙◌, ap, refl, subst, inl, inr}
 use Rattle.std.specs.Prelude.{◌&&◌, Err, nat_eq, option_map}
 use Rattle.std.proofs.lemmas.Bool.{cases_eq}
@@ -14,7 +15,7 @@ use Rattle.page_model.specs.Bytes.{written}
 use Rattle.page_model.specs.Held.{Objects}
 use Rattle.quota_laws.specs.Tasks.{Tasks, own_heap, task_leaves, task_reply}
 use Rattle.quota_laws.specs.Transcript.{MeetsTasks, TaskState, command_reply, present_after, reply_in, state_after, state_in, task_replies}
-use Rattle.run_laws.proofs.NamedTurns.{changed_is}
+use Rattle.run_laws.proofs.CallerLemmas.{changed_is}
 use Rattle.run_laws.specs.IdBytes.{changed, done_by, is_ok, read_shown}
 use Rattle.run_model.specs.Replies.{malloc_text, write_text}
 use Rattle.script_reader.specs.Items.{Item, asks, bad, starts}
@@ -28,7 +29,7 @@ either : {X : Type 0} (b : Bool) (x : X) → x ≡ cond b x x
 either true x = refl
 either false x = refl
 
--- What a call leaves its task follows from the reply.
+-- The objects by id that a call leaves the present task, number `now`, follow from those before it and the reply.
 module _ (t : Tasks) (now : ℕ) where
   abbrev all : Objects
   all = t.objects now
@@ -84,7 +85,7 @@ module _ (s : TaskState) where
   abbrev now : ℕ
   now = s.present
 
-  -- a call of the present task
+  -- after a call of the present task, its objects by id are those that follow from the reply, and those of every other task u stay
   call_shown : (c : Command) (u : ℕ) → cond (nat_eq u now && is_ok (task_reply t now c)) (done_by c (t.objects u)) (t.objects u)
       ≡ cond (nat_eq u now) (task_leaves t now c) (t.objects u)
   call_shown c u = elim (cases_eq u now) [

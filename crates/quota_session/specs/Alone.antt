@@ -1,4 +1,5 @@
--- What the replies to a task depend on: the settings, the task's quota, and its objects by the ids of a script instead of by handle.
+-- What the replies to a task depend on: the settings, its quota, and its objects by id instead of by handle; and when two runs are alike for a task. `pub use`
+-- passes on three definitions of the transcript.
 use Rattle.std.specs.Prelude.{◌≡◌, ℕ}
 use Rattle.quota_heap.specs.State.{objects_by, quota_of}
 use Rattle.quota_laws.specs.Tasks.{Tasks}
@@ -10,7 +11,8 @@ use Rattle.quota_session.specs.QuotaRun.{QuotaRun, ids_of}
 abbrev pub tasks_of : QuotaRun → Tasks
 tasks_of s = record { profile = s.heap.profile; quotas = s.heap.quotas; objects = λ task. objects_by_id (ids_of s.session task) (objects_by s.heap task) }
 
--- The two runs `one` and `other` are alike for a task: the task is present in both, and the settings, its quota and its objects by id are equal.
+-- The two runs `one` and `other` are alike for a task: it is the present task of both, for which their next `m`, `f`, `w`, `r` or `walk` acts (fields `here` and
+-- `there`); and the settings, the task's quota and its objects by id are equal in both.
 pub record AreAlikeFor (task : ℕ) (one other : QuotaRun) : Type 0 where
   pub here : one.session.present ≡ task
   pub there : other.session.present ≡ task

@@ -1,4 +1,4 @@
--- The most steps that a command of a session over tasks takes on the heap.
+-- The most steps that each command of mode `quota` takes on the heap that sixteen tasks share; only `m`, `f`, `w` and `r` take any.
 use Rattle.std.specs.Prelude.{ℕ, Option, Some, None, if◌then◌else◌, is_some, length}
 use Rattle.std.specs.FinMap.{get}
 use Rattle.id_table.specs.Ids.{Ids}

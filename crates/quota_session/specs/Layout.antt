@@ -1,4 +1,4 @@
--- How a session stores its tasks, and which commands have a reply of one line. No public clause cites this module.
+-- The session that the stored records of sixteen tasks represent, and which commands have a reply of one line. No public clause cites this module.
 use Rattle.script_reader.specs.declared.command.Command.{Command}
 use Rattle.script_reader.specs.declared.command.Command.TheVariants.{Walk, Task, Quota, Need, Admit}
 use Rattle.quota_session.specs.QuotaRun.{TaskSession}

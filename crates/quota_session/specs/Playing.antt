@@ -1,4 +1,4 @@
--- Mode `quota` for the script loop: how a run over a heap of tasks begins, its runs over a script, and what is left if an allocation fails.
+-- Mode `quota` for the script loop: how a run over a heap that tasks share begins, its runs over a script, and the state after a failed allocation.
 use Rattle.std.specs.Prelude.{◌≡◌, ⊤, List, Option, Some, codes, false}
 use Rattle.cf_base.specs.Settings.{Profile, at_bound_one}
 use Rattle.cf_io.specs.Texts.{Reply, said}
@@ -30,7 +30,7 @@ pub record LacksQuotas (old new : QuotaRun) : Type 0 where
   pub settings : new.settings ≡ old.settings
   pub session : new.session ≡ old.session
 
--- mode `quota` for the script loop: how a run begins, what each command does, and what is left if an allocation fails
+-- mode `quota` for the script loop: how a run begins, what each command does, and the state after a failed allocation
 abbrev pub quota_tasks : Semantics QuotaRun ⊤
 quota_tasks = record {
   plan = λ s. tt;

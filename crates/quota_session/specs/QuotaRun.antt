@@ -1,4 +1,5 @@
--- A session over a heap that sixteen tasks share: its state, and for each command the reply and the state after it.
+-- A session over a heap that sixteen tasks share: its state, and for each command the reply and the state after it. `pub use` passes on the replies to `need`
+-- and `admit`, and how `need` adds an entry.
 use Rattle.std.specs.Prelude.{◌≡◌, ℕ, ◌<◌, ◌≤◌, IsTrue, List, [], Option, Some, codes, length, replicate, refl}
 use Rattle.std.specs.Prelude.{slice_index_or, slice_set}
 use Rattle.std.specs.Coded.{Coded, code_by, coded×, coded_ℕ, coded_list}

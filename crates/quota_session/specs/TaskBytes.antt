@@ -12,7 +12,7 @@ pub record TaskBytes : Type 0 where
   pub present : ℕ
   pub bytes : ℕ → IdBytes
 
--- m after a command and its reply: `t` makes another task present; a command with the reply `ok` changes the bytes of the present task alone
+-- the record m after a command and its reply: `t` makes another task present; a command with the reply `ok` changes the bytes of the present task alone
 abbrev pub bytes_with : TaskBytes → Command → Reply → TaskBytes
 bytes_with m command reply = record {
   present = present_after m.present command;

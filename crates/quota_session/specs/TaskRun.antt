@@ -1,4 +1,4 @@
--- One task of a session over tasks, and what each command that names no task does for it.
+-- One task of a session over tasks: its ids and the heap, and what `m`, `f`, `w`, `r` and `walk`, which name no task, do for it and reply.
 use Rattle.std.specs.Prelude.{◌≡◌, ℕ, ◌-◌, ◌++◌, List, Option, Some, None, Result, codes, filter, map, nat_eq, not}
 use Rattle.std.specs.List.{range_with_len}
 use Rattle.std.specs.Option.{MatchOption}

@@ -1,9 +1,8 @@
-//! The commands `m`, `f`, `w` and `r` of one task on its objects, which a script names by ids. The first three
-//! return their reply; `r` builds its reply in `line`. `task` is the task's number, 0 to 15, and `ids` maps its
-//! live ids to handles.
+//! The commands `m`, `f`, `w` and `r` of one task on its objects, which a script names by ids. `task` is the
+//! task's number, 0 to 15; `ids` maps its live ids to handles.
 ghost use Rattle.std.specs.Prelude.{◌≡◌, ◌^◌, ◌<◌, ◌≤◌, [], IsTrue, length};
 ghost use Rattle.step_ledger.specs.Counting.{RoseAtMost};
-ghost use Rattle.cf_io.specs.Lines.{line_room};
+ghost use Rattle.cf_io.specs.Lines.{line_capacity};
 ghost use Rattle.cf_io.specs.Texts.{said};
 ghost use Rattle.cf_session.specs.Apply.{outcome_in};
 ghost use Rattle.cf_session.specs.Short.{short_text};
@@ -119,7 +118,7 @@ pub(crate) fn read(
     requires few { length buffer.old ≤ 4096 }
     requires empty { line.old ≡ [] }
     ensures text { line.new ≡ read_text (task_object (task_run task ids.now heap.now) id) at (length buffer.old) }
-    ensures room { length line.new < line_room }
+    ensures room { length line.new < line_capacity }
     ensures outcome { result ≡ outcome_in line.new }
     ensures steps { RoseAtMost steps.old steps.new (id_access_steps ids.now id at (length buffer.old)) }
 {

@@ -1,5 +1,5 @@
-//! Laws of a session over tasks. Each function changes nothing, and its contract is a law; its body calls the
-//! laws that the proof uses.
+//! Laws on runs of a script over sixteen tasks: a task's replies depend on its own objects and quota, reads
+//! return what was written, each script has one list of replies, and each command has a reply.
 ghost use Rattle.std.specs.Prelude.{◌≡◌, ℕ, ◌++◌, Bool, List, [], None, Option, true};
 ghost use Rattle.cf_base.specs.Settings.{Profile};
 ghost use Rattle.cf_io.specs.Texts.{Reply, text_of};
@@ -21,9 +21,10 @@ use quota_laws::a_reply_follows_from_the_task_alone;
 use quota_model::a_page_is_there_for_each_quota;
 
 /// Clause `reply`: the reply to a call of the present task depends on the settings, its quota and its objects
-/// by id alone. It is the reply of a heap of its own, with its quota as the number of pages. Clause `after`: a
-/// command changes the objects by id of no task but the present one, and the quota of no task but the one that
-/// it names. Clause `alike`: so two runs that are alike for a task give its calls the same replies.
+/// by id alone. It is the reply of a heap that only this task uses and that has the quota as its number of
+/// pages. Clause `after`: a command changes the objects by id of no task but the present one, and the quota of
+/// no task but the one that it names. Clause `alike`: so two runs that are alike for a task (`AreAlikeFor`)
+/// print the same reply to a call of it.
 pub fn a_task_is_answered_from_its_own()
     ensures reply { (old new : QuotaRun) (command : Command) (reply : Reply) → IsGoingQuotas old
         → is_for_task command ≡ true → QuotaStep old command reply new

@@ -1,5 +1,5 @@
-//! A session over a heap that sixteen tasks share. It keeps for each task its ids and its declared needs, and
-//! the present task, whose ids `m`, `f`, `w` and `r` use. `run_quotas` runs a script on it.
+//! A session of mode `quota`, over a heap that sixteen tasks share: each task's ids and declared needs, and the
+//! present task, for which `m`, `f`, `w` and `r` act. `run_quotas` runs a script on it.
 #![tactic(auto)]
 
 mod changes;

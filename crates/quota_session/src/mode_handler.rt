@@ -1,4 +1,5 @@
-//! The mode handler of mode `quota`, which runs a script on a heap that tasks share.
+//! The mode handler of mode `quota`: a session over the heap that sixteen tasks share, with the settings of the
+//! `heap` line; and `run_quotas`, which runs a script with it.
 ghost use Rattle.std.specs.Prelude.{◌≡◌, ⊤, IfOk, None, option_map};
 ghost use Rattle.cf_base.specs.Settings.{profile_of};
 ghost use Rattle.script_loop.specs.ScriptOutcome.{Plays, sink_at, source_at};
@@ -83,7 +84,7 @@ impl ModeHandler<QuotaHeap> for QuotaHandler {
     }
 }
 
-/// Runs the script of a source on the heap, and writes the replies to a sink; the status says how it ended.
+/// Runs the script of a source on the heap, and writes the replies to a sink. Returns how the run ended.
 /// The `heap` line opens the heap, with the bound 1 for each class; each later command is done for the
 /// present task or for the one that it names. Each complete line has its reply before the next chunk is
 /// taken. The run stops at a bad line, if the source or the sink fails, if an allocation fails at the

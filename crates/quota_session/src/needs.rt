@@ -1,5 +1,5 @@
-//! `Needs`: the objects that one task declared with `need`, as entries. An entry is a number of objects of one
-//! length in bytes. `admit` tests whether the task's quota is enough for them.
+//! `Needs`: the objects that one task declared with `need`, at most 64 entries. An entry is a number of objects
+//! of one length in bytes; `admit` tests whether the task's quota is enough for them.
 ghost use Rattle.std.specs.Prelude.{◌≡◌, ◌<◌, ◌≤◌, [], IsTrue, length, nat_lt};
 ghost use Rattle.quota_model.specs.declared.answers.Need.{Need as ANeed};
 ghost use Rattle.quota_session.specs.QuotaRun.{one_more};

@@ -14,7 +14,7 @@ use frag_report::{put_class, put_total};
 use id_table::IdTable;
 use quota_heap::QuotaHeap;
 
-/// The most size classes of a task.
+/// The most size classes that a heap has; all tasks have the same classes.
 const CLASSES: u32 = 67;
 
 /// `walk`: writes a line for each class of the task with live objects, and then the line of the totals: the
@@ -42,7 +42,7 @@ pub(crate) fn walk<K: Sink>(
     }
 }
 
-/// Writes a line for each class of the task with live objects, in rising order, and returns the number of
+/// Writes a line for each class of the task with live objects, the smallest first, and returns the number of
 /// pages that the task uses. If the sink fails, the result is `Failed`, and a prefix of these lines was
 /// written.
 fn put_classes<K: Sink>(

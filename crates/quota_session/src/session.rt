@@ -4,7 +4,7 @@ ghost use Rattle.std.specs.Prelude.{◌≡◌, ◌<◌, ◌^◌, ◌≤◌, [], 
 ghost use Rattle.step_ledger.specs.Counting.{RoseAtMost};
 ghost use Rattle.cf_base.specs.Settings.{Profile, profile_of};
 ghost use Rattle.cf_io.specs.Feeds.{FailsLast};
-ghost use Rattle.cf_io.specs.Lines.{line_room};
+ghost use Rattle.cf_io.specs.Lines.{line_capacity};
 ghost use Rattle.cf_io.specs.Texts.{said};
 ghost use Rattle.cf_session.specs.Apply.{outcome_in};
 ghost use Rattle.quota_heap.specs.State.{KeepsTasks, objects_by};
@@ -263,7 +263,7 @@ fn build_reply_present(
     requires empty { line.old ≡ [] }
     ensures step { (settings : Option Profile) → QuotaStep (quota_run settings (session_of records.old) heap.old)
         (owned_command c.entry) (said line.new) (quota_run settings (session_of records.new) heap.new) }
-    ensures room { length line.new < line_room }
+    ensures room { length line.new < line_capacity }
     ensures outcome { result ≡ outcome_in line.new }
     ensures steps { RoseAtMost steps.old steps.new (task_steps (present_run (session_of records.old) heap.old) (owned_command c.entry)) }
 {

@@ -1,6 +1,7 @@
-//! The commands `quota`, `need` and `admit`, which name a task, 0 to 15, whichever is present.
+//! The commands `quota`, `need` and `admit`, which name a task, 0 to 15, whichever is present: they set its
+//! quota, add to the objects that it declares, and test whether the quota is enough for these.
 ghost use Rattle.std.specs.Prelude.{◌≡◌, ◌<◌, [], IsTrue, length};
-ghost use Rattle.cf_io.specs.Lines.{line_room};
+ghost use Rattle.cf_io.specs.Lines.{line_capacity};
 ghost use Rattle.cf_session.specs.Apply.{outcome_in};
 ghost use Rattle.cf_session.specs.Short.{short_text};
 ghost use Rattle.quota_heap.specs.State.{KeepsTasks};
@@ -52,7 +53,7 @@ pub(crate) fn declare(records: &mut Records, task: u32, entry: Need) -> Short
 pub(crate) fn push_admission(line: &mut Line, answer: Admission) -> Outcome
     requires { line.old ≡ [] }
     ensures text { line.new ≡ admission_text answer }
-    ensures room { length line.new < line_room }
+    ensures room { length line.new < line_capacity }
     ensures outcome { result ≡ outcome_in line.new }
 {
     match answer {

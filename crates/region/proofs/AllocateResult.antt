@@ -1,4 +1,4 @@
--- For `Block::new`: the two results of the allocator, a block with the right to free it, or nothing.
+-- For `Block::new`, which allocates a region's memory: the two results of the allocator, a block with the right to free it, or nothing.
 use Rattle.std.proofs.Common.{◌≡◌, ℕ, true, false, List, [], ◌∷◌, ◌++◌, Ok, Err, refl, ap, ◌∙◌}
 use Rattle.std.proofs.alloc.Calls.{Answer, answer_val}
 use seplogic.Ra.Ura.{Ura}

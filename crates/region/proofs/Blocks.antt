@@ -4,7 +4,7 @@ use Rattle.std.proofs.lemmas.Bool.{cases_eq, cases_lt}
 use Rattle.region.specs.Words.{AreDistinct, AreOther, ClearsBlocks, MovesBlocks, cleared, moved}
 use Rattle.region.proofs.CallerLemmas.{cleared_others, cleared_within, moved_arrived, moved_left, moved_others}
 
--- no block is cleared or moved yet
+-- clearing or moving none of the blocks changes nothing
 pub clears_none : (u blocks : List ℕ) → ClearsBlocks u u blocks 0
 clears_none u blocks = record { zeros = λ k j lt. absurd (omega arith); others = λ w out. refl_of (slice_index u w) }
   where
@@ -21,14 +21,14 @@ moves_none u sources targets = record {
     refl_of : (x : ℕ) → x ≡ x
     refl_of x = omega arith
 
--- a word of another block is outside of this one
+-- a word of another block than b is before block b or after it
 apart_from : (b w : ℕ) → w / 4 ≢ b → (w < 4 * b) ⊎ (4 * b + 4 ≤ w)
 apart_from b w ne = elim (cases_lt w (4 * b)) [
   | inl l ↦ inl l
   | inr g ↦ elim (cases_lt w (4 * b + 4)) [ inl l ↦ absurd (ne (omega arith)) | inr h ↦ inr h ]
 ]
 
--- one more block is cleared
+-- the first n blocks are cleared; then the next one is cleared too
 module _ (u v blocks : List ℕ) (n : ℕ) (within : 4 * slice_index blocks n + 4 ≤ length v) (so_far : ClearsBlocks u v blocks n) where
   abbrev b : ℕ
   b = slice_index blocks n
@@ -52,7 +52,7 @@ module _ (u v blocks : List ℕ) (n : ℕ) (within : 4 * slice_index blocks n + 
     others = λ w out. cleared_others v (4 * b) 4 within w (apart_from b w (out n (omega arith))) ∙ so_far.others w (λ k lt. out k (omega arith));
   }
 
--- one more block is moved
+-- the first n blocks are moved; then the next one is moved too
 module _ (u v sources targets : List ℕ) (n m : ℕ) (less : n < m) (source : 4 * slice_index sources n + 4 ≤ length v)
     (target : 4 * slice_index targets n + 4 ≤ length v) (sources_differ : AreDistinct sources m) (targets_differ : AreDistinct targets m)
     (apart : AreOther sources targets m) (so_far : MovesBlocks u v sources targets n) where

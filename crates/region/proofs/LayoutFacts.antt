@@ -1,4 +1,4 @@
--- For the calls of `Block`: splitting what a block owns into its words and the right to free them, and joining the two again.
+-- For the calls of `Block`, the memory of a region: splitting what it owns into its words and the right to free them, and joining the two again.
 use Rattle.std.proofs.Common.{◌≡◌, ℕ, ◌+◌, ◌^◌, ◌<◌, List, [], ◌∷◌, ◌++◌, length, refl, sym, ap, ◌∙◌, w64}
 use seplogic.Ra.Ura.{Ura}
 use base.Fraction.{full_share}
@@ -22,7 +22,7 @@ use denote.Struct.Struct.{Struct, within}
 use Rattle.region.specs.Layout.{words_at, may_free, block_owns}
 use Rattle.region.specs.contracts.block.Block as C
 
--- the machine value of a block
+-- the machine value of a `Block`: the pointer to its memory, at offset o of allocation b, and the number n of its words
 abbrev pub block_val : ℕ → ℕ → ℕ → Val
 block_val b o n = vstruct (vcons (vptr b o) (vcons (vint w64 n) vnil))
 
@@ -33,7 +33,7 @@ abbrev Owns : Ptr → ℕ → List ℕ → List Val → Fml
 Owns p n xs vs = fsep (Fields.own_val (p, (n, tt)) vs) (block_owns p n xs)
 
 module _ {M : Type 1} {𝓤 : Ura M} {𝓛 : Logic 𝓤} {K : Type 0} {Γ : List (Item 𝓤)} {G : Goal 𝓤 𝓛.H} where
-  -- consecutive words, from an array to cells
+  -- the words at an address as single cells
   pub row_out : K → (n : ℕ) (xs : List ℕ) (b o : ℕ) → (length xs ≡ n → Seq K 𝓛 (‵ (cells (mem u64) xs b o) ∷ Γ) G)
       → Seq K 𝓛 (‵ (words_at (block_ptr b o) n xs) ∷ Γ) G
   row_out t n xs b o k =
@@ -46,7 +46,7 @@ module _ {M : Type 1} {𝓤 : Ura M} {𝓛 : Logic 𝓤} {K : Type 0} {Γ : List
       use1 𝓛 (‵ (words_at (block_ptr b o) n xs)) (Array-whole 𝓛 u64 full_share n xs b o) $ s)
 
 module _ {M : Type 1} {𝓤 : Ura M} {𝓛 : Logic 𝓤} {K : Type 0} {Γ : List (Item 𝓤)} {G : Goal 𝓤 𝓛.H} where
-  -- [the words; the right to free them]
+  -- what a block owns, split into two: [its words; the right to free them]
   pub block_had : K → (d : C.the_row.Denot) (vs : List Val)
       → ((b o : ℕ) → d.at ≡ block_ptr b o → vs ≡ block_val b o d.len ∷ [] → d.len < 2 ^ 64
       → Seq K 𝓛 (‵ (words_at (block_ptr b o) d.len d.items) ∷ ‵ (may_free (block_ptr b o) d.len) ∷ Γ) G)

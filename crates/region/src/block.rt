@@ -1,5 +1,5 @@
-//! One block of memory of a fixed size, as `Region` owns it. No other file of the crate has a raw
-//! pointer.
+//! `Block`, the memory of a region: one allocation of a fixed size. It has nothing to do with the blocks of four
+//! words. No other file of the crate has a raw pointer.
 ghost use Rattle.std.specs.Prelude.{◌≡◌, ℕ, ◌+◌, ◌^◌, ◌<◌, ◌≤◌, List, length, take, drop, replicate, IfSome};
 ghost use Rattle.std.specs.Borrow.{sem, u64, Array, lent_at};
 ghost use Rattle.region.specs.Layout.{block_owns, room_of_words, words_at};

@@ -1,4 +1,5 @@
--- The claims that a call of a heap has some result and a state after it that keeps the rules (`HasMalloc` and its like), which the files of answers prove.
+-- The claims that a malloc, free, write or resize of a heap always has a result, and a state after it that keeps the heap's rules (`HasMalloc` and so on).
+-- The files `Page…` and `BlockAnswers` prove them.
 use Rattle.std.proofs.Common.{◌≡◌, ℕ, ◌+◌, ◌*◌, ◌<◌, ◌≤◌, List, Option, Some, None, Result, Ok, arith, sym, ◌∙◌, refl}
 use Rattle.std.proofs.Common.{subst, inl, inr}
 use Rattle.std.specs.Prelude.{option_map}

@@ -1,4 +1,5 @@
--- For `a_command_is_always_answered`: every call of a heap with blocks has a result, and a state after it that keeps the rules.
+-- For the law that every command gets a reply: each call of a heap with blocks (TLSF, Half-Fit), with or without an order, has a result, and a state after
+-- it that keeps the heap's rules.
 use Rattle.std.proofs.Common.{◌≡◌, ◌≢◌, ℕ, ◌+◌, ◌*◌, ◌<◌, ◌≤◌, List, [], ◌∷◌, Option, Some, None, Ok, Err, length, replicate, arith, sym, ◌∙◌, ap}
 use Rattle.std.proofs.Common.{refl, subst, inl, inr}
 use Rattle.std.specs.Prelude.{IfSome, nat_eq, option_map, slice_index}
@@ -126,13 +127,13 @@ module _ (old : HeapState) (rules : KeepsRules old) (with_blocks : IsTiled old.k
   costs : (cost bound most : ℕ) → cost ≤ most → CostsByKind old.kind cost bound most
   costs cost bound most le = rw (with_blocks, CostsByKind) le
 
-  -- an order of these objects and blocks, but for the links
+  -- o is an order of these objects and blocks; nothing is said of the links in the words
   record IsOrderFor (m : Held) (blocks : List Block) (o : Order) : Type 0 where
     no_pool : o.pool ≡ []
     lists : AreListsOf rule count (record { blocks = blocks; lists = o.not_full })
     spare : AreSpare old.profile.proxies m o.spare
 
-  -- the order that it has
+  -- the order of the old state, if it has one
   order_old : (was : Order) → old.order ≡ Some was → IsBlockOrder old was
   order_old was is = subst (λ o. IfSome o (IsBlockOrder old)) is tiling.order
 
@@ -165,7 +166,7 @@ module _ (old : HeapState) (rules : KeepsRules old) (with_blocks : IsTiled old.k
         (record { tiling = tiles; owned = owned; words = are; no_frames = tiling.no_frames; no_bounds = tiling.no_bounds; order = ordered });
   }
 
-  -- words for other objects in other blocks
+  -- there are words with which the state with these objects, blocks and order keeps the rules
   record Becomes (m : Held) (blocks : List Block) (order : Option Order) : Type 0 where
     words : List ℕ
     kept : (cost : ℕ) → KeepsRules (with_parts m blocks words order cost)

@@ -1,4 +1,5 @@
--- The rule of each kind with pages for its block table (`KeepsTable`), kept by steps of a heap.
+-- What each kind with pages requires of its block table (`KeepsTable`; of the non-moving kind, that it is a permutation): calls keep it, since they only
+-- exchange blocks.
 use Rattle.std.proofs.Common.{◌≡◌, ℕ, ◌*◌, ◌/◌, Option, Some, None, length, arith, sym, ◌∙◌, refl, subst}
 use Rattle.cf_base.specs.declared.answers.Handle.{Handle}
 use Rattle.cf_base.specs.declared.kind.Kind.{Kind}

@@ -1,4 +1,5 @@
--- For `commands_change_only_these_bytes`: what a write and a resize do to each byte of an id.
+-- For the law `commands_change_only_these_bytes`: a write changes exactly its bytes, a resize keeps the bytes within both lengths and adds zeros, and the
+-- bytes of other ids stay.
 use Rattle.std.proofs.Common.{◌≡◌, ◌≢◌, ℕ, ◌+◌, ◌<◌, ◌≤◌, List, Option, Some, None, length, get_or, ◌∙◌, ap, refl, inl, inr}
 use Rattle.std.specs.FinMap.{get, insert}
 use Rattle.cf_lemmas.proofs.Maps.{get_inserted, get_insert_other}

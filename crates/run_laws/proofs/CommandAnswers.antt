@@ -1,4 +1,5 @@
--- For `a_command_is_always_answered`: every valid command has a turn, from the results of the heap's calls.
+-- For the law `a_command_is_always_answered`: in a run in progress each valid command has a step, from the results of the heap's calls; and a run begins
+-- with any settings in range.
 use Rattle.std.proofs.Common.{◌≡◌, ℕ, ◌+◌, ◌*◌, List, Option, Some, None, refl}
 use Rattle.std.specs.Prelude.{codes}
 use Rattle.std.specs.FinMap.{get, remove}
@@ -92,14 +93,14 @@ module _ (old : RunState) (going : IsGoing old) where
   }
   step_there c can = record { reply = shown old c; new = old; done = (refl, refl) }
 
--- every well-formed command gets a reply
-pub turn_there : (old : RunState) (c : Command) → IsGoing old → IsValidCommand c → (reply : Reply) × (new : RunState) × IsCommandStep old c reply new
-turn_there old c going can =
+-- every valid command gets a reply, in a step
+pub step_exists : (old : RunState) (c : Command) → IsGoing old → IsValidCommand c → (reply : Reply) × (new : RunState) × IsCommandStep old c reply new
+step_exists old c going can =
     let s = step_there old going c can in
     (s.reply, s.new, record { step = s.done; bounds = step_meets_bounds old s.new c s.reply going s.done })
 
 -- a run begins with any settings in range
-pub begins_there : (kind : Kind) (p : Profile) → AreInRange p → (s : RunState) × Begins kind p s
-begins_there kind p ok =
+pub begin_exists : (kind : Kind) (p : Profile) → AreInRange p → (s : RunState) × Begins kind p s
+begin_exists kind p ok =
     let first = empty_there p ok kind in
     (record { session = fresh_session; heap = empty_heap kind p first.0 }, record { session = refl; words = first.1; order = tt; heap = refl; rules = first.2 })

@@ -10,8 +10,8 @@ use Rattle.run_model.specs.Texts.{Reply, said, text_of}
 use Rattle.run_model.proofs.CallerLemmas.{begins_going, step_going, step_same}
 use Rattle.run_model.proofs.CallerLemmas.{text_joined}
 use Rattle.run_laws.specs.ValidItems.{AreValidItems, IsUnderWay}
-use Rattle.run_laws.proofs.CommandAnswers.{begins_there, turn_there}
-use Rattle.run_laws.proofs.RunsThere.{CanGoOn, run_goes_on}
+use Rattle.run_laws.proofs.CommandAnswers.{begin_exists, step_exists}
+use Rattle.run_laws.proofs.RunsExist.{CanGoOn, run_goes_on}
 
 -- after an item a run is still in progress
 pub item_keeps : (kind : Kind) (old : Option RunState) (item : Item) (reply : Reply) (new : Option RunState) → IsUnderWay kind old
@@ -23,7 +23,7 @@ item_keeps kind (Some old) (asks c) reply new on step = subst (IsUnderWay kind) 
     ((step_same old step.0 c reply (on.1).rules (step.1).step).kind ∙ on.0, step_going old step.0 c reply on.1 (step.1).step)
 item_keeps kind old (bad n) reply new on step = subst (IsUnderWay kind) (sym step.1) on
 
--- and after a list of items too
+-- after a list of items a run is still in progress
 pub run_keeps : (kind : Kind) (old : Option RunState) (items : List Item) (replies : List Reply) (new : Option RunState) → IsUnderWay kind old
     → Run kind old items replies new → IsUnderWay kind new
 run_keeps kind old [] replies new on run = subst (IsUnderWay kind) (sym run.1) on
@@ -38,8 +38,8 @@ kind_goes_on kind = record {
     (step_same old new c reply (on.1).rules turn.step).kind ∙ on.0,
     step_going old new c reply on.1 turn.step,
   );
-  begins_there = λ p can. (let b = begins_there kind p can in (said (codes "ok"), b.0, (b.1, refl)));
-  turn_there = λ old c on can. turn_there old c on.1 can;
+  begin_exists = λ p can. (let b = begin_exists kind p can in (said (codes "ok"), b.0, (b.1, refl)));
+  step_exists = λ old c on can. step_exists old c on.1 can;
 }
 
 -- what was written of a prefix of the items is a prefix of the text of all

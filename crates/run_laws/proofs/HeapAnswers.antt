@@ -1,4 +1,4 @@
--- Every call of a heap of any kind has a result, and a state after it that keeps the rules: the answers for pages and for blocks, put together.
+-- Every call of a heap of any kind has a result, and a state after it that keeps the heap's rules: the answers for pages and for blocks, put together.
 use Rattle.std.proofs.Common.{◌≡◌, ℕ, ◌≤◌, List, Some, refl}
 use Rattle.std.specs.FinMap.{get}
 use Rattle.page_model.specs.Bytes.{AreBytes}

@@ -30,7 +30,7 @@ is_in_no : (a n w : ℕ) → IsOutside a n w → is_in a n w ≡ false
 is_in_no a n w (inl l) = (let x : nat_le a w ≡ false = grind (arith, nat_tests) in rw x refl)
 is_in_no a n w (inr r) = (let y : nat_lt w (a + n) ≡ false = grind (arith, nat_tests) in rw y (and_false (nat_le a w)))
 
--- the words after those of a run are replaced
+-- `rewritten` is the words in which the n words from a on are replaced by those of f
 module _ (words : List ℕ) (a n : ℕ) (f : ℕ → ℕ) where
   unfoldable pub word_at : ℕ → ℕ
   word_at w = cond (is_in a n w) (f (w - a)) (get_or words w 0)

@@ -1,4 +1,5 @@
--- For `items_are_valid`: each function of the grammar returns valid commands and settings alone.
+-- For the law `items_are_valid`: every item that the grammar finds in a script, command by command, is valid: numbers in range, 1 to 4,096 bytes in a write,
+-- settings without a fault.
 use Rattle.std.proofs.Common.{◌≡◌, ℕ, Bool, true, false, cond, ◌+◌, ◌*◌, ◌/◌, ◌%◌, ◌≤◌, List, [], ◌∷◌, Option, Some, None, Result, Ok, Err, length, arith, sym}
 use Rattle.std.proofs.Common.{ap, refl, subst}
 use Rattle.std.specs.Prelude.{⊤, ◌==◌, codes, nat_le, option_map}
@@ -88,7 +89,7 @@ number_of_range : (low high : ℕ) (text : List ℕ) → OfSort (IsFrom low high
 number_of_range low high text = bound_any (IsFrom low high) _ (number_in text)
     (λ n. tested (IsFrom low high) (is_within low high n) n (within_range low high n))
 
--- a payload
+-- the bytes of a write: 1 to 4,096
 record IsPayload (bytes : List ℕ) : Type 0 where
   some : 1 ≤ length bytes
   few : length bytes ≤ 4096
@@ -106,7 +107,7 @@ payload text = go (is_within 2 8192 (length text)) refl
     go true is = decoded (within_range 2 8192 (length text) is) (decode_of text) refl
     go false is = sort_none IsPayload
 
--- commands
+-- the command, if there is one, is valid
 abbrev Can : Option Command → Type 0
 Can o = OfSort IsValidCommand o
 
@@ -282,33 +283,33 @@ can_open : (args : List (List ℕ)) → OfSort AreInRange (settings_in args)
 can_open args = bound_any AreInRange _ (four_of args) (λ p. bound_any AreInRange _ (number_in p.0) (λ pages. bound_any AreInRange _ (number_in p.1)
     (λ page_bytes. bound_any AreInRange _ (number_in p.2) (λ k. bound_any AreInRange _ (number_in p.3) (λ proxies. in_range pages page_bytes k proxies)))))
 
--- the result of reading a line
-abbrev CanSay : LineMeaning → Type 0
-CanSay (item i) = IsValidItem i
-CanSay saying = ⊤
+-- the item of a line, if it has one, is valid
+abbrev IsValidLine : LineMeaning → Type 0
+IsValidLine (item i) = IsValidItem i
+IsValidLine saying = ⊤
 
 can_item : (word : List ℕ) (args : List (List ℕ)) → OfSort IsValidItem (item_in word args)
 can_item word args = either IsValidItem (bytes_eq word (codes "heap")) (option_map starts (settings_in args)) (option_map asks (command_of word args))
     (mapped AreInRange IsValidItem starts (settings_in args) (can_open args) (λ p is. is))
     (mapped IsValidCommand IsValidItem asks (command_of word args) (can_command word args) (λ c is. is))
 
-says_item : (o : Option Item) → OfSort IsValidItem o → CanSay (item_or_wrong o)
+says_item : (o : Option Item) → OfSort IsValidItem o → IsValidLine (item_or_wrong o)
 says_item None is = tt
 says_item (Some i) is = is.each i refl
 
-says : (b : Bool) (x y : LineMeaning) → CanSay x → CanSay y → CanSay (cond b x y)
+says : (b : Bool) (x y : LineMeaning) → IsValidLine x → IsValidLine y → IsValidLine (cond b x y)
 says true x y first second = first
 says false x y first second = second
 
-can_tokens : (ts : List (List ℕ)) → CanSay (tokens_say ts)
+can_tokens : (ts : List (List ℕ)) → IsValidLine (tokens_say ts)
 can_tokens [] = tt
 can_tokens (word ∷ args) = says (is_comment word) nothing (item_or_wrong (item_in word args)) tt (says_item (item_in word args) (can_item word args))
 
-can_line : (line : List ℕ) → CanSay (line_says line)
+can_line : (line : List ℕ) → IsValidLine (line_says line)
 can_line line = says (is_too_long line) wrong (tokens_say (tokens (without_return line))) tt (can_tokens (tokens (without_return line)))
 
--- an item and those after it
-can_follow : (stage : Stage) (saying : LineMeaning) (n : ℕ) (after : Stage → List Item) → CanSay saying → ((next : Stage) → AreValidItems (after next))
+-- an item is valid, and so are those after it
+can_follow : (stage : Stage) (saying : LineMeaning) (n : ℕ) (after : Stage → List Item) → IsValidLine saying → ((next : Stage) → AreValidItems (after next))
     → AreValidItems (items_by (verdict stage saying) n stage after)
 can_follow stage nothing n after can rest = rest stage
 can_follow stage wrong n after can rest = (tt, tt)
@@ -323,5 +324,5 @@ lines_sayable [] n stage = tt
 lines_sayable (line ∷ rest) n stage = can_follow stage (line_says line) n (items_at rest (n + 1)) (can_line line) (λ next. lines_sayable rest (n + 1) next)
 
 -- every item of a script is valid
-pub items_sayable : (g : List ℕ) (ended : Bool) → AreValidItems (items g ended)
-items_sayable g ended = lines_sayable (lines g ended) 0 Opening
+pub all_items_valid : (g : List ℕ) (ended : Bool) → AreValidItems (items g ended)
+all_items_valid g ended = lines_sayable (lines g ended) 0 Opening

@@ -13,7 +13,7 @@ pub mod BlockAnswers
 pub mod HeapAnswers
 pub mod CommandAnswers
 pub mod Items
-pub mod RunsThere
+pub mod RunsExist
 pub mod GoingOn
 pub mod NamedTurns
 pub mod ReadBack

@@ -1,4 +1,5 @@
--- For the calls of a heap with blocks: to every tiling and its free lists there are words in which word 1 of each free block links it in its list.
+-- For the calls of a heap with blocks: however blocks divide the region, and whatever the free lists, there are words in which word 1 of each free block
+-- links it to its neighbours in its list.
 use Rattle.std.proofs.Common.{◌≡◌, ℕ, zero, suc, ◌+◌, ◌<◌, List, [], ◌∷◌, Option, Some, None, length, get_or, map, cond, arith, refl, sym, ◌∙◌, ap, subst}
 use Rattle.std.proofs.Common.{inl, inr}
 use Rattle.std.specs.Prelude.{if◌then◌else◌, is_none, nat_eq}
@@ -15,12 +16,12 @@ use Rattle.block_model.specs.Tiling.{Block, IsTiling, block_at, is_free, size_at
 use Rattle.block_model.specs.Words.{AreTilingWords}
 use Rattle.block_model.proofs.CallerLemmas.{apart, headers_stay, lies, made, used_is_not_free}
 
--- word 1 of the block at the address, by its list; before the first block there is `previous`
+-- word 1 of the block at the address p in a free list: its links to the next and the previous block. `previous` is the block before the first of the list.
 abbrev word_in_list : ℕ → List ℕ → ℕ → ℕ
 word_in_list previous [] p = 0
 word_in_list previous (x ∷ xs) p = if nat_eq x p then link_word (first xs) previous else word_in_list x xs p
 
--- words that have it in each block of a list have the links of the list
+-- if word 1 of each block of a list is its `word_in_list`, the words have the links of the list
 threaded : (words : List ℕ) (previous : ℕ) (xs : List ℕ) → IsDistinct nat_eq xs
     → ((p : ℕ) → Contains xs p → get_or words (p + 1) 0 ≡ word_in_list previous xs p) → AreThreaded words previous xs
 threaded words previous [] once all = tt
@@ -47,7 +48,7 @@ module _ (content : ℕ → ℕ → ℕ) (count : ℕ) (blocks : List Block) (t 
   abbrev link_at : ℕ → ℕ
   link_at p = word_in_list no_block (list_in lists (rule.bucket (size_at blocks p))) p
 
-  -- the link, in a free block
+  -- word 1 of a block: `link` if the block is free, else `own`
   abbrev word_by : Option Block → ℕ → ℕ → ℕ
   word_by None own link = own
   word_by (Some b) own link = cond (is_free b) link own

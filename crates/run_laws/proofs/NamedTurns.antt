@@ -1,5 +1,5 @@
--- For the laws of reads, of every mode: what each command does to the ids of a run and to their objects, for any rules and any heap; and that reads then print
--- the bytes that follow from the lines and their replies.
+-- For the laws of reads, in every mode: if each command changes the ids and their objects as its reply shows (`NamedTurn`), reads print the bytes that
+-- follow from the lines before them and their replies.
 use Rattle.std.proofs.Common.{◌≡◌, ◌⊎◌, ℕ, Bool, true, false, cond, List, [], ◌∷◌, Option, Some, None, replicate, sym, ◌∙◌, ap, refl, subst, inl, inr}
 use Rattle.std.proofs.lemmas.Bool.{cases_eq}
 use Rattle.std.specs.Ordering.{nat_cmp}
@@ -198,7 +198,7 @@ module _ (old new : Named) (m : IdBytes) (tied : AreTiedTo old.ids old.objects) 
   turn_reads (Read id at count) reply turn = turn.0 ∙ ap (λ (o : Option (List ℕ)). said (read_shown o at count)) (sym (shown id))
   turn_reads c reply turn = tt
 
--- The rules of a run, seen as ids and objects: a run begins without ids, its ids are those of its objects, and each command changes them as it should.
+-- The rules of a run, by ids and objects: a run begins without ids, its ids are those of its objects, and each command changes them as in `NamedTurn`.
 pub record NamesObjects {S : Type 0} (begins : Profile → Reply → S → Type 0) (turns : S → Command → Reply → S → Type 0) : Type 1 where
   pub is_going : S → Type 0
   pub named : S → Named

@@ -1,4 +1,5 @@
--- The exact steps of each call of a heap with pages (`malloc_cost` and its like) are within the bounds 64, 96 + 2s and 160 + 3s.
+-- The exact steps of a malloc, free or resize of a heap with pages (`malloc_cost` and so on) are within 64, 96 + 2s and 160 + 3s; s counts the words of the
+-- slot, in a resize of the larger one.
 use Rattle.std.proofs.Common.{◌≡◌, ℕ, Bool, true, false, ◌+◌, ◌-◌, ◌*◌, ◌/◌, ◌≤◌, List, [], ◌∷◌, Option, Some, None, Ok, length, arith, refl, sym, ap, subst}
 use Rattle.std.specs.Prelude.{if◌then◌else◌, max, min, nat_eq, nat_lt}
 use Rattle.std.specs.FinMap.{get}
@@ -53,7 +54,7 @@ slot_few HalfFit n = omega arith
 pub space_few : (s : HeapState) → 4 + word_steps s.kind ≤ 160
 space_few s = (let w = word_few s.kind in omega arith)
 
--- the steps of one slot
+-- if both branches of a test are within a bound, so is the result
 either_few : (b : Bool) (x y most : ℕ) → x ≤ most → y ≤ most → (if b then x else y) ≤ most
 either_few true x y most a b = a
 either_few false x y most a b = b

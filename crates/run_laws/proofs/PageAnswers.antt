@@ -1,4 +1,5 @@
--- For `a_command_is_always_answered`: every write into a heap with pages, and every `k`, has a result, and a state after it that keeps the rules.
+-- For the law `a_command_is_always_answered`: every write into a live object of a heap with pages, and every `k`, has a result, and a state after it that
+-- keeps the heap's rules.
 use Rattle.std.proofs.Common.{◌≡◌, ℕ, ◌+◌, ◌≤◌, List, Option, Some, None, Ok, Err, length, get_or, set, arith, sym, ◌∙◌, ap, refl}
 use Rattle.std.proofs.Common.{subst, inl, inr}
 use Rattle.std.specs.Prelude.{◌⊎◌, IfSome}

@@ -1,4 +1,4 @@
--- For `a_command_is_always_answered`: every free of a live object of a heap with pages succeeds, and the state after it keeps the rules.
+-- For the law `a_command_is_always_answered`: every free of a live object of a heap with pages succeeds, and the state after it keeps the heap's rules.
 use Rattle.std.proofs.Common.{◌≡◌, ℕ, ◌+◌, ◌*◌, ◌≤◌, List, Option, Some, None, Ok, length, arith, sym, refl, subst}
 use Rattle.std.specs.Prelude.{IfSome}
 use Rattle.std.specs.FinMap.{get}
@@ -97,6 +97,6 @@ module _ (old : HeapState) (rules : KeepsRules old) (paged : IsPaged old.kind) (
       (rw (paged, FreeByOrder) (record { choice = subst (λ q. FreeFollows p old.held h q was c.new) same c.follows; cost = refl })))
       (free_few old was h x there (freed moved) slot_is)
 
-  -- every free of a live object succeeds
+  -- each live object has a successful free (`HasFree`)
   pub free_done : HasFree old h
   free_done = by_order old.order refl

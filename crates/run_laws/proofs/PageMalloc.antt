@@ -1,4 +1,5 @@
--- For `a_command_is_always_answered`: every malloc of a heap with pages has a result, and a state after it that keeps the rules.
+-- For the law `a_command_is_always_answered`: every malloc of a heap with pages has a result, and a state after it that keeps the heap's rules; without an
+-- order any free place serves, with an order the next one.
 use Rattle.std.proofs.Common.{◌≡◌, ℕ, ◌<◌, ◌≤◌, List, Option, Some, None, Ok, Err, replicate, arith, sym, ap, refl, subst, inl, inr}
 use Rattle.std.specs.Prelude.{IfSome, option_map}
 use Rattle.std.proofs.lemmas.Bool.{cases_lt}
@@ -76,7 +77,7 @@ module _ (old : HeapState) (rules : KeepsRules old) (paged : IsPaged old.kind) w
         cost = costs_by_kind old rules paged cost 64 25 le;
       }
 
-  -- a place is left: any of them without an order, and otherwise the next one
+  -- a free place is left: without an order the object may get any of them, with an order it gets the next one
   with_room : (n : ℕ) → need n ≤ old.profile.page_words → len old.held < old.profile.proxies → (a : ℕ) → IsFreePlace p old.held n a
       → (o : Option Order) → old.order ≡ o → HasMalloc old n
   with_room n fits few a free None none =

@@ -1,4 +1,5 @@
--- For `a_command_is_always_answered`: every resize of a live object of a heap with pages has a result, and a state after it that keeps the rules.
+-- For the law `a_command_is_always_answered`: every resize of a live object of a heap with pages has a result, and a state after it that keeps the heap's
+-- rules, with or without an order.
 use Rattle.std.proofs.Common.{◌≡◌, ◌≢◌, ℕ, ◌+◌, ◌≤◌, List, Option, Some, None, Ok, Err, length, arith, sym, ◌∙◌, ap, refl, subst, inl, inr}
 use Rattle.std.specs.Prelude.{IfSome}
 use Rattle.std.proofs.lemmas.Bool.{cases_eq, cases_lt}
@@ -98,7 +99,7 @@ module _ (old : HeapState) (rules : KeepsRules old) (paged : IsPaged old.kind) (
           cost = costs old rules paged cost (resize_bound (Ok done)) le;
         }
 
-    -- without an order
+    -- the resize without an order
     unordered : old.order ≡ None → RefitsObject p old.held asked after → HasResize old asked
     unordered none step = resized_with step None 0 tt
         (λ words. follows_none (ResizeByOrder old asked (Ok done) (next words None 0)) old.order None none refl) (omega arith)
@@ -117,7 +118,7 @@ module _ (old : HeapState) (rules : KeepsRules old) (paged : IsPaged old.kind) (
       unordered fits (insert (without old.held asked.number x.place (number_of moved)) asked.number (resized_at a x asked.length)) moved none
       (inr (changes_class p ps.paging old.held ps.sound asked.number asked.length a old.profile.proxies x (number_of moved) there other unused free moves))
 
-  -- with an order, the next slot
+  -- the resize with an order: into another class the object gets the next slot
   in_order : need asked.length ≤ old.profile.page_words → (class_for p asked.length ≢ class_at p x → (a : ℕ) × IsFreePlace p old.held asked.length a)
       → (was : Order) → old.order ≡ Some was → HasResize old asked
   in_order fits room was some =

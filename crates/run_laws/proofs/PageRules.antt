@@ -1,4 +1,5 @@
--- For the calls of a heap with pages: the state after a call, with other objects, words, block table, order and cost, keeps the rules if these fit together.
+-- For the calls of a heap with pages: the state after a call, with new objects, block table, order and cost, keeps the heap's rules if these fit together;
+-- and the words of such a state exist.
 use Rattle.std.proofs.Common.{◌≡◌, ℕ, ◌≤◌, List, Option, Some, length, refl, subst}
 use Rattle.std.specs.Prelude.{IfSome}
 use Rattle.page_model.specs.Arrangement.{IsSound}
@@ -34,7 +35,7 @@ module _ (old : HeapState) (rules : KeepsRules old) (paged : IsPaged old.kind) w
   pub costs_by_kind : (cost bound other : ℕ) → cost ≤ bound → CostsByKind old.kind cost bound other
   costs_by_kind cost bound other le = rw (paged, CostsByKind) le
 
-  -- the order that it has
+  -- the order of the old state, if it has one
   pub order_old : (was : Order) → old.order ≡ Some was → IsOrderOf p old.held old.profile.proxies was
   order_old was is = subst (λ o. IfSome o (IsOrderOf p old.held old.profile.proxies)) is pages.order
 

@@ -155,7 +155,7 @@ module _ (old new : RunState) where
   )
   turn_named c reply step = same_named named step.1
 
--- the rules of a run on one manager, seen as ids and objects
+-- the rules of a run on one manager meet `NamesObjects`, by the ids and objects of its states
 pub kind_names : (kind : Kind) → NamesObjects (BeginsOne kind) IsCommandStep
 kind_names kind = record {
   is_going = IsGoing;

@@ -1,4 +1,5 @@
--- For mallocs and resizes with pages: if a class of a sound arrangement has a slot left, there is a free place, and back.
+-- For mallocs and resizes with pages: a class of a sound arrangement has a slot left if and only if some address, on a partly full or a free page, is free
+-- for an object of the class.
 use Rattle.std.proofs.Common.{◌≡◌, ℕ, ◌<◌, arith, ◌∙◌, ap, inl, inr}
 use Rattle.std.specs.Prelude.{◌⊎◌}
 use Rattle.std.proofs.lemmas.Bool.{cases_eq, cases_lt}

@@ -1,4 +1,4 @@
--- The items that the grammar lets through, which are valid; and a run that is in progress.
+-- Valid items: all that the grammar of scripts (`items`) returns are valid. And `IsUnderWay`: a run that is in progress, or hasn't begun.
 use Rattle.std.specs.Prelude.{◌≡◌, ⊤, List, [], ◌∷◌, Option, Some, None}
 use Rattle.page_model.specs.Bytes.{AreBytes}
 use Rattle.cf_base.specs.declared.kind.Kind.{Kind}

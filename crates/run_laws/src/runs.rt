@@ -20,8 +20,8 @@ pub fn a_command_is_always_answered()
         → IsValidCommand command → (reply : Reply) × (new : RunState) × IsCommandStep old command reply new }
 {}
 
-/// The grammar lets through valid items only: in those of any input all settings and numbers are in range, and
-/// what a write writes is bytes, numbers below 256. `ended`: no more input follows.
+/// The items of any bytes `given` are valid: settings and numbers are in range, and the bytes of a write are
+/// numbers below 256. `ended` is whether no more input follows these bytes.
 pub fn items_are_valid()
     ensures { (given : List ℕ) (ended : Bool) → AreValidItems (items given ended) }
 {}
@@ -41,8 +41,8 @@ pub fn runs_are_joined()
         → Run kind old (done ++ after) (replies ++ more) new }
 {}
 
-/// There is a run over the items of any input, and each run over a prefix of them can be continued to the
-/// end.
+/// Clause `there`: there is a run over the items of any input. Clause `on`: each run over a prefix of these
+/// items, `done`, can be continued to the end.
 pub fn a_run_can_always_go_on()
     ensures there { (kind : Kind) (given : List ℕ) (ended : Bool)
         → (replies : List Reply) × (new : Option RunState)

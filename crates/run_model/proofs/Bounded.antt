@@ -1,4 +1,5 @@
--- Every step of a run in progress meets `MeetsBounds`: the bound on pages, and when a malloc is refused. So each `Step` is a `IsCommandStep`.
+-- Every step of a run with pages meets `MeetsBounds`: a class with n objects, m to a page, has at most ⌊n/m⌋ + k pages; if every bound is 1, exactly when a
+-- malloc is refused. So each `Step` is an `IsCommandStep`.
 use Rattle.std.proofs.Common.{◌≡◌, ℕ, ◌<◌, ◌≤◌, Option, Some, None, Result, Ok, Err, arith, sym, ◌∙◌, subst, inl, inr, refl}
 use Rattle.std.specs.Prelude.{◌↔◌, codes}
 use Rattle.std.specs.FinMap.{get}

@@ -1,4 +1,5 @@
--- What other crates' proofs may cite: the steps of a run, the ids, and runs one after another.
+-- What other crates' proofs may cite, re-exported: each step of a run keeps it in progress and within its bounds, ids stay those of the objects, and
+-- consecutive runs are one. Declares nothing.
 pub use Rattle.run_model.proofs.Bounded.{step_meets_bounds}
 pub use Rattle.run_model.proofs.RunInvariant.{begins_going, costs_nothing, step_going, step_same}
 pub use Rattle.run_model.proofs.Tied.{costs_with_pages, counted_bound, counted_ids, names_of_objects, resized_ids, unmoved_changes_cost}

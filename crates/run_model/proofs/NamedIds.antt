@@ -1,4 +1,5 @@
--- `Step` for a command that names an id, with `o` in place of the id's handle: `None` if the id isn't live. For proofs by these two cases.
+-- The step of a run (`Step`) for each command that names an id, as a function of `o`, the id's handle, or `None` if the id isn't live: for proofs by these
+-- two cases.
 use Rattle.std.specs.Prelude.{ℕ, List, Option, codes}
 use Rattle.std.specs.Option.{MatchOption}
 use Rattle.page_model.specs.Steps.{Request}

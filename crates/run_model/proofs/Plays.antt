@@ -1,4 +1,5 @@
--- Runs (`PlayRun`) for any rules: two consecutive runs joined to one, a run over one item, and a run whose states are mapped.
+-- Runs over the items of a script by the rules of any mode (`PlayRun`): two consecutive runs joined to one, a run over one item, and a run whose states are
+-- mapped by a function.
 use Rattle.std.proofs.Common.{◌≡◌, ◌++◌, ◌∙◌, ℕ, List, [], ◌∷◌, Option, Some, None, refl, sym, ap, subst, append_assoc}
 use Rattle.std.specs.Prelude.{option_map}
 use Rattle.cf_base.specs.Settings.{Profile}

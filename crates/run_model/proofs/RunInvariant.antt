@@ -1,4 +1,5 @@
--- The invariant `IsGoing` of a run: it holds at the start, and every step keeps it.
+-- A run stays in progress (`IsGoing`: its heap is open and keeps its rules, its ids are those of the objects): this holds after the `heap` line, and every
+-- step keeps it, as it keeps kind and settings.
 use Rattle.std.proofs.Common.{◌≡◌, ℕ, List, Option, Some, None, Result, Ok, Err, sym, ◌∙◌, ap, subst, refl, arith}
 use Rattle.std.specs.FinMap.{get}
 use Rattle.cf_base.specs.Settings.{Profile}

@@ -1,4 +1,5 @@
--- Every step keeps `AreTied`: each live id names one live handle, each handle has one id, and the last cost is within the session's bound.
+-- Every step of a run keeps session and heap consistent (`AreTied`): each live id names one live handle, each handle has one id, and the last cost is within
+-- the session's step bound.
 use Rattle.std.proofs.Common.{◌≡◌, ℕ, List, Option, Some, None, Result, Ok, Err, sym, ◌∙◌, ap, subst, refl}
 use Rattle.std.specs.Prelude.{option_map}
 use Rattle.std.specs.FinMap.{get, insert, remove}

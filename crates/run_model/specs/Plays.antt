@@ -6,15 +6,15 @@ use Rattle.script_reader.specs.Items.{Item, asks, bad, starts}
 use Rattle.script_reader.specs.declared.command.Command.{Command}
 use Rattle.run_model.specs.Texts.{Reply, bad_line, led, said}
 
--- In the given state the item may get `reply` and lead to state `new`. A bad line gets its own reply and changes nothing. No script has a command before the
--- `heap` line; such a command does nothing, and gets no line.
+-- In the given state the item may get `reply` and lead to state `new`. A bad line gets the reply `bad line` with its number, and changes nothing. No script has
+-- a command before the `heap` line; such a command does nothing, and gets no line.
 abbrev pub PlayStep : {S : Type 0} → (Profile → Reply → S → Type 0) → (S → Command → Reply → S → Type 0) → Option S → Item → Reply → Option S → Type 0
 PlayStep {S} begins turns old (starts p) reply new = (s : S) × begins p reply s × (new ≡ Some s)
 PlayStep begins turns None (asks command) reply new = (reply ≡ []) × (new ≡ None)
 PlayStep {S} begins turns (Some old) (asks command) reply new = (s : S) × turns old command reply s × (new ≡ Some s)
 PlayStep begins turns old (bad n) reply new = (reply ≡ said (bad_line n)) × (new ≡ old)
 
--- from the given state the items, in turn, may get these replies, one each, and lead to state `new`
+-- from the given state the items, in order, may get these replies, one each, and lead to state `new`
 abbrev pub PlayRun : {S : Type 0} → (Profile → Reply → S → Type 0) → (S → Command → Reply → S → Type 0) → Option S → List Item → List Reply → Option S
     → Type 0
 PlayRun begins turns old [] replies new = (replies ≡ []) × (new ≡ old)

@@ -90,7 +90,7 @@ steps_text kind s cost = elim (family_of kind) [
 ]
 
 -- the reply to a command that changes nothing, in the state of a run; `none` to the commands of other modes. `Step` defines the replies to `m`, `f`, `w`, `z`
--- and `k`; for these it doesn't use the last row here.
+-- and `k`; for these it doesn't use the last equation here.
 abbrev pub shown : RunState → Command → Reply
 shown s (Read id at count) = said (read_text (object_of s id) at count)
 shown s (Place id) = said (place_text (object_of s id))

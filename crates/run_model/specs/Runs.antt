@@ -1,4 +1,4 @@
--- A run of one session on one manager over the items of a script: how it begins, its turns, and the run itself.
+-- A run of one session on one manager over the items of a script: how it begins, its steps, and the run itself.
 use Rattle.std.specs.Prelude.{◌≡◌, List, Option, codes}
 use Rattle.cf_base.specs.Settings.{Profile}
 use Rattle.cf_base.specs.declared.kind.Kind.{Kind}
@@ -29,11 +29,11 @@ pub record IsCommandStep (old : RunState) (command : Command) (reply : Reply) (n
 abbrev pub BeginsOne : Kind → Profile → Reply → RunState → Type 0
 BeginsOne kind p reply new = Begins kind p new × (reply ≡ said (codes "ok"))
 
--- In the given state, `None` before the `heap` line, the item may get this reply and lead to the second state. A `heap` line begins a new run. A command before
--- it does nothing. No script has such a command, or a second `heap` line.
+-- In the first state, `None` before the `heap` line, the item may get this reply and lead to the second state. A `heap` line begins a new run. A command before
+-- the `heap` line does nothing. No script has such a command, or a second `heap` line.
 abbrev pub ItemStep : Kind → Option RunState → Item → Reply → Option RunState → Type 0
 ItemStep kind = PlayStep (BeginsOne kind) IsCommandStep
 
--- from the first state the items, in turn, may get these replies, one each, and lead to the second state; `None` is the state before the `heap` line
+-- from the first state the items, in order, may get these replies, one each, and lead to the second state; `None` is the state before the `heap` line
 abbrev pub Run : Kind → Option RunState → List Item → List Reply → Option RunState → Type 0
 Run kind = PlayRun (BeginsOne kind) IsCommandStep

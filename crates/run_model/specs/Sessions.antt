@@ -11,7 +11,7 @@ use Rattle.cf_model.specs.Rules.{KeepsRules}
 use Rattle.cf_model.specs.State.{HeapState}
 
 -- `ids` maps each live id to the number of its handle. `bound` is the step bound of the last malloc, free or resize, 0 before the first one. `moves` counts the
--- objects that a call moved, and `words` the words of their slots.
+-- objects that frees and resizes moved, and `words` the words of their slots. Both counts saturate.
 pub record SessionState : Type 0 where
   pub ids : Ids
   pub bound : ℕ

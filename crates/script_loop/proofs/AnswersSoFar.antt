@@ -1,4 +1,5 @@
--- For the loops in `answer_pending_items` and `answer_chunk`: what was answered so far (`Answered`, `CutOff`), continued by one more item or by more bytes.
+-- For `answer_pending_items` and `answer_chunk`, the inner loops of the script loop: the items answered so far, all whole (`Answered`) or the last with a
+-- cut reply (`CutOff`), continued by one more item or by more bytes.
 use Rattle.std.proofs.Common.{◌≡◌, ◌++◌, ◌∙◌, ◌+◌, Bool, true, false, List, [], ◌∷◌, ℕ, Option, Some, None, refl, ap, ap₂, sym, subst}
 use Rattle.std.proofs.Common.{append_assoc, append-nil, take, drop, take-append-drop}
 use Rattle.std.proofs.Math.Seq.{take-add}
@@ -34,7 +35,7 @@ bad_then (starts p ∷ xs) ys h = bad_then xs ys h
 pub nothing_left : (r : Reading) (line : ℕ) (more : List ℕ) (ended : Bool) → r.stopped ≡ Some line → items_left r more ended ≡ []
 nothing_left r line more ended over = rw over refl
 
--- ---- what follows from an answer of the reader
+-- ---- what follows from a result of the reader
 
 bounding_opening : (b : Stage) → b ≡ Bounding → b ≡ Opening → ⊥
 bounding_opening b leads at = absurd (let e : Bounding ≡ Opening = sym leads ∙ at in cc)
@@ -49,7 +50,7 @@ waits_for_nothing r r' over = record {
   room = λ is. absurd (true≢false (sym over.shown ∙ sym over.passes.reads.same_end ∙ is));
 }
 
--- the reader's next item is a bad line, and it stops there
+-- the reader's next item is a bad line, and the reader stops at it
 pub record IsBadAt (r : Reading) (line : ℕ) (r' : Reading) : Type 0 where
   pub first : (more : List ℕ) (ended : Bool) → items_left r more ended ≡ bad line ∷ []
   pub stopped : r'.stopped ≡ Some line
@@ -65,7 +66,7 @@ bad_at r r' line going h =
     }
 
 module _ {S P : Type 0} (m : Semantics S P) where
-  -- ---- answers that follow one another
+  -- ---- items that were answered one after another
 
   pub answered_none : (p : Playing S) → Answered m p [] p [] false
   answered_none p = record {
@@ -80,7 +81,7 @@ module _ {S P : Type 0} (m : Semantics S P) where
     silent = λ is at. refl;
   }
 
-  -- a run by the plan of one state is a run by the equal plan of another state
+  -- a run by the plan of the state `other` (the part of a state that no item changes) is a run by the plan of `from`, if the plans are equal
   replanned : (from other : S) (old new : Option S) (done : List Item) (replies : List Reply) → m.plan other ≡ m.plan from
       → RunBy m other old done replies new → RunBy m from old done replies new
   replanned from other old new done replies same run = subst (λ (k : P). PlayRun (m.begins k) m.turns old done replies new) same run
@@ -122,13 +123,13 @@ module _ {S P : Type 0} (m : Semantics S P) where
     untouched = λ at. let m = b.untouched at in let o = a.untouched m.0 in (o.0, m.1 ∙ o.1);
   }
 
-  -- the items that the first bytes complete, and those answered whole of the next bytes, were all answered whole
+  -- the items that `cut_then a b` has as answered whole are those of a and then those of b
   pub both_done : {old mid new : Playing S} {p q t out : List ℕ} (a : Answered m old p mid t false) (b : CutOff m mid q new out)
       → (cut_then a b).done ≡ a.done ++ b.done
   unfolding cut_then
   both_done a b = refl
 
-  -- two answers in turn, the second without further bytes, are one answer
+  -- if items were answered after the bytes p were fed, and then more items without further bytes, all were answered after p
   pub answered_next : {old mid new : Playing S} {p t u : List ℕ} {stop : Bool} → Answered m old p mid t false → Answered m mid [] new u stop
       → Answered m old p new (t ++ u) stop
   answered_next {old} {mid} {new} {p} {t} {u} {stop} a b = subst (λ (l : List ℕ). Answered m old l new (t ++ u) stop) (append-nil p) (answered_then a b)
@@ -136,9 +137,9 @@ module _ {S P : Type 0} (m : Semantics S P) where
   pub cut_next : {old mid new : Playing S} {p t out : List ℕ} → Answered m old p mid t false → CutOff m mid [] new out → CutOff m old p new (t ++ out)
   cut_next {old} {mid} {new} {p} {t} {out} a b = subst (λ (l : List ℕ). CutOff m old l new (t ++ out)) (append-nil p) (cut_then a b)
 
-  -- ---- one answer of the reader
+  -- ---- one result of the reader
 
-  -- nothing but blank lines and comments
+  -- the reader passed nothing but blank lines and comments
   pub answered_blank : (r r' : Reading) (s : S) → PassesOver r r'
       → Answered m (record { reading = r; state = s }) [] (record { reading = r'; state = s }) [] false
   answered_blank r r' s passes = record {
@@ -156,7 +157,7 @@ module _ {S P : Type 0} (m : Semantics S P) where
   pub ready_blank : (r r' : Reading) (s : S) → PassesOver r r' → IsReadyAt m r.stage s → IsReadyAt m r'.stage s
   ready_blank r r' s passes ready = subst (λ (a : Stage). IsReadyAt m a s) (sym passes.same_stage) ready
 
-  -- the `heap` line
+  -- the reader returned the `heap` line
   pub fresh_at : (a : Stage) (s : S) → a ≡ Opening → IsReadyAt m a s → m.is_fresh s
   fresh_at a s is ready = subst (λ (z : Stage). IsReadyAt m z s) is ready
 
@@ -199,7 +200,7 @@ module _ {S P : Type 0} (m : Semantics S P) where
     untouched = λ at. absurd (bounding_opening _ answer.bounding at);
   }
 
-  -- a command
+  -- the reader returned a command
   command_step : (from : S) (c : Command) (reply : Reply) (a b : Stage) (s t : S) → stage_after_command a (is_bound c) ≡ Some b → m.turns s c reply t
       → StepBy m from (run_in a s) (asks c) reply (run_in b t)
   command_step from c reply a b s t leads turn =
@@ -248,7 +249,7 @@ module _ {S P : Type 0} (m : Semantics S P) where
   pub ready_command : (r r' : Reading) (c : Command) (t : S) → Answers r (next.Command c) r' → m.is_going t → IsReadyAt m r'.stage t
   ready_command r r' c t answer going = going_after m _ _ _ t answer.leads going
 
-  -- a bad line
+  -- the reader returned a bad line
   bad_step : (from : S) (old : Option S) (n : ℕ) → StepBy m from old (bad n) (said (bad_line n)) old
   bad_step from None n = (refl, refl)
   bad_step from (Some s) n = (refl, refl)
@@ -290,7 +291,7 @@ module _ {S P : Type 0} (m : Semantics S P) where
     untouched = λ at. (sym h.same_stage ∙ at, refl);
   }
 
-  -- a bad line is named
+  -- the number of a bad line was written, whole or in part
   pub named : (old : Progress S) (r r' : Reading) (s : S) (w w' : Option (List ℕ)) (line : ℕ) (text : List ℕ) (ready : ChunkOutcome)
       → Answered m old.playing [] (record { reading = r; state = s }) text false → w ≡ appended old.written text → IsBadAt r line r'
       → PrintsBadLine w line ready w' → MeetsChunkOutcome m old [] ready (progress (record { reading = r'; state = s }) w')
@@ -310,7 +311,7 @@ module _ {S P : Type 0} (m : Semantics S P) where
 
   -- ---- bytes that are fed
 
-  -- what was fed was neither answered nor lost
+  -- when n more bytes of the chunk were fed, the same items are answered
   pub answered_fed : {old : Playing S} {r : Reading} {s : S} {t : List ℕ} (r' : Reading) (chunk : List ℕ) (i n : ℕ)
       → Answered m old (take i chunk) (record { reading = r; state = s }) t false
       → r.ended ≡ false → r' ≡ fed_with r (take n (drop i chunk)) → Answered m old (take (i + n) chunk) (record { reading = r'; state = s }) t false
@@ -330,7 +331,7 @@ module _ {S P : Type 0} (m : Semantics S P) where
         silent = a.silent;
       })
 
-  -- after a bad line, and after a cut, further bytes change nothing
+  -- after a bad line (`answered_over`), and after a cut reply (`cut_over`), the bytes of the chunk that were not fed change nothing
   pub answered_over : {old new : Playing S} {t : List ℕ} (line : ℕ) (chunk : List ℕ) (i : ℕ) → Answered m old (take i chunk) new t true
       → new.reading.stopped ≡ Some line
       → Answered m old chunk new t true

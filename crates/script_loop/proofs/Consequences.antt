@@ -1,4 +1,5 @@
--- For the laws of `laws.rt`: what follows from the outcome of a script on one manager.
+-- For the laws on a script over one manager: reads print what was written, a cut output is a prefix of a run's, chunks don't matter, and if every bound is 1
+-- and no address or cost is asked, the output is the transcript.
 use Rattle.std.proofs.Common.{◌≡◌, ◌≤◌, ◌<◌, ◌++◌, ◌∙◌, Bool, ℕ, List, [], Option, Some, None, true, false, refl, sym, ap, subst, length, arith}
 use Rattle.cf_base.specs.declared.kind.Kind.{Kind}
 use Rattle.cf_base.specs.declared.status.Status.{Status}
@@ -6,7 +7,7 @@ use Rattle.cf_base.specs.declared.status.Status.TheVariants.{Done, Words, BadScr
 use Rattle.cf_io.specs.Feeds.{appended}
 use Rattle.script_reader.specs.Items.{Item}
 use Rattle.script_reader.specs.declared.command.Command.{Command}
-use Rattle.run_laws.proofs.CallerLemmas.{items_sayable, kind_goes_on, reads_are_shown}
+use Rattle.run_laws.proofs.CallerLemmas.{all_items_valid, kind_goes_on, reads_are_shown}
 use Rattle.run_laws.specs.ValidItems.{IsValidCommand}
 use Rattle.run_model.specs.Runs.{IsCommandStep}
 use Rattle.run_model.specs.Sessions.{RunState}
@@ -59,7 +60,7 @@ cut_is_prefix from to call all w =
     let kind = from.heap.kind in
     let p = part_is_prefix one_manager from (kind_goes_on kind) (cut_whole kind)
     (items_within all) w.before w.after w.item w.replies w.mid w.end w.front
-    (items_sayable (take MOST_BYTES all) (nat_le (length all) MOST_BYTES)) w.parts w.run w.part in
+    (all_items_valid (take MOST_BYTES all) (nat_le (length all) MOST_BYTES)) w.parts w.run w.part in
     record { replies = p.0; end = p.1; run = p.3; missing = p.2; prefix = p.4 }
 
 -- ---- transcripts
@@ -79,9 +80,9 @@ pub transcript_shown : (from to : RunState) (call : Effects) → MeetsOutcome on
     → PrintsTranscript from.heap.kind call.had call
 transcript_shown from to call met is = shows_of from to call call.had refl met is
 
--- ---- cuts
+-- ---- two calls over the same bytes, cut into other chunks
 
--- what follows from the rows for the bytes alone
+-- what a status (`IsStatusRow`) claims of the bytes `all` alone
 abbrev BytesSay : Status → List ℕ → Type 0
 BytesSay Done all = (length all ≤ MOST_BYTES) × (has_bad (items_within all) ≡ false)
 BytesSay BadScript all = has_bad (items_within all) ≡ true

@@ -1,4 +1,5 @@
--- For `play_script`: from what its turns and the end of the input did to `MeetsOutcome`, case by case of the status.
+-- For `play_script`, the loop over a script: from the items answered in its turns, one chunk each, and at the end of the input to its outcome
+-- (`MeetsOutcome`), for each status.
 use Rattle.std.proofs.Common.{◌≡◌, ◌≤◌, ◌<◌, ◌+◌, ◌-◌, ◌++◌, ◌∙◌, Bool, true, false, List, [], ◌∷◌, ℕ, Option, Some, None, refl, ap, ap₂, sym, subst, length}
 use Rattle.std.proofs.Common.{take, append_assoc, append-nil, length-append, arith}
 use Rattle.std.proofs.Math.Seq.{take-append-add}
@@ -25,7 +26,7 @@ use Rattle.script_loop.proofs.Stages.{stands}
 abbrev pub starting : {S : Type 0} → S → Playing S
 starting s = record { reading = fresh; state = s }
 
--- a reader after the end of its bytes
+-- a reader after the end of its bytes was announced
 abbrev pub shown_end : Reading → Reading
 shown_end r = record r { ended = true }
 
@@ -41,7 +42,7 @@ within_is all t more parts fits =
     ap (λ (l : List ℕ). items l (nat_le (length all) MOST_BYTES))
     (ap (λ (l : List ℕ). take MOST_BYTES l) parts ∙ ap (λ n. take n (t ++ more)) room ∙ take-append-add t more (MOST_BYTES - length t))
 
--- bytes that continue after the limit are more than the limit
+-- if t has 268,435,455 bytes, and more bytes follow t, the script passes the limit
 pub longer : (all t more : List ℕ) → all ≡ t ++ more → length t ≡ MOST_BYTES → 0 < length more → MOST_BYTES < length all
 longer all t more parts full some = rw (parts, length-append) (omega arith)
 
@@ -84,13 +85,13 @@ module _ {S P : Type 0} (m : Semantics S P) where
     refl,
   )
 
-  -- the items of the bytes so far, if no line is begun
+  -- if the reader needs more bytes, the items of the bytes t are those answered
   pub quiet_items : {s : S} {new : Playing S} {t text : List ℕ} (a : Answered m (starting s) t new text false) → IsWaiting new.reading
       → items t false ≡ a.done
   quiet_items {s} {new} {t} {text} a waits =
       ap (λ (l : List ℕ). items l false) (sym (append-nil t)) ∙ a.left [] false ∙ ap (λ (l : List Item). a.done ++ l) waits.quiet ∙ append-nil a.done
 
-  -- at most one chunk was taken since the items so far were answered
+  -- if at most one chunk (`last`) was taken after the bytes t, whose items were answered: `TakesAtMostAChunk`
   pub takes_a_chunk : {s : S} {new : Playing S} {t text : List ℕ} (a : Answered m (starting s) t new text false) → IsWaiting new.reading
       → (more before : List Item) → before ≡ a.done ++ more → (last all left : List ℕ) → all ≡ t ++ (last ++ left) → length last ≤ MOST_CHUNK
       → TakesAtMostAChunk before all left
@@ -102,9 +103,9 @@ module _ {S P : Type 0} (m : Semantics S P) where
     answered = (more, is ∙ ap (λ (l : List Item). l ++ more) (sym (quiet_items a waits)));
   }
 
-  -- ---- the items of the bytes so far
+  -- ---- the items within the limit, when the script ends before the end of the input
 
-  -- up to a bad line
+  -- if the script ended at a bad line, its items within the limit are those answered, the bad line among them
   pub bad_items : {s : S} {new : Playing S} {t text : List ℕ} {line : ℕ} (all more : List ℕ) (a : Answered m (starting s) t new text true) → all ≡ t ++ more
       → length t ≤ MOST_BYTES → new.reading.stopped ≡ Some line → items_within all ≡ a.done
   bad_items {s} {new} {t} {text} {line} all more a parts fits over =
@@ -112,7 +113,7 @@ module _ {S P : Type 0} (m : Semantics S P) where
       ∙ ap (λ (l : List Item). a.done ++ l) (nothing_left new.reading line (take (MOST_BYTES - length t) more) (nat_le (length all) MOST_BYTES) over)
       ∙ append-nil a.done
 
-  -- up to a reply that was cut
+  -- if the script ended at a cut reply, its items within the limit are those answered whole, the item with the cut reply, and the later items
   pub cut_items : {s : S} {new : Playing S} {t out : List ℕ} (all more : List ℕ) (c : CutOff m (starting s) t new out) → all ≡ t ++ more
       → length t ≤ MOST_BYTES
       → (after : List Item) × (items_within all ≡ c.done ++ c.item ∷ after)
@@ -129,7 +130,7 @@ module _ {S P : Type 0} (m : Semantics S P) where
 
   -- ---- at the end of the input
 
-  -- the items of all the bytes: those answered, and those that the end of the input completes
+  -- the items of all bytes are those answered before the end, and those that the end of the input completes
   pub ended_items : {s : S} {mid : Playing S} {t text : List ℕ} (all : List ℕ) (a : Answered m (starting s) t mid text false) → all ≡ t
       → length t ≤ MOST_BYTES
       → items_within all ≡ a.done ++ items_left (shown_end mid.reading) [] false
@@ -157,7 +158,7 @@ module _ {S P : Type 0} (m : Semantics S P) where
       (wanted : List Item) → wanted ≡ a.done ++ b.done → has_bad wanted ≡ stop
   bads_then {s} {mid} {new} {t} {text} {u} {stop} a b wanted same = ap has_bad same ∙ bad_then a.done b.done a.stops ∙ b.stops
 
-  -- all was answered
+  -- all items were answered
   pub whole_items : {s : S} {mid new : Playing S} {t text u : List ℕ} (all : List ℕ) (a : Answered m (starting s) t mid text false)
       (b : Answered m (ending mid) [] new u false)
       → all ≡ t → length t ≤ MOST_BYTES → IsWaiting new.reading → items_within all ≡ a.done ++ b.done
@@ -165,7 +166,7 @@ module _ {S P : Type 0} (m : Semantics S P) where
       ended_items all a same fits ∙ ap (λ (l : List Item). a.done ++ l)
       (b.left [] false ∙ ap (λ (l : List Item). b.done ++ l) waits.quiet ∙ append-nil b.done)
 
-  -- the end of the input completed a bad line
+  -- the end of the input completed a bad line, the last item answered
   pub bad_end_items : {s : S} {mid new : Playing S} {t text u : List ℕ} {line : ℕ} (all : List ℕ) (a : Answered m (starting s) t mid text false)
       (b : Answered m (ending mid) [] new u true)
       → all ≡ t → length t ≤ MOST_BYTES → new.reading.stopped ≡ Some line → items_within all ≡ a.done ++ b.done
@@ -173,7 +174,7 @@ module _ {S P : Type 0} (m : Semantics S P) where
       ended_items all a same fits ∙ ap (λ (l : List Item). a.done ++ l)
       (b.left [] false ∙ ap (λ (l : List Item). b.done ++ l) (nothing_left new.reading line [] false over) ∙ append-nil b.done)
 
-  -- a reply was cut at the end
+  -- the sink failed at the reply to an item that the end of the input completed
   pub cut_at_end : {s : S} {mid new : Playing S} {t text out : List ℕ} (all : List ℕ) (a : Answered m (starting s) t mid text false)
       (c : CutOff m (ending mid) [] new out) (call : Effects)
       → all ≡ t → length t ≤ MOST_BYTES → call.after ≡ appended call.before (text ++ out)
@@ -202,7 +203,7 @@ module _ {S P : Type 0} (m : Semantics S P) where
 
   -- ---- an allocation failed
 
-  -- nothing was written before the heap line
+  -- if an allocation failed at the `heap` line, nothing was written at all
   pub silent_before : {s : S} {mid new : Playing S} {t text : List ℕ} {w0 w w' : Option (List ℕ)} → Answered m (starting s) t mid text false
       → LackedMemory m (progress mid w) (progress new w')
       → w ≡ appended w0 text → w' ≡ w0

@@ -1,4 +1,4 @@
--- Bytes written, taken or counted in two chunks, one after the other, are those of one chunk. For the loops over chunks.
+-- For the loops over chunks: bytes that were written, taken or counted in two chunks, one after the other, are those of both together.
 use Rattle.std.proofs.Common.{◌≡◌, ◌++◌, ◌∙◌, List, ℕ, Option, None, Some, true, refl, ap, sym, ◌+◌, append_assoc, append-nil, take, min, arith, inl, inr}
 use Rattle.std.proofs.lemmas.Bool.{cases_lt}
 use Rattle.std.specs.Prelude.{[]}
@@ -23,7 +23,7 @@ given_min g0 g2 n is = elim (cases_lt (g0 + n) last_count) [
   | inr more ↦ inr (omega (arith, is, more))
 ]
 
--- n more bytes were given, if there were any
+-- if the source's count rose by a (or saturated) and then by n, it rose by b = a + n (or is saturated)
 pub given_more : (g0 g1 g2 a n b : ℕ) → HasGiven g0 a g1 → g2 ≡ min (g1 + n) last_count → b ≡ a + n → HasGiven g0 b g2
 given_more g0 g1 g2 a n b (inl just) next sum = given_min g0 g2 b (let e : g1 + n ≡ g0 + b = omega (arith, just, sum) in next ∙ ap (λ k. min k last_count) e)
 given_more g0 g1 g2 a n b (inr last) next sum = inr (omega (arith, last, next))
@@ -43,7 +43,7 @@ preceded_none (Some r) = refl
 pub nothing_taken : (x y : Option (List ℕ)) (bytes : List ℕ) (n : ℕ) → n ≡ 0 → x ≡ preceded (take n bytes) y → x ≡ y
 nothing_taken x y bytes n none e = e ∙ ap (λ k. preceded (take k bytes) y) none ∙ sym (preceded_none y)
 
--- no bytes come after the end
+-- after the end of the source no bytes may follow
 pub nothing_follows : (rest : Option (List ℕ)) (more : List ℕ) → IsSpent rest → MayFollow rest true more → more ≡ []
 nothing_follows None more spent follows = follows
 nothing_follows (Some left) more spent follows = follows ∙ spent

@@ -1,5 +1,5 @@
--- For `Script::turn` and `play_script`: what one turn answers, what all turns so far have answered, and the contract `Plays` when the last turn ends the
--- script.
+-- For `play_script` and `Script::turn`, one turn of its loop: what a turn takes (a chunk) and answers, what all turns so far did, and the loop's contract
+-- (`Plays`) once a turn ends the script.
 use Rattle.std.proofs.Common.{◌≡◌, ◌≢◌, ◌≤◌, ◌<◌, ◌+◌, ◌⊎◌, ◌++◌, ◌∙◌, false, true, List, [], ℕ, Option, refl, ap, sym, subst, length, inl, inr, arith}
 use Rattle.std.proofs.Common.{take, drop, append_assoc, append-nil, length-append, length-drop, take-append-drop, min}
 use Rattle.std.proofs.lemmas.List.{length-take-le, take-take}
@@ -19,7 +19,7 @@ use Rattle.script_loop.proofs.Ending.{silent_before, starting, takes_a_chunk, wa
 use Rattle.script_loop.proofs.Feeding.{appended_after, appended_none, given_more, given_none, nothing_follows, preceded_after, preceded_none}
 use Rattle.script_loop.proofs.AnswersSoFar.{answered_none, answered_then, both_done, cut_then}
 
--- ---- the chunk of a call: its first k bytes are within the limit
+-- ---- the chunk that a call of the source returned: the first n bytes of `buf`, the first k of them within the limit
 
 abbrev pub chunk_of : {S : Type 0} (old new : BetweenTurns S) (buf : List ℕ) (k n : ℕ) → k ≤ n → k ≤ old.left → n ≤ length buf → length buf ≤ MOST_CHUNK
     → old.rest ≡ preceded (take n buf) new.rest → new.given ≡ min (old.given + n) last_count → Chunk old new
@@ -37,7 +37,7 @@ chunk_of old new buf k n below left fits few took counted =
       short = omega (arith, long, fits, few);
     }
 
--- it lies within it as a whole
+-- the whole chunk is within the limit
 abbrev pub whole_chunk : {S : Type 0} (old new : BetweenTurns S) (buf : List ℕ) (n : ℕ) → n ≤ old.left → n ≤ length buf → length buf ≤ MOST_CHUNK
     → old.rest ≡ preceded (take n buf) new.rest → new.given ≡ min (old.given + n) last_count → Chunk old new
 whole_chunk old new buf n left fits few took counted =
@@ -58,14 +58,15 @@ some_past buf k n below fits = rw (length-drop, length-take-le n buf fits) (omeg
 
 -- ---- how a script ended
 
--- the outcome and what else each end claims
+-- what is claimed when a script has ended, but for the causes of faults: the outcome, an unchanged plan (the part of a state that no item changes), and what
+-- `OutOfMemory` and `TooLong` mean
 pub record HasEnded {S P : Type 0} (m : Semantics S P) (from : S) (call : Effects) (to : S) : Type 0 where
   pub outcome : MeetsOutcome m from call to
   pub plan : m.plan to ≡ m.plan from
   pub silent : call.status ≡ OutOfMemory → call.after ≡ call.before
   pub too_long : call.status ≡ TooLong → (call.given_before + MOST_BYTES < call.given_after) ⊎ (call.given_after ≡ last_count)
 
--- with the causes of faults
+-- `Plays`, from `HasEnded` and from the causes of faults
 pub plays_of : {S P : Type 0} (m : Semantics S P) (from : S) (s : SourceState) (k : SinkState) (st : Status) (s' : SourceState) (k' : SinkState) (to : S)
     → HasEnded m from (effects s k st s' k') to → (st ≢ ReadFault → s'.faults ≡ s.faults)
     → (st ≡ ReadFault → FailsLast s.faults s'.faults s'.failed) → (st ≢ WriteFault → k'.faults ≡ k.faults) → (st ≡ WriteFault → FailsLast k.faults k'.faults k'.failed)
@@ -83,7 +84,7 @@ plays_of m from s k st s' k' to ended source_same read_fault sink_same write_fau
   };
 }
 
--- how the answering of the items ended that the end of the input completes
+-- the end of the input completed items; how answering them ended, for each status
 abbrev pub EndsAs : {S P : Type 0} → Semantics S P → Status → Progress S → Progress S → Type 0
 EndsAs m Done old new = WentOn m old [] new
 EndsAs m BadScript old new = HasStopped m old [] new
@@ -93,7 +94,8 @@ EndsAs m status old new = ⊥
 
 -- ---- from the start of a script
 
--- what the turns answered since a state, and what the source had and gave and the sink held then
+-- What all turns so far did. At the start the run was in the state `from`, the source had the bytes `had` and had returned `given` bytes, and the sink had the
+-- bytes `before`. The turns took the bytes `taken` and wrote the bytes `text`; they led to `b`.
 pub record SoFar {S P : Type 0} (m : Semantics S P) (from : S) (had : Option (List ℕ)) (given : ℕ) (before : Option (List ℕ)) (b : BetweenTurns S) : Type 0 where
   pub taken : List ℕ
   pub text : List ℕ
@@ -223,7 +225,7 @@ module _ {S P : Type 0} (m : Semantics S P) {from : S} {had before : Option (Lis
         gave_past n over (inl just) most = inl (omega (arith, over, just))
         gave_past n over (inr last) most = inr (omega (arith, last, most))
 
-  -- all that a chunk completes was answered: so the next turn begins
+  -- if all items that a chunk completes were answered, the next turn may begin
   module _ {b' : BetweenTurns S} (a : AnswersChunk m b b') where
     whole : f.taken ++ (a.chunk.within ++ a.chunk.past) ≡ f.taken ++ a.chunk.within
     whole = ap (λ (l : List ℕ). f.taken ++ l) (ap (λ (l : List ℕ). a.chunk.within ++ l) a.whole ∙ append-nil a.chunk.within)
@@ -248,7 +250,7 @@ module _ {S P : Type 0} (m : Semantics S P) {from : S} {had before : Option (Lis
           wrote = appended_after _ _ _ _ _ f.wrote a.went.wrote;
         }
 
-  -- nothing was taken
+  -- a turn that takes nothing changes nothing
   pub same_so_far : {b' : BetweenTurns S} → TakesNothing b b' → SoFar m from had given before b'
   same_so_far {b'} none = record {
     taken = f.taken;
@@ -273,7 +275,7 @@ module _ {S P : Type 0} (m : Semantics S P) {from : S} {had before : Option (Lis
     status = st;
   }
 
-  -- the source failed, and nothing was taken since
+  -- the script ended because the source failed; the failed call took nothing
   pub read_failed : HasEnded m from (call_at ReadFault) b.progress.playing.state
   read_failed =
       let quiet = quiet_items m f.answered f.awaits.waiting in
@@ -367,7 +369,7 @@ module _ {S P : Type 0} (m : Semantics S P) {from : S} {had before : Option (Lis
     has_ended TooLong went = absurd went
     has_ended BadImage went = absurd went
 
--- a turn ended the script
+-- a turn ended the script with the status `st`
 pub has_stopped : {S P : Type 0} (m : Semantics S P) {from : S} {had before : Option (List ℕ)} {given : ℕ} {b : BetweenTurns S}
     (f : SoFar m from had given before b) (b' : BetweenTurns S) (st : Status) → StopsBy m st b b'
     → HasEnded m from (record { had = had; left = b'.rest; given_before = given; given_after = b'.given; before = before; after = b'.progress.written; status = st })
@@ -381,7 +383,7 @@ has_stopped m f b' Done never = absurd never
 has_stopped m f b' Words never = absurd never
 has_stopped m f b' BadImage never = absurd never
 
--- the source ended, and what that completes was answered
+-- the source ended, the items that its end completes were answered, and the script ended with the status `st`
 pub at_end : {S P : Type 0} (m : Semantics S P) {from : S} {had before : Option (List ℕ)} {given : ℕ} {b : BetweenTurns S}
     (f : SoFar m from had given before b) (b' : BetweenTurns S) → TakesNothing b b' × IsSpent b.rest → (p : Progress S) (st : Status)
     → EndsAs m st (progress (ending b'.progress.playing) b'.progress.written) p

@@ -1,4 +1,5 @@
--- For the `ModeHandler` implementation of `Session`: a `heap` line begins a run, and no item changes the plan.
+-- For the mode handler of mode `run` (`Session`): the `heap` line begins a run, and no command changes its plan: the manager's kind, and whether it promises
+-- an order.
 use Rattle.std.proofs.Common.{◌≡◌}
 use Rattle.cf_base.specs.Settings.{profile_of}
 use Rattle.cf_base.specs.declared.settings.Settings.{Settings}

@@ -4,7 +4,7 @@ use Rattle.std.proofs.Common.{◌≡◌, ◌++◌, ◌∙◌, ℕ, List, [], ◌
 use Rattle.script_reader.specs.Items.{Item, asks, bad, starts}
 use Rattle.script_reader.specs.declared.command.Command.{Command}
 use Rattle.std.specs.Prelude.{length, nat_le, take}
-use Rattle.run_laws.proofs.CallerLemmas.{CanGoOn, IsOn, items_sayable, run_on, run_there, sayable_before, sayable_behind, step_on}
+use Rattle.run_laws.proofs.CallerLemmas.{CanGoOn, IsOn, all_items_valid, run_on, run_there, valid_before, sayable_behind, step_on}
 use Rattle.run_laws.specs.ValidItems.{AreValidItems, IsValidCommand, IsValidItem}
 use Rattle.run_model.proofs.CallerLemmas.{run_joined, text_joined}
 use Rattle.run_model.specs.Texts.{Reply, bad_line, led, said, text_of}
@@ -12,7 +12,7 @@ use Rattle.script_loop.specs.Consequences.{IsPrefixBy}
 use Rattle.script_loop.specs.ScriptOutcome.{Effects, MOST_BYTES, WroteInPart, items_within}
 use Rattle.script_loop.specs.Semantics.{PartBy, RunBy, Semantics, StepBy}
 
--- The premises: runs of the mode handler can go on, and a reply that was cut is that of a turn.
+-- The premises: runs of the mode handler can go on, and each cut reply is a prefix of the reply of some turn.
 module _ {S P : Type 0} (m : Semantics S P) (from : S) (rules : CanGoOn (m.begins (m.plan from)) m.turns)
     (cut_whole : (old : S) (c : Command) (out : List ℕ) (new : S) → rules.is_going old → IsValidCommand c → m.turns_in_part old c out new
     → (reply : Reply) × (mid : S) × (lost : List ℕ) × m.turns old c reply mid × (led [] reply ≡ out ++ lost)) where
@@ -33,7 +33,7 @@ module _ {S P : Type 0} (m : Semantics S P) (from : S) (rules : CanGoOn (m.begin
       × (text_of [] all ≡ (text_of [] replies ++ front) ++ missing)
   part_is_prefix wanted before after item replies mid end front can parts run part =
       let rest = sayable_behind before (item ∷ after) (subst AreValidItems parts can) in
-      let on = run_on (m.begins (m.plan from)) m.turns rules None before replies mid tt (sayable_before before (item ∷ after) (subst AreValidItems parts can)) run in
+      let on = run_on (m.begins (m.plan from)) m.turns rules None before replies mid tt (valid_before before (item ∷ after) (subst AreValidItems parts can)) run in
       let whole = part_whole mid item front end on rest.0 part in
       let more = run_there (m.begins (m.plan from)) m.turns rules whole.1 after
       (step_on (m.begins (m.plan from)) m.turns rules mid item whole.0 whole.1 on rest.0 whole.3) rest.1 in
@@ -53,5 +53,5 @@ module _ {S P : Type 0} (m : Semantics S P) (from : S) (rules : CanGoOn (m.begin
       → IsPrefixBy m from (items_within all) (text_of [] w.replies ++ w.front)
   cut_is_prefix_by to call all w =
       let p = part_is_prefix (items_within all) w.before w.after w.item w.replies w.mid w.end w.front
-      (items_sayable (take MOST_BYTES all) (nat_le (length all) MOST_BYTES)) w.parts w.run w.part in
+      (all_items_valid (take MOST_BYTES all) (nat_le (length all) MOST_BYTES)) w.parts w.run w.part in
       record { replies = p.0; end = p.1; run = p.3; missing = p.2; prefix = p.4 }

@@ -1,4 +1,4 @@
--- From the turn of a command and from what was written of its reply to `Applies`, for the session of any mode handler.
+-- For the session of any mode: if a command took effect and its reply was written whole or in part, the session's contract (`Applies`) holds.
 use Rattle.std.proofs.Common.{◌≡◌, ℕ, ◌++◌, List, [], ◌∷◌, Option, Result, Ok, Err, refl, sym, subst}
 use Rattle.cf_base.specs.declared.answers.Failed.{Failed}
 use Rattle.cf_io.specs.Feeds.{Puts}
@@ -13,7 +13,7 @@ use Rattle.script_loop.specs.Applying.{Applies, BuildsReply, TurnsInPart}
 -- for a semantics in which each turn with a cut reply is a turn in part
 module _ {S P : Type 0} (m : Semantics S P)
     (in_part : (old : S) (c : Command) (out : List ℕ) (new : S) → TurnsInPart m.turns old c out new → m.turns_in_part old c out new) where
-  -- a reply that was written, or a prefix of it
+  -- the reply was written whole, or only a prefix of it
   pub reported : (old new : S) (c : Command) (reply : Reply) (w y : Option (List ℕ)) (r : Result Unit Failed) (outcome : Outcome)
       (answer : Result Outcome Failed) → m.turns old c reply new → outcome ≡ outcome_of reply → Puts w (led [] reply) r y → IsEnded r outcome answer
       → Applies m (snapshot old w) c answer (snapshot new y)
@@ -27,7 +27,7 @@ module _ {S P : Type 0} (m : Semantics S P)
         written = put;
       })
 
-  -- a reply of one line
+  -- the reply is the one line that `BuildsReply` names, and was written whole or in part
   pub shown_line : (old new : S) (c : Command) (line : List ℕ) (w y : Option (List ℕ)) (r : Result Unit Failed) (outcome : Outcome)
       (answer : Result Outcome Failed) → BuildsReply m.turns old c new line → outcome ≡ outcome_in line → Puts w (line ++ 10 ∷ []) r y
       → IsEnded r outcome answer → Applies m (snapshot old w) c answer (snapshot new y)

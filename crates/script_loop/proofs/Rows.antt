@@ -1,4 +1,5 @@
--- From `MeetsOutcome` to `IsStatusRow`: for the bytes of an observable source, and for some bytes over any source.
+-- From a script's outcome (`MeetsOutcome`) to what its status claims of the source's bytes (`IsStatusRow`): of all bytes, if the source is observable; else
+-- of those taken and some that may follow.
 use Rattle.std.proofs.Common.{◌≡◌, ◌++◌, ◌∙◌, ◌≤◌, Bool, true, false, ℕ, List, [], Option, Some, None, length, refl, ap, sym, subst}
 use Rattle.std.proofs.lemmas.Bool.{le-leb}
 use Rattle.std.proofs.lemmas.List.{take_all}
@@ -36,7 +37,7 @@ module _ {S P : Type 0} (m : Semantics S P) (from to : S) (call : Effects) where
                 (met.row left (subst (λ (o : Option (List ℕ)). MayFollow o met.ended left) is refl)),
           )
 
-  -- the row of the status, over the bytes taken and some bytes that may follow them
+  -- what the status claims (`IsStatusRow`) of the bytes taken and some bytes that may follow them
   pub some_row : MeetsOutcome m from call to → (all : List ℕ) × (left : List ℕ) × IsStatusRow m call.status from all left call to
   some_row met = go call.left refl
     where

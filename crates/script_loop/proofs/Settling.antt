@@ -1,4 +1,5 @@
--- For `settings_are_kept`: a run by `with_settings` is a run by the inner semantics, and its manager has the settings that are kept.
+-- For the law `settings_are_kept`, on the mode handler `WithSettings` around another one: a run by it is a run by the inner handler, and the settings that
+-- it keeps are those of the manager.
 use Rattle.std.proofs.Common.{◌∙◌, ℕ, List, [], ◌∷◌, Option, Some, None, Result, Ok, Err, refl, sym, ap, subst}
 use Rattle.std.specs.Prelude.{option_map}
 use Rattle.cf_base.specs.Settings.{profile_of}
@@ -17,7 +18,7 @@ use Rattle.cf_base.specs.declared.answers.Failed.{Failed}
 use Rattle.script_reader.specs.declared.command.Command.{Command}
 use Rattle.script_reader.specs.Items.{Item, asks, bad, starts}
 
--- one item, with the settings beside it
+-- what an inner handler did with one item, it does in `WithSettings` too, where the `heap` line sets the settings
 module _ {S P T : Type 0} (m : Semantics S P) (old new : S) (before : Option Settings) (w w' : Option (List ℕ)) where
   pub opens_settled : (settings : Settings) (r : Result T OpenFault) → OpensBy m (snapshot old w) settings r (snapshot new w')
       → OpensBy (with_settings m) (snapshot (settled old before) w) settings r (snapshot (settled new (Some settings)) w')

@@ -1,4 +1,4 @@
--- The reader's stage and the state of the run: after a command the heap is open, before the `heap` line it isn't; and the state after a run.
+-- How the reader's stage (`Opening` before the `heap` line) fits the state of the run: before that line no run has begun, after it the run is in progress.
 use Rattle.std.proofs.Common.{◌≡◌, Bool, true, false, Some, refl}
 use Rattle.script_reader.specs.Items.{stage_after_command}
 use Rattle.script_reader.specs.declared.stage.Stage.{Stage}

@@ -1,5 +1,5 @@
--- Some bytes were fed to the reader, and the items that they complete were answered: what that did, by the four ways in which it may end (`MeetsChunkOutcome`).
--- `m` is the semantics of the mode handler.
+-- The contracts of the inner loops of the script loop: bytes were fed to the reader, and the items that they complete were answered; four ways in which that
+-- may end (`MeetsChunkOutcome`). `m` is the semantics of the mode handler.
 use Rattle.std.specs.Prelude.{◌≡◌, ◌≤◌, ◌+◌, ◌++◌, ℕ, Bool, true, false, List, [], ◌∷◌, length, Option, Some, None}
 use Rattle.cf_io.specs.Feeds.{appended}
 use Rattle.script_reader.specs.Items.{Item}
@@ -14,7 +14,8 @@ use Rattle.script_loop.specs.declared.answering.ChunkOutcome.{ChunkOutcome}
 use Rattle.script_loop.specs.declared.answering.ChunkOutcome.TheVariants.{GoesOn, Stopped, Cut, LacksMemory}
 
 -- The bytes `chunk` were fed. The items `done` that they complete were answered, `text` is their replies, and `stopped` is whether a bad line is one of them.
--- `left`: whatever bytes `more` follow, the items of `chunk` and `more` are `done` and then those that are still to be answered.
+-- `left`: whatever bytes `more` follow, the items of `chunk` and `more` are `done` and then those that are still to be answered. While the reader awaits the
+-- `heap` line (stage `Opening`), the state is unchanged (`untouched`), and nothing was written unless a bad line was met (`silent`).
 pub record Answered {S P : Type 0} (m : Semantics S P) (old : Playing S) (chunk : List ℕ) (new : Playing S) (text : List ℕ) (stopped : Bool) : Type 0 where
   pub done : List Item
   pub replies : List Reply
@@ -26,8 +27,8 @@ pub record Answered {S P : Type 0} (m : Semantics S P) (old : Playing S) (chunk 
   pub untouched : new.reading.stage ≡ Opening → (old.reading.stage ≡ Opening) × (new.state ≡ old.state)
   pub silent : stopped ≡ false → new.reading.stage ≡ Opening → text ≡ []
 
--- The bytes `chunk` were fed. The items `done` were answered whole; the next one, `item`, took effect, but only `front`, a prefix of its reply, was written.
--- `out` is the replies and this prefix.
+-- The bytes `chunk` were fed. The items `done` were answered whole and led to the state `mid`. The next one, `item`, took effect, but only `front`, a prefix of
+-- its reply, was written. `out` is the replies and this prefix.
 pub record CutOff {S P : Type 0} (m : Semantics S P) (old : Playing S) (chunk : List ℕ) (new : Playing S) (out : List ℕ) : Type 0 where
   pub done : List Item
   pub replies : List Reply

@@ -1,8 +1,8 @@
--- What applying a command does, for the session of any mode handler. `m` is the handler's semantics (`Semantics`), S the type of its states, and P that of
--- their plans. A `Snapshot` is a state with the bytes written by then. A *turn* is one command with its reply and the state after it.
+-- What applying a command does, in the session of any mode. `m` is the handler's `Semantics`, S its type of states, P that of what no item changes; a
+-- `Snapshot` is a state with the bytes written, a *turn* a command with its reply and next state.
 use Rattle.std.specs.Prelude.{◌≡◌, ◌<◌, ◌++◌, ℕ, List, [], Result, Ok, Err, length}
 use Rattle.cf_base.specs.declared.answers.Failed.{Failed}
-use Rattle.cf_io.specs.Lines.{line_room}
+use Rattle.cf_io.specs.Lines.{line_capacity}
 use Rattle.cf_io.specs.Texts.{Reply, led, said}
 use Rattle.cf_session.specs.Apply.{outcome_of}
 use Rattle.cf_session.specs.declared.outcome.Outcome.{Outcome}
@@ -13,7 +13,8 @@ use Rattle.script_reader.specs.declared.command.Command.{Command}
 abbrev pub Turns : Type 0 → Type 1
 Turns S = S → Command → Reply → S → Type 0
 
--- by the rule `turns` the command took effect and leads from `old` to `new`, but only `out`, a prefix of its reply, was written; `lost` is the rest
+-- by the rule `turns` the command took effect and leads from `old` to `new`, but only `out`, a prefix of its reply, was written; `lost` is the rest of the
+-- reply
 pub record TurnsInPart {S : Type 0} (turns : Turns S) (old : S) (command : Command) (out : List ℕ) (new : S) : Type 0 where
   pub reply : Reply
   pub lost : List ℕ
@@ -28,4 +29,4 @@ Applies m old command (Err failed) new = HasTurnInPart m old command new
 -- by the rule `turns` the command may lead from `old` to `new` with the reply that `line` holds, which has room for the line feed
 pub record BuildsReply {S : Type 0} (turns : Turns S) (old : S) (command : Command) (new : S) (line : List ℕ) : Type 0 where
   pub turn : turns old command (said line) new
-  pub room : length line < line_room
+  pub room : length line < line_capacity

@@ -1,4 +1,5 @@
--- The words of the laws of this crate: conclusions about what a script's call printed (`call`: the bytes before and after it, and its status).
+-- What the laws of this crate claim of a script's output: its reads; that it is a prefix of a run's output, or the transcript. `call` has the bytes in
+-- source and sink, before and after, and the status.
 use Rattle.std.specs.Prelude.{◌≡◌, ◌++◌, ⊤, ℕ, List, [], Option, Some, None}
 use Rattle.cf_base.specs.declared.kind.Kind.{Kind}
 use Rattle.cf_base.specs.declared.status.Status.{Status}
@@ -27,7 +28,7 @@ pub record PrintsReads (wanted : List Item) (call : Effects) : Type 0 where
   pub reads : AreReadsOf None wanted replies
   pub written : call.after ≡ appended call.before (text_of [] replies)
 
--- the text is a prefix of the output of some run over all the items `wanted`, on a manager of the kind
+-- the text is a prefix of the output of some run over all the items `wanted`, on a manager of this kind; `missing` is the rest of the output
 pub record IsPrefixOfRun (kind : Kind) (wanted : List Item) (text : List ℕ) : Type 0 where
   pub replies : List Reply
   pub end : Option RunState
@@ -46,7 +47,7 @@ abbrev pub PrintsTranscript : Kind → Option (List ℕ) → Effects → Type 0
 PrintsTranscript kind None call = ⊤
 PrintsTranscript kind (Some all) call = ArePlain kind (items_within all) → call.after ≡ appended call.before (text_of [] (transcript kind (items_within all)))
 
--- the text is a prefix of the output of some run by the semantics `m`, from the state `from`, over all the items `wanted`
+-- the text is a prefix of the output of some run by the semantics `m`, from the state `from`, over all the items `wanted`; `missing` is the rest of the output
 pub record IsPrefixBy {S P : Type 0} (m : Semantics S P) (from : S) (wanted : List Item) (text : List ℕ) : Type 0 where
   pub replies : List Reply
   pub end : Option S

@@ -30,7 +30,7 @@ pub record BetweenTurns (S : Type 0) : Type 0 where
   pub given : ℕ
   pub left : ℕ
 
--- the record `BetweenTurns` of a script, the state of its run, the bytes written to its sink, those left in its source, and how many the source has returned
+-- the record `BetweenTurns` of a script, the state of its run, the bytes written to the sink, the bytes left in the source, and how many the source returned
 abbrev pub between : {S : Type 0} → Script → S → Option (List ℕ) → Option (List ℕ) → ℕ → BetweenTurns S
 between script state written rest given =
     record { progress = progress (playing (reading_in script) state) written; rest = rest; given = given; left = left_in script }
@@ -51,7 +51,7 @@ pub record Chunk {S : Type 0} (old new : BetweenTurns S) : Type 0 where
   pub fits : length within ≤ old.left
   pub short : length (within ++ past) ≤ MOST_CHUNK
 
--- a chunk was taken that is within the limit, and the items that it completes were answered
+-- a chunk within the limit was taken, and the items that it completes were answered
 pub record AnswersChunk {S P : Type 0} (m : Semantics S P) (old new : BetweenTurns S) : Type 0 where
   pub chunk : Chunk old new
   pub whole : chunk.past ≡ []
@@ -59,7 +59,7 @@ pub record AnswersChunk {S P : Type 0} (m : Semantics S P) (old new : BetweenTur
   pub left : new.left + length chunk.within ≡ old.left
   pub went : WentOn m old.progress chunk.within new.progress
 
--- a chunk was taken that passes the limit, and the items that its bytes within the limit complete were answered
+-- a chunk that passes the limit was taken, and the items that its bytes within the limit complete were answered
 pub record PassesLimit {S P : Type 0} (m : Semantics S P) (old new : BetweenTurns S) : Type 0 where
   pub chunk : Chunk old new
   pub some : 0 < length chunk.past

@@ -8,7 +8,7 @@ use Rattle.run_model.specs.Sessions.{IsGoing, RunState, fresh_session}
 use Rattle.run_model.specs.Texts.{Reply, led}
 use Rattle.script_loop.specs.Semantics.{Semantics}
 
--- the command took effect and leads from `old` to `new`, but only `out`, a prefix of its reply, was written; `lost` is the rest
+-- the command took effect and leads from `old` to `new`, but only `out`, a prefix of its reply, was written; `lost` is the rest of the reply
 pub record TurnInPart (old : RunState) (command : Command) (out : List ℕ) (new : RunState) : Type 0 where
   pub reply : Reply
   pub lost : List ℕ

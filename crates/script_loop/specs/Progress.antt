@@ -24,7 +24,7 @@ run_in Running s = Some s
 abbrev pub run_of : {S : Type 0} → Playing S → Option S
 run_of p = run_in p.reading.stage p.state
 
--- by the reader's stage, the next item may be answered in state `s`: the state is fresh before the `heap` line, and that of a run in progress after it
+-- the handler may answer the next item in state `s`: before the `heap` line (stage `Opening`) the state is fresh, after that line the run is in progress
 abbrev pub IsReadyAt : {S P : Type 0} → Semantics S P → Stage → S → Type 0
 IsReadyAt m Opening s = m.is_fresh s
 IsReadyAt m Bounding s = m.is_going s
@@ -39,6 +39,6 @@ pub record Progress (S : Type 0) : Type 0 where
   pub playing : Playing S
   pub written : Option (List ℕ)
 
--- the record `Progress` of reader and run, and of the bytes written by then
+-- the record `Progress` of reader and run (`p`) and of the bytes written by then
 abbrev pub progress : {S : Type 0} → Playing S → Option (List ℕ) → Progress S
 progress p written = record { playing = p; written = written }

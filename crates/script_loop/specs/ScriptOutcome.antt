@@ -119,8 +119,8 @@ pub record RanOutOfMemory {S P : Type 0} (m : Semantics S P) (from : S) (call : 
   pub unwritten : call.after ≡ call.before
 
 -- What is true for each status, if the source had the bytes `all` before the call and has `left` after it. If the source failed, each item whose line is
--- complete in the bytes taken was answered, and no other. If the sink failed, each item whose line is complete before the last bytes taken, at most 4,096, was
--- answered whole. No script ends by `Words` or `BadImage`.
+-- complete in the bytes taken was answered, and no other item. If the sink failed, each item whose line is complete before the last bytes taken, at most 4,096,
+-- was answered whole. No script ends by `Words` or `BadImage`.
 abbrev pub IsStatusRow : {S P : Type 0} → Semantics S P → Status → S → List ℕ → List ℕ → Effects → S → Type 0
 IsStatusRow m Done from all left call to = (length all ≤ MOST_BYTES) × (left ≡ []) × (has_bad (items_within all) ≡ false) × Wrote m from (items_within all) call to
 IsStatusRow m BadScript from all left call to = (has_bad (items_within all) ≡ true) × Wrote m from (items_within all) call to
@@ -132,14 +132,14 @@ IsStatusRow m OutOfMemory from all left call to = RanOutOfMemory m from call to
 IsStatusRow m Words from all left call to = ⊥
 IsStatusRow m BadImage from all left call to = ⊥
 
--- `more` are bytes that the source may still have: exactly `left`, if it is observable; else none if it has ended, or any
+-- `more` are bytes that the source may still have: exactly `left`, if it is observable; else no bytes if it has ended, and any bytes if it has not
 abbrev pub MayFollow : Option (List ℕ) → Bool → List ℕ → Type 0
 MayFollow (Some left) ended more = more ≡ left
 MayFollow None true more = more ≡ []
 MayFollow None false more = ⊤
 
--- The outcome of a script over every source, observable or not: the call took the bytes `taken` (and met the end if `ended`), and whatever bytes `more` may
--- follow them, the source had `taken` and `more`, and `IsStatusRow` holds of its status. `from` and `to` are the states of the run before and after the call.
+-- The outcome of a script over every source, observable or not. The call took the bytes `taken` (and met the end if `ended`). Whatever bytes `more` may follow
+-- them, `IsStatusRow` holds for a source that had `taken` and then `more`. `from` and `to` are the states of the run before and after the call.
 pub record MeetsOutcome {S P : Type 0} (m : Semantics S P) (from : S) (call : Effects) (to : S) : Type 0 where
   pub taken : List ℕ
   pub ended : Bool
@@ -158,8 +158,8 @@ pub record HasCauses (source : SourceState) (sink : SinkState) (status : Status)
   pub write_fault : status ≡ WriteFault → FailsLast sink.faults sink'.faults sink'.failed
   pub too_long : status ≡ TooLong → (source.given + MOST_BYTES < source'.given) ⊎ (source'.given ≡ last_count)
 
--- The contract of `play_script`: a script led from the state `from` to the state `to`. Its outcome, its plan, which no item changes, and the causes of its
--- status.
+-- The contract of `play_script`, which led from the state `from` to the state `to`: the outcome of the script, that the plan is unchanged, and the causes of
+-- the status.
 pub record Plays {S P : Type 0} (m : Semantics S P) (from : S) (source : SourceState) (sink : SinkState) (status : Status) (source' : SourceState)
     (sink' : SinkState) (to : S) : Type 0 where
   pub outcome : MeetsOutcome m from (effects source sink status source' sink') to

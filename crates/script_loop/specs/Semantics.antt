@@ -24,7 +24,7 @@ pub record Semantics (S P : Type 0) : Type 1 where
   pub turns_in_part : S → Command → List ℕ → S → Type 0
   pub lacks : S → S → Type 0
 
--- by the semantics `m` with the plan of `from`, one item may get this reply and lead from `old` to `new`; `None` is before the `heap` line
+-- by the semantics `m` with the plan of `from`, one item may get this reply and lead from `old` to `new`; a state is `None` before the `heap` line
 abbrev pub StepBy : {S P : Type 0} → Semantics S P → S → Option S → Item → Reply → Option S → Type 0
 StepBy m from old item reply new = PlayStep (m.begins (m.plan from)) m.turns old item reply new
 
@@ -51,7 +51,7 @@ pub record IsOpened {S P : Type 0} (m : Semantics S P) (old : Snapshot S) (p : P
   pub begins : m.begins (m.plan old.state) p reply new.state
   pub written : new.written ≡ appended old.written (led [] reply)
 
--- the `heap` line with settings `p` took effect, but only `front`, a prefix of its reply, was written; `lost` is the rest
+-- the `heap` line with settings `p` took effect, but only `front`, a prefix of its reply, was written; `lost` is the rest of the reply
 pub record IsOpenedInPart {S P : Type 0} (m : Semantics S P) (old : Snapshot S) (p : Profile) (new : Snapshot S) : Type 0 where
   pub reply : Reply
   pub front : List ℕ

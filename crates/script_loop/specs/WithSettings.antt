@@ -1,11 +1,11 @@
--- The semantics of `WithSettings`: another handler's, with the settings of the `heap` line kept in the state.
+-- The semantics of `WithSettings`, a mode handler around another one: those of the inner handler, with the settings of the `heap` line kept in the state.
 use Rattle.std.specs.Prelude.{◌≡◌, ⊤, Option, Some, None, option_map}
 use Rattle.cf_base.specs.Settings.{profile_of}
 use Rattle.cf_base.specs.declared.settings.Settings.{Settings}
 use Rattle.run_model.specs.Sessions.{IsGoing, RunState}
 use Rattle.script_loop.specs.Semantics.{Semantics}
 
--- a state of the other handler, and the settings of the `heap` line; none before it
+-- a state of the inner handler, and the settings of the `heap` line; none before that line
 pub record Settled (S : Type 0) : Type 0 where
   pub state : S
   pub settings : Option Settings
@@ -14,8 +14,8 @@ pub record Settled (S : Type 0) : Type 0 where
 abbrev pub settled : {S : Type 0} → S → Option Settings → Settled S
 settled state settings = record { state = state; settings = settings }
 
--- The semantics of the handler around one with the semantics `m`: it answers as that one does. The `heap` line sets the kept settings, and no command changes
--- them.
+-- The semantics of `WithSettings` around an inner handler with the semantics `m`: it answers as the inner handler does. The `heap` line sets the kept settings,
+-- and no command changes them.
 abbrev pub with_settings : {S P : Type 0} → Semantics S P → Semantics (Settled S) P
 with_settings m = record {
   plan = λ s. m.plan s.state;

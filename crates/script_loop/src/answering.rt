@@ -17,7 +17,7 @@ pub enum ChunkOutcome {
     GoesOn,
     /// The next line is bad, and its number was written.
     Stopped,
-    /// The sink failed: of the last reply only a prefix was written. Its item has taken effect.
+    /// The sink failed: only a prefix of the last reply was written. The item has taken effect.
     Cut,
     /// An allocation failed at the `heap` line.
     LacksMemory,
@@ -39,8 +39,8 @@ fn name_bad<K: Sink>(number: u32, sink: &mut K) -> ChunkOutcome
     }
 }
 
-/// Passes each whole item that the reader holds to the mode handler, which does it on the heap and writes its
-/// reply. Stops for one of the causes in `ChunkOutcome`. `payload` is scratch, for the bytes of a write.
+/// Passes each whole item that the reader holds to the mode handler, which does the item on the heap and writes
+/// the reply. Stops for one of the causes in `ChunkOutcome`. `payload` is scratch, for the bytes of a write.
 pub fn answer_pending_items<H, A: ModeHandler<H>, K: Sink>(
     reader: &mut Reader,
     mode_handler: &mut A,
@@ -75,8 +75,8 @@ pub fn answer_pending_items<H, A: ModeHandler<H>, K: Sink>(
     }
 }
 
-/// Feeds the chunk to the reader, and passes the items that it completes to the mode handler, until one of the
-/// causes in `ChunkOutcome` stops it.
+/// Feeds the chunk to the reader, and passes the items that the chunk completes to the mode handler. Stops for
+/// one of the causes in `ChunkOutcome`. At most `2^32 - 1` bytes may be fed to the reader in all.
 pub fn answer_chunk<H, A: ModeHandler<H>, K: Sink>(
     reader: &mut Reader,
     mode_handler: &mut A,

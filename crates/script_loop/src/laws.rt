@@ -11,7 +11,7 @@ ghost use Rattle.script_loop.specs.ScriptOutcome.{Effects, MeetsOutcome, Wrote, 
 ghost use Rattle.script_loop.specs.WithSettings.{GoesWith, Settled, with_settings};
 
 /// On any kind of manager, each read that was answered prints the bytes last written through its id. `printed`
-/// claims it of the output, `whole` of the replies to all items, and `in_part` of those before a cut reply.
+/// claims it of the output, `whole` of the replies to all items, and `in_part` of the replies before a cut one.
 pub fn every_read_gives_what_was_written()
     ensures printed { (from to : RunState) (call : Effects) (all : List ℕ) → call.had ≡ Some all
         → MeetsOutcome one_manager from call to → AnswersAll call.status
@@ -52,9 +52,9 @@ pub fn cuts_never_matter()
         → two.before ≡ one.before → two.after ≡ one.after }
 {}
 
-/// The handler that also keeps the settings (`WithSettings`, of mode `save`) writes what a session alone may
-/// write for the same script. If a `heap` line began the run, then at the end the manager is open, and has the
-/// settings that the handler kept.
+/// The mode handler of mode `save`, a session that also keeps the settings (`WithSettings`), writes what a session
+/// alone may write for the same script. If a `heap` line began the run, then at the end the manager is open, and
+/// has the settings that the handler kept.
 pub fn settings_are_kept()
     ensures { (from to : Settled RunState) (wanted : List Item) (call : Effects)
         (w : Wrote (with_settings one_manager) from wanted call to)

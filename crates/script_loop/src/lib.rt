@@ -1,5 +1,7 @@
-//! The loop of every mode that reads a script: takes chunks from a source, passes each item to the mode handler
-//! (trait `ModeHandler`), which writes the reply to a sink, and stops at the end or at the first fault.
+//! The loop of every mode that reads a script. It takes chunks from a source, and passes each item to the mode
+//! handler (trait `ModeHandler`), which writes the reply to a sink. It stops at the end, at a bad line or at the
+//! first fault. The mode handlers of modes `run` and `save` (`WithSettings`), and laws on scripts over one
+//! manager, are here too.
 #![tactic(auto)]
 
 mod answering;

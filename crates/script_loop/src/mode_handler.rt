@@ -1,4 +1,5 @@
-//! The trait `ModeHandler`: a mode handler, which the script loop calls for each item.
+//! The trait `ModeHandler`: the script loop calls `open` of its handler for the `heap` line, and `answer`
+//! for each later command. The trait also names the handler's states and its semantics, for contracts.
 ghost use Rattle.std.specs.Prelude.{◌≡◌, ◌≤◌, Err, OnErr, OnOk, ◌≢◌};
 ghost use Rattle.cf_io.specs.Feeds.{FailsLast};
 ghost use Rattle.script_reader.specs.Commands.{IsWellFormed};
@@ -36,7 +37,7 @@ impl From<OutOfMemory> for OpenFault {
 }
 
 /// A mode handler: it answers the items of a script on a heap, which is one manager, a list of managers,
-/// or another heap. Each mode that reads a script has one, and `play_script` is the loop of all.
+/// or another heap. Each mode that reads a script has one, and `play_script` is the loop that calls it.
 pub trait ModeHandler<H> {
     /// The type of the states of a run: what contracts see of the handler and its heap together.
     ghost State: { Type 0 };

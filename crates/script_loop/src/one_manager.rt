@@ -49,7 +49,7 @@ impl<H: Manager> ModeHandler<H> for Session {
 /// Runs a script on one manager, and answers each line before it takes the next chunk: the `heap` line opens the
 /// manager, and each command is done on it. It stops at a bad line, if the source or the sink fails, if an
 /// allocation fails at the `heap` line, and after 268,435,455 bytes; the status shows which. Session and manager
-/// are then in the last state of that run.
+/// are then in the last state of the run.
 pub fn run_script<H: Manager, S: Source, K: Sink>(
     session: &mut Session,
     heap: &mut H,

@@ -30,7 +30,7 @@ pub enum TurnEnd {
 }
 
 /// A script between two chunks: its reader, a buffer for the bytes of a write, and `left`, how many bytes may
-/// still be taken before the limit is passed.
+/// still be taken within the limit, `LIMIT`.
 #[derive(Drop)]
 pub struct Script {
     reader: Reader,

@@ -1,4 +1,5 @@
--- For `read_next` and the functions that it calls: each result that the reader returns means what `Answers` claims.
+-- For `read_next`, which returns a script's next item: what follows if the first line not yet read is passed over, has an item or is bad, and when the
+-- reader must return `NeedMore` or `End`.
 use Rattle.std.proofs.Common.{◌≡◌, ◌∙◌, ◌<◌, ◌≤◌, ◌+◌, ℕ, Bool, true, false, List, [], ◌∷◌, Option, Some, None, length, take, drop, refl, sym, ap, arith}
 use Rattle.std.proofs.Common.{length-append, length-drop, subst, append-nil, append_assoc, ◌++◌, ◌⊎◌, inl, inr, cond, suc, take-append-drop}
 use Rattle.std.proofs.lemmas.Bool.{false≢true, ltb-false}
@@ -16,7 +17,7 @@ use Rattle.script_reader.specs.declared.stage.Stage.{Stage}
 use Rattle.script_reader.specs.declared.stage.Stage.TheVariants.{Opening, Bounding, Running}
 use Rattle.script_reader.proofs.ItemLemmas.{after_line, first_verdict, line_in_place, line_out_of_place, line_passes, lines_alone, lines_closed, no_items}
 
--- ---- readings that follow one another
+-- ---- passing no line, and passing lines before the reader returns a result
 
 pub passes_none : (a : Reading) → a.stopped ≡ None → PassesOver a a
 passes_none a going = record {
@@ -98,7 +99,7 @@ first_counted kept ended len at first = go first.cut
         let one : lines kept true ≡ kept ∷ [] = lines_alone kept true h.2 ∙ alone kept (omega (arith, first.some)) in
         rw (drop_all at kept (omega arith)) (ap length one)
 
--- from `old` the reader reads its first line: one that leads to this stage, or a bad one
+-- the reader reads the first line that `old` keeps, of `len` bytes: the line leads to the stage `next`, or is bad (`stopped`)
 module _ (old : Reading) (len at : ℕ) (going : old.stopped ≡ None) (first : IsFirstLine old.kept old.ended len at) where
   one_line : (next : Stage) (stopped : Option ℕ) (items : List Item)
       → ((more : List ℕ) (e : Bool) → items_left old more e ≡ items ++ items_left (record (after_line old at next) { stopped = stopped }) more e)
@@ -176,7 +177,7 @@ module _ (old : Reading) (len at : ℕ) (formed : Bool) (n : Next) (going : old.
       go false fits is place = absurd cc
       go true fits is place = answered n (fits refl) is place
 
-  -- if it isn't, the reader returns `Bad`
+  -- if the line isn't allowed at its stage, the reader returns `Bad`
   pub step_out_of_place : None ≡ stage_said old.stage (saying_if formed n)
       → AnswersBad old old.stopped (old.passed + 1) (record (line_passed old at) { stopped = Some (old.passed + 1) })
   step_out_of_place place =
@@ -210,7 +211,7 @@ few_kept : (kept : List ℕ) → is_last_line false kept ≡ false → length ke
 few_kept [] none = omega arith
 few_kept (x ∷ r) none = ltb-false 8999 (length (x ∷ r)) none
 
--- then the reader returns `NeedMore`, if the end was not announced
+-- if the kept bytes hold no line, and the end was not announced, the reader returns `NeedMore`
 pub step_waits : (old : Reading) (kept : List ℕ) → old.stopped ≡ None → kept ≡ old.kept → HasNoLine kept old.ended → old.ended ≡ false → NeedsMore old old
 step_waits old kept going same none open_end =
     let none2 = subst (λ (e : Bool). HasNoLine old.kept e) open_end (subst (λ (k : List ℕ). HasNoLine k old.ended) same none) in
@@ -226,7 +227,7 @@ empty_kept : (kept : List ℕ) → is_last_line true kept ≡ false → kept ≡
 empty_kept [] none = refl
 empty_kept (x ∷ r) none = absurd (false≢true (sym none))
 
--- and it returns `End`, if the end was announced
+-- if the kept bytes hold no line, and the end was announced, the reader returns `End`
 pub step_ends : (old : Reading) (kept : List ℕ) → old.stopped ≡ None → kept ≡ old.kept → HasNoLine kept old.ended → old.ended ≡ true → HasEnded old old
 step_ends old kept going same none shown =
     let none2 = subst (λ (e : Bool). HasNoLine old.kept e) shown (subst (λ (k : List ℕ). HasNoLine k old.ended) same none) in

@@ -1,4 +1,5 @@
--- What other crates' proofs may cite: the lines of a text, and what a reader returns over calls of feed, finish and next_command.
+-- For proofs of other crates: how calls of `feed`, `finish` and `next_command` change the items that a reader has left, and that a bad line leaves none.
+-- Re-exported: facts on the lines of a text.
 use Rattle.std.proofs.Common.{◌≡◌, ◌∙◌, ◌++◌, ℕ, Bool, true, false, List, [], ◌∷◌, Option, Some, None, refl, sym, ap, subst, append-nil, append_assoc}
 use Rattle.std.proofs.lemmas.Bool.{true≢false}
 use Rattle.cf_base.specs.Settings.{profile_of}
@@ -9,7 +10,7 @@ use Rattle.script_reader.specs.declared.next.Next.{Next}
 use Rattle.script_reader.specs.declared.next.Next.TheVariants.{Start, Command, NeedMore, Bad, End}
 pub use Rattle.script_reader.proofs.ItemLemmas.{some_stretch}
 
--- a reader that was fed nothing has all items of the bytes left that are fed next
+-- a reader that was fed nothing has all items of the next bytes left
 pub fresh_left : (more : List ℕ) (ended : Bool) → items_left fresh more ended ≡ items more ended
 fresh_left more ended = refl
 
@@ -48,7 +49,7 @@ finished_left old e = go old.ended refl
 pub nothing_left : (r : Reading) (line : ℕ) (more : List ℕ) (e : Bool) → r.stopped ≡ Some line → items_left r more e ≡ []
 nothing_left r line more e over = rw over refl
 
--- a reader that returned no bad line before and returns one now stops there
+-- a reader that returned no bad line before and returns one now stops at that line (`StopsAt`)
 pub bad_now : (old : Reading) (line : ℕ) (new : Reading) → old.stopped ≡ None → Answers old (Bad line) new → StopsAt old line new
 bad_now old line new going answer = subst (λ (o : Option ℕ). AnswersBad old o line new) going answer
 

@@ -1,4 +1,5 @@
--- For the law `answers_come_exactly`: exactly when the next call of a reader returns `NeedMore`, `End` or `Bad`.
+-- For the law `answers_come_exactly`: exactly when, by the bytes fed and the items returned so far, a reader's next call returns `NeedMore` (no whole item
+-- left), `End` (none left, and the end announced) or `Bad` (a bad line).
 use Rattle.std.proofs.Common.{◌≡◌, ◌∙◌, ◌++◌, ℕ, true, false, List, [], ◌∷◌, Option, Some, None, refl, sym, ap, subst, append-nil}
 use Rattle.std.specs.Prelude.{◌↔◌, is_some}
 use Rattle.std.proofs.lemmas.Bool.{true≢false}
@@ -49,7 +50,7 @@ module _ (calls : List ReaderCall) (now new : Reading) (are : AreCalls fresh cal
   going_on : is_stopped calls ≡ false → now.stopped ≡ None
   going_on none = none_is now.stopped (stopped_is calls fresh now refl are ∙ none)
 
-  -- the items left are these, if they come after the returned ones in the items of the bytes fed
+  -- if the items of the bytes fed are those returned and then `rest`, the items left are `rest`
   left_is : (rest : List Item) → items (bytes_fed calls) (is_finished calls) ≡ items_given calls ++ rest → items_left now [] false ≡ rest
   left_is rest is = append_cancel_left (items_given calls) (items_left now [] false) rest (sym (given_then_left calls fresh now refl are) ∙ is)
 

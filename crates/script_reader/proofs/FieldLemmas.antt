@@ -1,4 +1,5 @@
--- For `four_tokens` and `take_hex`: four tokens from three, and the bytes that hexadecimal digits spell.
+-- For `four_tokens` and `take_hex`, which read fields of a line: four tokens are one and three more, and the bytes that the crate `hex` decodes are those
+-- that a token's digits spell.
 use Rattle.std.proofs.Common.{◌≡◌, ◌∙◌, ◌≤◌, ◌/◌, ◌++◌, ℕ, List, [], ◌∷◌, Some, Result, Ok, Err, MatchResult, option_map, length, take, drop, refl, sym, ap}
 use Rattle.std.proofs.lemmas.Bool.{eq-eqb, le-leb}
 use Rattle.std.proofs.lemmas.List.{take_at}
@@ -19,7 +20,7 @@ four_from_three a b c d ts h = four_more a ts ∙ ap (option_map (λ p. (a, p.0,
 pub sized_is_whole : (text : List ℕ) (n : ℕ) → n ≡ length text / 2 → decode_sized text n ≡ decode_of text
 sized_is_whole text n half = rw (eq-eqb (length text / 2) n (sym half)) refl
 
--- what `hex` decodes into a slice of half the text's length
+-- if `hex` decodes the text into a slice of half the text's length, the slice has the bytes that the text spells (`bytes_in`)
 pub decoded : (r : Result (Unit {0}) FromHexError) (u : Unit {0}) (text old slice out : List ℕ) → 2 ≤ length text → length text ≤ 8192
     → length old ≡ length text / 2 → slice ≡ old → length out ≡ length slice → r ≡ Ok u
     → MatchResult (decode_sized text (length slice)) (λ bytes. (r ≡ Ok tt) × (out ≡ bytes)) (λ e. r ≡ Err e)

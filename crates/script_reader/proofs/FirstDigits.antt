@@ -1,4 +1,5 @@
--- For `leading_digits` and `spelled_number`: the number that the digits at the start of a text spell, kept modulo `2^32`.
+-- For `leading_digits` and `spelled_number`: the value of the decimal digits at the start of a text, kept modulo `2^32` digit by digit, is the number that
+-- they spell if they are fewer than ten.
 use Rattle.std.proofs.Common.{◌≡◌, ◌∙◌, ◌<◌, ◌≤◌, ◌+◌, ◌-◌, ◌*◌, ◌/◌, ◌%◌, ◌^◌, ℕ, true, List, [], ◌∷◌, Some, length, take, get_or}
 use Rattle.std.proofs.Common.{refl, sym, ap, arith}
 use Rattle.std.proofs.Common.{mod-eq_of_lt, mul_assoc}
@@ -16,7 +17,7 @@ use Rattle.cf_io.specs.Numbers.{is_digit, number_in}
 digit_from_0 : (c : ℕ) → is_digit c ≡ true → digit_value c + 48 ≡ c
 digit_from_0 c is = digit_value_digit c (grind (arith, is))
 
--- the value of i + 1 digits modulo w, from that of i digits
+-- the value of i + 1 digits modulo w, from the value of i digits modulo w
 pub value_wraps : (text : List ℕ) (i v w : ℕ) → i < length text → is_digit (get_or text i 0) ≡ true → v ≡ digits_value 10 (take i text) % w
     → ((v * 10) % w + (get_or text i 0 - 48)) % w ≡ digits_value 10 (take (i + 1) text) % w
 value_wraps text i v w inside digit value =

@@ -1,4 +1,5 @@
--- For `first_line` and `line_feed_from`: where the first line of the kept bytes ends.
+-- For `first_line` and `line_feed_from`: the first line of the bytes that the reader keeps (fed, not yet read) ends at their first line feed or, without
+-- one, at their end; a search may start behind bytes without a line feed.
 use Rattle.std.proofs.Common.{◌≡◌, ◌∙◌, ◌<◌, ◌≤◌, ◌+◌, ◌-◌, ◌==◌, ◌||◌, ◌++◌, ℕ, suc, Bool, true, false, cond, not, List, [], ◌∷◌, Some, None, length, take}
 use Rattle.std.proofs.Common.{drop, refl, sym, ap, arith, zero, inl, inr, option_map}
 use Rattle.std.proofs.lemmas.Bool.{eqb-true, ltb-true, ltb-false, lt-ltb, le-ltb, false≢true}
@@ -38,7 +39,7 @@ feed_missing (x ∷ r) h = go (x == 10) refl h (feed_missing r)
     go true is h rest = absurd (omega arith)
     go false isnt h rest = rest (omega arith)
 
--- the first line feed, if there is none before `from`
+-- if no line feed is before byte `from`, a search from there finds the first one
 pub place_from : (from : ℕ) (kept : List ℕ) → from ≤ length kept → holds_line_feed (take from kept) ≡ false
     → feed_place kept ≡ from + feed_place (drop from kept)
 place_from zero kept h searched = omega arith

@@ -1,4 +1,5 @@
--- For `take_number` and `is_done`: the digits that a text begins with are its first token if and only if a gap or the end follows them.
+-- For `take_number` and `is_done`: the digits that a text begins with are its first token if and only if a gap (a space or tab) or the end follows them; a
+-- text without tokens is all gaps.
 use Rattle.std.proofs.Common.{◌≡◌, ◌∙◌, ◌-◌, ◌<◌, ◌≤◌, ℕ, true, false, not, nat_eq, List, [], Option, Some, None, option_map, length, take, drop, get_or}
 use Rattle.std.proofs.Common.{length-drop, refl, sym, ap, arith, inl, inr}
 use Rattle.std.specs.List.{position_or_len}
@@ -117,7 +118,7 @@ module _ (s : List ℕ) (begun : gaps_in s ≡ 0) where
         ]
   ]
 
--- if n is the number of digits that s begins with, the number that they spell is that of `leading_number`
+-- if n is the number of digits that s begins with, `leading_number` returns the number that they spell, or none
 module _ (s : List ℕ) (n : ℕ) (first : n ≡ digits_first s) where
   pub none_first : None ≡ number_in (take n s) → ◌≡◌ {A = Option (ℕ × ℕ)} None (leading_number s)
   none_first none =

@@ -1,4 +1,5 @@
--- For `read_first_line` and `next_line`: the items that are left are that of the first line and then those of the rest, whatever bytes are fed next.
+-- For `read_first_line` and `next_line`: the items of the bytes not yet read are the item of their first line, if it has one, and then those of the later
+-- lines, whatever bytes are fed next.
 use Rattle.std.proofs.Common.{◌≡◌, ◌∙◌, ◌+◌, ◌==◌, ◌||◌, ◌++◌, ◌⊎◌, inl, inr, ℕ, Bool, true, false, cond, List, [], ◌∷◌, None, length, take, drop, refl, sym}
 use Rattle.std.proofs.Common.{ap, arith, append_assoc, append-nil, length-append}
 use Rattle.std.proofs.lemmas.Bool.{false≢true, lt-ltb, ltb-true}
@@ -50,7 +51,7 @@ long_last e [] long = absurd (false≢true long)
 long_last true (x ∷ r) long = refl
 long_last false (x ∷ r) long = long
 
--- bytes with no line feed that are too many for a line are the first line, or a prefix of it that is as bad
+-- if a has no line feed and too many bytes for a line, the first line begins with a, whatever bytes follow
 pub lines_long : (a more : List ℕ) (e : Bool) → holds_line_feed a ≡ false → is_too_long a ≡ true
     → (l : List ℕ) × (ls : List (List ℕ)) × (lines (a ++ more) e ≡ (a ++ l) ∷ ls)
 lines_long a more e none long = go (some_stretch more)
@@ -100,21 +101,21 @@ first_items kept ended len next h more e n stage = go h.cut
     go (inl h) = closed_items kept (take len kept) (drop next kept) ended h.0 h.1 more e n stage
     go (inr h) = rw (take_all len kept (omega arith), drop_all next kept (omega arith)) (open_items kept ended h.2 h.3 more e n stage)
 
--- if there is no line, no item follows without further bytes
+-- if the kept bytes hold no line, they have no item
 pub no_items : (kept : List ℕ) (ended : Bool) → HasNoLine kept ended → (n : ℕ) (stage : Stage) → items_at (lines kept ended) n stage ≡ []
 no_items kept ended h n stage =
     let nothing : cond (is_last_line ended kept) (kept ∷ []) [] ≡ [] = rw h.1 refl in
     ap (λ (ls : List (List ℕ)). items_at ls n stage) (lines_alone kept ended h.0 ∙ nothing)
 
--- the reading after its first line, at this stage
+-- the reading after its first line, of `at` bytes with the line feed, which leads to the stage `next`
 abbrev pub after_line : Reading → ℕ → Stage → Reading
 after_line old at next = record old { kept = drop at old.kept; passed = old.passed + 1; stage = next }
 
--- the verdict on the first line, of this length
+-- the verdict on the first line, of `len` bytes without its line feed
 abbrev pub first_verdict : Reading → ℕ → Verdict
 first_verdict old len = verdict old.stage (line_says (take len old.kept))
 
--- the items from the first line on, by its verdict
+-- the items left, by the verdict on the first line
 module _ (old : Reading) (len at : ℕ) (going : old.stopped ≡ None) (first : IsFirstLine old.kept old.ended len at) where
   pub line_passes : first_verdict old len ≡ passes → (more : List ℕ) (e : Bool) → items_left old more e ≡ items_left (after_line old at old.stage) more e
   line_passes is more e = let items = first_items old.kept old.ended len at first more e old.passed old.stage in rw going (items ∙ rw is refl)

@@ -6,7 +6,7 @@ use Rattle.script_reader.specs.declared.stage.Stage.{Stage}
 use Rattle.script_reader.specs.declared.stage.Stage.TheVariants.{Opening}
 use Rattle.script_reader.proofs.ItemLemmas.{long_last, says_wrong, some_stretch, too_long_more}
 
--- two lists of stretches joined: the last of the first list and the first of the second become one
+-- two lists of stretches (the texts between line feeds) joined: the last of the first list and the first of the second become one
 abbrev pub glued : List (List ℕ) → List (List ℕ) → List (List ℕ)
 glued [] ms = ms
 glued (l ∷ []) [] = l ∷ []

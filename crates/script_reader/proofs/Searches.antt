@@ -1,4 +1,5 @@
--- For `line_feed_at` and `first_gap_in_long`: what the searches of the crate `memchr` return is the first position that passes the test.
+-- For `line_feed_at` and `first_gap_in_long`, which search with the crate `memchr`: the position that it returns is the first whose byte passes the test, a
+-- line feed or a gap (a space or tab).
 use Rattle.std.proofs.Common.{◌≡◌, ◌∙◌, ◌<◌, ℕ, Bool, true, false, cond, List, Option, Some, None, length, refl, sym, ap, arith}
 use Rattle.std.proofs.lemmas.Bool.{false≢true, le-ltb, lt-ltb, ltb-false, ltb-true}
 use Rattle.std.proofs.lemmas.List.Sums.{fails_before_first, passes_at_first, position_or_len_is}

@@ -26,7 +26,7 @@ comment_or_item : (b : Bool) (o : Option Item) → is_blank_or_comment (if b the
 comment_or_item true o = refl
 comment_or_item false o = item_speaks o
 
--- from the first byte that is no gap it follows whether the line is a comment
+-- if a line isn't all gaps, it is a comment if and only if its first byte that is no gap is `#` (35)
 first_byte : (t : List ℕ) → gaps_in t < length t → (get_or t (gaps_in t) 0 == 35) ≡ is_blank_or_comment (tokens_say (tokens t))
 first_byte t below =
     let x = get_or t (gaps_in t) 0 in
@@ -71,7 +71,7 @@ speaks word args says = go (is_comment word) says
     go true says = absurd cc
     go false says = refl
 
--- what the code found for a command, or that it found none, is the meaning of the line
+-- the meaning of a line, from what the code found in it (`formed` and n), is that of its command c; it is `wrong` if c is none
 pub command_said : (formed : Bool) (n : Next) (c : Option Command) → some_if formed n ≡ option_map answer.Command c
     → saying_if formed n ≡ item_or_wrong (option_map asks c)
 command_said true n (Some c) read = let e : n ≡ answer.Command c = cc in rw e refl

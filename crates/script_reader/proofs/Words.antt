@@ -1,4 +1,5 @@
--- For `split_token` and the functions that it calls: the gaps and the first token at the start of a text.
+-- For `split_token`, which splits a text after its first token: how many gaps (spaces and tabs) the text begins with, where its first token ends, and which
+-- tokens follow.
 use Rattle.std.proofs.Common.{◌≡◌, ◌∙◌, ◌-◌, ◌<◌, ◌≤◌, ◌+◌, ℕ, suc, Bool, true, false, cond, not, List, [], ◌∷◌}
 use Rattle.std.proofs.Common.{length, take, drop, get_or, refl, sym, ap, arith}
 use Rattle.std.specs.List.{position_or_len}
@@ -67,7 +68,7 @@ first_token (x ∷ r) none some = go (is_gap x) refl none
 pub place-le-length : (p : ℕ → Bool) (t : List ℕ) → position_or_len p t ≤ length t
 place-le-length p t = prefix_len-le-length (λ x. not (p x)) t
 
--- the first position that passes the test p, or the length if none does
+-- the first position whose byte passes the test p, or the length if none does
 pub place_or_end : (p : ℕ → Bool) (t : List ℕ) → unwrap_or (position p t) (length t) ≡ position_or_len p t
 place_or_end p t = go (nat_lt (position_or_len p t) (length t)) refl
   where
@@ -92,7 +93,7 @@ token_of_text t s g m is count size some =
     sym (past_gaps t) ∙ ap tokens (sym behind) ∙ first_token s none some
     ∙ ap (λ (n : ℕ). take n s ∷ tokens (drop n s)) (sym size)
 
--- a token has a byte
+-- the first token of a text has at least one byte
 pub some_byte : (s : List ℕ) → gaps_in s ≡ 0 → 0 < length s → 1 ≤ length (take (position_or_len is_gap s) s)
 some_byte [] none some = absurd (omega arith)
 some_byte (x ∷ r) none some = go (is_gap x) none
@@ -106,7 +107,7 @@ pub token_has_byte : (t s : List ℕ) (g m : ℕ) → s ≡ take (length t - g) 
 token_has_byte t s g m is count size some =
     rw size (some_byte s (ap gaps_in (after_gaps t s g is count) ∙ no_gap_left t) some)
 
--- a token of one byte
+-- if a text begins with no gap, and after its first byte a gap or the end follows, its first token is that byte
 pub single : (s : List ℕ) → gaps_in s ≡ 0 → 0 < length s → is_parted (drop 1 s) ≡ true → tokens s ≡ take 1 s ∷ tokens (drop 1 s)
 single [] none some parted = absurd (omega arith)
 single (x ∷ r) none some parted = go (is_gap x) refl none

@@ -1,4 +1,5 @@
--- What the reader returns for a line, by the line's meaning (`LineMeaning`). No public clause cites this module.
+-- What the code found in a line, as the line's meaning: blank or a comment, not in the grammar, or an item; and the stage of the script after it. No public
+-- clause cites this module.
 use Rattle.std.specs.Prelude.{◌≡◌, ◌+◌, ℕ, Bool, true, false, Option, Some, None, drop, take}
 use Rattle.cf_base.specs.Settings.{profile_of}
 use Rattle.script_reader.specs.Commands.{IsWellFormed}
@@ -8,12 +9,12 @@ use Rattle.script_reader.specs.declared.next.Next.{Next}
 use Rattle.script_reader.specs.declared.next.Next.TheVariants as next
 use Rattle.script_reader.specs.declared.stage.Stage.{Stage}
 
--- x if the condition holds, else none
+-- x if the argument before it is true, else none
 abbrev pub some_if : {A : Type 0} → Bool → A → Option A
 some_if true x = Some x
 some_if false x = None
 
--- the item in a result of the reader; none in `NeedMore`, `Bad` and `End`
+-- the item in a result of the reader that is a `heap` line or a command; none in `NeedMore`, `Bad` and `End`
 abbrev pub item_answered : Next → Option Item
 item_answered (next.Start settings) = Some (starts (profile_of settings))
 item_answered (next.Command command) = Some (asks command)

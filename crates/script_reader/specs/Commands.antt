@@ -70,7 +70,8 @@ task_in text = number_from 0 15 text
 abbrev pub bytes_in : List ℕ → Option (List ℕ)
 bytes_in text = if is_within 2 8192 (length text) then result_ok (decode_of text) else None
 
--- an id, if that is the only token; below, other lists of fields: each is none unless the tokens are exactly these, each in its range
+-- An id, if that is the only token. The definitions below read other lists of fields. Each is none unless the tokens are exactly these fields, each in its
+-- range.
 abbrev pub one_id : List (List ℕ) → Option ℕ
 one_id args = do
   a ← one_of args
@@ -232,7 +233,7 @@ abbrev pub settings_if : Option SettingFault → Profile → Option Profile
 settings_if None settings = Some settings
 settings_if (Some fault) settings = None
 
--- the settings of a line heap PAGES PAGEBYTES K PROXIES, from the tokens after heap; none if the heap's rules don't allow them
+-- the settings of a line heap PAGES PAGEBYTES K PROXIES, from the tokens after heap; none if one of them is out of range (`setting_fault`)
 abbrev pub settings_in : List (List ℕ) → Option Profile
 settings_in args = do
   p ← four_of args

@@ -1,4 +1,5 @@
--- For the private functions of `fields`: what a function that reads fields one after the other returns. No public clause cites this module.
+-- For `src/fields.rt`, which reads the fields of a line in turn: the value at the first or the only token, or at two tokens; none if a token is missing or
+-- wrong. No public clause cites this module.
 use Rattle.std.specs.Prelude.{List, [], ◌∷◌, ℕ, Option, Some, None, option_map}
 use Rattle.script_reader.specs.Commands.{one_of, two_of, ◌>>=◌}
 

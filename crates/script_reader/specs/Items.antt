@@ -26,11 +26,11 @@ abbrev pub is_comment : List ℕ → Bool
 is_comment [] = false
 is_comment (x ∷ rest) = x == byte "#"
 
--- the item of a line with this first token and those after it, by the grammar
+-- the item, by the grammar, of a line with the first token `word` and the tokens `args` after it; none if the line isn't in the grammar
 abbrev pub item_in : List ℕ → List (List ℕ) → Option Item
 item_in word args = if bytes_eq word (codes "heap") then option_map starts (settings_in args) else option_map asks (command_of word args)
 
--- the meaning of a line with this item, or with none: then the line isn't in the grammar
+-- the meaning of a line with this item; `wrong` if it has none, since the line isn't in the grammar then
 abbrev pub item_or_wrong : Option Item → LineMeaning
 item_or_wrong None = wrong
 item_or_wrong (Some i) = item i
@@ -55,7 +55,7 @@ stage_after_command Opening bounds = None
 stage_after_command Bounding bounds = Some (if bounds then Bounding else Running)
 stage_after_command Running bounds = if bounds then None else Some Running
 
--- the stage after the `heap` line; none if it isn't the first command, as it is allowed nowhere else
+-- the stage after a `heap` line; none if an item came before it, since `heap` is allowed only as the first item
 abbrev pub stage_opened : Stage → Option Stage
 stage_opened Opening = Some Bounding
 stage_opened Bounding = None
@@ -73,7 +73,7 @@ pub data Verdict : Type 0 where
   gives : Item → Stage → Verdict
   breaks : Verdict
 
--- the verdict on an item, computed from the stage after it; `breaks` if no stage is given, since the item isn't allowed then
+-- the verdict on an item, computed from the stage after it; `breaks` if that is none, since the item isn't allowed then
 abbrev pub gives_or_breaks : Item → Option Stage → Verdict
 gives_or_breaks i None = breaks
 gives_or_breaks i (Some next) = gives i next

@@ -1,4 +1,4 @@
--- The bytes of a script as lines, and those of a line as tokens.
+-- The lines of a script, from its bytes, and the tokens of a line.
 use Rattle.std.specs.Prelude.{ℕ, Bool, true, false, ◌||◌, ◌==◌, ◌-◌, List, [], ◌∷◌, length, take, slice_index, nat_lt, if◌then◌else◌}
 
 -- the most bytes of a line, its line feed not counted
@@ -24,7 +24,7 @@ abbrev pub is_last_line : Bool → List ℕ → Bool
 is_last_line ended [] = false
 is_last_line ended (x ∷ rest) = ended || is_too_long (x ∷ rest)
 
--- the texts that are lines: all but the last one, and the last one if `is_last_line` says so
+-- the texts that are lines: all but the last one, and also the last one if `is_last_line` is true of it
 abbrev pub lines_among : Bool → List (List ℕ) → List (List ℕ)
 lines_among ended [] = []
 lines_among ended (last ∷ []) = if is_last_line ended last then last ∷ [] else []
@@ -34,11 +34,11 @@ lines_among ended (line ∷ next ∷ rest) = line ∷ lines_among ended (next �
 abbrev pub lines : List ℕ → Bool → List (List ℕ)
 lines bytes ended = lines_among ended (stretches bytes)
 
--- the line without the carriage return (13) at its end, if it has one there
+-- the line without its last byte if that is a carriage return (13), else the line itself
 abbrev pub without_return : List ℕ → List ℕ
 without_return line = if slice_index line (length line - 1) == 13 then take (length line - 1) line else line
 
--- whether the byte parts tokens: a space or a tab
+-- whether the byte is a gap, a space or a tab: it separates tokens
 abbrev pub is_gap : ℕ → Bool
 is_gap x = x == 32 || x == 9
 

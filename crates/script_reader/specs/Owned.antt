@@ -1,4 +1,5 @@
--- `CommandRef` and `NextRef`, whose writes borrow their bytes, as the `Command` and the `Next` of the same meaning, which own them.
+-- A command whose write borrows its bytes (`CommandRef`) as the `Command` that owns them; and a result of the reader that borrows (`NextRef`) as the `Next`
+-- that owns.
 use Rattle.script_reader.specs.declared.command.Command.{Command}
 use Rattle.script_reader.specs.declared.command.Command.TheVariants as command
 use Rattle.script_reader.specs.declared.command_ref.CommandRef.{CommandRef}

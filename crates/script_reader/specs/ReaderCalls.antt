@@ -1,4 +1,4 @@
--- Calls of a reader, one after the other, what they were given and what they returned.
+-- Calls of a reader, one after the other: the bytes that they took, the items that they returned, and the states that they lead to.
 use Rattle.std.specs.Prelude.{◌≡◌, ◌++◌, ℕ, Bool, true, false, List, [], ◌∷◌}
 use Rattle.cf_base.specs.Settings.{profile_of}
 use Rattle.script_reader.specs.Items.{Item, asks, bad, items, starts}
@@ -37,7 +37,7 @@ is_finished (feeds bytes ∷ rest) = is_finished rest
 is_finished (finishes ∷ rest) = true
 is_finished (answers next ∷ rest) = is_finished rest
 
--- the items of a result and of the later ones, whose items are `after`; a bad line is the last item, since the reader then reads nothing more
+-- the item of this result and then `after`, the items of the later results; a bad line is the last item, since the reader then reads nothing more
 abbrev pub given_then : Next → List Item → List Item
 given_then (Start settings) after = starts (profile_of settings) ∷ after
 given_then (Command command) after = asks command ∷ after

@@ -35,7 +35,7 @@ MOST_KEPT = 9000
 abbrev pub MOST_FED : ℕ
 MOST_FED = 4294967295
 
--- the number of bytes of a chunk that `feed` takes: as many as both limits allow
+-- how many bytes of a chunk `feed` takes: the length of the longest prefix after which neither `MOST_KEPT` nor `MOST_FED` is passed
 abbrev pub taken : Reading → List ℕ → ℕ
 taken r chunk = min (length chunk) (min (MOST_KEPT - length r.kept) (MOST_FED - r.fed))
 
@@ -104,7 +104,7 @@ pub record HasEnded (old new : Reading) : Type 0 where
   pub none_left : items_left old [] true ≡ []
   pub empty : new.kept ≡ []
 
--- the reader returned `Bad`: the next line that is neither blank nor a comment is bad, and the script stops there
+-- the reader returned `Bad`: the next line that is neither blank nor a comment is bad, it has the number `line`, and the reader reads nothing after it
 pub record StopsAt (old : Reading) (line : ℕ) (new : Reading) : Type 0 where
   pub reads : Reads old (bad line ∷ []) new
   pub stopped : new.stopped ≡ Some line
@@ -124,8 +124,8 @@ Answers old answer.NeedMore new = NeedsMore old new
 Answers old (answer.Bad line) new = AnswersBad old old.stopped line new
 Answers old answer.End new = HasEnded old new
 
--- The first line of the kept bytes has `len` bytes, and the next line starts at byte `next`: after the line feed; or, if the kept bytes hold none but count
--- as a line, at their end.
+-- The first line of the kept bytes has `len` bytes, and the next line starts at byte `next`: after the line feed; or, if the kept bytes hold no line feed but
+-- count as a line, at their end.
 pub record IsFirstLine (kept : List ℕ) (ended : Bool) (len next : ℕ) : Type 0 where
   pub some : 1 ≤ next
   pub within : next ≤ length kept

@@ -1,4 +1,4 @@
-//! The commands of a script.
+//! `Command`: the commands of a script, of every mode, each with the form of its line.
 
 use crate::payload::Payload;
 
@@ -31,14 +31,14 @@ pub enum Command {
     Bound { slot_words: u32, k: u32 },
     /// `z ID BYTES`: changes the length of object ID to BYTES bytes.
     Resize { id: u16, bytes: u32 },
-    /// `s`: does one slice of pending work.
+    /// `s`: does one slice of the pending job.
     Slice,
-    /// `t TASK`: makes this task, from 0 to 15, the present one: the following lines are calls of it.
+    /// `t TASK`: makes TASK, from 0 to 15, the present task: later commands act for it.
     Task { task: u32 },
-    /// `quota TASK PAGES`: sets how many pages the task may use.
+    /// `quota TASK PAGES`: sets the quota of TASK, the most pages that it may use.
     Quota { task: u32, pages: u32 },
-    /// `need TASK BYTES COUNT`: declares that the task needs COUNT objects of BYTES bytes.
+    /// `need TASK BYTES COUNT`: declares that TASK needs at most COUNT live objects of BYTES bytes.
     Need { task: u32, bytes: u32, count: u32 },
-    /// `admit TASK`: asks whether the task's declared objects fit its quota.
+    /// `admit TASK`: asks whether the quota of TASK is enough for the objects that it declared.
     Admit { task: u32 },
 }

@@ -7,7 +7,7 @@ use crate::command::Command;
 use crate::payload::Payload;
 
 /// A command of a script; the variants are those of `Command`, but a write borrows its bytes. A `Command`
-/// holds up to 4,096 bytes in place, so moving it costs time; a `CommandRef` is only a few words long.
+/// itself has space for 4,096 bytes, so moving it costs time; a `CommandRef` is only a few words long.
 #[derive(Clone, Copy, Debug, PartialEq, Eq)]
 pub enum CommandRef<'a> {
     Malloc { id: u16, bytes: u32 },

@@ -1,8 +1,8 @@
 //! Reads the fields of a line: the tokens after its first one, as numbers in their ranges or as texts. Each
 //! function reads fields from the start of a text, and returns `None` if one is missing or out of range. A
-//! `take_` function returns the rest of the text too; every other one also returns `None` if a further token
-//! follows. What the usual commands need is inlined into the one function that reads a line, where numbers
-//! then stay in registers.
+//! `take_` function returns the text after its field too; every other one also returns `None` if a further
+//! token follows. The functions for the most common commands are inlined, so that their numbers stay in
+//! registers.
 ghost use Rattle.std.specs.Prelude.{◌≡◌, ◌≤◌, IfSome, Some, option_map};
 ghost use Rattle.cf_io.specs.Numbers.{number_in};
 ghost use Rattle.script_reader.specs.Commands as grammar;
@@ -11,7 +11,7 @@ ghost use Rattle.script_reader.specs.Lines.{tokens};
 
 use crate::tokens::{is_done, split_token, take_number};
 
-/// The first token as a number, and the text after it. `None` if it isn't a number from `low` to `high`.
+/// The first token as a number, and the text after the token. `None` if it isn't a number from `low` to `high`.
 #[inline(always)]
 fn take_from(low: u32, high: u32, text: &[u8]) -> Option<(u32, &[u8])>
     ensures value { option_map (λ p. (p.0, tokens p.1.now)) result
@@ -26,7 +26,7 @@ fn take_from(low: u32, high: u32, text: &[u8]) -> Option<(u32, &[u8])>
     }
 }
 
-/// The first token as an id, and the text after it. `None` if it isn't a number from 0 to 65,535.
+/// The first token as an id, and the text after the token. `None` if it isn't a number from 0 to 65,535.
 #[inline(always)]
 fn take_id(text: &[u8]) -> Option<(u16, &[u8])>
     ensures { option_map (λ p. (p.0, tokens p.1.now)) result ≡ first_by grammar.id_in (tokens text.now) }
@@ -35,7 +35,7 @@ fn take_id(text: &[u8]) -> Option<(u16, &[u8])>
     Some((n as u16, rest))
 }
 
-/// The first token as a task, and the text after it. `None` if it isn't a number from 0 to 15.
+/// The first token as a task, and the text after the token. `None` if it isn't a number from 0 to 15.
 fn take_task(text: &[u8]) -> Option<(u32, &[u8])>
     ensures value { option_map (λ p. (p.0, tokens p.1.now)) result ≡ first_by grammar.task_in (tokens text.now) }
     ensures within { IfSome result (λ p. p.0 ≤ 15) }
@@ -65,8 +65,8 @@ fn one_length(args: &[u8]) -> Option<u16>
     Some(n as u16)
 }
 
-/// The only token, as a class's bound of partly full pages. `None` if the text hasn't exactly one token, or
-/// it isn't a number from 1 to 64.
+/// The only token, as the bound k of a class. `None` if the text hasn't exactly one token, or it isn't a
+/// number from 1 to 64.
 fn one_bound(args: &[u8]) -> Option<u32>
     ensures value { result ≡ one_by grammar.bound_in (tokens args.now) }
     ensures within { IfSome result (λ k. (1 ≤ k) × (k ≤ 64)) }
@@ -82,7 +82,7 @@ fn one_token(text: &[u8]) -> Option<&[u8]>
     if is_done(rest) { Some(first) } else { None }
 }
 
-/// Both tokens of the text. `None` if the text hasn't exactly two.
+/// The two tokens of the text. `None` if the text hasn't exactly two.
 fn two_tokens(text: &[u8]) -> Option<(&[u8], &[u8])>
     ensures { grammar.two_of (tokens text.now) ≡ option_map (λ p. (p.0.now, p.1.now)) result }
 {

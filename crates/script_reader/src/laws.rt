@@ -7,14 +7,15 @@ ghost use Rattle.script_reader.specs.Reading.{Answers, Reading, fresh, items_lef
 ghost use Rattle.script_reader.specs.declared.next.Next.{Next};
 ghost use Rattle.script_reader.specs.declared.next.Next.TheVariants.{NeedMore, Bad, End};
 
-/// The items that the first bytes of a script have are the first items of the whole script, whatever bytes
-/// follow.
+/// The items of the first bytes of a script are the first items of the whole script, whatever bytes (`more`)
+/// follow. `ended` is whether the script ends after these.
 pub fn items_stay()
     ensures { (bytes more : List ℕ) (ended : Bool) → AreFirstOf (items bytes false) (items (bytes ++ more) ended) }
 {}
 
-/// However a script is cut into chunks, and whenever `next_command` is called: the items that it returned,
-/// up to the first bad line, and then the items that the reader has left, are the items of the bytes fed.
+/// However a script is cut into chunks, and whenever `next_command` is called: the items that the calls
+/// returned, up to the first bad line, are the first items of the bytes fed (`first`). They and then the items
+/// that the reader has left are all items of the bytes fed (`rest`).
 pub fn answers_are_items()
     ensures first { (calls : List ReaderCall) (now : Reading) → AreCalls fresh calls now
         → AreFirstOf (items_given calls) (items (bytes_fed calls) (is_finished calls)) }

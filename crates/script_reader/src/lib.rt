@@ -1,5 +1,5 @@
-//! The reader of scripts: it turns the bytes of a script, fed in chunks of any size, into commands, by the
-//! grammar of scripts.
+//! The reader of scripts: it turns the bytes of a script, fed in chunks of any size, into items by the
+//! grammar of scripts: the `heap` line, commands, and the first bad line.
 #![tactic(auto)]
 
 mod command;

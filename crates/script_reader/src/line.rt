@@ -327,12 +327,12 @@ pub fn is_silent(text: &[u8]) -> bool
     !is_too_long(text) && has_no_item(without_return(text))
 }
 
-/// Whether the text has no token, or its first token begins with `#`, as that of a comment does.
+/// Whether the text is blank (it has no token) or a comment (its first token begins with `#`).
 #[tactic(auto, using(crate::proofs::SilentLines::item_at_once))]
 fn has_no_item(text: &[u8]) -> bool
     ensures { result ≡ is_blank_or_comment (tokens_say (tokens text.now)) }
 {
-    // Most lines begin with a letter, and need no search.
+    // Most lines begin with a letter, which is greater than `#`, and need no search.
     if text.len() > 0 && text[0] > b'#' {
         return false;
     }
@@ -379,7 +379,7 @@ fn read_item<'a>(
 }
 
 /// Reads the text after `heap` in a line `heap PAGES PAGEBYTES K PROXIES`, and puts the settings into `next`. False if
-/// the text isn't in the grammar.
+/// the text isn't four numbers, or a setting is out of range.
 fn start(args: &[u8], next: &mut NextRef) -> bool
     ensures value { saying_if result (owned_next next.new) ≡ item_or_wrong (option_map starts (grammar.settings_in (tokens args.now))) }
     ensures fits { IsTrue result → IsInRange (owned_next next.new) }

@@ -7,8 +7,8 @@ use std::marker::Model;
 /// The most bytes of a write.
 const MOST: usize = 4_096;
 
-/// The bytes of one write, from 1 to 4,096 of them, in place. A `PayloadBuffer` instead is filled again with
-/// the bytes of each write.
+/// The bytes of one write, from 1 to 4,096 of them, in the struct itself. A `PayloadBuffer` instead is filled
+/// again with the bytes of each write.
 #[derive(Debug, PartialEq, Eq, Drop)]
 pub struct Payload {
     bytes: ArrayVec<u8, MOST>,

@@ -37,16 +37,17 @@ impl PayloadBuffer {
         }
     }
 
-    /// The bytes of the last write that were put into it.
+    /// The bytes of the last write that was decoded into the buffer; none in a new buffer, and any bytes
+    /// after a decoding that failed.
     pub fn bytes(&self) -> &[u8]
         ensures { result.now ≡ self.now }
     {
         &self.cells[..self.len]
     }
 
-    /// Decodes `text`, two hexadecimal digits for each byte, into the buffer. False if it isn't the digits of
+    /// Decodes `text`, two hexadecimal digits for each byte, into the buffer. False if `text` isn't the digits of
     /// 1 to 4,096 bytes; the contract then says nothing of the buffer.
-    // Out of line, since its loop then keeps all it needs in registers.
+    // Not inlined: in a function of its own, the loop of `decode_to_slice` keeps its values in registers.
     #[inline(never)]
     pub(crate) fn take_hex(&mut self, text: &[u8]) -> bool
         ensures value { some_if result self.new ≡ bytes_in text.now }

@@ -1,4 +1,5 @@
-//! `Reader`: takes the bytes of a script in chunks, and returns one command after the other.
+//! `Reader`: takes the bytes of a script in chunks, and returns its items one after the other: the `heap`
+//! line, each command, and the first bad line, at which it stops.
 ghost use Rattle.std.specs.Prelude.{◌≡◌, ◌≤◌, ◌+◌, ◌==◌, true, false, length, take, drop, position, MatchOption, None};
 ghost use Rattle.script_reader.specs.Answered.{IsNextLine, line_passed, is_blank_or_comment};
 ghost use Rattle.script_reader.specs.Items.{line_says};
@@ -26,7 +27,7 @@ const BUFFER: usize = 2 * MOST_KEPT;
 /// yet. They are at most 9,000, and are in the reader itself, which allocates nothing.
 #[derive(Drop)]
 pub struct Reader {
-    /// Bytes of the script in order: up to `start` some that were read, from there on the kept ones.
+    /// Bytes of the script in order: before `start` bytes that were read, from `start` on the kept bytes.
     buffer: ArrayVec<u8, BUFFER>,
     /// The position in the buffer of the first kept byte, where the next line to read begins.
     start: usize,
@@ -75,7 +76,8 @@ impl Reader {
 
     /// Feeds the reader: adds a prefix of `chunk` to the kept bytes, and returns the prefix's length. The
     /// prefix is the longest after which at most 9,000 bytes are kept, and at most `2^32 - 1` bytes were fed
-    /// in all. The caller feeds the rest after it has read commands. Not to be called after `finish`.
+    /// in all. The caller feeds the rest of the chunk after it has read commands. Not to be called after
+    /// `finish`.
     pub fn feed(&mut self, chunk: &[u8]) -> usize
         requires { self.old.ended ≡ false }
         ensures value { result ≡ taken self.old chunk.now }
@@ -201,9 +203,9 @@ impl Reader {
         self.passed += 1;
     }
 
-    /// Reads the first line of the kept bytes, which ends at `cut` and is neither blank nor a comment, passes
-    /// it, and puts what a call returns for it into `next`. The bytes of a write are put into `payload`. If
-    /// the line is bad, that is `Bad` with the line's number, and the reader stops.
+    /// Reads and passes the first line of the kept bytes, which ends at `cut` and is neither blank nor a comment.
+    /// Puts the line's command, or the settings of a `heap` line, into `next`, and the bytes of a write into
+    /// `payload`. If the line is bad, `next` is `Bad` with the line's number, and the reader stops.
     fn read_first_line<'a>(
         &mut self,
         cut: Cut,
@@ -250,7 +252,7 @@ struct Cut {
 }
 
 /// The position of the first line feed in `kept`, if there is one. The caller knows that none is before `from`,
-/// so the search begins there.
+/// so the search begins at `from`.
 fn line_feed_from(kept: &[u8], from: usize) -> Option<usize>
     requires within { from ≤ length kept.now }
     requires searched { holds_line_feed (take from kept.now) ≡ false }
@@ -277,8 +279,8 @@ fn first_line(kept: &[u8], searched: usize, ended: bool) -> Option<Cut>
     }
 }
 
-/// Whether the bytes `rest`, which hold no line feed, count as a line. They do if there is at least one, and the
-/// script has ended or they are too many for one line. In the latter case the line is bad.
+/// Whether the bytes `rest`, which hold no line feed, count as a line: there is at least one byte, and the script
+/// has ended (`ended`) or the bytes are more than a line may have. In the latter case the line is bad.
 fn is_line(rest: &[u8], ended: bool) -> bool
     ensures { result ≡ is_last_line ended rest.now }
 {

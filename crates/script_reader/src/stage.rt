@@ -18,8 +18,8 @@ pub enum Stage {
     Running,
 }
 
-/// The stage after one more line. `formed` is whether the line is in the grammar; if it is, `next` is what
-/// the line says. `None` if the line isn't in the grammar, or isn't allowed at this stage.
+/// The stage after one more line. `formed` is whether the line is in the grammar; if it is, `next` has its
+/// command or settings. `None` if the line isn't in the grammar, or isn't allowed at this stage.
 pub fn stage_after(stage: Stage, formed: bool, next: NextRef) -> Option<Stage>
     ensures { result ≡ stage_said stage (saying_if formed (owned_next next.entry)) }
 {
@@ -36,8 +36,8 @@ pub fn stage_after(stage: Stage, formed: bool, next: NextRef) -> Option<Stage>
     }
 }
 
-/// The stage after one more command; `bounds` is whether the command is `k`. `None` if it isn't allowed at
-/// this stage.
+/// The stage after one more command; `bounds` is whether the command is `k`. `None` if the command isn't
+/// allowed at this stage.
 fn stage_after_command(stage: Stage, bounds: bool) -> Option<Stage>
     ensures { result ≡ place.stage_after_command stage bounds }
 {

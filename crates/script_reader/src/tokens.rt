@@ -11,7 +11,7 @@ ghost use Rattle.script_reader.specs.Lines.{without_return as no_return, is_gap 
 use cf_io::number_of;
 use memchr::{memchr_iter, memchr2};
 
-/// In a text of at least this many bytes the first gap is searched for many bytes at once.
+/// The least length in bytes of a text in which `memchr2`, which tests many bytes at once, finds the first gap.
 const LONG: usize = 64;
 
 /// The position of the first line feed, if there is one.
@@ -21,7 +21,7 @@ pub fn line_feed_at(bytes: &[u8]) -> Option<usize>
     memchr_iter(b'\n', bytes).next()
 }
 
-/// The line without the carriage return at its end, if it has one there.
+/// The line without its last byte if that is a carriage return, else the line itself.
 pub fn without_return(line: &[u8]) -> &[u8]
     ensures { result.now ≡ no_return line.now }
 {
@@ -49,7 +49,7 @@ fn gaps(text: &[u8]) -> usize
     ensures value { result ≡ position_or_len (λ x. not (gap x)) text.now }
     ensures within { result ≤ length text.now }
 {
-    // Most texts begin with none, and need no search.
+    // Most texts begin with no gap, and need no search: a byte greater than a space is no gap.
     if text.len() > 0 && text[0] > b' ' {
         return 0;
     }
@@ -157,7 +157,7 @@ fn spelled_number(text: &[u8], digits: usize, value: u32) -> Option<u32>
     requires value { value ≡ digits_value 10 (take digits text.now) % 2 ^ 32 }
     ensures { result ≡ number_in (take digits text.now) }
 {
-    // Few digits spell a number that fits.
+    // At most nine digits spell a number below `2^32`.
     if 0 < digits && digits < 10 {
         Some(value)
     } else {
@@ -165,8 +165,8 @@ fn spelled_number(text: &[u8], digits: usize, value: u32) -> Option<u32>
     }
 }
 
-/// `text` is what comes after some bytes of a token. If the token ends there, returns the text without its
-/// first gap; an empty text stays empty. `None` if the token continues: the next byte is no gap.
+/// `text` follows the first bytes of a token. If `text` is empty or begins with a gap, the token ends before it:
+/// returns `text` without that gap. `None` if the token continues in `text`.
 #[inline(always)]
 fn past_token(text: &[u8]) -> Option<&[u8]>
     ensures { MatchOption result (parted text.now ≡ false) (λ rest. (parted text.now ≡ true) × (tokens rest.now ≡ tokens text.now)) }

@@ -1,4 +1,5 @@
--- What `answer_each` did is what the mode handler claims of `answer`; and which managers promise an order stays the same.
+-- For mode `compare`: what `answer_each`, one command on each manager, did is what the mode handler claims of `answer`; and it stays the same which managers
+-- promise an order.
 use Rattle.std.proofs.Common.{◌≡◌, ◌∙◌, ℕ, List, Option, Result, Ok, Err, map, sym}
 use Rattle.std.specs.Prelude.{is_some}
 use Rattle.cf_base.specs.declared.answers.Failed.{Failed}

@@ -1,4 +1,5 @@
--- Managers that the `heap` line has opened: their runs begin and are in progress, and their kinds and promises stay; for `open`.
+-- For `open`, the `heap` line on many managers: their runs begin and are in progress; kinds and promises of an order stay, also if an allocation failed at
+-- one manager.
 use Rattle.std.proofs.Common.{◌≡◌, ◌∙◌, ◌<◌, ℕ, suc, List, [], ◌∷◌, refl, sym, ap, length, get_or, map, arith, inl, inr}
 use Rattle.std.proofs.lemmas.Bool.{cases_lt}
 use Rattle.std.proofs.lemmas.List.{get_or-map, get_or_past, length-map, same_lists}
@@ -19,7 +20,7 @@ use Rattle.cf_base.specs.declared.kind.Kind.{Kind}
 use Rattle.side_by_side.proofs.Zipping.{mapped_twice}
 use Rattle.side_by_side.specs.SideBySide.{EachBegins, IsEachFresh, IsEachGoing, LacksSome, kinds_of, side_by_side_at, opened_reply, runs_of, zipped}
 
--- if two lists are related entry by entry, so are their rests
+-- if two lists are related entry by entry, so are the lists without their first entries
 pairwise_rest : {X : Type 0} (R : X → X → Type 0) (x y : X) (xs ys : List X) → Pairwise R (x ∷ xs) (y ∷ ys) → Pairwise R xs ys
 pairwise_rest R x y xs ys p = record { count = omega (arith, p.count); each = λ k d e lt. p.each (suc k) d e (omega (arith, lt)) }
 
@@ -58,7 +59,7 @@ begun_goes [] p reply news (is, are) = rw are (All-nil IsGoing)
 begun_goes (kind ∷ kinds) p reply news (first, more, new, rest, begins, others, is, are) =
     rw are (All-cons IsGoing new rest (begins_going kind p new begins.0) (begun_goes kinds p more rest others))
 
--- some entry of a list that has one at k
+-- an entry of a list that is longer than k, so not empty
 some_of : {X : Type 0} (xs : List X) (k : ℕ) → k < length xs → X
 some_of [] k lt = absurd (omega (arith, lt))
 some_of (x ∷ xs) k lt = x
@@ -143,7 +144,7 @@ module _ {X : Type 0} (f : X → HeapState) (p : Settings) (ss : List SessionSta
   pub shown : opened_reply (map (λ m. (f m).kind) ys) ≡ opened_reply (kinds_of (side_by_side_at ss (map f xs)))
   shown = ap opened_reply (sym (mapped_twice (λ h. h.kind) f ys) ∙ same_kinds)
 
--- an allocation failed at one manager
+-- if the opening stopped at a manager whose allocation failed, the relation `lacks` of the mode handler holds
 pub some_lack : {X : Type 0} (f : X → HeapState) (p : Settings) (ss : List SessionState) (xs ys : List X)
     → Stops (λ x y. Opens p (f x) (f y)) (λ x y. IsClosed (f x) (f y)) xs ys
     → LacksSome (side_by_side_at ss (map f xs)) (side_by_side_at ss (map f ys))

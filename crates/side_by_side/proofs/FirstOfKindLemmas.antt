@@ -1,4 +1,5 @@
--- The first manager of a kind in a list: for the loop of `first_of`, and for callers that replace this manager.
+-- For `first_of` and mode `run`, which uses the first manager of a kind in a list: which one that is, and that all managers keep their kinds and promises of
+-- an order if that one does.
 use Rattle.std.proofs.Common.{◌≡◌, ◌∙◌, ◌+◌, ◌<◌, ◌≤◌, ℕ, true, false, List, Option, Some, None, refl, sym, ap}
 use Rattle.std.proofs.Common.{length, get_or, set, map, arith, inl, inr}
 use Rattle.std.proofs.lemmas.Bool.{cases_lt}

@@ -1,4 +1,4 @@
--- New sessions, one for each manager: what `Sessions::start` returns is what a run of `many_managers` may begin with.
+-- For mode `compare`: `Sessions::start` returns a new session for each manager, and with these a run of the mode handler (`many_managers`) may begin.
 use Rattle.std.proofs.Common.{◌≡◌, ◌∙◌, List, [], ◌∷◌, refl, sym, ap, length, map, arith}
 use Rattle.std.proofs.lemmas.List.{length-map}
 use Rattle.std.proofs.lemmas.List.Elements.{All-head, All-tail}

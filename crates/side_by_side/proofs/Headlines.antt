@@ -1,4 +1,4 @@
--- Each manager's own replies meet the headline of its kind: for the law `each_meets_the_headline`.
+-- For the law `each_meets_the_headline`: if each of many managers has a run of its own over a script, its replies meet the headline of its kind.
 use Rattle.std.proofs.Common.{List, [], ◌∷◌, Option}
 use Rattle.cf_base.specs.declared.kind.Kind.{Kind}
 use Rattle.script_reader.specs.Items.{Item}

@@ -1,4 +1,5 @@
--- A reply of a session whose lead is the name of a kind has that name before each line: for `answer_one`.
+-- For `answer_one`, which does a command on one of many managers: with the name of the manager's kind as lead, each line of the reply, whole or cut, begins
+-- with that name.
 use Rattle.std.proofs.Common.{◌≡◌, ◌++◌, ◌∙◌, ℕ, List, [], ◌∷◌, refl, sym, ap, append_assoc}
 use Rattle.cf_io.specs.Feeds.{appended}
 use Rattle.run_model.specs.Texts.{Reply, led}

@@ -1,4 +1,5 @@
--- The replies to the `heap` line, written one manager after the other: for the loop of `put_opened`.
+-- For `put_opened`, which writes the reply of many managers to the `heap` line: the lines written so far, a kind's name and `ok` for each manager, and a
+-- prefix of them if the sink fails.
 use Rattle.std.proofs.Common.{◌≡◌, ◌++◌, ◌∙◌, ◌+◌, ◌<◌, ℕ, List, [], ◌∷◌, sym, ap, length, take, drop, get_or, map, append_assoc, append-nil, arith}
 use Rattle.std.proofs.Common.{take-append-drop}
 use Rattle.std.proofs.lemmas.List.{get_or-map, length-map, map-append, take_more}

@@ -1,4 +1,5 @@
--- From the outcome of a script on many managers to a run of each: for the law `outcomes_are_of_each`.
+-- For the law `outcomes_are_of_each`: if a script on many managers was answered, whole or up to a cut reply, each manager had a run of its own and is left
+-- in its last state.
 use Rattle.std.proofs.Common.{◌≡◌, List, None, subst}
 use Rattle.std.specs.Prelude.{option_map}
 use Rattle.run_model.proofs.CallerLemmas.{part_seen, run_seen}

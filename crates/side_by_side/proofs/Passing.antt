@@ -1,4 +1,5 @@
--- A loop in which each run does the same command, one run after the other: for `answer_each`.
+-- For `answer_each`, the loop that does one command on each manager: after i passes the first i runs have done it and the others are unchanged; at the end
+-- all have, or one reply was cut.
 use Rattle.std.proofs.Common.{◌≡◌, ◌++◌, ◌∙◌, ◌+◌, ◌<◌, ◌≤◌, ℕ, List, [], ◌∷◌, refl, sym, ap, subst, inl, inr, length, set, get_or, map, append_assoc}
 use Rattle.std.proofs.Common.{append-nil, length-append, arith}
 use Rattle.std.proofs.lemmas.List.{get_or_at, length-map, set_at, length_push}
@@ -83,7 +84,7 @@ module _ (olds news : List RunState) (i : ℕ) (c : Command) (reply : Reply) (ol
       (subst (λ l. EachInPart (done ++ z ∷ ahead) c (led [] reply ++ out) l) (sym news_now)
       (each_cut done (z ∷ ahead) c reply out turned (new ∷ ahead) turns cut))
 
-  -- after the turn at i the run at i has done the command too
+  -- after pass i of the loop the run at i has done the command too
   pub swept_more : Swept olds i c reply news → (first : Reply) → TurnNamed old c first new → Swept olds (i + 1) c (reply ++ first) (set news i new)
   swept_more s first turn = more_at s.done s.turned s.ahead s.olds_are s.news_are s.count s.turns first turn
 
@@ -130,7 +131,7 @@ module _ {X : Type 0} (f : X → HeapState) (olds : List RunState) (ss : List Se
   pub seat_goes : All IsGoing (zipped ss (map f ms)) → IsGoing (run_at s (f m))
   seat_goes going = subst IsGoing (sym reads) (going i (run_at s (f m)) inside)
 
--- the loop is at its end
+-- at the end of the loop each manager has done the command
 pub seats_whole : {X : Type 0} (f : X → HeapState) (olds : List RunState) (ss : List SessionState) (ms : List X) (i : ℕ) (c : Command) (reply : Reply)
     → length ss ≡ length ms → length ms ≤ i
     → Swept olds i c reply (zipped ss (map f ms)) → EachTurn olds c reply (zipped ss (map f ms))

@@ -1,4 +1,5 @@
--- Many managers have a reply to each command, so what was written before a cut is a prefix of a whole output: for the law `what_was_cut_is_a_prefix`.
+-- For the law `what_was_cut_is_a_prefix`: many managers have a reply to each command, so what was written before the sink failed is a prefix of the output
+-- of a whole run.
 use Rattle.std.proofs.Common.{◌≡◌, ◌++◌, ◌∙◌, ℕ, List, [], ◌∷◌, map, refl, sym, ap, subst, inl, inr, append_assoc}
 use Rattle.std.specs.List.{All}
 use Rattle.std.specs.Prelude.{codes}
@@ -7,7 +8,7 @@ use Rattle.cf_base.specs.Settings.{Profile}
 use Rattle.cf_base.specs.declared.kind.Kind.{Kind}
 use Rattle.cf_model.specs.Rules.{AreInRange}
 use Rattle.run_laws.specs.ValidItems.{IsValidCommand}
-use Rattle.run_laws.proofs.CallerLemmas.{CanGoOn, begins_there, turn_there}
+use Rattle.run_laws.proofs.CallerLemmas.{CanGoOn, begin_exists, step_exists}
 use Rattle.cf_io.proofs.CallerLemmas.{led-append}
 use Rattle.run_model.proofs.CallerLemmas.{step_going}
 use Rattle.run_model.specs.Sessions.{IsGoing, RunState}
@@ -28,14 +29,14 @@ runs_are (s ∷ runs) = ap (λ l. s ∷ l) (runs_are runs)
 pub each_begins : (kinds : List Kind) (p : Profile) → AreInRange p → (reply : Reply) × (news : List RunState) × EachBegins kinds p reply news
 each_begins [] p can = ([], [], (refl, refl))
 each_begins (kind ∷ kinds) p can =
-    let b = begins_there kind p can in
+    let b = begin_exists kind p can in
     let rest = each_begins kinds p can in
     (named_lines kind (said (codes "ok")) ++ rest.0, b.0 ∷ rest.1, (said (codes "ok"), rest.0, b.0, rest.1, (b.1, refl), rest.2, refl, refl))
 
 pub each_turns : (olds : List RunState) (c : Command) → All IsGoing olds → IsValidCommand c → (reply : Reply) × (news : List RunState) × EachTurn olds c reply news
 each_turns [] c on can = ([], [], (refl, refl))
 each_turns (old ∷ olds) c on can =
-    let t = turn_there old c (All-head IsGoing old olds on) can in
+    let t = step_exists old c (All-head IsGoing old olds on) can in
     let rest = each_turns olds c (All-tail IsGoing old olds on) can in
     (named_lines old.heap.kind t.0 ++ rest.0, t.1 ∷ rest.1, (t.0, rest.0, t.1, rest.1, t.2, rest.2, refl, refl))
 
@@ -76,9 +77,9 @@ many_go_on from = record {
   is_going = AllGo;
   begins_going = λ p reply s begins. begun_goes (kinds_of from) p reply (runs_of s) begins;
   still_going = λ old c reply new on can turns. each_goes_on (runs_of old) c reply (runs_of new) on turns;
-  begins_there = λ p can. (let b = each_begins (kinds_of from) p can in
+  begin_exists = λ p can. (let b = each_begins (kinds_of from) p can in
       (b.0, side_by_side_of b.1, subst (EachBegins (kinds_of from) p b.0) (sym (runs_are b.1)) b.2));
-  turn_there = λ old c on can. (let t = each_turns (runs_of old) c on can in (t.0, side_by_side_of t.1, subst (EachTurn (runs_of old) c t.0) (sym (runs_are t.1)) t.2));
+  step_exists = λ old c on can. (let t = each_turns (runs_of old) c on can in (t.0, side_by_side_of t.1, subst (EachTurn (runs_of old) c t.0) (sym (runs_are t.1)) t.2));
 }
 
 pub each_is_whole : (old : SideBySide) (c : Command) (out : List ℕ) (new : SideBySide) → AllGo old → IsValidCommand c → many_managers.turns_in_part old c out new

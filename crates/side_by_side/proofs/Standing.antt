@@ -1,4 +1,5 @@
--- After a script each of many managers is in the last state of its run (`EachEndsAt`): for the law `outcomes_are_of_each`.
+-- For the law `outcomes_are_of_each`: after a script on many managers each of them is in the last state of its own run (`EachEndsAt`), or as before if no
+-- run began.
 use Rattle.std.proofs.Common.{◌≡◌, ◌++◌, ◌∙◌, ℕ, suc, List, [], ◌∷◌, Option, Some, None, refl, sym, ap, subst, inl, inr, length, map, arith}
 use Rattle.std.proofs.lemmas.List.{length-map}
 use Rattle.std.specs.Prelude.{option_map}

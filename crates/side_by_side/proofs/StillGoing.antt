@@ -1,4 +1,4 @@
--- Runs of many managers stay in progress: for the law `each_manager_is_open_after_its_run`.
+-- For the law `each_manager_is_open_after_its_run`: the runs of many managers over one script are in progress at its end, also if a reply was cut.
 use Rattle.std.proofs.Common.{◌≡◌, ◌++◌, List, [], ◌∷◌, Option, Some, None, refl, subst, inl, inr}
 use Rattle.std.proofs.lemmas.List.Elements.{All-cons, All-nil}
 use Rattle.std.specs.List.{All}

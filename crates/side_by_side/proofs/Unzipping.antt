@@ -1,4 +1,5 @@
--- A run of many managers side by side splits into a run of the first one and a run of the others: for the law `each_has_its_own_run`.
+-- For the laws `each_has_its_own_run` and `a_cut_stops_between_two_managers`: a run of many managers splits, manager by manager, into one run of each, whole
+-- or up to a cut reply.
 use Rattle.std.proofs.Common.{◌≡◌, ◌++◌, ◌∙◌, ℕ, List, [], ◌∷◌, Option, Some, None, refl, sym, ap, subst, inl, inr, map}
 use Rattle.std.specs.Prelude.{⊤}
 use Rattle.run_model.proofs.CallerLemmas.{one_run, run_joined, step_rules, step_same}
@@ -14,12 +15,12 @@ use Rattle.run_model.specs.Sessions.{RunState}
 use Rattle.side_by_side.specs.SideBySide.{EachBegins, EachInPart, EachTurn, named_lines}
 use Rattle.side_by_side.specs.OwnRuns.{JoinStates, HasNoManagers, OwnRuns, OwnRunsInPart, OwnRunsUpTo, bare_reply, interleaved_replies, interleaved_reply}
 
--- the manager is of the kind
+-- if the run has begun, its manager is of the kind and keeps its rules
 abbrev pub IsOf : Kind → Option RunState → Type 0
 IsOf kind None = ⊤
 IsOf kind (Some s) = (s.heap.kind ≡ kind) × KeepsRules s.heap
 
--- one item of such a run splits into an item of the first manager's run and one of the others'
+-- one item of a run side by side splits into a step of the first manager's run and a step of the others' run
 pub record Parted (kind : Kind) (kinds : List Kind) (own : Option RunState) (olds : Option (List RunState)) (item : Item) (reply : Reply)
     (mid : Option (List RunState)) : Type 0 where
   pub first : Reply
@@ -81,7 +82,7 @@ step_parts kind kinds own olds all together of (bad n) reply mid (is, mid_is) =
       of = of;
     }
 
--- such a run splits into the first manager's own run and a run of the others
+-- a run side by side splits into the first manager's own run and a run of the others
 pub record Apart (kind : Kind) (kinds : List Kind) (own : Option RunState) (olds : Option (List RunState)) (items : List Item) (replies : List Reply)
     (end : Option (List RunState)) : Type 0 where
   pub owns : List Reply

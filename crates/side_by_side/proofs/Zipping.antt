@@ -1,4 +1,5 @@
--- A list of sessions beside a list of managers, as a list of runs (`zipped`): its length, the run at an index, and replacing it.
+-- A list of sessions and a list of managers as a list of runs, one for each index (`zipped`): its length, the run at an index, and what replacing one
+-- session and manager changes.
 use Rattle.std.proofs.Common.{◌≡◌, ◌∙◌, ◌<◌, ℕ, suc, zero, List, [], ◌∷◌, refl, sym, ap, length, set, get_or, map, arith}
 use Rattle.std.proofs.lemmas.List.{get_or-map, length-map, map-set, set-get_or}
 use Rattle.cf_model.specs.State.{HeapState}
@@ -40,7 +41,7 @@ module _ {X : Type 0} (f : X → HeapState) (ss : List SessionState) (ms : List 
       let inside : i < length (map f ms) = omega (arith, length-map ms f, lt') in
       zipped_read ss (map f ms) i s (f m) lt inside is (ap f is' ∙ sym (get_or-map f ms i m (f m) lt'))
 
--- what an entry is seen as doesn't change
+-- if g has the same value for an entry and the one that replaces it, the list of values of g stays the same
 pub same_seen : {X Y : Type 0} (g : X → Y) (ms : List X) (i : ℕ) (m n : X) → i < length ms → m ≡ get_or ms i m → g n ≡ g m → map g (set ms i n) ≡ map g ms
 same_seen g ms i m n lt is same =
     map-set g ms i n ∙ ap (λ y. set (map g ms) i y) (same ∙ ap g is ∙ sym (get_or-map g ms i m (g m) lt)) ∙ set-get_or (map g ms) i (g m)

@@ -21,6 +21,6 @@ first_of_kind kind heaps = position (λ h. same_kind h.kind kind) heaps
 abbrev pub chosen_manager : Kind → List HeapState → HeapState
 chosen_manager kind heaps = elim (first_of_kind kind heaps) [ None ↦ closed_state kind | Some i ↦ slice_index_or heaps i (closed_state kind) ]
 
--- The list of managers after the first of the kind has become `new`; unchanged if none is of the kind.
+-- the list of managers in which `new` replaces the first manager of the kind; unchanged if none is of the kind
 abbrev pub with_chosen_manager : Kind → List HeapState → HeapState → List HeapState
 with_chosen_manager kind heaps new = elim (first_of_kind kind heaps) [ None ↦ heaps | Some i ↦ slice_set heaps i new ]

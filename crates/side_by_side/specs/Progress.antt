@@ -21,7 +21,7 @@ pub record TurnNamedInPart (old : RunState) (c : Command) (out : List ℕ) (new 
   pub cut : led [] (named_lines old.heap.kind own) ≡ out ++ lost
 
 -- The command c led from the state `old` to `new`, and the sink, which held the bytes `before`, holds `after`. `Ok`: by the relation `turns`, and its reply
--- was written. `Err`: the sink failed, the relation `in_part` holds, and `out`, a part of the reply, was written.
+-- was written. `Err`: the sink failed, the relation `in_part` holds, and `out`, a prefix of the reply, was written.
 abbrev pub AnswersWith : {S T E : Type 0} → (S → Command → Reply → S → Type 0) → (S → Command → List ℕ → S → Type 0) → S → Option (List ℕ) → Command
     → Result T E → S → Option (List ℕ) → Type 0
 AnswersWith turns in_part old before c (Ok u) new after = (reply : Reply) × turns old c reply new × (after ≡ appended before (led [] reply))

@@ -74,14 +74,14 @@ named_lines kind reply = map (λ line. lead_of kind ++ line) reply
 abbrev pub opened_reply : List Kind → Reply
 opened_reply kinds = map (λ kind. lead_of kind ++ codes "ok") kinds
 
--- The `heap` line with the settings p opens managers of these kinds: each begins a run with its own reply, and `reply` is all of these, each line after the
--- name of the kind. `news` are the runs.
+-- The `heap` line with the settings p opens managers of these kinds: each begins a run with a reply, and `reply` is all these replies, each line after the name
+-- of the kind. `news` are the runs.
 abbrev pub EachBegins : List Kind → Profile → Reply → List RunState → Type 0
 EachBegins [] p reply news = (reply ≡ []) × (news ≡ [])
 EachBegins (kind ∷ kinds) p reply news = (first : Reply) × (more : Reply) × (new : RunState) × (rest : List RunState)
     × BeginsOne kind p first new × EachBegins kinds p more rest × (reply ≡ named_lines kind first ++ more) × (news ≡ new ∷ rest)
 
--- Each manager does the command c, in order: the runs `olds` become `news`, and `reply` is the reply of each, each line after the name of the kind.
+-- Each manager does the command c, in order: the runs `olds` become `news`, and `reply` is all their replies, each line after the name of the kind.
 abbrev pub EachTurn : List RunState → Command → Reply → List RunState → Type 0
 EachTurn [] c reply news = (reply ≡ []) × (news ≡ [])
 EachTurn (old ∷ olds) c reply news = (first : Reply) × (more : Reply) × (new : RunState) × (rest : List RunState)

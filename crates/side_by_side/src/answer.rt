@@ -1,4 +1,5 @@
-//! Does one command of a script on each manager, and writes their replies.
+//! `answer_each`: does one command of a script on each manager in order, and writes their replies, each
+//! line after the name of the manager's kind.
 ghost use Rattle.std.specs.Prelude.{◌≡◌, ◌≤◌, OnErr, is_some, length, map, OnOk};
 ghost use Rattle.std.specs.List.{All};
 ghost use Rattle.cf_io.specs.Feeds.{FailsLast};
@@ -72,8 +73,8 @@ fn answer_one<H: Manager, K: Sink>(
     Ok(())
 }
 
-/// The name of a kind, `cf`, `nm`, `tlsf` or `half`, and a space: what each line of a manager's reply begins
-/// with.
+/// The name of a kind, `cf`, `nm`, `tlsf` or `half`, and a space: each line of a manager's reply begins with
+/// these bytes.
 pub fn lead_bytes(kind: Kind) -> &'static [u8]
     ensures value { result.now ≡ lead_of kind }
     ensures short { length result.now ≤ 8 }

@@ -13,7 +13,7 @@ use script_loop::{ModeHandler, OpenFault};
 use script_reader::CommandRef;
 use std::alloc::Global;
 
-/// A session for each of many managers: that with index i runs on the manager with index i.
+/// A session for each of many managers: the session with index i runs on the manager with index i.
 #[derive(Drop)]
 pub struct Sessions {
     pub each: Vec<Session>,

@@ -1,4 +1,6 @@
-//! Laws of many runs side by side. The functions do nothing: what each ensures is the law.
+//! Laws of a script on many managers: each has its own run and meets the headline; a cut reply stops
+//! between two managers; what was written is a prefix. The functions do nothing: their contracts are the
+//! laws.
 ghost use Rattle.std.specs.Prelude.{◌≡◌, ◌++◌, ℕ, List, [], Option, None, Some, option_map};
 ghost use Rattle.std.specs.List.{All};
 ghost use Rattle.cf_base.specs.declared.kind.Kind.{Kind};
@@ -37,9 +39,9 @@ pub fn a_cut_stops_between_two_managers()
         → OwnRunsInPart kinds before item replies front end }
 {}
 
-/// From what the script loop claims of many managers: each has a run of its own over the script, if all was
-/// written (clause `whole`), or up to a cut reply (`in_part`); and each manager is left in the last state
-/// of its run (`stand`, `stand_in_part`).
+/// What follows from the claims of the script loop (`Wrote`, `WroteInPart`) on many managers. Each manager has
+/// a run of its own over the script if all was written (clause `whole`), or up to a cut reply (`in_part`). In
+/// both cases each manager is left in the last state of its run (`stand`, `stand_in_part`).
 pub fn outcomes_are_of_each()
     ensures whole { (from to : SideBySide) (wanted : List Item) (call : Effects)
         (w : Wrote many_managers from wanted call to)

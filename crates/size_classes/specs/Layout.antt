@@ -1,4 +1,4 @@
--- How `Classes` finds the class of a need, and the page of an address. No public clause cites this module.
+-- How `Classes` finds the class of a need, the words of an object with its header, and the page of an address. No public clause cites this module.
 use Rattle.std.specs.Prelude.{◌≡◌, ℕ, ◌+◌, ◌^◌, ◌<◌, ◌≤◌, List, length, Some, nat_le, slice_index}
 use Rattle.std.specs.List.{position}
 use Rattle.size_classes.specs.Table.{IsClassTable}

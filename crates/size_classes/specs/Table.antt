@@ -1,4 +1,4 @@
--- What contracts see of `Classes`: a table of size classes.
+-- What contracts see of `Classes` (`ClassTable`): the words of a page, and the words of a slot of each class.
 use Rattle.std.specs.Prelude.{ℕ, ◌≤◌, List}
 use Rattle.cf_base.specs.Classes.{sizes}
 use Rattle.cf_base.specs.Rising.{AreSizes}

@@ -1,4 +1,5 @@
-//! The class of each need in words, computed once, when the table of classes is made.
+//! The class of each need, computed once, when the table of classes is made. The need of an object
+//! is how many words it takes, its header included.
 ghost use Rattle.std.specs.Prelude.{IfOk};
 ghost use Rattle.size_classes.specs.Table.{IsClassTable};
 ghost use Rattle.size_classes.specs.Layout.{ShowsClasses};

@@ -17,7 +17,7 @@ use step_ledger::Steps;
 #[derive(Drop)]
 pub struct Classes {
     sizes: Vec<u32>,
-    // The class of each need, in words, of at most a page.
+    // The class of each need from 0 to a page. A need is the words of an object with its header.
     by_need: Cells<u8>,
     page_words: u32,
     // A page has `2^page_shift` words.
@@ -98,7 +98,7 @@ impl Classes {
         address >> self.page_shift
     }
 
-    /// How many words word `address` of the region is behind the start of its page.
+    /// The index of word `address` of the region within its page.
     pub fn offset_of(&self, address: u32) -> u32
         ensures { result ≡ address % self.now.page_words }
     {

@@ -1,4 +1,4 @@
--- For `the_sliced_headline`: the replies of a run meet the claim, from the steps of `Steps` one by one.
+-- For `the_sliced_headline`: the replies of a whole run in mode `slice`, of a session or of the mode handler, meet the claim (`MeetsSliced`), item by item.
 use Rattle.std.proofs.Common.{◌≡◌, ℕ, List, [], ◌∷◌, Option, Some, None, sym, ◌∙◌, ap, subst}
 use Rattle.std.specs.Prelude.{⊤, option_map}
 use Rattle.std.specs.FinMap.{empty}

@@ -54,7 +54,7 @@ fewer n t (Some job) alone (some, most) = elim (cases_lt (job.done + t.quantum) 
     still : job.done + t.quantum < size t job → size t job ≤ job.done + suc n * t.quantum → IsWithin n t (Some (moved t job))
     still more most = (more, omega arith)
 
--- a job that no other one follows
+-- n slices end a job that no other one follows, if they are enough for its words
 alone_ends : (n : ℕ) (t : ShownSlices) → IsAlone t t.job → IsWithin n t t.job → (after_slices n t).job ≡ None
 alone_ends zero t alone within = go t.job refl within
   where
@@ -66,7 +66,7 @@ alone_ends (suc n) t alone within = alone_ends n (after_slice t) (one_lower t al
 idle_stays : (n : ℕ) (t : ShownSlices) → t.job ≡ None → (after_slices n t).job ≡ None
 idle_stays n t none = alone_ends n t (subst (IsAlone t) (sym none) tt) (subst (IsWithin n t) (sym none) tt)
 
--- a job and the one that follows it
+-- slices that are enough for the words left of a job (`a`) and for a whole slot (`b`) end the job and the one that follows it
 both_end : (a b : ℕ) (t : ShownSlices) → IsWithin a t t.job → Fits b t t.job → (after_slices (a + b) t).job ≡ None
 both_end zero b t within fits = go t.job refl within
   where

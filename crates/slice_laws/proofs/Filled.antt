@@ -1,5 +1,5 @@
--- Unless its class has two partly full pages, the page of a job's slot is full if and only if the taken slots of the class fill whole pages. So the replies
--- determine the field `filled` of the shown job.
+-- For `Slicing`: unless its class has two partly full pages, the page of a job's slot is full if and only if the slots of the class's objects and the job's
+-- fill whole pages. So the replies determine `filled`.
 use Rattle.std.proofs.Common.{◌≡◌, ◌≢◌, ℕ, true, false, cond, ◌+◌, ◌%◌, ◌<◌, ◌≤◌, Bool, Some, None, arith, sym, ◌∙◌, ap, refl, subst, inl, inr}
 use Rattle.std.specs.Prelude.{◌||◌, nat_eq, nat_le}
 use Rattle.std.proofs.lemmas.Bool.{cases_eq, cases_lt, leb-true, leb-false, eqb-false}
@@ -145,7 +145,7 @@ module _ (plan : Plan) (ok : IsPlan plan) (s : Sliced) (kept : IsKept plan s) (k
       go true false e f = absurd (ne (filled_is_two e f))
       go false true e f = absurd (let z : true ≡ false = sym (full_is_filled f) ∙ e in cc)
 
--- an object is added beside the job
+-- a malloc while a job is pending: the new object may fill the page of the job's slot
 module _ (plan : Plan) (ok : IsPlan plan) (old new : Sliced) (kept : IsKept plan old) (after : IsKept plan new) (k : JobSlot)
     (is : job_slot old.job ≡ Some k) (still : job_slot new.job ≡ Some k) (h : ℕ) (x : Placed) (unused : get old.held h ≡ None)
     (came : new.held ≡ insert old.held h x) where
@@ -187,7 +187,7 @@ module _ (plan : Plan) (ok : IsPlan plan) (old new : Sliced) (kept : IsKept plan
       (λ g. part_full (objects_on plan.paging before k.class g) size) 0 plan.paging.pages page (omega arith)
       (let w = within plan ok old kept k is in omega arith) (λ g ne. ap (λ n. part_full n size) (away on g ne))
 
-  -- the page that it fills was the only one that was partly full
+  -- if the new object fills the slot's page, the taken slots of the class then fill whole pages
   filled_now : is_filled plan.paging old.held k ≡ false → is_filled plan.paging new.held k ≡ true
       → are_filled plan.paging (live plan.paging (objects new.held) k.class) k ≡ false → ⊥
   filled_now less filled part =

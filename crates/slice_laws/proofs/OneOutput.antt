@@ -1,4 +1,4 @@
--- For `one_sliced_output`: two runs over one script in mode `slice` have the same replies, with each word that `p` prints.
+-- For `one_sliced_output`: two runs over one script in mode `slice` have the same replies, with each word that `p` prints, and end in the same state.
 use Rattle.std.proofs.Common.{◌≡◌, ℕ, List, [], ◌∷◌, Option, Some, None, length, sym, ◌∙◌, ap, subst}
 use Rattle.std.specs.Prelude.{codes, option_map}
 use Rattle.std.specs.Option.{MatchOption}
@@ -117,7 +117,7 @@ begun_once : (quantum : ℕ) (p : Profile) (new next : SliceRun) → BeginsSlice
 begun_once quantum p new next g f = same_run new next (f.ids ∙ sym g.ids) (f.heap ∙ sym g.heap)
 
 module _ (quantum : ℕ) where
-  -- one item, after which the runs go on from one state
+  -- two runs in the same state reply the same to an item, and go on from the same state
   item_once : (old : Option SliceRun) (item : Item) (reply other : Reply) (mid also : Option SliceRun) → GoesOn old
       → PlayStep (BeginsSlices quantum) SliceStep old item reply mid → PlayStep (BeginsSlices quantum) SliceStep old item other also
       → (other ≡ reply) × (also ≡ mid) × GoesOn mid

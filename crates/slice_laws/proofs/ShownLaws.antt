@@ -1,4 +1,5 @@
--- For `who_is_busy_and_how_long`: when a free or a malloc prints `busy`, and how slices lower the words that are left.
+-- For `who_is_busy_and_how_long`: a free prints `busy` if and only if a job is pending, a malloc doesn't while a page is to spare, and each slice lowers the
+-- words left of a free's job by the quantum.
 use Rattle.std.proofs.Common.{◌≡◌, ◌≢◌, ℕ, zero, suc, true, false, cond, ◌+◌, ◌-◌, ◌*◌, ◌<◌, ◌≤◌, Bool, List, Option, Some, None, length, get_or, arith, sym, ◌∙◌, ap, refl, subst, inl, inr}
 use Rattle.std.specs.Prelude.{◌&&◌, ◌||◌, ◌↔◌, codes, if◌then◌else◌, nat_eq, nat_lt, not}
 use Rattle.std.proofs.lemmas.Bool.{cases_lt}
@@ -18,7 +19,7 @@ use Rattle.slice_session.specs.SliceRun.{slice_free_text}
 use Rattle.slice_laws.specs.ShownSlices.{ShownJob, ShownSlices, after_slice, are_full, job_sliced, job_takes, needed_beside, noted, paging_shown, words_left, words_of_job}
 use Rattle.slice_laws.specs.SliceHeadline.{after, after_free, after_slices, job_begun, line_of, slice_fault, slice_refusal, with_objects}
 
--- a free
+-- a free prints `busy` if and only if a job is pending
 pub free_is_busy : (t : ShownSlices) (id : ℕ) (v : List ℕ) → get t.heap.objects id ≡ Some v → (line_of t (Free id) ≡ codes "busy") ↔ (t.job ≢ None)
 free_is_busy t id v there = go t.job (ap (λ o. slice_free_text (slice_fault o t.job)) there)
   where
@@ -29,7 +30,7 @@ free_is_busy t id v there = go t.job (ap (λ o. slice_free_text (slice_fault o t
     )
     go (Some job) e = ((λ _ none. (let z : Some job ≡ None = none in cc)), (λ _. e))
 
--- a malloc
+-- a malloc doesn't print `busy` if a page is to spare, since the job's slot needs at most one page
 module _ (t : ShownSlices) (n : ℕ) (ok : IsPaging (paging_shown t)) where
   abbrev p : Paging
   p = paging_shown t
@@ -113,7 +114,7 @@ lower (suc n) t alone =
     let rest = lower n (after_slice t) one'.1 in
     omega arith
 
--- a free
+-- after a free and n slices n + 1 quanta fewer words are left than the object's slot has, or none
 pub left_after_free : (t : ShownSlices) (id n : ℕ) (v : List ℕ) → get t.heap.objects id ≡ Some v → t.job ≡ None
     → words_left (after_slices n (after t (Free id))) ≡ slot_words (paging_shown t) (class_for (paging_shown t) (length v)) - (n + 1) * t.quantum
 left_after_free t id n v there none =
@@ -128,7 +129,7 @@ left_after_free t id n v there none =
     both_no true = refl
     both_no false = refl
 
--- a slice after which words are left, if a job is pending
+-- after a slice no words are left if and only if no job is pending
 module _ (t : ShownSlices) where
   abbrev HasWords : Option ShownJob → Type 0
   HasWords None = Unit {0}

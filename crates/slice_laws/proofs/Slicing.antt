@@ -1,4 +1,5 @@
--- The `ShownSlices` of a state of the sliced heap's model, and how its job changes by slices, mallocs and frees.
+-- For `Steps`: what lines and replies in mode `slice` show of a state of the sliced heap's model (`ShownSlices`); a slice, a malloc and a free change it as the
+-- claim computes.
 use Rattle.std.proofs.Common.{◌≡◌, ℕ, true, false, cond, ◌+◌, ◌%◌, Bool, Option, Some, None, arith, sym, ◌∙◌, ap, refl, inl, inr}
 use Rattle.std.specs.Prelude.{◌&&◌, ◌||◌, nat_eq, not}
 use Rattle.std.specs.FinMap.{get, remove}
@@ -57,7 +58,7 @@ module _ (s : Profile) (quantum : ℕ) (ok : IsPlan (plan_by s quantum)) where
       → are_full (with_job o (Some (record { class = k.class; done = done; filled = filled }))) k.class ≡ are_filled p (live p (objects m) k.class) k
   full_shown o m counted k done filled = λ i. nat_eq ((counted k.class i + cond (eq_yes k.class k.class refl i) 1 0) % slots_of p k.class) 0
 
-  -- a malloc
+  -- the heap that is shown after a malloc
   pub malloc_noted : (o : Objects) (old new : Sliced) → IsKept (plan_by s quantum) old → (asked : Request) → AddsObject (plan_by s quantum) old asked new
       → AreCounted o new.held
       → noted (record { heap = heap_with s o; quantum = quantum; job = job_shown (plan_by s quantum).paging old.held (job_slot old.job) })
@@ -78,7 +79,7 @@ module _ (s : Profile) (quantum : ℕ) (ok : IsPlan (plan_by s quantum)) where
           ∙ ap (λ b. Some (record { class = k.class; done = k.done; filled = b })) (sym after)
           ∙ sym (ap (job_shown p new.held) (job_is ∙ e))
 
-  -- a free, before its slice
+  -- the heap that is shown after a free, before its first slice
   pub free_noted : (o : Objects) (m : Held) → IsKept (plan_by s quantum) (record { held = m; job = Idle }) → (h : ℕ) (x : Placed) → get m h ≡ Some x
       → (moved : Option ℕ) → Moves (plan_by s quantum).paging m x moved → (after : Sliced)
       → LeavesJob (remove m h) x.place (class_at (plan_by s quantum).paging x) moved after → AreCounted o after.held
@@ -97,7 +98,7 @@ module _ (s : Profile) (quantum : ℕ) (ok : IsPlan (plan_by s quantum)) where
       ap (with_job o) (ap (λ b. Some (record { class = class_at p x; done = 0; filled = b })) (full ∙ sym once)
       ∙ sym (ap (job_shown p after.held) fresh.1))
 
-  -- a slice
+  -- the heap that is shown after a slice
   module _ (o : Objects) (old new : Sliced) (kept : IsKept (plan_by s quantum) old) (slice : IsSlice (plan_by s quantum) old new)
       (counted : AreCounted o old.held) where
     abbrev Shows : Option JobSlot → Type 0
@@ -159,7 +160,7 @@ module _ (s : Profile) (quantum : ℕ) (ok : IsPlan (plan_by s quantum)) where
     pub slice_shown : after_slice (state_shown s quantum o old) ≡ state_shown s quantum o new
     slice_shown = ap (with_job o) (go (job_slot old.job) refl slice)
 
-  -- the words that are left
+  -- the heap that is shown has as many words left as the model's job
   pub left_shown : (o : Objects) (w : Sliced) (q : Option JobSlot)
       → words_of_job (state_shown s quantum o w) (job_shown (plan_by s quantum).paging w.held q) ≡ left_of_slot (plan_by s quantum).paging q
   left_shown o w None = refl

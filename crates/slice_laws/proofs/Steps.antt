@@ -1,4 +1,4 @@
--- For `the_sliced_headline`: each command's reply, and the heap shown after it, are those of `Answers`.
+-- For `the_sliced_headline`: in a run, each command's reply, and the heap that lines and replies show after it, are those that the claim allows (`Answers`).
 use Rattle.std.proofs.Common.{◌≡◌, ◌≢◌, ℕ, false, cond, ◌+◌, ◌*◌, ◌<◌, ◌≤◌, Bool, List, Option, Some, None, length, replicate, arith, sym, ◌∙◌, ap}
 use Rattle.std.proofs.Common.{refl, subst, inl, inr}
 use Rattle.std.specs.Prelude.{Result, Ok, Err, codes, nat_eq, nat_le, nat_lt, option_map, slice_get, slice_index}
@@ -53,7 +53,7 @@ by_id s = objects_by_id s.ids (objects s.heap.held)
 abbrev pub shown : SliceRun → ShownSlices
 shown s = state_shown s.heap.profile s.heap.quantum (by_id s) (working_in s.heap).state
 
--- the refusals by their tests
+-- the refusal by the results of the four tests: the first that is true
 abbrev pub refusal_by : (size proxy space busy : Bool) → Option SliceRefusal
 refusal_by size proxy space busy =
     cond size (Some refusal.Size) (cond proxy (Some refusal.Proxy) (cond space (Some refusal.Space) (cond busy (Some refusal.Busy) None)))
@@ -222,7 +222,7 @@ module _ (old new : SliceRun) (going : IsGoingSliced old) (later : IsGoingSliced
         ap shown st.1 ∙ sym (ap (λ o. after_malloc o (slice_refusal t n) t id n) v.2),
       )
 
-  -- f
+  -- the command `f`
   job_is_none : old.heap.job ≡ Idle → t.job ≡ None
   job_is_none idle = ap (λ (j : Job). job_shown (plan_by s q).paging old.heap.held (job_slot j)) idle
 
@@ -292,7 +292,7 @@ module _ (old new : SliceRun) (going : IsGoingSliced old) (later : IsGoingSliced
         stated.1 ∙ sym (ap (λ o. after_free o t.job t id) v.2),
       )
 
-  -- w: no object is made, freed or moved
+  -- the command `w`: it makes, frees and moves no object, so the job stays as it is shown
   same_job : (h : ℕ) (x : Placed) (bytes : List ℕ) → get old.heap.held h ≡ Some x → length bytes ≡ length x.bytes
       → (working_in new.heap).state ≡ record (working_in old.heap).state { held = insert old.heap.held h (record { place = x.place; bytes = bytes }) }
       → job_shown (plan_by s q).paging new.heap.held (job_slot new.heap.job) ≡ t.job
@@ -368,7 +368,7 @@ module _ (old new : SliceRun) (going : IsGoingSliced old) (later : IsGoingSliced
         stated.1 ∙ sym (ap (λ o. with_objects t (write_leaves o (by_id old) (record { id = id; at = from; bytes = bytes }))) v.2),
       )
 
-  -- s
+  -- the command `s`
   slice_answered : StepsSliced old reply new → Answered command.Slice
   slice_answered st =
       let d = st.does in
@@ -384,7 +384,7 @@ module _ (old new : SliceRun) (going : IsGoingSliced old) (later : IsGoingSliced
       sym (left_shown new.heap.profile new.heap.quantum later.rules.plan (by_id new) (working_in new.heap).state (job_slot new.heap.job)) in
       (st.reply_is ∙ ap (λ n. said (with_number (codes "left ") n)) (left ∙ ap words_left is), is)
 
-  -- r
+  -- the command `r`
   read_answered : (id from count : ℕ) → reply ≡ said (read_text (sliced_object_of old id) from count) → new ≡ old → Answered (command.Read id from count)
   read_answered id from count r same = (
     r ∙ ap said (of_bytes (sliced_object_of old id) ∙ ap (λ o. read_said o from count) (bytes_same (get old.ids id) refl)),
@@ -402,7 +402,7 @@ module _ (old new : SliceRun) (going : IsGoingSliced old) (later : IsGoingSliced
           let v = found old going id h named in
           sym (get-map_values (λ (x : Placed). x.bytes) old.heap.held h) ∙ v.1 ∙ sym v.2
 
-  -- p
+  -- the command `p`
   peek_answered : (word : ℕ) → reply ≡ said (peek_text (slice_get old.heap.words word)) → new ≡ old → Answers t (command.Peek word) reply (shown new)
   peek_answered word r same = (let region = going.rules.region in elim (cases_lt word (s.pages * s.page_words)) [
     | inl lt ↦ (

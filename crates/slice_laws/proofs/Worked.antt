@@ -80,7 +80,7 @@ step7 : Steps (with o3 (job 16)) (Malloc 4 176) (codes "busy") (with o3 (job 16)
 unfolding sizes_from class_for live pages_needed_with
 step7 = (simp maps, simp maps)
 
--- one command, before the rest
+-- the replies to a command and the items after it are its reply and the replies to those items
 before : (old : ShownSlices) (c : Command) (text : List ℕ) (new : ShownSlices) (rest : List Item) (replies : List Reply) → Steps old c text new
     → replies_from 8 (Some new) rest ≡ replies → replies_from 8 (Some old) (asks c ∷ rest) ≡ said text ∷ replies
 before old c text new rest replies step more = (λ i. said (step.0 i) ∷ replies_from 8 (Some (step.1 i)) rest) ∙ ap (λ l. said text ∷ l) more

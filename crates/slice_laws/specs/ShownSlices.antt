@@ -6,7 +6,7 @@ use Rattle.page_model.specs.Arrangement.{live, pages_for}
 use Rattle.page_model.specs.Paging.{Paging, class_for, slot_words, slots_of}
 use Rattle.transcript_laws.specs.ById.{ById, begun, paging_by_id}
 
--- A pending job, which clears a slot or moves an object into it. `class` is the slot's class, `done` how many words of the slot are done. `filled`: the slot's
+-- A pending job, which clears a slot or moves an object out of it. `class` is the slot's class, `done` how many words of the slot are done. `filled`: the slot's
 -- page was full at some time since the job began, with the slot counted as taken. Once that page is full, the heap places new objects of the class on another
 -- page.
 pub record ShownJob : Type 0 where
@@ -46,7 +46,7 @@ are_full t c = nat_eq (taken_slots t c % slots_of (paging_shown t) c) 0
 abbrev pub needed_beside : ShownSlices → ℕ → ℕ
 needed_beside t n = pages_for (paging_shown t) (λ c. taken_slots t c + (if nat_eq (class_for (paging_shown t) n) c then 1 else 0))
 
--- how many words of its slot the given job, if there is one, has yet to do in heap `t`; 0 without a job
+-- how many words of its slot this job has yet to do, in heap `t`; 0 without a job
 abbrev pub words_of_job : ShownSlices → Option ShownJob → ℕ
 words_of_job t None = 0
 words_of_job t (Some job) = slot_words (paging_shown t) job.class - job.done

@@ -1,6 +1,5 @@
--- What is claimed of every script in mode `slice`, by its lines and their replies alone. `t` is the heap before a command.
---
--- Each reply is a function of the lines before it, which determine the heap that is shown (`ShownSlices`). Only the word that `p` prints is left open.
+-- The claim of every script in mode `slice` (`MeetsSliced`): each reply, but for the word that `p` prints, is a function of its line and the lines before it.
+-- `t` is the heap that these show before a command.
 use Rattle.std.specs.Prelude.{◌≡◌, ⊤, ℕ, zero, suc, false, List, [], ◌∷◌, Option, Some, None, Err, codes, if◌then◌else◌, length, nat_eq, nat_lt, replicate}
 use Rattle.std.specs.FinMap.{get, insert, len, remove}
 use Rattle.cf_base.specs.Classes.{need}
@@ -24,7 +23,7 @@ use Rattle.transcript_laws.specs.Replies.{objects_after, ok_or, read_said, write
 use Rattle.slice_laws.specs.ShownSlices.{ShownJob, ShownSlices, after_slice, needed_beside, noted, paging_shown, slices_opened, words_left}
 
 -- Why a malloc of `n` bytes is refused; None if it isn't. The first cause that holds: the object is longer than a page (`Size`); all proxies are in use
--- (`Proxy`); the objects with the new one need more pages than there are (`Space`); they do so only as long as the job has its slot (`Busy`).
+-- (`Proxy`); the objects with the new one need more pages than there are (`Space`), or would if the job's slot counted as one more object (`Busy`).
 abbrev pub slice_refusal : ShownSlices → ℕ → Option SliceRefusal
 slice_refusal t n =
     if nat_lt t.heap.profile.page_words (need n) then Some refusal.Size

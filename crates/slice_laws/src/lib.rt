@@ -1,5 +1,6 @@
-//! What is claimed of every script in mode `slice`, by its lines and their replies alone (`MeetsSliced`). The
-//! public functions do nothing: the contract of each is a theorem.
+//! Theorems on mode `slice`: the replies to every script meet the claim that lines and replies alone express
+//! (`MeetsSliced`), one script has one output, which calls wait for a job and how long, and wrong replies
+//! violate the claim.
 #![tactic(auto)]
 
 ghost use Rattle.std.specs.Prelude.{◌≡◌, ◌≢◌, ℕ, ◌+◌, ◌-◌, ◌*◌, ◌<◌, ◌≤◌, ◌↔◌, codes, length, take, List, [], ◌∷◌, ◌++◌, None, Option, Some};
@@ -49,13 +50,13 @@ pub fn one_sliced_output()
         → (others ≡ replies) × (option_map run_of_play end ≡ option_map run_of_play last) }
 {}
 
-/// Which calls wait for a job, and how long. `free`: a free of a live id prints `busy` if and only if a job
-/// is pending. `malloc`: a malloc doesn't print `busy` if the objects with the new one need fewer pages than
-/// there are. `none_left`: `s` prints `left 0` if and only if no job is pending after it. `left`: after a
-/// free, if only slices follow, each `s` lowers the words that are left by the quantum, down to 0. `ended`:
-/// suppose a malloc prints `busy`, `a` slices are enough for the rest of the job, and `b` slices for a whole
-/// slot. Then the malloc isn't refused after `a + b` slices without another command: at most one more job
-/// follows.
+/// Which calls wait for a job, and how long. `t` is the heap before the call, as the lines and replies show it.
+/// `free`: a free of a live id prints `busy` if and only if a job is pending. `malloc`: a malloc doesn't print
+/// `busy` if the objects with the new one need fewer pages than there are. `none_left`: `s` prints `left 0` if
+/// and only if no job is pending after it. `left`: after a free, if only slices follow, each `s` lowers the
+/// words that are left by the quantum, down to 0. `ended`: suppose a malloc prints `busy`, `a` slices are enough
+/// for the words left of the job, and `b` slices for a whole slot. Then the malloc isn't refused after `a + b`
+/// slices without another command: at most one more job follows.
 pub fn who_is_busy_and_how_long()
     ensures free { (t : ShownSlices) (id : ℕ) (v : List ℕ) → get t.heap.objects id ≡ Some v
         → (line_of t (Free id) ≡ codes "busy") ↔ (t.job ≢ None) }

@@ -1,4 +1,5 @@
--- For `what_the_rules_say_of_pages`: what the objects without the placeholder satisfy while a job is pending.
+-- For `what_the_rules_say_of_pages`: while a job is pending, no object is in its slot, and each class has at most one partly full page, the class of the job's
+-- slot at most two.
 use Rattle.std.proofs.Common.{◌≡◌, ℕ, Some, arith, sym, ◌∙◌, subst}
 use Rattle.std.specs.FinMap.{get, insert}
 use Rattle.cf_lemmas.proofs.Maps.{get_inserted, get_insert_other}

@@ -1,5 +1,5 @@
--- For `words_after_each_call` and `bytes_are_read_where_they_stand`: the words after a malloc, a free, a slice and a write, and reading a byte while a job
--- is half done.
+-- For `words_after_each_call` and `bytes_are_read_where_they_lie`: if the region's words are right for a state (`HasWords`), they are so after a malloc, a
+-- slice and a write, and when a free's job begins; a read finds each byte.
 use Rattle.std.proofs.Common.{◌≡◌, ◌≢◌, ℕ, zero, suc, ◌+◌, ◌-◌, ◌*◌, ◌/◌, ◌%◌, ◌<◌, ◌≤◌, List, Option, Some, None, length, get_or, replicate, take, drop, arith}
 use Rattle.std.proofs.Common.{sym, ◌∙◌, ap, refl, subst, inl, inr, length-drop}
 use Rattle.std.specs.Prelude.{◌⊎◌, min}
@@ -60,7 +60,7 @@ pub done_within : (plan : Plan) (k : JobSlot) → k.done ≤ slot_words plan.pag
 done_within plan k le = omega arith
 
 module _ (plan : Plan) (ok : IsPlan plan) (words words' : List ℕ) where
-  -- n words of a job
+  -- after the next words of a job are done, the words are right for the job with these words done
   advances : (m : Held) (j : Job) (k : JobSlot) → job_slot j ≡ Some k → IsJobOf plan.paging m j → AreApart plan.paging m (job_slot j)
       → DoesWords m j (min plan.quantum (slot_words plan.paging k.class - k.done)) words words'
       → HasWords plan.paging (record { held = m; job = j }) words → HasWords plan.paging (record { held = m; job = advanced j (done_after plan k) }) words'
@@ -107,7 +107,7 @@ module _ (plan : Plan) (ok : IsPlan plan) (words words' : List ℕ) where
           rw w (words_to_carry plan.paging m words' chains.object carries.object k.address k.class carries.found class over.held
           (λ w out _. over.zeros w out (λ g e. absurd (let e' : None ≡ Some g = e in cc))))
 
-  -- a slice
+  -- the words after a slice are right for its state
   pub words_sliced : (m : Held) (j : Job) → IsKept plan (record { held = m; job = j }) → HasWords plan.paging (record { held = m; job = j }) words
       → (new : Sliced) → SliceOf plan (record { held = m; job = j }) (job_slot j) new → DoesWords m j (words_of_slice plan (job_slot j)) words words'
       → HasWords plan.paging new words'
@@ -115,7 +115,7 @@ module _ (plan : Plan) (ok : IsPlan plan) (words words' : List ℕ) where
   words_sliced m (Clear k) kept has new slice does = pending m (Clear k) k refl kept has new slice does
   words_sliced m (Move q k) kept has new slice does = pending m (Move q k) k refl kept has new slice does
 
--- a free
+-- when the job of a free begins, no word has changed, and the words are right for the state with that job
 pub words_begun : (plan : Plan) → IsPlan plan → (words : List ℕ) (m : Held) → IsKept plan (record { held = m; job = Idle })
     → HasWords plan.paging (record { held = m; job = Idle }) words → (h : ℕ) (x : Placed) → get m h ≡ Some x → (moved : Option ℕ)
     → Moves plan.paging m x moved → (new : Sliced) → LeavesJob (remove m h) x.place (class_at plan.paging x) moved new → HasWords plan.paging new words
@@ -225,7 +225,7 @@ module _ (p : Paging) (m : Held) (j : Job) (is_job : IsJobOf p m j) (words words
         re.others w (outside_one a w (λ e. first_not a extent w some o (sym e))) ∙ has.zeros w (λ q y was. out q y (stays q y was).1) beyond);
   }
 
--- a malloc
+-- the words after a malloc are right for its state
 pub words_given : (plan : Plan) → IsPlan plan → (old : Sliced) → IsKept plan old → (words words' : List ℕ) → HasWords plan.paging old words
     → (asked : Request) (new : Sliced) → (g : AddsObject plan old asked new)
     → Rewrites words words' (record { from = g.place; count = 1 }) (λ _. header_word asked.number asked.length) → HasWords plan.paging new words'
@@ -273,7 +273,7 @@ same_place (Move q k) h x y i e = (elim (cases_eq q h) [
   ])
 ])
 
--- bytes are written
+-- the words after a write are right for its state
 module _ (plan : Plan) (ok : IsPlan plan) (old : Sliced) (kept : IsKept plan old) (words words' : List ℕ) (has : HasWords plan.paging old words)
     (h : ℕ) (x : Placed) (there : get old.held h ≡ Some x) (at : ℕ) (bytes : List ℕ) (fits : at + length bytes ≤ length x.bytes)
     (re : RewritesObject old.job h x (written x.bytes at bytes) (record { from = 1 + at / 8; count = (at % 8 + length bytes + 7) / 8 }) words words') where
@@ -341,7 +341,7 @@ module _ (plan : Plan) (ok : IsPlan plan) (old : Sliced) (kept : IsKept plan old
         ]) beyond;
   }
 
--- a byte is read from its word, at the word's present address
+-- byte k of an object is in the word from which `byte_read` reads it
 pub byte_there : (plan : Plan) → IsPlan plan → (s : Sliced) → IsKept plan s → (words : List ℕ) → HasWords plan.paging s words
     → (h : ℕ) (x : Placed) → get s.held h ≡ Some x → AreBytes x.bytes → (k : ℕ) → k < length x.bytes → byte_read s.job words h x k ≡ get_or x.bytes k 0
 byte_there plan ok s kept words has h x there bytes k lt =

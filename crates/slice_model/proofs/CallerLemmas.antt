@@ -1,5 +1,5 @@
--- The lemmas that other crates' proofs may cite: on the arrangement with the job's placeholder, the rules of a state, refusals, words, orders, and one map
--- of objects. The file only passes them on.
+-- The lemmas that other crates' proofs may cite, passed on from other files: the arrangement with the job's placeholder, the rules of a state, refusals, words,
+-- orders, and calls on one map from numbers to bytes.
 pub use Rattle.slice_model.proofs.Occupied.{placeholder_class, no_placeholder, get_beside, some_beside, inserted_beside, job_class, beside, slot_class, slot_there}
 pub use Rattle.slice_model.proofs.Occupied.{on_more, place_is_free, free_is_place, lacking_is_no_place, no_place_is_lacking, place_or_none}
 pub use Rattle.slice_model.proofs.KeptSteps.{IsAlike, moved_away, changed_places, other_than, job_stays, slot_stays}

@@ -1,4 +1,5 @@
--- For `words_are_the_image_but_for_the_job`: the words while a job is pending, against the image of the objects.
+-- For `words_are_the_image_but_for_the_job`: while no job is pending, the region's words are the image of the objects; while one is, they differ from it at
+-- most in words that the job has yet to change.
 use Rattle.std.proofs.Common.{◌≡◌, ◌≢◌, ℕ, ◌+◌, ◌-◌, ◌<◌, ◌≤◌, List, Option, Some, None, length, get_or, arith, sym, ◌∙◌, ap, refl, inl, inr}
 use Rattle.std.specs.Prelude.{◌↔◌}
 use Rattle.std.proofs.lemmas.Bool.{cases_eq, cases_lt}

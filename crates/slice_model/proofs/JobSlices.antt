@@ -1,4 +1,5 @@
--- For the laws of `jobs.rt` on the slices of one job: how each slice advances it, and how many slices end it.
+-- For the laws of `jobs.rt`: how a slice advances the pending job, which no other call changes; how many slices end it; and that after it at most one more job
+-- follows.
 use Rattle.std.proofs.Common.{◌≡◌, ◌≢◌, ℕ, zero, suc, ◌+◌, ◌-◌, ◌*◌, ◌%◌, ◌<◌, ◌≤◌, List, [], ◌∷◌, Some, None, arith, sym, ◌∙◌, ap, refl, subst, inl, inr}
 use Rattle.std.specs.Prelude.{◌⊎◌, Ok, Err}
 use Rattle.std.proofs.lemmas.Nat.{div-add-mod'}
@@ -136,7 +137,7 @@ module _ (plan : Plan) where
       let same : mid ≡ old = subst (λ j. SliceOf plan old (job_slot j) mid) idle slice in
       slices_idle n mid new (rw same idle) rest
 
-  -- after a job that another one followed the class has no second partly full page
+  -- a job that follows another one is followed by none: once it begins, its class has no second partly full page
   module _ (ok : IsPlan plan) where
     pub followed_once : (m : Held) (a e q : ℕ) (new : Sliced) → IsBeside plan.paging m a e q → BeginsMove m q a e new → IsKept plan new
         → not_full_pages plan.paging new.held e ≢ 2
@@ -251,7 +252,7 @@ runs_go_on plan (turn ∷ rest) old new k e more (mid, is, then) = elim (stays_p
       ∙ advanced_twice old.state.job (k.done + plan.quantum) (k.done + plan.quantum + steps_in rest * plan.quantum) ∙ ap (advanced old.state.job) d))
 ]
 
--- the slice that does the last words
+-- the slice that does the last words of a job ends it, whatever calls come before
 pub runs_end : (plan : Plan) → IsPlan plan → (turns : List TaskCall) (old mid new : HeapWithWords) (k : JobSlot) → job_slot old.state.job ≡ Some k
     → k.done < slot_words plan.paging k.class → Runs plan old turns mid
     → steps_in turns + 1 ≡ ceil_div (slot_words plan.paging k.class - k.done) plan.quantum → Happens plan mid Step new → IsOver k new.state.job

@@ -1,4 +1,5 @@
--- For the laws of `kept.rt`: if a state satisfies the rules (`IsKept`), so does the state after each call.
+-- For the laws of `kept.rt`: each call keeps the rules of the state (`IsKept`), since an object and the job's placeholder only exchange addresses. Also: with
+-- the placeholder, which pages of the job's class are partly full.
 use Rattle.std.proofs.Common.{◌≡◌, ◌≢◌, ℕ, ◌+◌, ◌-◌, ◌*◌, ◌<◌, ◌≤◌, List, Option, Some, None, length, replicate, arith, sym, ◌∙◌, ap, refl, subst, inl, inr}
 use Rattle.std.proofs.lemmas.Bool.{cases_eq, cases_lt}
 use Rattle.std.proofs.lemmas.List.{length-replicate}
@@ -22,7 +23,7 @@ pub record IsAlike (p : Paging) (m n : Held) : Type 0 where
   pub sound : IsSound p n
   pub counts : (c page : ℕ) → objects_on p n c page ≡ objects_on p m c page
 
--- an object of the same class is put at the address of one that is removed
+-- the arrangement stays alike if an object is removed and one of the same class is put at its address
 exchange : (p : Paging) (m : Held) (h : ℕ) (x : Placed) → get m h ≡ Some x → (q : ℕ) (bytes : List ℕ) → get (remove m h) q ≡ None
     → class_at p (record { place = x.place; bytes = bytes }) ≡ class_at p x → IsSound p m
     → IsAlike p m (insert (remove m h) q (record { place = x.place; bytes = bytes }))
@@ -39,7 +40,7 @@ pub other_than : (m : Held) (P q : ℕ) (y : Placed) → get m P ≡ None → ge
 other_than m P q y none there is = (let e : get m P ≡ Some y = rw is at there in absurd (let z : Some y ≡ None = sym e ∙ none in cc))
 
 module _ (p : Paging) (P : ℕ) where
-  -- An object moves to the place of one that is removed, and the placeholder takes its old place.
+  -- The arrangement stays alike if object q moves to the address of h, which is removed, and the placeholder gets the old address of q.
   pub moved_away : (m : Held) → get m P ≡ None → (h : ℕ) (x : Placed) → get m h ≡ Some x → (q : ℕ) (y : Placed) → get m q ≡ Some y → q ≢ h
       → (bytes : List ℕ) → class_at p y ≡ class_at p x → class_for p (length bytes) ≡ class_at p x → IsSound p m
       → IsAlike p m (insert (insert (remove m h) q (record { place = x.place; bytes = y.bytes })) P (record { place = y.place; bytes = bytes }))
@@ -79,7 +80,8 @@ module _ (p : Paging) (P : ℕ) where
         ]
       ])
 
-  -- An object and the placeholder change places, by way of a number that nothing uses.
+  -- The arrangement stays alike if an object and the placeholder, whose number is P, exchange addresses. In between, the placeholder has the number P + 1,
+  -- which nothing uses.
   module _ (m : Held) (a : ℕ) (bytes : List ℕ) (q : ℕ) (y : Placed) (qP : q ≢ P) (qT : q ≢ P + 1) (none : get m (P + 1) ≡ None)
       (there : get m q ≡ Some y) (class : class_at p y ≡ class_for p (length bytes)) where
     abbrev f : Placed
@@ -153,7 +155,8 @@ job_goes_on p m Idle d lt is = tt
 job_goes_on p m (Clear k) d lt is = record { class = is.class; under_way = lt k refl }
 job_goes_on p m (Move h k) d lt is = (record { class = is.0.class; under_way = lt k refl }, is.1)
 
--- if a page counts as partly full, it has an object and a free slot; below, if a page with an object doesn't count, it is full
+-- Of a page with n objects and s slots: if it counts as partly full, it has an object and a free slot; if it has an object and doesn't count, it is full
+-- (`full_shown`).
 part_shown : (n s : ℕ) → one (part_full n s) ≡ 1 → (0 < n) × (n < s)
 part_shown n s is = elim (cases_lt 0 n) [
   | inr none ↦ absurd (let z = part_empty n s (omega arith) in omega arith)
@@ -170,7 +173,7 @@ full_shown n s some is = elim (cases_lt n s) [
 ]
 
 module _ (plan : Plan) (ok : IsPlan plan) where
-  -- a malloc
+  -- a malloc keeps the rules
   pub kept_malloc : (old : Sliced) → IsKept plan old → (asked : Request) (new : Sliced) → AddsObject plan old asked new → IsKept plan new
   kept_malloc old kept asked new g =
       let len : length (replicate asked.length 0) ≡ asked.length = length-replicate {A = ℕ} asked.length 0 in
@@ -188,7 +191,7 @@ module _ (plan : Plan) (ok : IsPlan plan) where
         sound = subst (IsSound plan.paging) (inserted_beside plan old.held (job_slot old.job) asked.number (zeros_at g.place asked.length) g.in_range) sound;
       })
 
-  -- a write: an object gets other bytes of the same number
+  -- a write keeps the rules: an object gets other bytes of the same length
   pub kept_write : (old : Sliced) → IsKept plan old → (h : ℕ) (x : Placed) → get old.held h ≡ Some x → (bytes : List ℕ) → length bytes ≡ length x.bytes
       → IsKept plan (record old { held = insert old.held h (record { place = x.place; bytes = bytes }) })
   kept_write old kept h x there bytes len =
@@ -216,7 +219,7 @@ module _ (plan : Plan) (ok : IsPlan plan) where
         sound = subst (IsSound plan.paging) (again ∙ inserted_beside plan old.held (job_slot old.job) h (record { place = x.place; bytes = bytes }) lt) sound;
       }
 
-  -- an object is removed: its slot is to be cleared, or that of the object that moves there
+  -- a free, before its first slice, keeps the rules: the job's slot is the freed one or, if an object moves there, the old slot of that object
   pub kept_begun : (m : Held) → IsKept plan (record { held = m; job = Idle }) → (h : ℕ) (x : Placed) → get m h ≡ Some x → (moved : Option ℕ)
       → Moves plan.paging m x moved → (new : Sliced) → LeavesJob (remove m h) x.place (class_at plan.paging x) moved new → IsKept plan new
   kept_begun m kept h x there None never new is =
@@ -263,7 +266,8 @@ module _ (plan : Plan) (ok : IsPlan plan) where
         sound = alike.sound;
       })
 
-  -- the class of a job has two partly full pages without its slot if and only if a free of the slot would have to move an object
+  -- m are the objects, `all` the objects with the placeholder in slot k. In m two pages of the job's class are partly full if and only if a free of slot k would
+  -- have to move an object.
   module _ (m : Held) (k : JobSlot) (none : get m plan.proxies ≡ None) (class : k.class < classes plan.paging)
       (s : IsSound plan.paging (insert m plan.proxies (placeholder plan.paging k))) where
     abbrev all : Held
@@ -278,7 +282,7 @@ module _ (plan : Plan) (ok : IsPlan plan) where
     of_class : class_at plan.paging (placeholder plan.paging k) ≡ k.class
     of_class = placeholder_class plan.paging ok.paging k class
 
-    -- one more on the page of the slot, and none on another page
+    -- the placeholder counts as one object more on the page of the slot, and changes no other page
     pub one_more : objects_on plan.paging all k.class page ≡ objects_on plan.paging m k.class page + 1
     one_more =
         let i = objects_on-inserted plan.paging m plan.proxies (placeholder plan.paging k) none k.class page in
@@ -316,7 +320,7 @@ module _ (plan : Plan) (ok : IsPlan plan) where
         let no = part_over (objects_on plan.paging all k.class page) (slots_of plan.paging k.class) (omega arith) in
         omega arith
 
-    -- if there are two, the slot fills its page, which held an object, and another page is partly full
+    -- what holds if two pages of the class are partly full in m: the slot fills its page, which held an object, and one other page is partly full
     pub record IsLast : Type 0 where
       pub some : 0 < objects_on plan.paging m k.class page
       pub filled : objects_on plan.paging m k.class page + 1 ≡ slots_of plan.paging k.class
@@ -346,12 +350,12 @@ module _ (plan : Plan) (ok : IsPlan plan) where
           many = rw (of_class, ok.ones k.class class) l.other;
         }
 
-    -- at most two in any case
+    -- in m at most two pages of the class are partly full
     pub at_most_two : not_full_pages plan.paging m k.class ≤ 2
     at_most_two = (let d = pages_differ in let f = few in
         let a = one_le (part_full (objects_on plan.paging m k.class page) (slots_of plan.paging k.class)) in omega arith)
 
-    -- without the slot the arrangement is sound if there aren't two
+    -- the arrangement m is sound unless two pages of the class are partly full
     pub sound_without_slot : not_full_pages plan.paging m k.class ≢ 2 → IsSound plan.paging m
     sound_without_slot ne =
         let s' = sound_without plan.paging ok.paging all s plan.proxies (placeholder plan.paging k) here None (λ must. ne (must_is_two must)) in
@@ -404,7 +408,7 @@ module _ (plan : Plan) (ok : IsPlan plan) where
       past m None e low = e
       past m (Some x) e low = absurd (let l = low (plan.proxies + 1) x e in omega arith)
 
-  -- a slice
+  -- a slice keeps the rules
   pub kept_slice : (old new : Sliced) → IsKept plan old → IsSlice plan old new → IsKept plan new
   kept_slice old new kept slice = go (job_slot old.job) refl slice
     where
@@ -418,7 +422,7 @@ module _ (plan : Plan) (ok : IsPlan plan) where
       }))
       go (Some k) e (inr done) = ended old.held old.job k e kept new done.ends
 
-  -- a free
+  -- a free, with its first slice, keeps the rules
   pub kept_free : (old : Sliced) → IsKept plan old → (h : ℕ) (new : Sliced) → RemovesObject plan old h new → IsKept plan new
   kept_free old kept h new r =
       let idle : IsKept plan (record { held = old.held; job = Idle }) = subst (λ j. IsKept plan (record { held = old.held; job = j })) r.idle kept in

@@ -1,4 +1,5 @@
--- For `places_are_those_beside_the_job`: the arrangement with the job's placeholder as one more object, and the addresses that are free in it.
+-- For `places_are_those_beside_the_job`: if the job's placeholder counts as one more object, a malloc may use just the addresses that are then free; each
+-- malloc has such an address, or its class has none.
 use Rattle.std.proofs.Common.{◌≡◌, ◌≢◌, ℕ, false, ◌+◌, ◌-◌, ◌*◌, ◌/◌, ◌<◌, ◌≤◌, Option, Some, None, length, get_or}
 use Rattle.std.proofs.Common.{replicate, arith, sym, ◌∙◌, ap, refl, inl, inr}
 use Rattle.std.specs.Prelude.{◌⊎◌, nat_le}
@@ -144,7 +145,7 @@ module _ (plan : Plan) (ok : IsPlan plan) (s : Sliced) (kept : IsKept plan s) wh
     | inr (k, e, _, same) ↦ unheld k e (ap (λ (z : Placed). z.place) same ∙ at)
   ]
 
-  -- the page of a usable slot is open
+  -- the page of a usable slot is partly full (`IsOpen`) in the arrangement with the placeholder
   usable_open : (c a : ℕ) → IsUsable p s c a → IsOpen p all c (page_of p a)
   usable_open c a u =
       let some : 0 < objects_on p all c (page_of p a) = elim u.page [
@@ -176,7 +177,7 @@ module _ (plan : Plan) (ok : IsPlan plan) (s : Sliced) (kept : IsKept plan s) wh
         ]);
   }
 
-  -- an open page has a usable slot
+  -- a page that is partly full in that arrangement has a usable slot
   open_usable : (c page : ℕ) → c < classes p → IsOpen p all c page → (a : ℕ) × IsUsable p s c a
   open_usable c page lt o =
       let free = vacant_where_less p ok.paging c lt page o.within all kept.sound o.some o.less in
@@ -207,7 +208,7 @@ module _ (plan : Plan) (ok : IsPlan plan) (s : Sliced) (kept : IsKept plan s) wh
     unheld = λ k e on. nothing_on p all page none plan.proxies (placeholder p k) (slot_there k e) on;
   }
 
-  -- A place for an object is a free place of the arrangement with the job's slot.
+  -- an object may use an address if and only if it is free in the arrangement with the placeholder
   pub place_is_free : (n a : ℕ) → IsPlaceFor plan.paging s (class_for plan.paging n) a → IsFreePlace plan.paging (occupied plan s) n a
   place_is_free n a f = elim f.choice [
     | inl u ↦ (let o = usable_open (class_for p n) a u in record { slot = f.slot; unused = vacant a u.empty u.unheld; choice = inl (o.some, o.less) })
@@ -239,7 +240,7 @@ module _ (plan : Plan) (ok : IsPlan plan) (s : Sliced) (kept : IsKept plan s) wh
     ];
   }
 
-  -- There is no place if and only if the arrangement with the job's slot lacks room.
+  -- class c has no address to use if and only if the arrangement with the placeholder has no slot left for c
   pub lacking_is_no_place : (c : ℕ) → LacksRoom plan.paging (occupied plan s) c → NoPlace plan.paging s c
   lacking_is_no_place c l = record {
     unusable = no_usable c l.full;
@@ -258,7 +259,7 @@ module _ (plan : Plan) (ok : IsPlan plan) (s : Sliced) (kept : IsKept plan s) wh
     ];
   }
 
-  -- there is a place, or none
+  -- an object of n bytes has an address to use, or its class has none (`NoPlace`)
   pub place_or_none : (n : ℕ) → class_for plan.paging n < classes plan.paging
       → ((a : ℕ) × IsPlaceFor plan.paging s (class_for plan.paging n) a) ⊎ NoPlace plan.paging s (class_for plan.paging n)
   place_or_none n lt = elim (cases_lt 0 (not_full_pages p all (class_for p n))) [

@@ -1,4 +1,5 @@
--- For `calls_of_all_tasks_are_those_of_one_map`: each call does to the objects what it would do to a map from numbers to bytes.
+-- For `calls_of_all_tasks_are_those_of_one_map`: each call, and so each list of calls, does to the objects of a sliced heap what it would do to a map from
+-- numbers to bytes, and leaves the heap consistent.
 use Rattle.std.proofs.Common.{◌≡◌, ℕ, ◌+◌, ◌<◌, ◌≤◌, List, [], ◌∷◌, Option, Some, None, length, get_or, replicate, take, drop, arith, sym, ◌∙◌, ap, refl, subst}
 use Rattle.std.proofs.Common.{inl, inr, length-drop}
 use Rattle.std.specs.Prelude.{Ok, Err}
@@ -44,7 +45,7 @@ objects_begun : (m : Held) (h a c : ℕ) (moved : Option ℕ) (new : Sliced) →
 objects_begun m h a c None new is = rw is (map_values-remove (λ (x : Placed). x.bytes) m h)
 objects_begun m h a c (Some q) new is = objects_carried (remove m h) q a c new is ∙ map_values-remove (λ (x : Placed). x.bytes) m h
 
--- a list of which each byte is that of a range of v is that range
+-- a list is a range of v if it is as long and has the same bytes
 part_is : (v out : List ℕ) (at count : ℕ) → at + count ≤ length v → length out ≡ count → ((k : ℕ) → k < count → get_or out k 0 ≡ get_or v (at + k) 0)
     → out ≡ take count (drop at v)
 part_is v out at count fits len each =
@@ -67,7 +68,7 @@ bytes_removed : (o : Objects) (h : ℕ) → AllBytes o → AllBytes (remove o h)
 bytes_removed o h all q u there = all q u (some_removed o h q u there).1
 
 module _ (plan : Plan) (ok : IsPlan plan) where
-  -- the same heap at work gives the same results to the same calls
+  -- a heap that a call leaves unchanged has the same objects, and is still consistent
   same_heap : (old new : HeapWithWords) → IsConsistent plan old → new ≡ old → (objects new.state.held ≡ objects old.state.held) × IsConsistent plan new
   same_heap old new good same = (ap (λ (w : HeapWithWords). objects w.state.held) same, subst (IsConsistent plan) (sym same) good)
 
@@ -162,7 +163,7 @@ module _ (plan : Plan) (ok : IsPlan plan) where
       ((r.object.bytes, there, r.fits, out_is, s.0), s.1)
   call_on_map old (Read position count (Err e)) new good is = (let s = same_heap old new good is.1 in ((is.0, s.0), s.1))
 
-  -- the calls of a run
+  -- a list of calls does to the map of objects what `RunsOnMap` says
   pub run_on_map : (turns : List TaskCall) (old new : HeapWithWords) → IsConsistent plan old → Runs plan old turns new
       → RunsOnMap (objects old.state.held) turns (objects new.state.held) × IsConsistent plan new
   run_on_map [] old new good same = same_heap old new good same

@@ -1,4 +1,5 @@
--- For `an_order_leaves_no_choice_beside_a_job`: two equal calls leave the same words.
+-- For `an_order_leaves_no_choice_beside_a_job`: on the same words, two mallocs that write the same header, two slices of the same job, and two writes of the
+-- same bytes leave the same words.
 use Rattle.std.proofs.Common.{◌≡◌, ◌≢◌, ℕ, ◌+◌, List, length, get_or, sym, ◌∙◌, subst, inl, inr}
 use Rattle.std.specs.Prelude.{◌⊎◌}
 use Rattle.std.proofs.lemmas.Bool.{cases_eq}

@@ -1,4 +1,5 @@
--- For `an_order_leaves_no_choice_beside_a_job`: two equal calls that follow an order have the same outcome.
+-- For `an_order_leaves_no_choice_beside_a_job`: two equal calls on the same heap that follow the same order have the same result, and leave the same state,
+-- words and order.
 use Rattle.std.proofs.Common.{◌≡◌, ℕ, ◌+◌, ◌/◌, ◌%◌, ◌≤◌, List, ◌∷◌, Option, Some, None, length, take, drop, arith, refl, sym, ◌∙◌, ap, subst, inl, inr}
 use Rattle.std.specs.Prelude.{Result, Ok, Err}
 use Rattle.std.specs.FinMap.{get, insert, remove}
@@ -80,7 +81,8 @@ removed_once plan s h a b o kept r u first second =
 same_working : (a b : HeapWithWords) → a.state ≡ b.state → a.words ≡ b.words → a ≡ b
 same_working a b state words = λ i. record { state = state i; words = words i }
 
--- object `position.number` has n bytes from byte `position.from` on; below, else a read or a write has exactly one fault
+-- Object `position.number` has n bytes from byte `position.from` on. If so, a read or a write of them has no fault (`not_both`); else it has just one
+-- (`one_reach`).
 abbrev IsWithin : Objects → Position → ℕ → Type 0
 IsWithin o position n = (v : List ℕ) × (get o position.number ≡ Some v) × (position.from + n ≤ length v)
 
@@ -115,7 +117,7 @@ read_answers o position n (Err e) (Ok text) new other x (v, there, fits, is, _) 
 read_answers o position n (Err e) (Err f) new other x y = ap Err (one_reach o position n e f x.0 y.0)
 
 module _ (plan : Plan) (ok : IsPlan plan) where
-  -- the end of a job
+  -- two ends of one job that follow the same order leave the same state and the same order
   module _ (m : Held) (k : JobSlot) (none : get m plan.proxies ≡ None) (sound : IsSound plan.paging (with_slot plan m (Some k))) (was : Order) where
     beside : (q : ℕ) (y : Placed) → get m q ≡ Some y → get (with_slot plan m (Some k)) q ≡ Some y
     beside q y there = get_insert_other m plan.proxies (placeholder plan.paging k) q (other_than m plan.proxies q y none there) ∙ there
@@ -141,7 +143,7 @@ module _ (plan : Plan) (ok : IsPlan plan) where
         let (number, order) = chained_once c.object d.object now next x y in
         (carries_once m c.object d.object k.address k.class a b number c.carries d.carries, order)
 
-  -- a slice
+  -- two slices that follow the same order leave the same state and the same order
   module _ (s : Sliced) (kept : IsKept plan s) (a b : Sliced) (was now next : Order) where
     slice_of : (o : Option JobSlot) → job_slot s.job ≡ o → SliceOf plan s o a → SliceFollows plan s.held o a.job was now → SliceOf plan s o b
         → SliceFollows plan s.held o b.job was next → (a ≡ b) × (now ≡ next)
@@ -157,7 +159,7 @@ module _ (plan : Plan) (ok : IsPlan plan) where
         → SliceFollows plan s.held (job_slot s.job) b.job was next → (a ≡ b) × (now ≡ next)
     slice_once x f y g = slice_of (job_slot s.job) refl x f y g
 
-  -- a slice with its words
+  -- two such slices leave the same words too
   slid_once : (old a b : HeapWithWords) (was now next : Order) → IsKept plan old.state → SlicesInOrder plan old a was now → SlicesInOrder plan old b was next
       → length a.words ≡ length b.words → (a ≡ b) × (now ≡ next)
   slid_once old a b was now next kept x y long =
@@ -183,7 +185,7 @@ module _ (plan : Plan) (ok : IsPlan plan) where
       let words = rewrites_once old.words a.words b.words (record { from = g.place; count = 1 }) (λ _. header_word h.0 bytes) x.mallocs.words again long in
       ((λ i. record { 0 = number i }), same_working a b state words, order)
 
-  -- the slice of a free
+  -- the first slice of a free is a slice from the state in which its job begins
   freed_slices : (old : HeapWithWords) (h : ℕ) (new : HeapWithWords) (was now : Order) → (x : FreesInOrder plan old h new was now)
       → SlicesInOrder plan (record { state = x.frees.removes.begun; words = old.words }) new (record was { spare = h ∷ was.spare }) now
   freed_slices old h new was now x = record {
@@ -218,7 +220,7 @@ module _ (plan : Plan) (ok : IsPlan plan) where
       same_working a b state words
 
   module _ (old new other : HeapWithWords) (was now next : Order) (good : IsConsistent plan old) (long : length new.words ≡ length other.words) where
-    -- two calls that change nothing
+    -- two calls that change nothing leave the same heap and the same order
     both_stay : new ≡ old → now ≡ was → other ≡ old → next ≡ was → (new ≡ other) × (now ≡ next)
     both_stay a b c d = (a ∙ sym c, b ∙ sym d)
 

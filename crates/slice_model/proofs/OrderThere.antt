@@ -1,4 +1,5 @@
--- For the laws of `order.rt` that each call can follow an order, and leaves an order of the new state.
+-- For the laws of `order.rt`: a malloc that isn't refused, a slice, and a free while no job is pending can follow the order. Each call leaves an order of the
+-- new state, where the job's slot counts as used.
 use Rattle.std.proofs.Common.{◌≡◌, ◌≢◌, ℕ, ◌+◌, ◌-◌, ◌*◌, ◌<◌, ◌≤◌, List, ◌∷◌, Option, Some, None, length, replicate, arith, refl, sym, ◌∙◌, ap, subst, inl, inr}
 use Rattle.std.specs.Prelude.{Ok, Err}
 use Rattle.std.specs.List.{Contains}
@@ -53,7 +54,8 @@ one_less p m limit o is = record {
     below : (h n : ℕ) → h < n + 1 → h ≢ n → h < n
     below h n lt ne = omega arith
 
--- an object is freed, and its number is the next one; the placeholder of a job takes a slot
+-- Object h is freed, but a placeholder keeps a slot of its class: so n has the same counts as m. Then h is the spare number listed next, and the limit is one
+-- more, for the placeholder's number.
 freed_order : (p : Paging) (m n : Held) (limit : ℕ) (o : Order) (h : ℕ) (x : Placed) → get m h ≡ Some x → h < limit
     → ((c g : ℕ) → objects_on p n c g ≡ objects_on p m c g) → get n h ≡ None → ((q : ℕ) → q < limit → get m q ≡ None → get n q ≡ None)
     → len n ≡ len m → IsOrderOf p m limit o → IsOrderOf p n (limit + 1) (record o { spare = h ∷ o.spare })
@@ -69,7 +71,7 @@ freed_order p m n limit o h x found lt counts gone none long is =
       all = (let a = is.spare_all in omega arith);
     })
 
--- the spare numbers while a job is pending
+-- While a job is pending: if an object more may be made, a number is spare; and the spare number of such an object isn't the placeholder's.
 module _ (plan : Plan) (m : Held) (none : get m plan.proxies ≡ None) where
   few_beside : (o : Option JobSlot) → len m < plan.proxies → len (with_slot plan m o) < numbers_beside plan o
   few_beside None few = few
@@ -90,7 +92,7 @@ numbers_stay plan Idle d = refl
 numbers_stay plan (Clear k) d = refl
 numbers_stay plan (Move h k) d = refl
 
--- a malloc that follows the order
+-- a malloc of n bytes can follow the order o: the number that it uses, and the state and the order that it leaves
 pub record CanGive (plan : Plan) (s : Sliced) (n : ℕ) (o : Order) : Type 0 where
   pub number : ℕ
   pub after : Sliced
@@ -99,7 +101,7 @@ pub record CanGive (plan : Plan) (s : Sliced) (n : ℕ) (o : Order) : Type 0 whe
   pub follows : MallocFollows plan.paging (occupied plan s) (record { number = number; length = n }) gives.place o new
   pub is_order : IsOrderBeside plan after new
 
--- the end of a job that follows the order
+-- the end of the job of slot k can follow the order o: the state and the order that it leaves
 record CanEnd (plan : Plan) (m : Held) (k : JobSlot) (o : Order) : Type 0 where
   new : Sliced
   now : Order
@@ -107,7 +109,7 @@ record CanEnd (plan : Plan) (m : Held) (k : JobSlot) (o : Order) : Type 0 where
   follows : EndFollows plan m k new.job o now
   is_order : IsOrderBeside plan new now
 
--- a slice that follows the order
+-- a slice can follow the order o: the state and the order that it leaves
 pub record CanSlice (plan : Plan) (s : Sliced) (o : Order) : Type 0 where
   pub new : Sliced
   pub now : Order
@@ -115,7 +117,7 @@ pub record CanSlice (plan : Plan) (s : Sliced) (o : Order) : Type 0 where
   pub follows : SliceFollows plan s.held (job_slot s.job) new.job o now
   pub is_order : IsOrderBeside plan new now
 
--- a free that follows the order
+-- a free of object h can follow the order o: the state and the order that it leaves
 pub record CanRemove (plan : Plan) (s : Sliced) (h : ℕ) (o : Order) : Type 0 where
   pub new : Sliced
   pub now : Order
@@ -156,7 +158,7 @@ module _ (plan : Plan) (ok : IsPlan plan) where
             (inserted_beside plan s.held (job_slot s.job) can.number (zeros_at can.place n) low) can.is_order;
       }
 
-  -- a malloc that is not refused
+  -- a malloc that is not refused can follow the order
   pub give_unrefused : (s : Sliced) → IsKept plan s → (n : ℕ) (o : Order) → IsOrderBeside plan s o → ((e : SliceRefusal) → ¬ IsRefusedBy plan s n e)
       → CanGive plan s n o
   give_unrefused s kept n o is free = elim (answered plan ok s kept n) [
@@ -164,7 +166,7 @@ module _ (plan : Plan) (ok : IsPlan plan) where
     | inr (h, new, g) ↦ can_give s kept n o is g.fits g.few g.place g.free
   ]
 
-  -- the end of a job
+  -- the end of a job can follow the order
   module _ (m : Held) (numbers : (h : ℕ) (x : Placed) → get m h ≡ Some x → h < plan.proxies) (k : JobSlot) (class : k.class < classes plan.paging)
       (sound : IsSound plan.paging (with_slot plan m (Some k))) (o : Order) (is : IsOrderOf plan.paging (with_slot plan m (Some k)) (plan.proxies + 1) o) where
     abbrev all : Held
@@ -322,7 +324,7 @@ module _ (plan : Plan) (ok : IsPlan plan) where
             })
       ]
 
--- a free of a live object
+-- a free of a live object can follow the order
 module _ (plan : Plan) (ok : IsPlan plan) where
   module _ (s : Sliced) (kept : IsKept plan s) (idle : s.job ≡ Idle) (h : ℕ) (x : Placed) (found : get s.held h ≡ Some x) (o : Order)
       (is : IsOrderBeside plan s o) where
@@ -350,7 +352,7 @@ module _ (plan : Plan) (ok : IsPlan plan) where
     class_in : class_at plan.paging x < classes plan.paging
     class_in = (kept_idle.sound.slots h x found).class
 
-    -- what is behind when the job begins
+    -- if the order is right for the state in which the free's job begins, the free can follow it: by its first slice
     removed : (moved : Option ℕ) (begun : Sliced) → Moves plan.paging m x moved → LeavesJob (remove m h) x.place c moved begun
         → MovesNext plan.paging m o c moved → IsOrderBeside plan begun (record o { spare = h ∷ o.spare }) → CanRemove plan s h o
     removed moved begun moves begins next order =
@@ -441,7 +443,7 @@ module _ (plan : Plan) (ok : IsPlan plan) where
         let can = can_free plan.paging ok.paging m kept_idle.sound plan.proxies o is_idle h x found low in
         remove_by can.moved can.new can.moves can.follows
 
--- a call in order leaves an order of the new state
+-- a call that follows an order leaves an order of the new state
 module _ (plan : Plan) (ok : IsPlan plan) where
   malloc_keeps : (old : HeapWithWords) (asked : Request) (new : HeapWithWords) (was now : Order) → IsKept plan old.state → IsOrderBeside plan old.state was
       → MallocsInOrder plan old asked new was now → IsOrderBeside plan new.state now
@@ -478,7 +480,7 @@ module _ (plan : Plan) (ok : IsPlan plan) where
       r.slice x.follows in
       subst (λ o. IsOrderBeside plan new.state o) order (subst (λ t. IsOrderBeside plan t can.now) state can.is_order)
 
-  -- a state with the same slots
+  -- a call that changes nothing, and a write, leave an order of the new state
   same_keeps : (old new : HeapWithWords) (was now : Order) → IsOrderBeside plan old.state was → new ≡ old → now ≡ was → IsOrderBeside plan new.state now
   same_keeps old new was now is state order =
       subst (λ o. IsOrderBeside plan new.state o) (sym order) (subst (λ (w : HeapWithWords). IsOrderBeside plan w.state was) (sym state) is)

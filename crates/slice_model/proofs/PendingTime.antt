@@ -1,4 +1,5 @@
--- For `each_malloc_between_prolongs_a_job_once`: the number of slices until no job is pending, with mallocs in between.
+-- For `each_malloc_between_prolongs_a_job_once`: after a free, until no job is pending, each malloc of the freed object's class adds at most the slices of one
+-- whole slot; no other call but a successful free adds any.
 use Rattle.std.proofs.Common.{◌≡◌, ◌≢◌, ℕ, ◌+◌, ◌-◌, ◌*◌, ◌<◌, ◌≤◌, List, [], ◌∷◌, Option, Some, None, length, replicate, arith, sym, ◌∙◌, ap, refl, subst, inl, inr}
 use Rattle.std.specs.Prelude.{◌⊎◌, Ok, Err, nat_eq, if◌then◌else◌}
 use Rattle.std.proofs.lemmas.Bool.{cases_eq}
@@ -48,7 +49,7 @@ module _ (plan : Plan) (ok : IsPlan plan) where
   next_same : (m n : Held) (c : ℕ) → ((g : ℕ) → objects_on plan.paging n c g ≡ objects_on plan.paging m c g) → next n c ≡ next m c
   next_same m n c same = ap (λ k. if nat_eq k 2 then whole c else 0) (not_full-same plan.paging m n c same)
 
-  -- the slices that are left of a job of class c, with those of the job that follows, after `done` of them, are at most `most`
+  -- In state s a job of class c is pending. The slices that it needs, those of the job that follows it, and the `done` slices so far are at most `most`.
   record IsWithin (c done most : ℕ) (s : Sliced) : Type 0 where
     k : JobSlot
     slot : job_slot s.job ≡ Some k
@@ -58,7 +59,7 @@ module _ (plan : Plan) (ok : IsPlan plan) where
   abbrev InTime : ℕ → ℕ → ℕ → Sliced → Type 0
   InTime c done most s = (s.job ≡ Idle) ⊎ IsWithin c done most s
 
-  -- a slice
+  -- a slice counts as one more that is done; `most` stays
   slice_within : (c done most : ℕ) (old new : Sliced) → IsKept plan old → IsSlice plan old new → InTime c done most old → InTime c (done + 1) most new
   slice_within c done most old new kept slice (inl idle) =
       let same : new ≡ old = subst (λ j. SliceOf plan old (job_slot j) new) idle slice in
@@ -107,7 +108,7 @@ module _ (plan : Plan) (ok : IsPlan plan) where
             }))
       ]
 
-  -- the same job beside other objects
+  -- if the job is unchanged, and the job that follows needs at most `more` slices more, `most` rises by `more`
   same_job : (c done most more : ℕ) (old new : Sliced) → new.job ≡ old.job → next new.held c ≤ next old.held c + more → InTime c done most old
       → InTime c done (most + more) new
   same_job c done most more old new same le (inl idle) = inl (same ∙ idle)
@@ -115,7 +116,7 @@ module _ (plan : Plan) (ok : IsPlan plan) where
       let bound = b.bound in
       inr (record { k = b.k; slot = ap job_slot same ∙ b.slot; class = b.class; bound = omega arith })
 
-  -- a malloc
+  -- a malloc of class c raises `most` by the slices of a whole slot; one of another class doesn't
   malloc_within : (c done most bytes q : ℕ) (old new : Sliced) → AddsObject plan old (record { number = q; length = bytes }) new → InTime c done most old
       → InTime c done (most + (if nat_eq (class_for plan.paging bytes) c then 1 else 0) * whole c) new
   malloc_within c done most bytes q old new g time = elim (cases_eq (class_for plan.paging bytes) c) [
@@ -140,7 +141,7 @@ module _ (plan : Plan) (ok : IsPlan plan) where
       job : new.job ≡ old.job
       job = ap (λ (s : Sliced). s.job) g.placed
 
-  -- a write
+  -- a write doesn't raise `most`
   write_within : (c done most : ℕ) (old : Sliced) (h : ℕ) (x : Placed) (bytes : List ℕ) (new : Sliced) → get old.held h ≡ Some x → length bytes ≡ length x.bytes
       → new ≡ record old { held = insert old.held h (record { place = x.place; bytes = bytes }) } → InTime c done most old → InTime c done (most + 0) new
   write_within c done most old h x bytes new there len is time =
@@ -153,14 +154,14 @@ module _ (plan : Plan) (ok : IsPlan plan) where
       let now : next new.held c ≡ next old.held c = ap (λ (s : Sliced). next s.held c) is ∙ same' in
       same_job c done most 0 old new (ap (λ (s : Sliced). s.job) is) (omega arith) time
 
-  -- a call that changes nothing
+  -- a call that changes nothing doesn't raise `most`
   still_within : (c done most : ℕ) (old new : HeapWithWords) → new ≡ old → InTime c done most old.state → InTime c (done + 0) (most + 0 * whole c) new.state
   still_within c done most old new same time =
       let d : done + 0 ≡ done = omega arith in
       let m : most + 0 * whole c ≡ most = omega arith in
       rw (d, m) (subst (λ (w : HeapWithWords). InTime c done most w.state) (sym same) time)
 
-  -- a call other than a successful free
+  -- each call other than a successful free: a slice raises `done` by 1, a malloc of class c raises `most` by the slices of a whole slot
   call_within : (c done most : ℕ) (old : HeapWithWords) (event : Event) (new : HeapWithWords) → IsConsistent plan old → Happens plan old event new
       → is_done_free event ≡ 0 → InTime c done most old.state
       → InTime c (done + is_step event) (most + is_malloc_of plan c event * whole c) new.state
@@ -182,7 +183,7 @@ module _ (plan : Plan) (ok : IsPlan plan) where
   call_within c done most old (Read part count (Ok out)) new good is none time = still_within c done most old new is.1 time
   call_within c done most old (Read part count (Err e)) new good is none time = still_within c done most old new is.1 time
 
-  -- a run without a free that is done
+  -- the same for a list of calls without a successful free
   run_within : (c done most : ℕ) (turns : List TaskCall) (old new : HeapWithWords) → IsConsistent plan old → Runs plan old turns new → frees_in turns ≡ 0
       → InTime c done most old.state → InTime c (done + steps_in turns) (most + mallocs_in plan c turns * whole c) new.state
   run_within c done most [] old new good same none time = still_within c done most old new same time
@@ -196,7 +197,7 @@ module _ (plan : Plan) (ok : IsPlan plan) where
       subst (λ n. InTime c n (most + (is_malloc_of plan c turn.event + mallocs_in plan c rest) * whole c) new.state) d
       (subst (λ n. InTime c (done + is_step turn.event + steps_in rest) n new.state) m more)
 
-  -- a job that has not started, and that no other job follows
+  -- a job with no word done yet, which no other job follows, needs the slices of a whole slot
   fresh_within : (c a : ℕ) (s : Sliced) → job_slot s.job ≡ Some (fresh_slot a c) → next s.held c ≡ 0 → IsWithin c 0 (whole c) s
   fresh_within c a s slot none =
       let from_start : slot_words plan.paging c - 0 ≡ slot_words plan.paging c = omega arith in
@@ -265,7 +266,7 @@ module _ (plan : Plan) (ok : IsPlan plan) where
       inr (fresh_within (class_at plan.paging x) fresh.0 begun fresh.1
       (next_none begun.held (class_at plan.paging x) (begun_once m kept h x there moved moves begun is)))
 
-  -- after a free, its own slice is one of them
+  -- the law: the first slice, which the free does, counts as one of the slices
   pub freed_idle : (old freed new : HeapWithWords) (h : ℕ) (x : Placed) (turns : List TaskCall) → IsConsistent plan old → get old.state.held h ≡ Some x
       → Happens plan old (Free h None) freed → Runs plan freed turns new → frees_in turns ≡ 0
       → (1 + mallocs_in plan (class_at plan.paging x) turns) * ceil_div (slot_words plan.paging (class_at plan.paging x)) plan.quantum ≤ 1 + steps_in turns

@@ -1,4 +1,5 @@
--- For `a_free_has_one_answer` and `a_slice_can_always_be_done`: each free and each slice has a result.
+-- For `a_free_has_one_answer` and `a_slice_can_always_be_done`: each free is either done or refused, and refused for one cause; from each state a slice leads
+-- to a next one.
 use Rattle.std.proofs.Common.{◌≡◌, ◌≢◌, ℕ, Option, Some, None, arith, sym, ◌∙◌, ap, refl, subst, inl, inr}
 use Rattle.std.specs.Prelude.{◌⊎◌}
 use Rattle.std.proofs.lemmas.Bool.{cases_eq, cases_lt}
@@ -19,7 +20,7 @@ use Rattle.cf_lemmas.proofs.Searches.{there_or_not}
 use Rattle.page_model.proofs.CallerLemmas.{open_page, some_move}
 
 module _ (plan : Plan) (ok : IsPlan plan) where
-  -- a job that is done ends, or another one follows
+  -- after the last word of a job there is a next state: with no job, or with the one that follows
   end_there : (m : Held) (j : Job) (k : JobSlot) → job_slot j ≡ Some k → IsKept plan (record { held = m; job = j }) → (new : Sliced) × EndsJob plan.paging m k new
   end_there m j k is kept = elim (cases_eq (not_full_pages plan.paging m k.class) 2) [
     | inr ne ↦ (record { held = m; job = Idle }, inl (ne, refl))
@@ -117,7 +118,7 @@ module _ (plan : Plan) (ok : IsPlan plan) where
     ]
   ]
 
--- a fault has one cause, and a free that is done none
+-- a refused free has one cause, and a free that is done has none (`freed_or_faulty`)
 pub one_fault : (s : Sliced) (h : ℕ) (a b : SliceFault) → IsFaultOf s h a → IsFaultOf s h b → a ≡ b
 one_fault s h fault.Unknown fault.Unknown x y = refl
 one_fault s h fault.Unknown fault.Busy x y = absurd (let z : Some y.object ≡ None = sym y.found ∙ x in cc)

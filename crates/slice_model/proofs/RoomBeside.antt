@@ -1,5 +1,5 @@
--- For the laws of `room.rt` on malloc: a slot is left if and only if the pages are enough for the objects and the placeholder, and each malloc has one
--- result.
+-- For the laws of `room.rt` on malloc: if a slot is left, the pages suffice for the objects and the new one, and conversely while no job is pending; each
+-- malloc is done or refused, for one cause.
 use Rattle.std.proofs.Common.{◌≡◌, ℕ, ◌+◌, ◌<◌, ◌≤◌, Option, Some, None, arith, refl, subst, inl, inr}
 use Rattle.std.specs.Prelude.{◌⊎◌, nat_eq}
 use Rattle.std.proofs.lemmas.Bool.{cases_lt}
@@ -28,7 +28,7 @@ needed_le p ok o u n le = sum_le (λ c. ceil_div (live p o c + one (nat_eq (clas
     (λ c _ lt. (let l = le c in ceil_mono (live p o c + one (nat_eq (class_for p n) c)) (live p u c + one (nat_eq (class_for p n) c)) (slots_of p c)
     (omega arith)))
 
--- the objects alone need no more pages than with the job's slot
+-- the objects alone need no more pages than the objects with the placeholder
 needed_beside : (plan : Plan) → IsPlan plan → (m : Held) → get m plan.proxies ≡ None → (o : Option JobSlot) (n : ℕ)
     → pages_needed_with plan.paging (objects m) n ≤ pages_needed_with plan.paging (objects (with_slot plan m o)) n
 needed_beside plan ok m none None n = omega arith
@@ -72,7 +72,7 @@ module _ (plan : Plan) (ok : IsPlan plan) (s : Sliced) (kept : IsKept plan s) (n
     | inl over ↦ absurd ((over_is_no_place over).taken page free)
   ]
 
-  -- without a job there is no place only if the sum is over
+  -- while no job is pending, there is no place only if the objects and the new one need more pages than the heap has
   pub idle_is_over : s.job ≡ Idle → NoPlace plan.paging s (class_for plan.paging n) → plan.paging.pages < pages_needed_with plan.paging (objects s.held) n
   idle_is_over idle none =
       let l = (lacks_room_at_one plan.paging ok.paging ok.ones (occupied plan s) kept.sound n lt).0

@@ -1,4 +1,5 @@
--- For `words_after_each_call`: the words after a slice, and when a job begins.
+-- For `words_after_each_call`: if the region's words are right for a state (`HasWords`), they are so after a job's next n words are done, when the job ends,
+-- and when one to clear or to move begins.
 use Rattle.std.proofs.Common.{◌≡◌, ℕ, ◌+◌, ◌-◌, ◌<◌, ◌≤◌, List, Some, None, length, get_or, arith, sym, ◌∙◌, ap, refl, subst, inl, inr}
 use Rattle.std.proofs.lemmas.Bool.{cases_eq, cases_lt}
 use Rattle.std.specs.FinMap.{get, insert, remove}
@@ -13,7 +14,7 @@ use Rattle.slice_model.specs.Steps.{fresh_slot}
 use Rattle.slice_model.specs.Words.{HasWords, word_at}
 use Rattle.slice_model.proofs.WordAddresses.{AreApart, where_word, word_of_other, word_done, word_left, outside_part, outside_more}
 
--- n words of a job are done
+-- the words after the job has cleared or moved its next n words
 module _ (p : Paging) (m : Held) (words words' : List ℕ) (n : ℕ) where
   pub cleared : (k : JobSlot) → AreApart p m (Some k) → k.done + n ≤ slot_words p k.class → HasWords p (record { held = m; job = Clear k }) words
       → Clears words words' (record { from = k.address + k.done; count = n })
@@ -114,7 +115,7 @@ module _ (p : Paging) (m : Held) (words words' : List ℕ) (n : ℕ) where
             omega arith in subst (λ w. get_or words' w 0 ≡ 0) e (mo.left_zeros (i - k.done) (omega arith)))
       ]
 
--- all words of the job are done
+-- if all words of the job are done, the words are right for the objects without a job
 pub words_ended : (p : Paging) (m : Held) (j : Job) (k : JobSlot) (words : List ℕ) → job_slot j ≡ Some k → k.done ≡ slot_words p k.class
     → ((g : JobSlot) (h : ℕ) (x : Placed) → j ≡ Move h g → get m h ≡ Some x → class_at p x ≡ g.class)
     → HasWords p (record { held = m; job = j }) words → HasWords p (record { held = m; job = Idle }) words
@@ -136,7 +137,7 @@ words_ended p m j k words is all class has = record {
   ];
 }
 
--- an object is removed, and its slot is to be cleared
+-- if an object is removed and clearing its slot becomes the job, the words are right for the new state
 pub words_to_clear : (p : Paging) (m : Held) (words : List ℕ) → HasWords p (record { held = m; job = Idle }) words → (h : ℕ) (x : Placed) → get m h ≡ Some x
     → HasWords p (record { held = remove m h; job = Clear (fresh_slot x.place (class_at p x)) }) words
 words_to_clear p m words has h x there = record {
@@ -156,7 +157,7 @@ words_to_clear p m words has h x there = record {
   ]) (λ g e. absurd (let e' : None ≡ Some g = e in cc));
 }
 
--- an object is to be carried to a vacant slot of its class
+-- if moving an object to a vacant slot of its class becomes the job, the words are right for the new state
 pub words_to_carry : (p : Paging) (m : Held) (words : List ℕ) (q : ℕ) (y : Placed) (a c : ℕ) → get m q ≡ Some y → class_at p y ≡ c
     → ((h : ℕ) (x : Placed) → get m h ≡ Some x → (i : ℕ) → i < slot_for p (length x.bytes) → get_or words (x.place + i) 0 ≡ object_word h x.bytes i)
     → ((w : ℕ) → ((h : ℕ) (x : Placed) → get m h ≡ Some x → IsOutsideOf (slot_for p) x w) → IsOutside a (slot_words p c) w → get_or words w 0 ≡ 0)

@@ -1,4 +1,5 @@
--- For `no_malloc_is_busy_with_a_spare_page`: one more object needs at most one more page, so with a spare page no malloc is refused as `Busy`.
+-- For `no_malloc_is_busy_with_a_spare_page`: the job's placeholder, counted as one more object, raises the number of pages that the objects need by at most
+-- one.
 use Rattle.std.proofs.Common.{◌≡◌, ℕ, zero, suc, ◌+◌, ◌-◌, ◌*◌, ◌/◌, ◌%◌, ◌<◌, ◌≤◌, Option, Some, None, length, arith, ◌∙◌, ap, subst, inl, inr}
 use Rattle.std.specs.Prelude.{nat_eq, sum_by}
 use Rattle.std.specs.List.{range_with_len}
@@ -31,7 +32,7 @@ ceil_one_more x m pos =
     let le : ceil_div (x + 1) m ≤ ceil_div (x + m) m = ceil_mono (x + 1) (x + m) m (omega arith) in
     omega arith
 
--- a sum in which one term grows by at most one
+-- a sum grows by at most one if one term does and the others don't
 pub sum_one_more : (f g : ℕ → ℕ) (c a n : ℕ) → ((d : ℕ) → a ≤ d → d < a + n → g d ≤ f d + one (nat_eq c d))
     → sum_by g (range_with_len a n) ≤ sum_by f (range_with_len a n) + 1
 sum_one_more f g c a zero le = omega arith

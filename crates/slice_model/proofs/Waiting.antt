@@ -1,4 +1,5 @@
--- For `a_busy_malloc_succeeds_after_the_slices`: a malloc that was refused as `Busy` is done once no job is pending.
+-- For `a_busy_malloc_succeeds_after_the_slices`: slices leave the objects' bytes unchanged; once no job is pending, a malloc that was refused as `Busy` has no
+-- cause of refusal, so it succeeds.
 use Rattle.std.proofs.Common.{◌≡◌, ℕ, zero, suc, arith, sym, ◌∙◌, ap, refl, inl, inr}
 use Rattle.std.specs.FinMap.{len}
 use Rattle.page_model.specs.Arrangement.{pages_needed_with}

@@ -1,4 +1,5 @@
--- For the laws of `words.rt`: the addresses of objects' words while a job is pending, and that no two words have one address.
+-- For the laws of `words.rt`: a word of an object is at its address or, if the job has yet to move it, in the job's slot. No two words have one address, and
+-- all are in the region.
 use Rattle.std.proofs.Common.{◌≡◌, ◌≢◌, ℕ, ◌+◌, ◌*◌, ◌<◌, ◌≤◌, Option, Some, length, arith, sym, ◌∙◌, ap, refl, subst, inl, inr}
 use Rattle.std.specs.Prelude.{◌⊎◌, nat_eq}
 use Rattle.std.proofs.lemmas.Bool.{cases_eq, cases_lt}
@@ -45,7 +46,7 @@ where_word (Move q k) h x i = elim (cases_eq q h) [
   ]
 ]
 
--- the job and the word's number determine which of the two
+-- word i of an object lies in the job's slot if and only if the job moves this object and word i is not moved yet
 pub word_of_other : (q h : ℕ) (k : JobSlot) (x : Placed) (i : ℕ) → q ≢ h → word_at (Move q k) h x i ≡ x.place + i
 word_of_other q h k x i ne = (let f = eq_no q h ne in rw f)
 
@@ -55,7 +56,7 @@ word_done h k x i lt = (let f = le_no k.done i lt in rw (f, and_false (nat_eq h 
 pub word_left : (h : ℕ) (k : JobSlot) (x : Placed) (i : ℕ) → k.done ≤ i → word_at (Move h k) h x i ≡ k.address + i
 word_left h k x i le = (let e = eq_yes h h refl in let f = le_yes k.done i le in rw (e, f))
 
--- a number of a slot is outside a part of another
+-- a word of one slot is outside each range within another slot
 pub outside_part : (a n b m from count i : ℕ) → IsDisjoint a n b m → from + count ≤ n → i < m → IsOutside (a + from) count (b + i)
 outside_part a n b m from count i (inl l) le lt = inr (omega arith)
 outside_part a n b m from count i (inr r) le lt = inl (omega arith)
@@ -122,7 +123,7 @@ pub outside_not : (a n w i : ℕ) → IsOutside a n w → i < n → a + i ≢ w
 outside_not a n w i (inl l) lt e = omega arith
 outside_not a n w i (inr r) lt e = omega arith
 
--- a word of an object isn't outside of all slots
+-- if word w is outside the object's slot and outside the job's, no word of the object has the address w
 pub not_outside : (p : Paging) (m : Held) (j : Job) → ((k : JobSlot) (h : ℕ) (x : Placed) → j ≡ Move h k → get m h ≡ Some x → class_at p x ≡ k.class)
     → (h : ℕ) (x : Placed) → get m h ≡ Some x → (i : ℕ) → i < slot_for p (length x.bytes) → (w : ℕ)
     → IsOutside x.place (slot_for p (length x.bytes)) w → ((k : JobSlot) → job_slot j ≡ Some k → IsOutside k.address (slot_words p k.class) w)

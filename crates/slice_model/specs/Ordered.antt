@@ -1,5 +1,5 @@
--- What a sliced heap uses next (`Order`: its free pages, the partly full pages of each class, its spare numbers), and the calls that follow that order. The
--- job's slot counts as used. `was` is the order before a call, `now` the one after it.
+-- Calls of a sliced heap that follow its order (`Order`: what it uses next), in which the job's slot counts as used. `was` is the order before a call, `now`
+-- after it; m are objects, p has pages and classes.
 use Rattle.std.specs.Prelude.{◌≡◌, ℕ, ◌+◌, ◌<◌, ⊤, ◌∷◌, Option, Some, None, Ok, Err}
 use Rattle.std.specs.FinMap.{get}
 use Rattle.page_model.specs.Arrangement.{class_at}

@@ -1,4 +1,5 @@
--- Lists of calls of several tasks: what they do to a sliced heap with its words, and what they would do to one map from numbers to bytes.
+-- Lists of calls of several tasks: what they do to a sliced heap with its words, and to one map from numbers to bytes. Also the invariant between two calls,
+-- and counts of calls in a list.
 use Rattle.std.specs.Prelude.{◌≡◌, ℕ, ◌+◌, ◌-◌, ◌/◌, ◌%◌, ◌<◌, ◌≤◌, List, [], ◌∷◌, Option, Some, None, Result}
 use Rattle.std.specs.Prelude.{Ok, Err, if◌then◌else◌, length, nat_eq, slice_index, take, drop, replicate, min}
 use Rattle.std.specs.FinMap.{get, insert, remove}
@@ -61,7 +62,7 @@ pub record Slices (plan : Plan) (old new : HeapWithWords) : Type 0 where
   pub slice : IsSlice plan old.state new.state
   pub words : DoesWords old.state.held old.state.job (words_of_slice plan (job_slot old.state.job)) old.words new.words
 
--- a write that is done: the object gets the bytes from byte `position.from` on, and each word that holds one of them is rewritten at its present address
+-- a write that is done: the object gets the bytes from byte `position.from` on, and each word that holds one of them is rewritten where it lies (`word_at`)
 pub record Writes (old : HeapWithWords) (position : Position) (bytes : List ℕ) (new : HeapWithWords) : Type 0 where
   pub object : Placed
   pub found : get old.state.held position.number ≡ Some object
@@ -73,7 +74,7 @@ pub record Writes (old : HeapWithWords) (position : Position) (bytes : List ℕ)
   pub words : RewritesObject old.state.job position.number object (written object.bytes position.from bytes)
       (record { from = 1 + position.from / 8; count = (position.from % 8 + length bytes + 7) / 8 }) old.words new.words
 
--- a read of `count` bytes that is done: each byte of the result `out` is read from the word that holds it, at its present address
+-- a read of `count` bytes that is done: each byte of the result `out` is read from the word that holds it, where that word lies (`word_at`)
 pub record Reads (old : HeapWithWords) (position : Position) (count : ℕ) (out : List ℕ) : Type 0 where
   pub object : Placed
   pub found : get old.state.held position.number ≡ Some object
@@ -125,7 +126,7 @@ is_done_free Step = 0
 is_done_free (Write position bytes answer) = 0
 is_done_free (Read position count answer) = 0
 
--- the number of frees in a list of calls that were not refused
+-- how many frees in a list of calls were not refused
 abbrev pub frees_in : List TaskCall → ℕ
 frees_in [] = 0
 frees_in (turn ∷ rest) = is_done_free turn.event + frees_in rest
@@ -139,7 +140,7 @@ is_malloc_of plan c Step = 0
 is_malloc_of plan c (Write position bytes answer) = 0
 is_malloc_of plan c (Read position count answer) = 0
 
--- the number of mallocs of class c in a list of calls that were not refused
+-- how many mallocs of class c in a list of calls were not refused
 abbrev pub mallocs_in : Plan → ℕ → List TaskCall → ℕ
 mallocs_in plan c [] = 0
 mallocs_in plan c (turn ∷ rest) = is_malloc_of plan c turn.event + mallocs_in plan c rest

@@ -1,4 +1,5 @@
--- The state of a sliced heap: its objects, and at most one pending job. Addresses and sizes are in words.
+-- The settings and state of a sliced heap, sizes in words: its objects and at most one pending job, their rules, the slots a malloc may use. p has pages and
+-- classes, m are objects, k is a job's slot.
 use Rattle.std.specs.Prelude.{◌≡◌, ◌≢◌, ℕ, ◌+◌, ◌-◌, ◌*◌, ◌<◌, ◌≤◌, ◌⊎◌, ⊤, Option, Some, None, replicate}
 use Rattle.std.specs.FinMap.{get, insert}
 pub use Rattle.slice_model.specs.declared.job_slot.JobSlot.{JobSlot}

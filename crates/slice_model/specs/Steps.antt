@@ -1,4 +1,5 @@
--- What a malloc, a free and a slice do to the state of a sliced heap, and why a malloc or a free is refused.
+-- What a malloc, a free and a slice do to the state of a sliced heap, and why a malloc or a free is refused. p has the pages and classes, m are objects, k is
+-- the job's slot.
 use Rattle.std.specs.Prelude.{◌≡◌, ◌≢◌, ℕ, zero, suc, ◌+◌, ◌-◌, ◌<◌, ◌≤◌, ◌⊎◌, Option, Some, None, Result, Ok, Err, min}
 use Rattle.std.specs.FinMap.{get, insert, remove, len}
 use Rattle.cf_base.specs.Classes.{need}

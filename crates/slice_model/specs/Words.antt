@@ -1,4 +1,5 @@
--- The words of the region of a sliced heap, also while a pending job has changed only some of its slot.
+-- The words that the region of a sliced heap has in each state, also while a job has done only some of its words; which of them a slice and a write change, and
+-- which a read reads.
 use Rattle.std.specs.Prelude.{◌≡◌, ◌≢◌, ℕ, ◌+◌, ◌-◌, ◌/◌, ◌%◌, ◌<◌, List, Some, ⊤, length, slice_index, if◌then◌else◌, nat_eq, nat_le, ◌&&◌}
 use Rattle.std.specs.FinMap.{get}
 use Rattle.page_model.specs.Held.{Held, Placed}
@@ -44,11 +45,11 @@ DoesWords m Idle n old new = new ≡ old
 DoesWords m (Clear k) n old new = Clears old new (record { from = k.address + k.done; count = n })
 DoesWords m (Move h k) n old new = (x : Placed) × (get m h ≡ Some x) × MovesWords old new (record { from = k.address + k.done; count = n }) (x.place + k.done)
 
--- Object h, which is x, gets the bytes v: its words in the range `part` become those of v, each at its present address. Every other word is unchanged.
+-- Object h, which is x, gets the bytes v: its words in the range `part` become those of v, each where it lies (`word_at`). Every other word is unchanged.
 pub record RewritesObject (j : Job) (h : ℕ) (x : Placed) (v : List ℕ) (part : WordRange) (old new : List ℕ) : Type 0 where
   pub within : (i : ℕ) → i < part.count → slice_index new (word_at j h x (part.from + i)) ≡ object_word h v (part.from + i)
   pub others : (w : ℕ) → ((i : ℕ) → i < part.count → word_at j h x (part.from + i) ≢ w) → slice_index new w ≡ slice_index old w
 
--- byte k of object h, which is x, as read from the word that holds it at its present address
+-- byte k of object h, which is x, as read from the word that holds it, where that word lies (`word_at`)
 abbrev pub byte_read : Job → List ℕ → ℕ → Placed → ℕ → ℕ
 byte_read j words h x k = byte_of (k % 8) (slice_index words (word_at j h x (1 + k / 8)))

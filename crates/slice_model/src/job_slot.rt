@@ -6,7 +6,7 @@
 pub struct JobSlot {
     /// The first word of the slot, counted from the start of the region.
     pub address: u32,
-    /// The size class of the slot, which determines how many words it has.
+    /// The number of the slot's size class, from 0 on. It determines how many words the slot has.
     pub class: u32,
     /// How many words of the slot, from its first on, are cleared or moved so far.
     pub done: u32,

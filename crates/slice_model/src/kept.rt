@@ -1,5 +1,6 @@
-//! Laws that each call of a sliced heap keeps the rules of its state (`IsKept`): if the state
-//! before the call satisfies them, so does the state after it.
+//! Laws on the rules of a sliced heap's state (`IsKept`), by which its objects, with a placeholder in the job's
+//! slot, are a sound arrangement: each call keeps them; what they mean for pages. `plan` has the heap's
+//! settings.
 ghost use Rattle.std.specs.Prelude.{ℕ, ◌≡◌, ◌≢◌, ◌<◌, ◌≤◌, List, Some, length};
 ghost use Rattle.std.specs.FinMap.{empty, get, insert};
 ghost use Rattle.page_model.specs.Arrangement.{IsSlotAt, IsSound, class_at};
@@ -10,11 +11,12 @@ ghost use Rattle.slice_model.specs.State.{Idle, IsKept, IsPlan, JobSlot, Plan, S
 ghost use Rattle.slice_model.specs.Steps.{AddsObject, IsSlice, RemovesObject};
 
 /// A heap without objects and without a pending job satisfies the rules (`IsKept`).
-pub fn nothing_keeps_the_rules()
+pub fn an_empty_sliced_heap_keeps_the_rules()
     ensures { (plan : Plan) → IsKept plan (record { held = empty; job = Idle }) }
 {}
 
 /// If the state `old` satisfies the rules, so does the state `new` that a successful malloc leaves.
+/// `asked` has the new object's number and its length in bytes.
 pub fn a_malloc_keeps_the_rules()
     ensures { (plan : Plan) (old : Sliced) (asked : Request) (new : Sliced) → IsPlan plan → IsKept plan old
         → AddsObject plan old asked new → IsKept plan new }
@@ -42,8 +44,8 @@ pub fn a_write_keeps_the_rules()
 {}
 
 /// What the rules (`IsKept`) mean for the objects without the placeholder. Each has a slot of its
-/// class, no two have one address, and all on one page have one class. If no job is pending, their
-/// arrangement is sound. If one is, no object is in the job's slot, and all objects on that slot's
+/// class, no two have the same address, and all on one page are of one class. If no job is pending,
+/// their arrangement is sound. If one is, no object is in the job's slot, and all objects on that slot's
 /// page have its class. Each other class has at most one partly full page. The job's class has at
 /// most two; if it has two, only the job's slot is free on its page.
 pub fn what_the_rules_say_of_pages()

@@ -1,7 +1,6 @@
-//! The model of the sliced heap, in which a free leaves its long work (clearing a slot, or moving
-//! an object) as a job, done in slices of a quantum of words. It defines the state, the calls, the
-//! words while a job is pending, and the calls of several tasks. The public functions do nothing:
-//! each one's contract is a law of these definitions.
+//! The model of the sliced heap: its state, its calls, the words of its region while a job is
+//! pending, and lists of calls of several tasks. The public functions do nothing: their contracts
+//! are laws of these definitions.
 #![tactic(auto)]
 
 mod answers;
@@ -23,12 +22,12 @@ pub use jobs::{
 };
 pub use kept::{
     a_free_keeps_the_rules, a_malloc_keeps_the_rules, a_slice_keeps_the_rules,
-    a_write_keeps_the_rules, nothing_keeps_the_rules, what_the_rules_say_of_pages,
+    a_write_keeps_the_rules, an_empty_sliced_heap_keeps_the_rules, what_the_rules_say_of_pages,
 };
 pub use order::{
-    a_call_keeps_an_order, a_free_can_follow_an_order_beside_a_job,
-    a_malloc_can_follow_an_order_beside_a_job, a_slice_can_follow_an_order,
-    an_order_leaves_no_choice_beside_a_job, rising_numbers_are_an_order,
+    a_call_keeps_an_order, a_malloc_can_follow_an_order_beside_a_job, a_slice_can_follow_an_order,
+    a_sliced_free_can_follow_an_order, an_order_leaves_no_choice_beside_a_job,
+    rising_numbers_are_an_order,
 };
 pub use places::places_are_those_beside_the_job;
 pub use room::{
@@ -38,5 +37,5 @@ pub use room::{
 };
 pub use runs::{an_empty_heap_is_consistent, calls_of_all_tasks_are_those_of_one_map};
 pub use words::{
-    bytes_are_read_where_they_stand, words_after_each_call, words_are_the_image_but_for_the_job,
+    bytes_are_read_where_they_lie, words_after_each_call, words_are_the_image_but_for_the_job,
 };

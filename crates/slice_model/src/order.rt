@@ -1,6 +1,5 @@
-//! Laws on the order in which a sliced heap uses its free pages, its partly full pages and its
-//! spare numbers, also while a job is pending: the order determines what each call does, and each
-//! call can follow it.
+//! Laws on the order in which a sliced heap uses free pages, partly full pages and spare numbers, also during a
+//! job: it determines what each call does, and each call can follow it. `plan` has the heap's settings.
 ghost use Rattle.std.specs.Prelude.{ℕ, ◌≡◌, ◌∷◌, List, Option, Some, Result, length};
 ghost use Rattle.std.specs.FinMap.{empty, get};
 ghost use Rattle.cf_base.specs.declared.answers.AccessFault.{AccessFault};
@@ -15,10 +14,10 @@ ghost use Rattle.slice_model.specs.Steps.{AddsObject, IsRefusedBy, IsSlice, Remo
 ghost use Rattle.slice_model.specs.declared.answers.SliceFault.{SliceFault};
 ghost use Rattle.slice_model.specs.declared.answers.SliceRefusal.{SliceRefusal};
 
-/// The order determines what a call does. If the same call is made twice on the heap `old`, follows
-/// the order `was` both times, and both times leaves a region of the same length, it has the same
-/// result, and leaves the same objects, job, words (also while a job has done only some of its
-/// words) and order.
+/// The order determines what a call does. Suppose the same call is made twice on the heap `old`,
+/// follows the order `was` both times, and leaves regions of the same length. Then both calls have
+/// the same result, and leave the same objects, job, words and order, also while a job has done only
+/// some of its words.
 pub fn an_order_leaves_no_choice_beside_a_job()
     ensures malloc { (plan : Plan) (old : HeapWithWords) (bytes : ℕ) (a b : Result Handle SliceRefusal) (new other : HeapWithWords) (was now next : Order)
         → IsPlan plan → IsConsistent plan old → length new.words ≡ length other.words
@@ -63,7 +62,7 @@ pub fn a_slice_can_follow_an_order()
 /// While no job is pending, a free of any live object can follow the order of the state s: if it
 /// moves an object, it moves the one that the order lists next. With the first slice of its job, it
 /// leaves an order of the new state.
-pub fn a_free_can_follow_an_order_beside_a_job()
+pub fn a_sliced_free_can_follow_an_order()
     ensures { (plan : Plan) (s : Sliced) (h : ℕ) (x : Placed) (o : Order) → IsPlan plan → IsKept plan s → IsOrderBeside plan s o
         → s.job ≡ Idle → get s.held h ≡ Some x
         → (after : Sliced) × (new : Order) × (removes : RemovesObject plan s h after)
@@ -78,8 +77,8 @@ pub fn a_call_keeps_an_order()
         → IsOrderBeside plan old.state was → HappensInOrder plan old event new was now → IsOrderBeside plan new.state now }
 {}
 
-/// All pages and all numbers, each in rising order from 0, are an order of a heap without objects
-/// and without a job.
+/// The order that lists all pages and all numbers, each rising from 0, is an order of a heap without
+/// objects and without a job.
 pub fn rising_numbers_are_an_order()
     ensures { (plan : Plan) → IsOrderBeside plan (record { held = empty; job = Idle }) (first_order plan.paging plan.proxies) }
 {}

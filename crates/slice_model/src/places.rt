@@ -1,4 +1,5 @@
-//! A law on the addresses that a malloc may use while a job is pending.
+//! A law on the addresses that a malloc of the sliced heap may use: those that are free if the job's slot
+//! counts as one more object. `plan` has the heap's settings, s is its state.
 ghost use Rattle.std.specs.Prelude.{ℕ, ◌≡◌, ◌<◌, ◌↔◌};
 ghost use Rattle.page_model.specs.Arrangement.{LacksRoom};
 ghost use Rattle.page_model.specs.Paging.{class_for, classes};

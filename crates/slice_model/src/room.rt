@@ -1,6 +1,6 @@
-//! Laws on when a malloc and a free of the sliced heap are refused, also while a job is pending.
-//! The pages that objects need (`pages_needed_with`) are counted class by class: their number
-//! divided by the slots of a page, rounded up, and summed over the classes.
+//! Laws on refusals by the sliced heap: when a malloc is refused as `Space` or `Busy`; a malloc or
+//! free succeeds or has one cause of refusal; a slice always succeeds. `plan` has the settings, s
+//! is the state.
 ghost use Rattle.std.specs.Prelude.{ℕ, ◌≡◌, ◌≢◌, ◌<◌, ◌≤◌, ◌⊎◌, ◌↔◌, Option, Some};
 ghost use Rattle.std.specs.FinMap.{get};
 ghost use Rattle.cf_base.specs.Classes.{need};
@@ -19,7 +19,10 @@ pub fn a_malloc_is_busy_only_with_a_job()
 {}
 
 /// If the class of a malloc has a usable slot, or a page is free, the malloc is not refused as
-/// `Space`: the objects and the new one need at most the pages that the heap has.
+/// `Space`: the objects and the new one need at most the pages that the heap has. The pages needed
+/// are, summed over the classes, the objects divided by the slots of a page, rounded up. A slot is
+/// usable (`IsUsable`) if it is free, the job doesn't hold it, and its page is one of the class
+/// already.
 pub fn a_place_is_within_the_sum()
     ensures slot { (plan : Plan) (s : Sliced) (bytes a : ℕ) → IsPlan plan → IsKept plan s → need bytes ≤ plan.paging.page_words
         → IsUsable plan.paging s (class_for plan.paging bytes) a

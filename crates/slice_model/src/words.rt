@@ -1,4 +1,5 @@
-//! Laws on the words of the region, also while a pending job has changed only some of its slot.
+//! Laws on the words of a sliced heap's region, also while a job is pending: how they differ from the image of
+//! the objects, what each call changes, how a byte is read. `plan` has the heap's settings.
 ghost use Rattle.std.specs.Prelude.{ℕ, ◌≡◌, ◌+◌, ◌/◌, ◌%◌, ◌<◌, ◌≤◌, ◌↔◌, List, Some, length, min, slice_index};
 ghost use Rattle.std.specs.FinMap.{get, insert};
 ghost use Rattle.page_model.specs.Bytes.{AreBytes, written};
@@ -11,10 +12,10 @@ ghost use Rattle.slice_model.specs.State.{Idle, IsKept, IsPlan, JobSlot, Move, P
 ghost use Rattle.slice_model.specs.Steps.{AddsObject, IsSlice, RemovesObject};
 ghost use Rattle.slice_model.specs.Words.{DoesWords, HasWords, IsClosed, RewritesObject, byte_read};
 
-/// Compares the words of a heap with `clean`, the image of its objects without any job. If no job
-/// is pending, the two are equal. If one is, they agree in each word that the job does not leave
-/// open (`IsClosed`). The words of an object in motion that are not moved yet are in the job's
-/// slot.
+/// Compares the words of a heap with the image of its objects (`clean`). If no job is pending, the
+/// two are equal (clause `idle`). Else they differ at most in the words that the job has yet to clear
+/// or to move, in its slot and at the address of the object in motion (`closed`). Until it is moved,
+/// word i of that object is word i of the job's slot, k (`carried`).
 pub fn words_are_the_image_but_for_the_job()
     ensures idle { (p : Paging) (m : Held) (words : List ℕ)
         → HasWords p (record { held = m; job = Idle }) words ↔ IsSlotImage p m words }
@@ -27,10 +28,9 @@ pub fn words_are_the_image_but_for_the_job()
         → slice_index words (k.address + i) ≡ slice_index clean (x.place + i) }
 {}
 
-/// If the words are those of a state (`HasWords`), they are those of the state after a call too.
-/// This holds if a malloc writes the header of its object and no other word, a free or a slice
-/// clears or moves just the next words of the job, and a write changes just the words that hold its
-/// bytes.
+/// If the words of the region are right for the state (`HasWords`), they are right for the new state
+/// after each call. A malloc writes the header of its object and no other word. A free and a slice
+/// clear or move just the next words of the job. A write changes just the words that hold its bytes.
 pub fn words_after_each_call()
     ensures malloc { (plan : Plan) (old : Sliced) (words after : List ℕ) (asked : Request) (new : Sliced) → IsPlan plan → IsKept plan old
         → HasWords plan.paging old words → (g : AddsObject plan old asked new)
@@ -53,9 +53,9 @@ pub fn words_after_each_call()
 {}
 
 /// Reading byte k of object h returns the object's byte, also if a job is moving the object.
-/// `byte_read` reads the word that has the byte: at the object's address or, if the job has still
-/// to move this word there, in the job's slot.
-pub fn bytes_are_read_where_they_stand()
+/// `byte_read` reads the word that has the byte. It is at the object's address or, if the job has yet
+/// to move it there, in the job's slot.
+pub fn bytes_are_read_where_they_lie()
     ensures { (plan : Plan) (s : Sliced) (words : List ℕ) (h : ℕ) (x : Placed) (k : ℕ) → IsPlan plan → IsKept plan s
         → HasWords plan.paging s words → get s.held h ≡ Some x → AreBytes x.bytes → k < length x.bytes
         → byte_read s.job words h x k ≡ slice_index x.bytes k }

@@ -1,4 +1,5 @@
--- The reply to a refused malloc or free shows its cause: for the law `replies_show_their_causes`.
+-- For the law `replies_show_their_causes`: if the reply to a malloc or free on a sliced heap names a cause of refusal, the cause holds, for a malloc also
+-- conversely; `busy` means that a job is pending.
 use Rattle.std.proofs.Common.{◌≡◌, ◌≢◌, ℕ, List, [], ◌∷◌, Some, None, get_or, refl, sym, ◌∙◌, ap, subst}
 use Rattle.std.specs.Prelude.{Option, Result, Ok, Err, codes, nat_eq, if◌then◌else◌}
 use Rattle.std.specs.Option.{MatchOption}
@@ -111,7 +112,7 @@ module _ (old new : SliceRun) (id : ℕ) where
       let ids : new.ids ≡ old.ids = f.ids ∙ ap (ids_without old.ids id) is in
       (d.happens.0, ap₂ slice_run ids (heap_same old.heap new.heap d.stays d.happens.1 d.ordered.1))
 
-  -- a cause that holds is the one of the reply
+  -- if a cause of refusal holds, the reply is the text of this cause
   pub cause_shown : (n : ℕ) (e : SliceRefusal) (reply : Reply) → IsGoingSliced old → get old.ids id ≡ None
       → IsRefusedBy (plan_in old.heap) (working_in old.heap).state n e → SliceStep old (command.Malloc id n) reply new
       → reply ≡ said (slice_malloc_text (Err e))
@@ -124,7 +125,7 @@ module _ (old new : SliceRun) (id : ℕ) where
       go (Err f) d is = is ∙ ap (λ (f : SliceRefusal). said (slice_malloc_text (Err f)))
           (one_cause (plan_in old.heap) (working_in old.heap).state n f e d.happens.0 cause)
 
-  -- who has to wait, by the law of the model that a malloc waits for a job alone
+  -- if the reply to a malloc is `busy`, a job is pending: from the model's law `a_malloc_is_busy_only_with_a_job`
   pub busy_malloc_cause : ((plan : Plan) (s : Sliced) (n : ℕ) → IsPlan plan → IsKept plan s → LacksSlot plan s n → s.job ≢ Idle)
       → (n : ℕ) → IsGoingSliced old → SliceStep old (command.Malloc id n) (said (codes "busy")) new → old.heap.job ≢ Idle
   busy_malloc_cause law n going step = go (get old.ids id) refl step

@@ -1,4 +1,5 @@
--- Each command of a run over a sliced heap has a step, and the run can be continued.
+-- For `each_command_has_its_turn` and `a_sliced_run_can_always_go_on`: a run over a sliced heap can begin with any settings in their ranges, and each command
+-- then has a reply and a state after it.
 use Rattle.std.proofs.Common.{ℕ, List, Some, None, refl}
 use Rattle.std.specs.Prelude.{Option, codes}
 use Rattle.std.specs.Option.{MatchOption}
@@ -15,7 +16,7 @@ use Rattle.sliced_heap.specs.Shown.{plan_in, working_in}
 use Rattle.slice_session.specs.Playing.{BeginsSliced, BeginsSlices, IsQuantum, first_heap}
 use Rattle.slice_session.specs.SliceRun.{FreesSliced, IsGoingSliced, MallocsSliced, SliceRun, SliceStep, StaysSliced, WritesSliced}
 use Rattle.slice_session.specs.SliceRun.{ids_with, ids_without, slice_free_text, slice_malloc_text, sliced_shown, slice_write_text}
-use Rattle.slice_session.proofs.CallsThere.{free_there, malloc_there, step_there, write_there}
+use Rattle.slice_session.proofs.CallResults.{free_there, malloc_there, step_there, write_there}
 use Rattle.slice_session.proofs.RunInvariant.{still_going}
 use Rattle.slice_session.proofs.OpenLemmas.{EmptyLaw, begins_going, first_rules}
 
@@ -76,8 +77,8 @@ module _ (old : SliceRun) (going : IsGoingSliced old) where
   answer_there c can = record { reply = sliced_shown old c; new = old; done = (refl, refl) }
 
 -- every command of the grammar has a reply
-pub turn_there : (old : SliceRun) (c : Command) → IsGoingSliced old → IsValidCommand c → (reply : Reply) × (new : SliceRun) × SliceStep old c reply new
-turn_there old c going can = (let s = answer_there old going c can in (s.reply, s.new, s.done))
+pub step_exists : (old : SliceRun) (c : Command) → IsGoingSliced old → IsValidCommand c → (reply : Reply) × (new : SliceRun) × SliceStep old c reply new
+step_exists old c going can = (let s = answer_there old going c can in (s.reply, s.new, s.done))
 
 -- a run begins under any settings in their ranges
 pub begins_sliced : EmptyLaw → (quantum : ℕ) (p : Profile) → IsQuantum quantum → AreInRange p → (new : SliceRun) × BeginsSliced quantum p new
@@ -92,6 +93,6 @@ slices_go_on law quantum q = record {
   is_going = IsGoingSliced;
   begins_going = λ p reply s b. begins_going quantum p s b.0;
   still_going = λ old c reply new going can step. still_going old new going reply c step;
-  begins_there = λ p can. (let b = begins_sliced law quantum p q can in (said (codes "ok"), b.0, (b.1, refl)));
-  turn_there = turn_there;
+  begin_exists = λ p can. (let b = begins_sliced law quantum p q can in (said (codes "ok"), b.0, (b.1, refl)));
+  step_exists = step_exists;
 }

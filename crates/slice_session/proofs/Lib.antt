@@ -2,7 +2,7 @@ pub mod RunInvariant
 pub mod ReplyLemmas
 pub mod OpenLemmas
 pub mod WordsThere
-pub mod CallsThere
+pub mod CallResults
 pub mod CommandSteps
 pub mod ReadBack
 pub mod Causes

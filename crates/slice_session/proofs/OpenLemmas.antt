@@ -1,4 +1,5 @@
--- How a run over a sliced heap begins, and that it is then in progress: for `open` and the law `each_command_has_its_turn`.
+-- For `open` and the law `each_command_has_its_turn`: a run over a sliced heap begins without objects, and is then in progress (`IsGoingSliced`): the heap is
+-- open and keeps its rules, and the ids name its objects.
 use Rattle.std.proofs.Common.{◌≡◌, ℕ, ◌*◌, replicate, arith, sym, ◌∙◌, ap, refl, subst}
 use Rattle.std.specs.Prelude.{IsTrue}
 use Rattle.std.proofs.lemmas.List.{length-replicate}

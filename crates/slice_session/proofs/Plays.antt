@@ -1,4 +1,4 @@
--- The replies of the mode handler are those of a run of its session: for the law `plays_are_runs`.
+-- For the law `plays_are_runs`: a run of the mode handler of mode `slice` is, with the same replies, a run of its session with the handler's quantum.
 use Rattle.std.proofs.Common.{List, None}
 use Rattle.std.specs.Prelude.{Option, option_map}
 use Rattle.cf_io.specs.Texts.{Reply}

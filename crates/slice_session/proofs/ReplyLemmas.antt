@@ -1,4 +1,5 @@
--- What a command of a session over a sliced heap did, together with the part of its reply that was written.
+-- For `answer_ref` and `commands.rt`: a run over a sliced heap stays in progress after a command, a malloc by the heap is a step of the run, and the replies to
+-- `s` and `r` are those of the model.
 use Rattle.std.proofs.Common.{◌≡◌, ◌∙◌, ◌<◌, ℕ, ◌++◌, List, Option, Result, Ok, Err, length, take, drop, Some, None, false, ap, refl, subst, sym}
 use Rattle.std.specs.Prelude.{codes, is_some, option_map}
 use Rattle.std.specs.Option.{MatchOption}
@@ -9,7 +10,7 @@ use Rattle.cf_base.specs.declared.answers.AccessFault.{AccessFault}
 use Rattle.cf_base.specs.declared.answers.AccessFault.TheVariants as access
 use Rattle.cf_base.specs.declared.answers.Failed.{Failed}
 use Rattle.cf_base.specs.declared.answers.Handle.{Handle}
-use Rattle.cf_io.specs.Lines.{line_room}
+use Rattle.cf_io.specs.Lines.{line_capacity}
 use Rattle.cf_io.specs.Texts.{Reply, said, with_number}
 use Rattle.cf_lemmas.proofs.MapValues.{get-map_values}
 use Rattle.cf_session.proofs.CallerLemmas.{read_past, read_within}
@@ -44,15 +45,15 @@ pub no_handle : (o : Option Handle) (live : Option ℕ) → option_map (λ (h : 
 no_handle None live is none = sym is
 no_handle (Some h) live is none = absurd (false≢true (sym none))
 
--- a malloc for an id that isn't live
+-- a malloc by the heap is a step of the run, if the id isn't live
 pub malloc_step : (old new : SliceRun) (id n : ℕ) (reply : Reply) → get old.ids id ≡ None → MallocsSliced old id n reply new
     → SliceStep old (command.Malloc id n) reply new
 malloc_step old new id n reply none m =
     subst (λ o. MatchOption o (MallocsSliced old id n reply new) (λ h. StaysSliced old (codes "live") reply new)) (sym none) m
 
--- a slice
+-- the text of the reply to `s`
 pub speaks_left : (ids : Ids) (old new : SlicedState) (line : List ℕ) → Does old Step new
-    → line ≡ with_number (codes "left ") (left_of (plan_in new) (working_in new).state) → length line < line_room
+    → line ≡ with_number (codes "left ") (left_of (plan_in new) (working_in new).state) → length line < line_capacity
     → BuildsReply SliceStep (slice_run ids old) command.Slice (slice_run ids new) line
 speaks_left ids old new line does is room = record { turn = record { does = does; ids = refl; reply_is = ap said is }; room = room }
 
@@ -63,7 +64,7 @@ object_at run o = elim o [ None ↦ None | Some h ↦ get run.heap.held h ]
 object_is : (run : SliceRun) (id : ℕ) (o : Option ℕ) → o ≡ get run.ids id → sliced_object_of run id ≡ object_at run o
 object_is run id o is = ap (object_at run) (sym is)
 
--- no object is held if none is on the map
+-- a number without bytes in the map of objects has no object
 none_by_bytes : (m : Held) (h : ℕ) → get (objects m) h ≡ None → get m h ≡ None
 none_by_bytes m h none = go (get m h) refl (sym (get-map_values (λ (x : Placed). x.bytes) m h) ∙ none)
   where

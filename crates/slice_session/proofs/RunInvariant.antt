@@ -1,4 +1,5 @@
--- A run over a sliced heap stays in progress after each command; and what each command does to the ids and their objects.
+-- A run over a sliced heap stays in progress after each command: the heap is open and keeps its rules, the ids name its objects. Also what each command does to
+-- the ids and to the bytes of their objects.
 use Rattle.std.proofs.Common.{◌≡◌, ◌∙◌, ◌*◌, ℕ, List, Some, None, sym, ap, refl, subst, inl, inr}
 use Rattle.std.specs.Prelude.{IsTrue, Bool, Option, Result, Ok, Err, codes, option_map}
 use Rattle.std.specs.Option.{MatchOption}

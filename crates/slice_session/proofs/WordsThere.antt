@@ -1,4 +1,5 @@
--- For each call of a sliced heap there are words of the region as its contract requires them after the call: for `CallsThere`.
+-- For `CallResults`: there are words of the region as a malloc, a slice and a write must leave them, since words of a range can be replaced, or moved to
+-- another range that doesn't overlap it.
 use Rattle.std.proofs.Common.{◌≡◌, ◌≢◌, ℕ, zero, suc, ◌+◌, ◌-◌, ◌*◌, ◌/◌, ◌%◌, ◌<◌, ◌≤◌, List, length, get_or, set}
 use Rattle.std.proofs.Common.{Some, arith, sym, ◌∙◌, ap, refl, subst, inl, inr}
 use Rattle.std.specs.Prelude.{min}
@@ -15,7 +16,7 @@ use Rattle.slice_model.specs.State.{IsKept, IsPlan, Job, Plan, Sliced, job_slot,
 use Rattle.slice_model.specs.Words.{DoesWords, RewritesObject, word_at}
 use Rattle.slice_model.proofs.CallerLemmas.{job_within, kept_apart, mover_class, object_slot, object_within, own_words_at, where_word, outside_not}
 
--- the words with f i at the place a i, for each i below n
+-- the words with f i at the address a i, for each i below n
 abbrev put_all : (ℕ → ℕ) → (ℕ → ℕ) → ℕ → List ℕ → List ℕ
 put_all a f zero words = words
 put_all a f (suc n) words = set (put_all a f n words) (a n) (f n)
@@ -30,7 +31,7 @@ module _ (a f : ℕ → ℕ) (words : List ℕ) where
   put_outside (suc n) w out = get_or-set_other (put_all a f n words) (a n) w (f n) 0 (λ e. out n (omega arith) (sym e))
       ∙ put_outside n w (λ i lt. out i (omega arith))
 
-  -- each place has its word, if the places differ and none is past the end
+  -- each address has its word, if the addresses differ and none is past the end
   put_inside : (n : ℕ) → ((i : ℕ) → i < n → a i < length words) → ((i k : ℕ) → i < n → k < n → a i ≡ a k → i ≡ k) → (i : ℕ) → i < n
       → get_or (put_all a f n words) (a i) 0 ≡ f i
   put_inside zero within own i lt = absurd (omega arith)

@@ -1,5 +1,5 @@
--- Mode `slice` for the script loop: how a run over a sliced heap begins, its runs over a script, and what is left if an allocation fails. `sliced` is the
--- semantics of a session; `slices` is that of the mode handler, which holds a session and the quantum.
+-- Mode `slice` for the script loop: how a run over a sliced heap begins, its runs over a script, and the state after a failed allocation. `sliced` is the
+-- semantics of a session, `slices` that of the mode handler.
 use Rattle.std.specs.Prelude.{◌≡◌, ◌≤◌, ◌*◌, ℕ, true, List, Option, codes, replicate}
 use Rattle.std.specs.FinMap.{empty}
 use Rattle.cf_base.specs.Settings.{Profile}
@@ -48,7 +48,7 @@ pub record LacksSliced (old new : SliceRun) : Type 0 where
   pub closed : new.heap ≡ closed_state
   pub ids : new.ids ≡ old.ids
 
--- A session over a sliced heap, for the script loop. The plan is the quantum of its heap, in words.
+-- The semantics of a session over a sliced heap, for the script loop. Its field `plan` is the quantum of the heap, in words.
 abbrev pub sliced : Semantics SliceRun ℕ
 sliced = record {
   plan = λ s. s.heap.quantum;
@@ -79,7 +79,7 @@ pub record IsFreshPlay (s : SlicePlay) : Type 0 where
   pub ids : s.run.ids ≡ empty
   pub quantum : IsQuantum s.quantum
 
--- The mode handler, for the script loop. The plan is its own quantum, with which it opens the heap.
+-- The semantics of the mode handler, for the script loop. Its field `plan` is the quantum in words with which the handler opens the heap.
 abbrev pub slices : Semantics SlicePlay ℕ
 slices = record {
   plan = λ s. s.quantum;

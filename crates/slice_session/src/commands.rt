@@ -1,7 +1,7 @@
 //! The commands of a session over a sliced heap, where a script names objects by ids. `m`, `f` and `w` return
 //! their reply; `r`, `s` and `p` build their reply in `line`, and return how the command ended.
 ghost use Rattle.std.specs.Prelude.{◌≡◌, ◌+◌, ◌<◌, ◌≤◌, [], IsTrue, Err, Some, length, slice_get};
-ghost use Rattle.cf_io.specs.Lines.{line_room};
+ghost use Rattle.cf_io.specs.Lines.{line_capacity};
 ghost use Rattle.cf_io.specs.Texts.{said};
 ghost use Rattle.cf_session.specs.Apply.{outcome_in};
 ghost use Rattle.cf_session.specs.Short.{short_text};
@@ -127,7 +127,7 @@ pub(crate) fn read(
     requires few { length buffer.old ≤ 4096 }
     requires empty { line.old ≡ [] }
     ensures text { line.new ≡ read_text (sliced_object_of (slice_run ids.now heap.now) id) at (length buffer.old) }
-    ensures room { length line.new < line_room }
+    ensures room { length line.new < line_capacity }
     ensures outcome { result ≡ outcome_in line.new }
     ensures bound { RoseAtMost steps.old steps.new (2 + words_touched at (length buffer.old)) }
 {
@@ -165,7 +165,7 @@ pub(crate) fn peek(heap: &SlicedHeap, word: u32, line: &mut Line, steps: &mut St
     requires open { IsTrue heap.now.is_open }
     requires empty { line.old ≡ [] }
     ensures text { line.new ≡ peek_text (slice_get heap.now.words word) }
-    ensures room { length line.new < line_room }
+    ensures room { length line.new < line_capacity }
     ensures outcome { result ≡ outcome_in line.new }
     ensures bound { RoseAtMost steps.old steps.new 1 }
 {

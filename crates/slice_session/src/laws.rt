@@ -1,4 +1,5 @@
-//! Laws of sessions over sliced heaps. The functions do nothing: their clauses are the laws.
+//! Laws on runs of a script on a sliced heap: reads return what was written, refusals show their cause, each
+//! command has a reply, and output before the sink failed is a prefix of a full run's.
 ghost use Rattle.std.specs.Prelude.{◌≡◌, ◌≢◌, ℕ, ◌++◌, Bool, List, [], Option, Err, None, Some, codes};
 ghost use Rattle.std.specs.Option.{option_map};
 ghost use Rattle.std.specs.FinMap.{get};
@@ -57,9 +58,9 @@ pub fn replies_show_their_causes()
     a_malloc_is_busy_only_with_a_job();
 }
 
-/// A run can begin with any settings in their ranges and slices of any quantum, and then is in progress. In
-/// each state of a run in progress every command that a script can contain has a reply, and the run is in
-/// progress after it.
+/// A run can begin with any settings in their ranges and slices of any quantum, and is then in progress
+/// (`IsGoingSliced`). In each state of a run in progress every command that a script can contain has a reply,
+/// and the run is in progress after it.
 pub fn each_command_has_its_turn()
     ensures begins { (quantum : ℕ) (p : Profile) → IsQuantum quantum → AreInRange p
         → (new : SliceRun) × BeginsSliced quantum p new }

@@ -1,5 +1,5 @@
-//! A session over a sliced heap: it maps ids to handles, and each command has one reply. The heap leaves work
-//! pending after `f`, and does a slice of it at each `s`. `run_slices` runs a script on it.
+//! Mode `slice`: a session does a script's commands on a sliced heap and maps its ids to handles. `f` leaves a
+//! job and does its first slice, each `s` does one more; `run_slices` runs a whole script.
 #![tactic(auto)]
 
 mod commands;

@@ -1,4 +1,5 @@
-//! The mode handler of mode `slice`, which runs a script on a sliced heap.
+//! The mode handler of mode `slice`: a session over a sliced heap, with the quantum with which the `heap` line
+//! opens the heap; and `run_slices`, which runs a script with it.
 ghost use Rattle.std.specs.Prelude.{◌≡◌, ℕ, IfOk};
 ghost use Rattle.std.specs.FinMap as map;
 ghost use Rattle.script_loop.specs.ScriptOutcome.{Plays, sink_at, source_at};
@@ -13,7 +14,8 @@ use sliced_heap::SlicedHeap;
 use std::alloc::Global;
 use step_ledger::Meter;
 
-/// The mode handler: a session over a sliced heap, with the quantum of the heap and a ledger.
+/// The handler of mode `slice`: a session over a sliced heap, with the quantum of the heap and the meter of
+/// the steps.
 #[derive(Drop)]
 pub struct SliceHandler {
     pub session: SliceSession,
@@ -74,7 +76,7 @@ impl ModeHandler<SlicedHeap> for SliceHandler {
     }
 }
 
-/// Runs the script of a source on the heap, and writes the replies to a sink; the status says how it ended.
+/// Runs the script of a source on the heap, and writes the replies to a sink. Returns how the run ended.
 /// The `heap` line opens the heap, with the bound 1 for each class; each later command is done on its
 /// objects. Each complete line has its reply before the next chunk is taken. The run stops at a bad line,
 /// if the source or the sink fails, if an allocation fails at the `heap` line, and after 268,435,455 bytes.

@@ -1,4 +1,5 @@
--- For `written_bytes_are_those_of_the_object`: the words of an object after a write.
+-- For the laws of `laws.rt`: the halves of an object have each word and byte where the model has it; after a write in them the words are those of the object
+-- with its new bytes.
 use Rattle.std.proofs.Common.{◌≡◌, ℕ, suc, ◌+◌, ◌-◌, ◌*◌, ◌/◌, ◌%◌, ◌^◌, ◌<◌, ◌≤◌, List, [], ◌∷◌, length, get_or, arith, sym, ◌∙◌, ap, subst, inl, inr}
 use Rattle.std.specs.Prelude.{if◌then◌else◌}
 use Rattle.std.proofs.lemmas.Bool.{cases_eq, cases_lt}
@@ -14,7 +15,7 @@ use Rattle.slice_model.specs.declared.job_slot.JobSlot.{JobSlot}
 use Rattle.slice_model.specs.State.{Job, Idle, Clear, Move}
 use Rattle.slice_model.specs.Words.{RewritesObject, byte_read, word_at}
 use Rattle.slice_model.proofs.CallerLemmas.{word_done, word_left, word_of_other}
-use Rattle.slice_words.specs.Halves.{byte_in, halves_of, place_of_word, together}
+use Rattle.slice_words.specs.Halves.{byte_in_halves, halves_of, place_of_word, together}
 use Rattle.slice_words.specs.Writes.{IsTouched, WritesBytes, byte_by}
 use Rattle.slice_words.specs.declared.halves.Halves.{Halves}
 use Rattle.slice_words.proofs.TwoParts.{word_high, word_low}
@@ -23,7 +24,7 @@ use Rattle.slice_words.proofs.TwoParts.{word_high, word_low}
 abbrev moved_halves : JobSlot → ℕ → Halves
 moved_halves k a = record { to = a; from = k.address; done = k.done }
 
--- while any job is pending, the halves hold word i of the object where the model has it
+-- whatever job is pending, or none, the halves hold word i of the object where the model has it
 pub word_by_halves : (j : Job) (h : ℕ) (x : Placed) (i : ℕ) → place_of_word (halves_of j h x.place) i ≡ word_at j h x i
 word_by_halves Idle h x i = word_high (together x.place) i (omega arith)
 word_by_halves (Clear k) h x i = word_high (together x.place) i (omega arith)
@@ -36,7 +37,7 @@ word_by_halves (Move q k) h x i = elim (cases_eq q h) [
   ]
 ]
 
-pub byte_by_halves : (j : Job) (h : ℕ) (x : Placed) (words : List ℕ) (k : ℕ) → byte_in (halves_of j h x.place) words k ≡ byte_read j words h x k
+pub byte_by_halves : (j : Job) (h : ℕ) (x : Placed) (words : List ℕ) (k : ℕ) → byte_in_halves (halves_of j h x.place) words k ≡ byte_read j words h x k
 byte_by_halves j h x words k = ap (λ w. byte_of (k % 8) (get_or words w 0)) (word_by_halves j h x (1 + k / 8))
 
 module _ (place : ℕ → ℕ) (h : ℕ) (v : List ℕ) (old new : List ℕ) (at : ℕ) (bytes : List ℕ)

@@ -1,4 +1,5 @@
--- For `read_half` and `write_half`: bytes of an object whose words lie side by side.
+-- For `read_half` and `write_half`: bytes counted from the first word that a read or write touches are the object's, if its words lie side by side; a write of
+-- no bytes changes nothing.
 use Rattle.std.proofs.Common.{◌≡◌, ◌≢◌, ℕ, ◌+◌, ◌-◌, ◌*◌, ◌/◌, ◌%◌, ◌^◌, ◌<◌, ◌≤◌, List, length, get_or, arith, refl, sym, ◌∙◌, ap, subst, inl, inr}
 use Rattle.std.proofs.lemmas.Bool.{cases_lt}
 use Rattle.page_model.specs.Bytes.{byte_of}

@@ -1,4 +1,4 @@
--- For `read_halves` and `write_halves`: the bytes in the first half of an object, and those in the second.
+-- For `read_halves` and `write_halves`: two reads or writes, one in each half of an object in motion, are one of all the bytes, and no word is counted in both.
 use Rattle.std.proofs.Common.{◌≡◌, ℕ, ◌+◌, ◌-◌, ◌/◌, ◌%◌, ◌<◌, ◌≤◌, List, length, get_or, ◌++◌, take, drop}
 use Rattle.std.proofs.Common.{arith, sym, ◌∙◌, ap, inl, inr, length-append, length-drop}
 use Rattle.std.specs.Prelude.{◌⊎◌}
@@ -12,7 +12,7 @@ use Rattle.step_ledger.specs.Counting.{RoseAtMost}
 use Rattle.word_bytes.specs.Cells.{overwritten}
 use Rattle.word_bytes.specs.Overwriting.{byte_from}
 use Rattle.word_bytes.proofs.CallerLemmas.{overwritten_before, overwritten_behind, overwritten_inside, overwritten_same}
-use Rattle.slice_words.specs.Halves.{AreApart, byte_in, first_bytes, place_of_word}
+use Rattle.slice_words.specs.Halves.{AreApart, byte_in_halves, first_bytes, place_of_word}
 use Rattle.slice_words.specs.Writes.{IsTouched, WritesBytes, byte_by, word_from}
 use Rattle.slice_words.specs.declared.halves.Halves.{Halves}
 
@@ -179,7 +179,7 @@ two_bounds s at count f l r x y z is left right a b =
 pub read_two : (s : Halves) (at count f : ℕ) (words a b : List ℕ) → f ≡ first_bytes s at count → length a ≡ f → length b ≡ count - f
     → ((j : ℕ) → j < length a → get_or a j 0 ≡ byte_from words (s.to + 1) (at + j))
     → ((j : ℕ) → j < length b → get_or b j 0 ≡ byte_from words (s.from + 1) (at + f + j))
-    → (j : ℕ) → j < length (a ++ b) → get_or (a ++ b) j 0 ≡ byte_in s words (at + j)
+    → (j : ℕ) → j < length (a ++ b) → get_or (a ++ b) j 0 ≡ byte_in_halves s words (at + j)
 read_two s at count f words a b is left right low high j lt = elim (cases_lt j f) [
   | inl before ↦ (
       let e : s.to + 1 + (at + j) / 8 ≡ s.to + (1 + (at + j) / 8) = omega arith in

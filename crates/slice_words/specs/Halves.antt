@@ -10,8 +10,8 @@ abbrev pub place_of_word : Halves → ℕ → ℕ
 place_of_word s i = if nat_le s.done i then s.from + i else s.to + i
 
 -- byte k of the object with these halves, read from the word of the region that holds it
-abbrev pub byte_in : Halves → List ℕ → ℕ → ℕ
-byte_in s words k = byte_of (k % 8) (slice_index words (place_of_word s (1 + k / 8)))
+abbrev pub byte_in_halves : Halves → List ℕ → ℕ → ℕ
+byte_in_halves s words k = byte_of (k % 8) (slice_index words (place_of_word s (1 + k / 8)))
 
 -- of the object's `count` bytes from byte `at` on, the number of those that are in the first half, whose first word is the header
 abbrev pub first_bytes : Halves → ℕ → ℕ → ℕ
@@ -25,7 +25,7 @@ AreApart s n = (i k : ℕ) → i < s.done → s.done ≤ k → k < n → s.to + 
 abbrev pub together : ℕ → Halves
 together a = record { to = a; from = a; done = 0 }
 
--- the halves of object h, whose address in its proxy is a, while this job is pending
+-- the halves of object h, whose address in its proxy is a, while this job is pending, or none (`Idle`)
 abbrev pub halves_of : Job → ℕ → ℕ → Halves
 halves_of Idle h a = together a
 halves_of (Clear k) h a = together a

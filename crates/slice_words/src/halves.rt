@@ -1,8 +1,9 @@
-//! Reads and writes the bytes of an object whose words are in two halves, since a job is moving it.
+//! Reads and writes words and bytes of an object in motion: the words that were moved, its first half, are at
+//! its new address, the others, its second half, in its old slot.
 ghost use Rattle.std.specs.Prelude.{◌≡◌, ℕ, ◌+◌, ◌-◌, ◌*◌, ◌/◌, ◌^◌, ◌<◌, ◌≤◌, length, min, slice_index};
 ghost use Rattle.cf_model.specs.Costs.{words_touched};
 ghost use Rattle.step_ledger.specs.Counting.{RoseAtMost, RoseBy};
-ghost use Rattle.slice_words.specs.Halves.{AreApart, byte_in, first_bytes, place_of_word};
+ghost use Rattle.slice_words.specs.Halves.{AreApart, byte_in_halves, first_bytes, place_of_word};
 ghost use Rattle.slice_words.specs.Writes.{WritesBytes};
 
 use crate::parts::{read_half, write_half};
@@ -53,7 +54,7 @@ pub fn read_halves(region: &Region, s: Halves, at: u32, out: &mut [u8], steps: &
     requires short { at + length out.old < 2 ^ 32 }
     requires to { s.to + 1 + (at + length out.old + 7) / 8 ≤ length region.now }
     requires from { s.from + 1 + (at + length out.old + 7) / 8 ≤ length region.now }
-    ensures bytes { (j : ℕ) → j < length out.new → slice_index out.new j ≡ byte_in s region.now (at + j) }
+    ensures bytes { (j : ℕ) → j < length out.new → slice_index out.new j ≡ byte_in_halves s region.now (at + j) }
     ensures bound { RoseAtMost steps.old steps.new (words_touched at (length out.old)) }
 {
     let first = first_bytes(s, at, out.len());

@@ -1,19 +1,19 @@
-//! Laws on the halves of an object while a job `j` is pending: they agree with the model of the sliced heap. In
-//! each law `h` is the object's number and `x` its address and bytes.
+//! Laws on the halves of an object in motion, at its new address and in its old slot: words, bytes and writes
+//! are as in the model. j is the job, h the object's number, x its address and bytes.
 ghost use Rattle.std.specs.Prelude.{ℕ, ◌≡◌, ◌+◌, ◌/◌, ◌%◌, ◌^◌, ◌<◌, ◌≤◌, List, length, slice_index};
 ghost use Rattle.page_model.specs.Bytes.{AreBytes, written};
 ghost use Rattle.page_model.specs.Held.{Placed};
 ghost use Rattle.page_model.specs.Image.{object_word};
 ghost use Rattle.slice_model.specs.State.{Job};
 ghost use Rattle.slice_model.specs.Words.{RewritesObject, byte_read, word_at};
-ghost use Rattle.slice_words.specs.Halves.{byte_in, halves_of, place_of_word};
+ghost use Rattle.slice_words.specs.Halves.{byte_in_halves, halves_of, place_of_word};
 ghost use Rattle.slice_words.specs.Writes.{WritesBytes};
 
-/// While any job is pending, word `i` of the object is in its halves at the address that it has in the model.
-/// So byte `k` in its halves is the one that the model reads.
+/// Whatever job is pending, or none, word `i` of the object is in its halves at the address that it has in the
+/// model. So byte `k` in its halves is the one that the model reads.
 pub fn halves_are_where_the_words_are()
     ensures words { (j : Job) (h : ℕ) (x : Placed) (i : ℕ) → place_of_word (halves_of j h x.place) i ≡ word_at j h x i }
-    ensures bytes { (j : Job) (h : ℕ) (x : Placed) (words : List ℕ) (k : ℕ) → byte_in (halves_of j h x.place) words k ≡ byte_read j words h x k }
+    ensures bytes { (j : Job) (h : ℕ) (x : Placed) (words : List ℕ) (k : ℕ) → byte_in_halves (halves_of j h x.place) words k ≡ byte_read j words h x k }
 {}
 
 /// Suppose that each word of the object is at the address that it has in the model (`word_at`), and `bytes` are

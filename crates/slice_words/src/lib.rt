@@ -1,6 +1,5 @@
-//! What the sliced heap does to the words of its region. While a job moves an object, the first words of
-//! the object are at its new address and the others still in its old slot: its two halves. This crate
-//! reads and writes the object's bytes there, and clears or moves the next words of a job.
+//! Works on a sliced heap's region: clears or moves the next words of a job, and reads and writes bytes of
+//! objects. An object in motion has two halves, one at its new address, one in its old slot.
 #![tactic(auto)]
 
 mod halves;

@@ -1,6 +1,5 @@
-//! Reads and writes bytes of one half of an object, whose words are consecutive in the region. In a call
-//! `place` is the address of the slot that has the half: the object's address or its old one. `at` counts from
-//! the object's first byte for both halves.
+//! Reads and writes bytes of one half of an object in motion, whose words are consecutive. `place` is the
+//! address of the slot that has this half; `at` counts from the object's first byte for both halves.
 ghost use Rattle.std.specs.Prelude.{◌≡◌, ℕ, ◌+◌, ◌/◌, ◌^◌, ◌<◌, ◌≤◌, length, slice_index};
 ghost use Rattle.cf_model.specs.Costs.{words_touched};
 ghost use Rattle.step_ledger.specs.Counting.{RoseAtMost};

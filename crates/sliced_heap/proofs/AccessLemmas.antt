@@ -1,4 +1,5 @@
--- For `find`, `read` and `write`: which words hold the bytes of an object whose words lie in two halves.
+-- For `find`, `read` and `write`: an object's words, also in motion, are in two halves in the region that don't overlap. A write in them leaves a valid heap;
+-- bytes past the object's end are a fault.
 use Rattle.std.proofs.Common.{◌≡◌, ℕ, ◌+◌, ◌/◌, ◌%◌, ◌^◌, ◌<◌, ◌≤◌, List, length, get_or, Some, None, arith, refl, sym, ◌∙◌, ap, subst, inl, inr}
 use Rattle.std.specs.Prelude.{option_map}
 use Rattle.std.proofs.lemmas.Bool.{cases_eq}
@@ -21,7 +22,7 @@ use Rattle.slice_model.specs.State.{Job, Sliced, job_slot, occupied, Idle, Clear
 use Rattle.slice_model.specs.Runs.{IsOutOfReach, Reads, Writes}
 use Rattle.slice_model.specs.Words.{RewritesObject}
 use Rattle.slice_model.proofs.CallerLemmas.{beside, inserted_beside, job_within, kept_apart, kept_write, mover_class, own_words_at, words_written}
-use Rattle.slice_words.specs.Halves.{AreApart, byte_in, halves_of, place_of_word}
+use Rattle.slice_words.specs.Halves.{AreApart, byte_in_halves, halves_of, place_of_word}
 use Rattle.slice_words.specs.Writes.{WritesBytes}
 use Rattle.slice_words.specs.declared.halves.Halves.{Halves}
 use Rattle.slice_words.proofs.CallerLemmas.{byte_by_halves, object_rewritten, word_by_halves, word_high, word_low}
@@ -84,7 +85,7 @@ module _ (h : Heap) (k : IsValid h) (q : ℕ) (x : Placed) (there : get (state_o
 
   -- bytes of the object that are read
   pub reads : (at count : ℕ) → at + count ≤ length x.bytes → (out : List ℕ) → length out ≡ count
-      → ((i : ℕ) → i < length out → get_or out i 0 ≡ byte_in (halves_of h.job q x.place) h.words (at + i))
+      → ((i : ℕ) → i < length out → get_or out i 0 ≡ byte_in_halves (halves_of h.job q x.place) h.words (at + i))
       → Reads (working_of h) (record { number = q; from = at }) count out
   reads at count fits out long each = record {
     object = x;
@@ -173,7 +174,7 @@ module _ (h : Heap) (k : IsValid h) (q : ℕ) (x : Placed) (there : get (state_o
 pub unknown : (h : Heap) (k : IsValid h) (q : ℕ) → get h.proxies.places q ≡ None → get (objects (state_of h).held) q ≡ None
 unknown h k q none = get-map_values (λ (y : Placed). y.bytes) (state_of h).held q ∙ ap (option_map (λ (y : Placed). y.bytes)) (no_place h k q none)
 
--- `find` for a live number q, whose address is a, so that the halves are s
+-- what `find` returns for a live number q, whose address is a and whose words lie in the halves s
 module _ (h : Heap) (k : IsValid h) (q a : ℕ) (known : get h.proxies.places q ≡ Some a) (s : Halves) (is : s ≡ halves_of h.job q a) where
   found : (x : Placed) × (get (state_of h).held q ≡ Some x) × (x.place ≡ a)
   found = has_place h k q a known
@@ -223,10 +224,10 @@ module _ (h : Heap) (k : IsValid h) (q at count : ℕ) (s : Halves) (l : HoldsBy
   pub part_apart : AreApart s (1 + (at + count + 7) / 8)
   part_apart = subst (λ y. AreApart y (1 + (at + count + 7) / 8)) (sym l.halves) (apart h k q l.object l.found (1 + (at + count + 7) / 8) room.0)
 
-  pub part_read : (out : List ℕ) → length out ≡ count → ((i : ℕ) → i < length out → get_or out i 0 ≡ byte_in s h.words (at + i))
+  pub part_read : (out : List ℕ) → length out ≡ count → ((i : ℕ) → i < length out → get_or out i 0 ≡ byte_in_halves s h.words (at + i))
       → Reads (working_of h) (record { number = q; from = at }) count out
   part_read out long each = reads h k q l.object l.found at count l.within out long
-      (λ i lt. each i lt ∙ ap (λ y. byte_in y h.words (at + i)) l.halves)
+      (λ i lt. each i lt ∙ ap (λ y. byte_in_halves y h.words (at + i)) l.halves)
 
 module _ (h : Heap) (k : IsValid h) (q at : ℕ) (s : Halves) (bytes : List ℕ) (are : AreBytes bytes)
     (l : HoldsBytesAt h (record { number = q; from = at }) (length bytes) s) (n : Heap)

@@ -1,4 +1,5 @@
--- The lemma that other crates' proofs cite: the plan is unchanged by a call that leaves the settings and the quantum unchanged (`StaysOpen`).
+-- The lemma that other crates' proofs cite: a call that leaves the settings and the quantum of a sliced heap unchanged (`StaysOpen`) leaves the model's
+-- settings (`plan_in`) unchanged.
 use Rattle.std.proofs.Common.{◌≡◌, ℕ, ap₂}
 use Rattle.cf_base.specs.Settings.{Profile}
 use Rattle.cf_base.specs.declared.kind.Layout.TheVariants.{Words}

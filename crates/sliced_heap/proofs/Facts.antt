@@ -1,4 +1,5 @@
--- For all other files here: what the invariant of an open heap says of its paging, its tables and its objects.
+-- For all other files here: what follows from the invariant of an open sliced heap (`IsValid`) for its pages and classes, its tables, and the addresses and
+-- bytes of its objects.
 use Rattle.std.proofs.Common.{◌≡◌, ℕ, ◌^◌, ◌<◌, ◌≤◌, length, Some, None, arith, refl, sym, ◌∙◌, ap, subst}
 use Rattle.std.specs.Prelude.{option_map}
 use Rattle.std.specs.FinMap.{get, len}

@@ -1,4 +1,5 @@
--- For `fill` and `move_to`: an object of another partly full page gets the address of a slot that was to be cleared.
+-- For `fill` and `move_to`: if the class has two partly full pages, the object that the order lists next gets the address of the slot to be cleared, and moving
+-- it there is the job; the heap stays valid.
 use Rattle.std.proofs.Common.{◌≡◌, ◌≢◌, ℕ, ◌+◌, ◌-◌, ◌*◌, ◌/◌, ◌%◌, ◌^◌, ◌<◌, ◌≤◌, [], length, get_or, replicate, Option, Some, None, arith, refl, sym, ◌∙◌, ap}
 use Rattle.std.proofs.Common.{subst, inl, inr}
 use Rattle.std.specs.Prelude.{◌↔◌, IsSome, slice_index_or}
@@ -35,7 +36,8 @@ use Rattle.sliced_heap.proofs.Places.{changed_occupied}
 use Rattle.sliced_heap.proofs.Preserved.{Becomes, becomes_plan, becomes_state, becomes_valid}
 use Rattle.sliced_heap.proofs.StepCounts.{drop_partly}
 
--- If the slot of a job `Clear` gets an object, the rules of the model hold: the step is a slice that does the last word of such a job.
+-- If `fill` replaces a job `Clear` of slot k by one that moves an object there, the rules of the model still hold. To the model this is the slice that does the
+-- last word of a job `Clear` of slot k.
 module _ (plan : Plan) (ok : IsPlan plan) (m : Held) (k : JobSlot) (kept : IsKept plan (record { held = m; job = Clear k })) where
   abbrev last : JobSlot
   last = record k { done = slot_words plan.paging k.class - 1 }

@@ -1,4 +1,4 @@
--- For `start_clearing`: the object with this number and this address, while no job is pending, and its class.
+-- For `start_clearing`: while no job is pending, the object with a given number and address, the length that its header holds, and its class.
 use Rattle.std.proofs.Common.{◌≡◌, ℕ, ◌+◌, ◌/◌, ◌^◌, ◌<◌, length, get_or, Some, None, arith, sym, ◌∙◌, ap}
 use Rattle.std.specs.FinMap.{get}
 use Rattle.cf_base.specs.Classes.{class_of}

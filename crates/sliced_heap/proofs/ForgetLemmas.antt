@@ -1,4 +1,4 @@
--- For `start_clearing`: an object is removed, and clearing its slot is the job.
+-- For `start_clearing`: when the object's proxy is released, it is counted out, and clearing its slot is the job, the heap is valid and has one object less.
 use Rattle.std.proofs.Common.{◌≡◌, ℕ, ◌+◌, ◌-◌, ◌*◌, ◌<◌, ◌≤◌, length, get_or, set, replicate, Some, arith, refl, sym, ◌∙◌, ap, subst}
 use Rattle.std.specs.Prelude.{nat_eq}
 use Rattle.std.proofs.lemmas.List.{length-set}

@@ -1,4 +1,5 @@
--- For `free_live`: the object is removed, its slot is filled if it must be, and a slice is done.
+-- For `free_live`: a free is its three parts, the removal, the filling of the slot if it must be filled, and a slice; whether and which object moves is as the
+-- model and the order require.
 use Rattle.std.proofs.Common.{◌≡◌, ◌≢◌, ℕ, ◌*◌, ◌-◌, ◌<◌, ◌∷◌, replicate, Bool, true, false, Some, None, arith, sym, ◌∙◌, ap, subst, inl, inr}
 use Rattle.std.proofs.lemmas.Bool.{cases_eq}
 use Rattle.std.specs.FinMap.{get, insert, remove}

@@ -1,4 +1,5 @@
--- For `find`, `start_clearing` and `malloc`: an object's header and its address, and the class of a length.
+-- For `find`, `start_clearing` and `malloc`: an object's slot is in the region, its header holds its number and its length, and the class table has the class
+-- of a length just if it fits a page.
 use Rattle.std.proofs.Common.{◌≡◌, ℕ, ◌+◌, ◌*◌, ◌/◌, ◌%◌, ◌^◌, ◌<◌, ◌≤◌, length, get_or, Some, None, arith, ◌∙◌, ap, subst, inl, inr}
 use Rattle.std.proofs.lemmas.Bool.{cases_lt}
 use Rattle.std.specs.FinMap.{get}

@@ -1,4 +1,5 @@
--- For `empty`: an open heap that was just put together is valid.
+-- For `empty`: a sliced heap whose tables are empty and whose words are 0 is valid, has no object and no job, and its order lists pages and numbers in rising
+-- order.
 use Rattle.std.proofs.Common.{◌≡◌, ℕ, false, ◌*◌, ◌<◌, ◌≤◌, length, replicate, get_or, [], Some, None, arith, sym}
 use Rattle.std.proofs.Common.{◌∙◌, ap, subst, inl, inr}
 use Rattle.std.specs.List.{range_with_len}

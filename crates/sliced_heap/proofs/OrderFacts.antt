@@ -1,4 +1,4 @@
--- For the clauses `ordered` and `order`: the lists of an open heap are an order of its objects and of the placeholder in the job's slot (`IsOrderBeside`).
+-- For the clauses `ordered` and `order`: the lists of an open heap are an order of its objects, with the job's slot as one more object (`IsOrderBeside`).
 use Rattle.std.proofs.Common.{◌≡◌, ℕ, ◌+◌, ◌<◌, List, Option, Some, None, length, arith, ◌∙◌}
 use Rattle.std.specs.List.{Contains}
 use Rattle.std.specs.FinMap.{get, len}

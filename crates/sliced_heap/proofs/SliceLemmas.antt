@@ -1,4 +1,5 @@
--- For `clear_slice` and `move_slice`: a slice that does some words of the job, or its last ones.
+-- For `clear_slice` and `move_slice`: a slice that leaves some words of the job, and one that does its last words, keep the heap valid, and are slices of the
+-- model that follow the order.
 use Rattle.std.proofs.Common.{◌≡◌, ℕ, ◌+◌, ◌-◌, ◌<◌, ◌≤◌, List, length, get_or, Some, None, arith, refl, sym, ◌∙◌, ap, subst, inl, inr}
 use Rattle.std.specs.Prelude.{min}
 use Rattle.page_model.specs.Arrangement.{IsSound}
@@ -21,7 +22,7 @@ use Rattle.sliced_heap.proofs.Facts.{held_bytes, places_are, plan_ok}
 use Rattle.sliced_heap.proofs.HeldFromWords.{AreEnded}
 use Rattle.sliced_heap.proofs.Preserved.{Becomes, becomes_plan, becomes_state, becomes_valid}
 
--- the state of a heap whose job is j, with j written out
+-- if the job of heap h is j, the state of h has the job j
 pub state_at : (h : Heap) (j : Job) → h.job ≡ j → state_of h ≡ record { held = (state_of h).held; job = j }
 state_at h j at = ap (λ j. record { held = (state_of h).held; job = j }) at
 

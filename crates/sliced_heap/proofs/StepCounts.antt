@@ -1,4 +1,4 @@
--- For the clauses `steps` of `slice` and `free_live`: the most steps of each, as the sum of their parts.
+-- For the clauses `steps` of `slice` and `free_live`: the most steps of a slice, of a job's end (14) and of a whole free, as the sum of their parts.
 use Rattle.std.proofs.Common.{◌≡◌, ℕ, ◌+◌, ◌-◌, ◌<◌, ◌≤◌, length, Some, arith, refl, sym, ◌∙◌, ap, subst, inl, inr}
 use Rattle.std.specs.Prelude.{Bool, true, false, IsTrue, if◌then◌else◌, nat_eq}
 use Rattle.std.proofs.lemmas.Bool.{cases_lt}

@@ -1,4 +1,5 @@
--- For `read` and `write` of a sliced heap: their results as the model has them, and what `find` returns.
+-- For `read` and `write` of a sliced heap: their results as the model has them, and what `find` returns: the two halves in which the words of an object in
+-- motion are, or a fault.
 use Rattle.std.specs.Prelude.{◌≡◌, ℕ, ◌+◌, ◌≤◌, List, length, Option, Some, None, Result, Ok, Err}
 use Rattle.std.specs.FinMap.{get}
 use Rattle.cf_base.specs.declared.answers.AccessFault.{AccessFault}

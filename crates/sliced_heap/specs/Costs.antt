@@ -1,4 +1,4 @@
--- The most steps that each call of a sliced heap costs. For each there is a call that costs as many.
+-- The most steps that each call of a sliced heap costs. Some call reaches each of these numbers.
 use Rattle.std.specs.Prelude.{ℕ, ◌+◌, ◌-◌, Option, Some, None, Result, Ok, Err, nat_le, if◌then◌else◌}
 use Rattle.std.specs.FinMap.{get}
 use Rattle.cf_base.specs.declared.answers.AccessFault.{AccessFault}
@@ -12,8 +12,8 @@ use Rattle.slice_model.specs.declared.answers.SliceFault.{SliceFault}
 use Rattle.slice_model.specs.declared.answers.SliceRefusal.{SliceRefusal}
 use Rattle.slice_model.specs.declared.answers.SliceRefusal.TheVariants as refusal
 
--- A malloc that is done: its class is looked up; a slot is taken, and its page becomes full; the proxy is bound; the header is written. A refused malloc
--- only looks up the class, and for `Busy` also searches for a slot.
+-- A malloc that is done: 1 step looks up the class; 13 take a slot, if a partly full page becomes full (else fewer); 2 bind the proxy; 1 writes the header.
+-- A refused malloc only looks up the class, and for `Busy` also searches for a slot, in 2 steps.
 abbrev pub malloc_steps : Result Handle SliceRefusal → ℕ
 malloc_steps (Ok h) = 17
 malloc_steps (Err refusal.Size) = 1
@@ -21,7 +21,7 @@ malloc_steps (Err refusal.Proxy) = 1
 malloc_steps (Err refusal.Space) = 1
 malloc_steps (Err refusal.Busy) = 3
 
--- the steps of a slice of at most q words, 1 a word, if n words of the job are left; if the slice does all of them, `last` steps more
+-- the steps of a slice of at most q words, 1 for each word, if n words of the job are left before it; `last` steps more if it does all of them
 abbrev pub words_steps : ℕ → ℕ → ℕ → ℕ
 words_steps q n last = if nat_le n q then n + last else q
 
@@ -39,8 +39,8 @@ slice_steps plan s = job_steps plan s.job
 abbrev pub words_of : Plan → Sliced → ℕ → ℕ
 words_of plan s h = elim (get s.held h) [ None ↦ 0 | Some x ↦ slot_words plan.paging (class_at plan.paging x) ]
 
--- A free of object h in the state s. If it is done, 12 steps are for the headers, the proxies and the tables of the freed object and of one that moves; the
--- others are those of the first slice. A refused free only looks up the proxy.
+-- A free of object h in the state s. If it is done, 5 steps find the object and remove it, 6 choose an object to move and set its proxy, and 1 looks up that
+-- proxy again. The others are those of the first slice: if it ends the job, 11 for its end. A refused free only looks up the proxy.
 abbrev pub free_steps : Plan → Sliced → ℕ → Option SliceFault → ℕ
 free_steps plan s h None = 12 + words_steps plan.quantum (words_of plan s h) 11
 free_steps plan s h (Some e) = 1

@@ -1,4 +1,4 @@
--- An open heap as definitions use it: the fields of `OpenHeap` and of its tables, with the model's job.
+-- The record that definitions and proofs use for an open sliced heap: the fields of `OpenHeap` and of its tables, with the pending job as the model has it.
 use Rattle.std.specs.Prelude.{ℕ, Bool, List}
 use Rattle.cf_base.specs.declared.settings.Settings.{Settings}
 use Rattle.size_classes.specs.Table.{ClassTable}

@@ -1,4 +1,5 @@
--- The state that contracts show of an open heap, and the heap's invariant.
+-- From the fields of an open sliced heap: the objects, the job, the words and the order that contracts show, and the heap's invariant (`IsValid`). An object's
+-- bytes are those that the words have when the job is done.
 use Rattle.std.specs.Prelude.{◌≡◌, ℕ, ◌+◌, ◌-◌, ◌*◌, ◌%◌, ◌≤◌, ◌<◌, List, Option, Some, None, length, replicate, slice_index, nat_eq, if◌then◌else◌}
 use Rattle.std.specs.Ordering.{nat_cmp}
 use Rattle.std.specs.FinMap.{FinMap, get, empty}
@@ -50,7 +51,7 @@ words_after_job p Idle places words = words
 words_after_job p (Clear k) places words = cleared words (k.address + k.done) (slot_words p k.class - k.done)
 words_after_job p (Move q k) places words = words_after_move p k (get places q) words
 
--- the model's state: the objects, whose bytes are read as if the rest of the job were done, and the job
+-- the model's state: the objects, whose bytes are read from the words as they will be when the job is done (`words_after_job`), and the job
 abbrev pub state_of : Heap → Sliced
 state_of h = record { held = held_at (words_after_job (paging_at h) h.job h.proxies.places h.words) h.proxies.places; job = h.job }
 

@@ -1,4 +1,5 @@
--- The state of a sliced heap that public contracts show, and the rules that it keeps.
+-- The state that public contracts show of a sliced heap, closed or open: settings, quantum, objects, job, words and order. Also the rules that an open heap
+-- keeps, and the state as nested pairs.
 use Rattle.std.specs.Prelude.{◌≡◌, ℕ, ◌*◌, Bool, true, false, List, [], Option, Some, None, length, refl, replicate}
 use Rattle.std.specs.FinMap as map
 use Rattle.std.specs.Coded.{Coded, code_by, coded×, coded_ℕ, coded_list, coded_bool, coded_option}

@@ -1,4 +1,4 @@
--- What `start_clearing`, `fill`, `move_to` and `end`, the parts of a free and of a slice, do and cost. Of this module, public clauses cite `fault_in` alone.
+-- What the parts of a free and of a slice do and cost: `start_clearing`, `fill`, `move_to` and `end`. Of this module, public clauses cite `fault_in` alone.
 use Rattle.std.specs.Prelude.{◌≡◌, ℕ, ◌∷◌, ◌+◌, ◌-◌, ◌%◌, ◌^◌, ◌≤◌, Bool, true, false, Option, Some, None, Result, Ok, Err, slice_index}
 use Rattle.std.specs.FinMap.{get, remove}
 use Rattle.page_model.specs.Arrangement.{class_at}

@@ -1,4 +1,5 @@
-//! Reads and writes the objects of an open heap, also an object in motion.
+//! Reads and writes bytes of the objects of an open sliced heap, also of an object in motion, whose words are
+//! in two halves; and reads a word of the region (`peek`).
 ghost use Rattle.std.specs.Prelude.{◌≡◌, ◌+◌, ◌≤◌, if◌then◌else◌, is_some, length, slice_get, IsErr};
 ghost use Rattle.step_ledger.specs.Counting.{RoseAtMost, RoseBy};
 ghost use Rattle.slice_model.specs.Runs.{Happens, Read, Write};
@@ -28,7 +29,7 @@ impl OpenHeap {
     }
 
     /// Fills `out` with the bytes of object `h` from byte `at` on. Fails, with `out` unchanged, if the
-    /// handle is not live or the object has too few bytes.
+    /// handle is not live or the bytes pass the object's end.
     pub fn read(
         &self,
         h: Handle,
@@ -49,7 +50,7 @@ impl OpenHeap {
     }
 
     /// Writes `bytes` into object `h` from byte `at` on. Fails, with nothing changed, if the handle is
-    /// not live or the object has too few bytes.
+    /// not live or the bytes pass the object's end.
     pub fn write(
         &mut self,
         h: Handle,
@@ -71,9 +72,9 @@ impl OpenHeap {
         Ok(())
     }
 
-    /// Returns the two halves in which the words of object `h` lie: the words that a job has moved, and
-    /// the others. Fails with `Unknown` if the handle is not live, and with `Range` if the object has
-    /// fewer than `count` bytes from byte `at` on.
+    /// Returns the two halves in which the words of object `h` lie: the words that the job has already moved
+    /// to the object's address, and the others. Fails with `Unknown` if the handle is not live, and with
+    /// `Range` if the object has fewer than `count` bytes from byte `at` on.
     fn find(
         &self,
         h: Handle,

@@ -1,4 +1,5 @@
-//! The end of a job, when the last word of its slot is cleared or moved.
+//! The end of a job, after the last word of its slot is cleared or moved: the slot becomes free, or the next
+//! job moves an object into it.
 ghost use Rattle.std.specs.Prelude.{◌≡◌, ℕ, ◌+◌, ◌<◌, ◌≤◌, slice_index};
 ghost use Rattle.step_ledger.specs.Counting.{RoseAtMost};
 ghost use Rattle.page_model.specs.Paging.{slot_words};

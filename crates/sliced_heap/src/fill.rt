@@ -1,5 +1,5 @@
-//! Starts the job that moves an object into the slot of a job `Clear`, if the slot must be filled. A
-//! free and the end of a job do this.
+//! `fill`: if freeing the slot of the pending job would give its class two partly full pages, replaces the job
+//! by one that moves an object into the slot. A free and the end of a job call it.
 ghost use Rattle.std.specs.Prelude.{◌≡◌, ℕ, ◌+◌, ◌%◌, ◌^◌, ◌<◌, ◌≤◌, IsSome, IsTrue, Some, if◌then◌else◌, length, slice_index};
 ghost use Rattle.std.specs.FinMap as map;
 ghost use Rattle.step_ledger.specs.Counting.{RoseBy};
@@ -23,7 +23,7 @@ use word_bytes::Header;
 impl OpenHeap {
     /// Fills slot `k`, the slot of the pending job, if freeing it would give its class two partly full
     /// pages. An object of the class's partly full page then gets the slot's address, and the new job
-    /// moves the object there. Returns whether this was done; else nothing changes.
+    /// moves the object there. Returns true if so; else false, and nothing changes.
     pub(crate) fn fill(&mut self, k: JobSlot, steps: &mut Steps) -> bool
         requires kept { IsValid (seen self.old) }
         requires job { job_of self.old.job ≡ Clear k }
@@ -43,8 +43,8 @@ impl OpenHeap {
         false
     }
 
-    /// Chooses the object at the lowest used slot of the class's first partly full page. Sets its proxy
-    /// to the address of slot `k`. The pending job is then to move the object's words there.
+    /// Chooses the object at the lowest used slot of the first partly full page of the class of slot `k`, and
+    /// sets its proxy to the address of slot `k`. Moving the object's words there is then the pending job.
     fn move_to(&mut self, k: JobSlot, steps: &mut Steps)
         requires tables { AreTables self.old.tables.classes (tables_with self.old.tables self.old.lists) }
         requires class { k.class < length self.old.tables.classes.sizes }

@@ -1,4 +1,5 @@
-//! The call `free` of an open sliced heap.
+//! The call `free` of an open sliced heap: it removes the object, leaves the job to clear its slot or to move
+//! another object into it, and does the first slice of that job.
 ghost use Rattle.std.specs.Prelude.{◌≡◌, ◌+◌, ◌*◌, ◌-◌, ◌<◌, ◌≤◌, Some, length, slice_index, slice_set};
 ghost use Rattle.std.specs.FinMap as map;
 ghost use Rattle.cf_base.specs.Classes.{slots};
@@ -40,8 +41,8 @@ impl OpenHeap {
         Ok(())
     }
 
-    /// Frees the live object `h`, whose address is `place`, while no job is pending: starts the job that
-    /// clears its slot, or in place of it one that moves another object in, and does the job's first slice.
+    /// Frees the live object `h`, whose address is `place`, while no job is pending. Starts the job that
+    /// clears its slot, or one that moves another object into it, and does the job's first slice.
     fn free_live(&mut self, h: Handle, place: u32, steps: &mut Steps)
         requires kept { IsValid (seen self.old) }
         requires idle { job_of self.old.job ≡ Idle }
@@ -54,7 +55,7 @@ impl OpenHeap {
         ensures steps { RoseAtMost steps.old steps.new (11 + words_steps self.old.quantum (words_of (plan_of (seen self.old)) (state_of (seen self.old)) h.0) 11) }
     {
         let k = self.start_clearing(h, place, steps);
-        // Whether another object moves in makes no difference here.
+        // Whichever job it is now, `slice` does its first slice.
         let _filled = self.fill(k, steps);
         self.slice(steps);
     }
@@ -85,7 +86,8 @@ impl OpenHeap {
         k
     }
 
-    /// Counts one object of class c less: in `live`, and in `needed` if the others need one page less.
+    /// Counts one object of class c less: in `live`, and in `needed` if the other objects of the class need
+    /// one page less.
     fn count_out(&mut self, c: u32)
         requires class { c < length self.old.tables.classes.sizes }
         requires listed { c < length self.old.live }

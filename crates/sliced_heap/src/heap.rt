@@ -1,4 +1,5 @@
-//! The sliced heap, closed or open, with its public calls. All the work is done in `OpenHeap`.
+//! The sliced heap, closed or open, with its public calls: malloc, free, `step`, `left`, read, write and
+//! `peek`. `OpenHeap` does all the work.
 ghost use Rattle.std.specs.Prelude.{◌≡◌, ◌+◌, ◌*◌, ◌≤◌, if◌then◌else◌, is_some, length, slice_get, IsErr, IsTrue, OnErr, OnOk};
 ghost use Rattle.cf_model.specs.Costs.{words_touched};
 ghost use Rattle.slice_model.specs.Ordered.{HappensInOrder};
@@ -17,8 +18,8 @@ use std::alloc::Global;
 use std::marker::Model;
 use step_ledger::Steps;
 
-/// A moving heap for several tasks. A free leaves its long work as a job: to clear a slot, or to move
-/// an object into it. The free and each `step` do a slice of the job, at most a quantum of words.
+/// A moving heap for several tasks. A free leaves its long work as a job: to clear the freed slot, or to
+/// move another object into it. The free and each `step` do a slice of the job, at most a quantum of words.
 /// Every class has at most one partly full page; while a job is pending, its class may have two.
 /// `inner` is none while the heap is closed, and `alloc` is where open heaps allocate.
 #[derive(Drop)]
@@ -75,8 +76,8 @@ impl SlicedHeap {
     /// Makes an object of `bytes` bytes, all zero, under a handle that wasn't live. Fails with `Size` if
     /// it needs more than a page, else with `Proxy` if every proxy is in use, else with `Space` if the
     /// objects with it would need more pages than the heap has, else with `Busy` if there is no slot for
-    /// it as long as the pending job holds its own. A refusal changes nothing. The object gets the next number
-    /// of the order. It gets the lowest free slot of its class's first partly full page; if the class has
+    /// it while a job is pending. A refusal changes nothing. The object gets the next spare number of the
+    /// order. It gets the lowest free slot of its class's first partly full page; if the class has
     /// no such page, slot 0 of the first free page. The slot of a pending job counts as used.
     pub fn malloc(&mut self, bytes: u32, steps: &mut Steps) -> Result<Handle, SliceRefusal>
         requires open { IsTrue self.old.is_open }
@@ -145,7 +146,7 @@ impl SlicedHeap {
 
     /// Fills `out` with the bytes of object `h` from byte `at` on, also while a job moves the object.
     /// Fails, with `out` unchanged, with `Unknown` if the handle is not live, and with `Range` if the
-    /// object has too few bytes.
+    /// bytes pass the object's end.
     pub fn read(
         &self,
         h: Handle,
@@ -168,7 +169,7 @@ impl SlicedHeap {
 
     /// Writes `bytes` into object `h` from byte `at` on, also while a job moves the object, and changes
     /// nothing else. Fails, with nothing changed, with `Unknown` if the handle is not live, and with
-    /// `Range` if the object has too few bytes.
+    /// `Range` if the bytes pass the object's end.
     pub fn write(
         &mut self,
         h: Handle,

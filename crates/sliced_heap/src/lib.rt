@@ -1,7 +1,5 @@
-//! The sliced heap: a moving heap with short calls, for several tasks that call it in turn. A free
-//! leaves a job: to clear a slot, or to move an object into it. Each slice clears or moves at most a
-//! quantum of words. The rules are those of Compact-fit (2008) with bound 1. An object can be read and
-//! written while it moves.
+//! The sliced heap: a moving heap with bound 1 whose free leaves its long work, clearing a slot or moving an
+//! object, as a job. A slice does at most a quantum of words; objects in motion can be used.
 #![tactic(auto)]
 
 mod access;

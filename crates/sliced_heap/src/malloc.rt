@@ -1,4 +1,5 @@
-//! The call `malloc` of an open sliced heap, and the counts by which it is refused for space.
+//! The call `malloc` of an open sliced heap, and its counts of objects by class and of the pages that they
+//! need, by which it is refused for space.
 ghost use Rattle.std.specs.Prelude.{◌≡◌, ◌≢◌, ◌+◌, ◌<◌, ◌≤◌, ◌↔◌, ◌∷◌, IsTrue, None, length, slice_index, slice_set};
 ghost use Rattle.std.specs.FinMap as map;
 ghost use Rattle.cf_base.specs.Classes.{slots};
@@ -20,8 +21,8 @@ use word_bytes::Header;
 impl OpenHeap {
     /// Makes an object of `bytes` bytes, all zero, and returns its handle. Refused, with nothing changed,
     /// in this order: `Size` if it is larger than a page, `Proxy` if all proxies are in use, `Space` if
-    /// the objects with it need more pages than the heap has, `Busy` if there is no slot for it as long
-    /// as the job holds its own.
+    /// the objects with it need more pages than the heap has, `Busy` if there is no slot for it while
+    /// a job is pending.
     pub fn malloc(&mut self, bytes: u32, steps: &mut Steps) -> Result<Handle, SliceRefusal>
         requires { IsValid (seen self.old) }
         ensures step { Happens (plan_of (seen self.old)) (working_of (seen self.old)) (Malloc bytes result) (working_of (seen self.new)) }

@@ -1,5 +1,5 @@
-//! The body of an open sliced heap: its tables, the words of its region, and the pending job. The calls
-//! are in the other files of this crate.
+//! The fields of an open sliced heap: its tables, the words of its region, and the pending job; and how a heap
+//! without objects is made. The other files of this crate have its calls.
 ghost use Rattle.std.specs.Prelude.{◌≡◌, ◌*◌, ◌≤◌, length, replicate, IfOk};
 ghost use Rattle.cf_base.specs.declared.kind.Layout.TheVariants.{Words};
 ghost use Rattle.class_lists.specs.PageLists.{empty_lists};
@@ -16,8 +16,8 @@ use region::Region;
 use slice_model::JobSlot;
 use std::alloc::Global;
 
-/// The length of the array `live` of an open heap, with a count for each size class. No heap has more
-/// classes.
+/// The length of an open heap's array `live`, which has a count for each size class. No heap has more
+/// classes than this.
 pub const CLASSES: usize = 128;
 
 /// The pending job.
@@ -40,8 +40,8 @@ pub struct OpenHeap {
     pub(crate) quantum: u32,
     /// The number of live objects of each class.
     pub(crate) live: [u32; CLASSES],
-    /// The fewest pages that hold the live objects: the sum over the classes of their number, divided by
-    /// the slots of a page and rounded up.
+    /// The fewest pages that hold the live objects. For each class the number of its objects is divided by
+    /// the slots of a page and rounded up; these are summed.
     pub(crate) needed: u32,
     pub(crate) region: Region,
     /// The size classes, the used slots of each page, and the free pages.
@@ -53,8 +53,8 @@ pub struct OpenHeap {
 }
 
 impl OpenHeap {
-    /// Opens a heap without objects and without a job, with the settings `s`. It alone of the functions of
-    /// `OpenHeap` allocates. Fails if out of memory.
+    /// Opens a heap without objects and without a job, with the settings `s` and slices of at most `quantum`
+    /// words. No other function of `OpenHeap` allocates. Fails if out of memory.
     pub fn new(alloc: Global, s: &Settings, quantum: u32) -> Result<OpenHeap, OutOfMemory>
         requires least { 1 ≤ quantum }
         ensures kept { IfOk result (λ h. IsValid (seen h)) }

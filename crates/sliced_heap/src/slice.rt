@@ -1,5 +1,5 @@
-//! The call `step` of an open sliced heap, which does a slice of the pending job: it clears or moves at
-//! most a quantum of words.
+//! The call `step` of an open sliced heap, which does a slice of the pending job: it clears or moves at most a
+//! quantum of words. `left` is how many words the job has left.
 ghost use Rattle.std.specs.Prelude.{◌≡◌, ◌+◌, ◌-◌, ◌<◌, ◌≤◌, length, min, slice_index};
 ghost use Rattle.step_ledger.specs.Counting.{RoseAtMost};
 ghost use Rattle.slice_model.specs.Ordered.{HappensInOrder, SlicesInOrder};

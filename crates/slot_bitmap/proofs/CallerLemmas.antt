@@ -1,4 +1,4 @@
--- What other crates' proofs may cite: how many slots of a map are used, after one becomes used or free.
+-- What other crates' proofs may cite: how many slots of a map are used, after one becomes used or free, and that a map has a free or a used slot.
 use Rattle.std.proofs.Common.{◌≡◌, ℕ, zero, suc, ◌+◌, ◌<◌, Bool, true, false, cond, not, List, [], ◌∷◌, length, set, replicate, Some, None, arith, zero-add}
 use Rattle.std.proofs.Common.{refl, ◌∙◌}
 use Rattle.std.specs.Prelude.{slice_get, IsSome, nat_lt}

@@ -1,4 +1,5 @@
--- For the calls of `SlotMap`: slots as bits of words, what writing one bit changes, and what the summaries show.
+-- For the calls of `SlotMap`: its slots as bits of 64 words, what writing one bit does to them and to the two summary words, and how these lead to the lowest
+-- free or used slot.
 use Rattle.std.proofs.Common.{◌≡◌, ◌≢◌, ℕ, ◌+◌, ◌-◌, ◌*◌, ◌/◌, ◌%◌, ◌^◌, ◌<◌, ◌≤◌, ◌==◌, Bool, true, false, cond, not, List, length, get_or, set, replicate}
 use Rattle.std.proofs.Common.{Some, None, arith, refl, ap, sym, ◌∙◌, inl, inr, w64}
 use Rattle.std.specs.Prelude.{slice_get}
@@ -66,7 +67,7 @@ slots_of-cleared n = same_lists _ _ (length-slots_of cleared n ∙ sym (length-r
     let lt : k < n = omega (arith, length-slots_of cleared n) in
     slot-at cleared n k d lt ∙ used_from_bit cleared k false (rw (cleared-at (k / 64), bit_at-zero) refl) ∙ sym (get_or-replicate n k false d lt))
 
--- a summary that has a bit for each word with slots
+-- if the lowest ⌈n / 64⌉ bits of a summary are set, bit j is set if and only if word j has a bit for a slot
 each_word : (n full j : ℕ) → n ≤ 4096 → full + 1 ≡ 2 ^ div_ceil n 64 → bit_at full j ≡ cond (not (1 == 2 ^ bits_in n j)) 1 0
 each_word n full j few is =
     let e : full ≡ 2 ^ div_ceil n 64 - 1 = omega arith in
@@ -209,7 +210,7 @@ module _ (words : List ℕ) (n i w f f' u u' c : ℕ) (count : length words ≡ 
       tidy_written words n i w true false f f' u u' c (c - 1) true _ count tidy was wrote (below true was)
       wrote_f (bit_makes_free w _ (i % 64) (place true was).1 wrote.at) wrote_u refl (omega (arith, tidy.counted, counted_some words n i was))
 
--- bit b of word j is set, and its summaries follow
+-- bit b of word j is set, and the two summaries follow
 pub tidy_take : (words : List ℕ) (n j b w f f' u u' c full : ℕ) → IsValid words f u n c → j < 64 → b < 64
     → ((m : ℕ) → b < m → get_or words j 0 < 2 ^ m → w < 2 ^ m)
     → slice_get (slots_in_words words n) (64 * j + b) ≡ Some false → WritesBit 64 (get_or words j 0) w b true → full + 1 ≡ 2 ^ bits_in n j

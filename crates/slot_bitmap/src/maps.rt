@@ -1,4 +1,5 @@
-//! Slot maps for all pages of a heap without objects.
+//! Slot maps for all pages of a heap without objects. Each has one free slot, since no class uses
+//! its page yet.
 ghost use Rattle.std.specs.Prelude.{◌≡◌, false, replicate, IfOk};
 
 use crate::SlotMap;

@@ -1,4 +1,5 @@
--- The steps of calls one after the other, and of the searches in the heads of the lists. For the clauses on steps of all calls.
+-- For the clauses on steps: counts that rose by equal numbers, or by at most a number; and the steps of the search for the first free list with a block,
+-- within a group of 16 lists or past it.
 use Rattle.std.proofs.Common.{◌≡◌, ℕ, ◌+◌, ◌*◌, ◌/◌, ◌<◌, ◌≤◌, List, Option, Some, None, arith, sym, ap, ◌∙◌, subst, inl, inr}
 use Rattle.std.proofs.lemmas.Bool.{cases_eq}
 use Rattle.step_ledger.specs.Counting.{RoseBy, RoseAtMost}
@@ -6,7 +7,7 @@ use Rattle.block_model.specs.Costs.{group_steps, list_steps}
 use Rattle.tag_blocks.specs.ListHeads.{IsFirstFrom}
 use Rattle.tag_blocks.proofs.ThreadLemmas.{chosen, other}
 
--- the same number of steps, with the sum last
+-- a count that rose by m steps rose by n, if m and n are equal
 pub by_same : (old new m n : ℕ) → RoseBy old new m → m ≡ n → RoseBy old new n
 by_same old new m n r e = subst (λ k. RoseBy old new k) e r
 

@@ -1,4 +1,5 @@
--- Words that describe blocks (`IsDescribed`): the fields of a header, and that words which agree on the blocks describe them too. For all stages.
+-- Words that describe blocks (`IsDescribed`: headers, tags and zeros are right): the fields of a header word, that these blocks are read from the words, and
+-- that other words with the same headers, tags and zeros describe them too.
 use Rattle.std.proofs.Common.{◌≡◌, ℕ, zero, suc, Bool, true, false, ◌+◌, ◌*◌, ◌/◌, ◌^◌, ◌<◌, ◌≤◌, List, [], ◌∷◌, ◌++◌, Option, Some, None, length, cond, get_or}
 use Rattle.std.proofs.Common.{arith, refl, sym, ap, ◌∙◌, inl, inr, subst}
 use Rattle.std.specs.Prelude.{is_none}
@@ -81,7 +82,7 @@ module _ (words : List ℕ) where
     | inr later ↦ described_one cs c.size b t.1 later
   ]
 
--- the words of one of the blocks, but for the link of a free one, are the same
+-- `words` and `words'` agree on block b, except for its link if it is free
 pub record Agree (words words' : List ℕ) (b : Block) : Type 0 where
   pub header : get_or words' b.address 0 ≡ get_or words b.address 0
   pub owner : (h : ℕ) → b.owner ≡ Some h → get_or words' (b.address + 1) 0 ≡ get_or words (b.address + 1) 0
@@ -99,7 +100,7 @@ module _ (words words' : List ℕ) where
   described_kept before [] same t = tt
   described_kept before (b ∷ bs) same t = (described_as before b (same b (inl refl)) t.0, described_kept b.size bs (λ c i. same c (inr i)) t.1)
 
--- the size of the last block
+-- the size of the last block; `before` if there are no blocks
 abbrev pub last_size : ℕ → List Block → ℕ
 last_size before [] = before
 last_size before (b ∷ bs) = last_size b.size bs

@@ -1,4 +1,5 @@
--- For `join`: two neighbours, a used one whose tag is 0 and a free one, become one used block.
+-- For `join`, which coalesces: a used block with tag 0 and a free neighbour, before or after it, become one used block; the free one leaves its list, and the
+-- invariant of `TagBlocks` still holds.
 use Rattle.std.proofs.Common.{◌≡◌, ◌≢◌, ℕ, Bool, true, false, ◌+◌, ◌-◌, ◌*◌, ◌^◌, ◌<◌, ◌≤◌, List, [], ◌∷◌, ◌++◌, Some, None, length, cond, get_or, set}
 use Rattle.std.proofs.Common.{arith, refl, sym, ap, ◌∙◌, inl, inr, subst, append_assoc}
 use Rattle.std.specs.Prelude.{◌⊎◌}
@@ -29,7 +30,7 @@ use Rattle.tag_blocks.proofs.ListsSeen.{lists_left}
 use Rattle.tag_blocks.proofs.ViewLemmas.{seen, kept_as, blocks_now, kept_now, tags_kept}
 use Rattle.tag_blocks.proofs.WipeLemmas.{cleared_at}
 
--- ---- by which of the two is free
+-- ---- the two neighbours, by which of them is free: the second if s is true
 
 there_by : (s : Bool) (start first second : ℕ)
     → IsBlock (free_block (cond s (start + first) start) (cond s second first)) (pair_first start first s ∷ pair_second (start + first) second s ∷ [])
@@ -356,7 +357,7 @@ module _ (rule : FreeLists) (count : ℕ) (p : Fields) (v : Tagged) (kept : IsVa
         (rule.bucket (cond h.next_free second first)) (pair_listed rule p kept.lists x.before x.behind start first second h.next_free now) after.linked)
         ∙ ap (λ (w : Tagged). lists_without w.lists taken) view
 
--- ---- with the free one after the detached block
+-- ---- with the free one after the used block
 
 module _ (v : Tagged) (at more : ℕ) (x : Detached) (h : HoldsBeforeFree v at more x) (empty : x.tag ≡ 0) where
   abbrev pub behind_taken : Detached
@@ -392,7 +393,7 @@ module _ (v : Tagged) (at more : ℕ) (x : Detached) (h : HoldsBeforeFree v at m
           ∙ ap (λ t. record { before = x.before; behind = h.rest; size = x.size + more; tag = t }) (sym empty)
           ∙ ap (λ bs. record { before = x.before; behind = past_free bs; size = x.size + free_first bs; tag = x.tag }) (sym h.next)
 
--- ---- with the free one before it
+-- ---- with the free one before the used block
 
 up_to : (bs : List Block) (a s : ℕ) → up_to_free (bs ++ (free_block a s ∷ [])) ≡ bs
 up_to [] a s = refl

@@ -1,4 +1,4 @@
--- For the steps of `split` and `make_free`: how many free blocks a list has after one joined it.
+-- For the steps of `split` and `make_free`: how many free blocks a list has after one joined it, and the steps of making that block its head.
 use Rattle.std.proofs.Common.{◌≡◌, ℕ, true, ◌+◌, ◌<◌, ◌≤◌, List, [], ◌∷◌, ◌++◌, length, cond, get_or, arith, refl, sym, ap, ◌∙◌, inl, inr}
 use Rattle.std.specs.Prelude.{◌&&◌, nat_eq}
 use Rattle.std.proofs.lemmas.Bool.{cases_Bool, cases_eq}
@@ -39,14 +39,14 @@ module _ (rule : FreeLists) (list : ℕ) where
     | inr used ↦ rw used refl
   ]
 
-  -- a used block is in no list, and a free one is in its own
+  -- a used block adds nothing to the length of a list, and a free block adds one to the list in which the rule puts it
   pub length-used : (a s o : ℕ) (bs : List Block) → list_length rule (used_block a s o ∷ bs) list ≡ list_length rule bs list
   length-used a s o bs = (let e = length-append (used_block a s o ∷ []) bs in let z = one_used a s o in omega arith)
 
   pub length-free : (a s : ℕ) (bs : List Block) → rule.bucket s ≡ list → list_length rule (free_block a s ∷ bs) list ≡ list_length rule bs list + 1
   length-free a s bs is = (let e = length-append (free_block a s ∷ []) bs in let z = one_free a s is in omega arith)
 
-  -- a used block becomes free, or a part of it
+  -- if a used block becomes free, or its last words do, one list has one more block
   pub length-freed : (pre post : List Block) (a s o : ℕ) → rule.bucket s ≡ list
       → list_length rule (pre ++ (free_block a s ∷ post)) list ≡ list_length rule (pre ++ (used_block a s o ∷ post)) list + 1
   length-freed pre post a s o is =
@@ -74,7 +74,7 @@ module _ (rule : FreeLists) (list : ℕ) where
     | inr later ↦ (let r = some_listed cs b later free is in omega arith)
   ])
 
--- a block that joins a list takes the steps of a push on its head
+-- the steps of making a block the head of a list, by how many blocks the list then has
 module _ (rule : FreeLists) (p : Fields) (bs : List Block) (lists : ℕ → List ℕ) (k : IsValidWith rule p bs lists) (list : ℕ)
     (within : list < length p.heads) where
   pub head_steps : push_steps (get_or p.heads list 0) ≡ pushed_steps (list_length rule bs list + 1)

@@ -1,4 +1,5 @@
--- For the clauses `listed`: the free lists that words and heads determine contain exactly the free blocks (`AreListsOf`).
+-- For the clauses `listed` of `TagBlocks`: its free lists, as read from the words and the heads of the lists, contain exactly the free blocks, each in the
+-- list of its size (`AreListsOf`).
 use Rattle.std.proofs.Common.{◌≡◌, ℕ, List, length, refl, sym, ◌∙◌, subst}
 use Rattle.std.specs.Prelude.{nat_eq}
 use Rattle.std.specs.List.{Contains, IsDistinct}

@@ -1,4 +1,5 @@
--- The free lists read from heads and links (`lists_of`) are the lists that the invariant speaks of. For the clauses `lists`.
+-- For the clauses `lists` of `TagBlocks`: the free lists read from the heads and links (`lists_of`) are those of the invariant, also after a block leaves a
+-- list or becomes the head of one.
 use Rattle.std.proofs.Common.{◌≡◌, ℕ, zero, suc, ◌+◌, ◌%◌, ◌^◌, ◌<◌, ◌≤◌, List, [], ◌∷◌, length, get_or, map, arith, refl, sym, ap, ◌∙◌, inl, inr}
 use Rattle.std.specs.Prelude.{nat_eq}
 use Rattle.std.specs.List.{Contains, IsDistinct}

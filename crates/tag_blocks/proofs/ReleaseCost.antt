@@ -1,4 +1,5 @@
--- For the steps of `release`: those of all its stages together.
+-- For the clauses `steps` and `lists` of `release`: the steps of its stages (clear, coalesce with each neighbour, make free) add up to those of the
+-- definition, and so do their changes to the free lists.
 use Rattle.std.proofs.Common.{◌≡◌, ◌≢◌, ℕ, Bool, true, false, ◌+◌, ◌-◌, ◌<◌, ◌≤◌, ◌==◌, List, [], ◌∷◌, ◌++◌, Option, Some, None, length, cond, get_or}
 use Rattle.std.proofs.Common.{arith, refl, sym, ap, ◌∙◌, inl, inr, subst}
 use Rattle.std.specs.Prelude.{◌⊎◌, is_none}
@@ -68,14 +69,14 @@ module _ (rule : FreeLists) (count : ℕ) (v : Tagged) (at : ℕ) (x : Detached)
       let l = lies_in v.blocks 0 (length v.words) b tags.tiling.fill (block_is v.blocks a b there).1 in
       let two = l.size in omega arith))
 
-  -- a used block, or none, begins behind the detached one
+  -- if no free block begins behind the block x that is being released, no list has a block at that address
   pub next_unlisted : (size : ℕ) → size ≡ x.size → free_first x.behind ≡ 0 → v.lists ≡ lists_without v.lists (at + size)
   next_unlisted size is none = sym (no_free (at + size) (
       ap (λ s. free_from v.blocks (at + s)) is ∙ ap (λ bs. free_from bs (at + x.size)) h.blocks
       ∙ next_free x.before x.behind own (at + x.size) (length v.words) own_filled
       (fills_at x.before x.behind own (length v.words) own_filled).behind ∙ none))
 
-  -- the detached block is used
+  -- the block x is still used, so it is in no list
   pub own_unlisted : v.lists ≡ lists_without v.lists at
   own_unlisted = sym (no_free at (ap free_size (block_found v.blocks 0 (length v.words) own tags.tiling.fill
       (subst (λ bs. IsBlock own bs) (sym h.blocks) (in_second own x.before (own ∷ x.behind) (inl refl))))))

@@ -1,4 +1,5 @@
--- For `split`: the first words of a free block become used and the rest a free block, as if the whole became used and were cut then.
+-- For `split`: the first words of a free block become used and the rest a free block, and the invariant of `TagBlocks` still holds, as if the whole block
+-- became used and were cut then.
 use Rattle.std.proofs.Common.{◌≡◌, ℕ, true, false, ◌+◌, ◌-◌, ◌^◌, ◌<◌, ◌≤◌, List, length, get_or, set, arith, refl, sym, ap, ◌∙◌, subst}
 use Rattle.std.proofs.lemmas.List.{set-set, set_comm}
 use Rattle.block_model.specs.Buckets.{FreeLists}
@@ -24,7 +25,7 @@ module _ (rule : FreeLists) (count : ℕ) (p : Fields) (v : Tagged) (kept : IsVa
   module _ (tag size before list : ℕ) (left heads : List ℕ) (many : length heads ≡ length p.heads) (long : length left ≡ length p.words)
       (is_size : size ≡ size_in (get_or p.words at 0)) (is_before : before ≡ before_in (get_or p.words at 0)) (is_list : list ≡ rule.bucket size)
       (unlinked : (lists : ℕ → List ℕ) → AreFreeLists p.words p.heads lists → IsIn at (lists list) → UnlinksBlock p.words lists list at left heads) where
-    -- all of it is used
+    -- the fields, if the whole block became used
     abbrev mid : Fields
     mid = parts rule count p v kept view at x h.between tag size before list left heads many long is_size is_before is_list unlinked
 
@@ -49,7 +50,7 @@ module _ (rule : FreeLists) (count : ℕ) (p : Fields) (v : Tagged) (kept : IsVa
         (used_now rule count mid (seen mid) mid_kept refl at need some used cuttable)
         ∙ sym (is_before ∙ free_before rule p kept.lists x.before x.behind at x.size (free_now rule count p v kept view at x h.between))
 
-    -- its header is written once
+    -- the words after the block's header and tag are written, with its final size at once
     abbrev prefix : List ℕ
     prefix = set (set left at (block_header_word (record { size = need; used = true; before = before }))) (at + 1) tag
 

@@ -8,7 +8,8 @@ pub use Rattle.block_model.specs.FreeOrder.{no_block}
 abbrev pub head_of : List ℕ → ℕ → ℕ
 head_of heads list = slice_index_or heads list no_block
 
--- Bit k of word j of the lists is set if list 16 j + k has a head, and bit j of the groups if a list of word j has one.
+-- The bitmaps mark the lists that have a head. `lists` has one word for each group of 16 lists: bit k of word j is set if list 16 j + k has a head. Bit j of
+-- `groups` is set if a list of group j has one.
 pub record AreMarked (heads lists : List ℕ) (groups : ℕ) : Type 0 where
   pub few : length heads ≤ 512
   pub small : (j : ℕ) → slice_index lists j < 2 ^ 16

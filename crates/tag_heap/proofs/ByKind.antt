@@ -1,4 +1,5 @@
--- For all calls: what the definitions by kind are for the two kinds with blocks.
+-- What the definitions that depend on the kind of a heap are for TLSF and Half-Fit: there is no block table, the free lists are those of the kind's rule, and
+-- a malloc follows their order.
 use Rattle.std.proofs.Common.{◌≡◌, ℕ, [], None, Result, refl, subst}
 use Rattle.cf_base.specs.Settings.{Profile}
 use Rattle.cf_base.specs.declared.answers.Handle.{Handle}

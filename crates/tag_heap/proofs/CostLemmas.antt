@@ -1,4 +1,5 @@
--- For the clauses `exact`, `bound` and `cost` of a malloc and a free: the steps of their parts, added up.
+-- The steps of a malloc and of a free of a heap with blocks, added up from their parts: the search for a free block, the proxy, and making the block used or
+-- free.
 use Rattle.std.proofs.Common.{◌≡◌, ℕ, ◌+◌, ◌-◌, ◌≤◌, List, Option, Some, None, Result, Ok, Err, arith, refl, ◌∙◌, ap}
 use Rattle.std.specs.Prelude.{IfSome}
 use Rattle.cf_base.specs.Classes.{need}
@@ -38,7 +39,7 @@ malloc_cost_kept old new cost bytes (Err refusal.Size) = refl
 malloc_cost_kept old new cost bytes (Err refusal.Proxy) = refl
 malloc_cost_kept old new cost bytes (Err refusal.Space) = refl
 
--- nor does its choice
+-- what a malloc chooses doesn't depend on that cost either
 pub malloc_choice_kept : (k : Kind) (old new : Heap) (cost bytes : ℕ) (answer : Result Handle Refusal) → MallocChooses k old bytes answer new
     → MallocChooses k old bytes answer (record new { cost = cost })
 malloc_choice_kept k old new cost bytes (Ok q) made = by_place (place_of (state_of k new) q.0) made
@@ -59,7 +60,7 @@ module _ (k : Kind) (rule : FreeLists) (count : ℕ) (rule_is : rule ≡ free_li
   words_needed : needed + 1 ≡ block_need n
   words_needed = (let e = needed_is in omega arith)
 
-  -- a search for a block
+  -- the steps of a search for a block, by the kind in place of its rule
   pub find_cost : (blocks : List Block) (found : Option ℕ)
       → find_steps rule count blocks (needed + 1) found ≡ find_steps (free_lists_of k) (list_count_of k) blocks (block_need n) found
   find_cost blocks found =
@@ -67,7 +68,7 @@ module _ (k : Kind) (rule : FreeLists) (count : ℕ) (rule_is : rule ≡ free_li
       ∙ ap (λ c. find_steps (free_lists_of k) c blocks (needed + 1) found) count_is
       ∙ ap (λ m. find_steps (free_lists_of k) (list_count_of k) blocks m found) words_needed
 
-  -- a search that finds a block, a proxy that is bound, and a carve
+  -- the steps of a malloc: those of a search that finds a block, of a proxy that is bound, and of a carve
   pub malloc_cost_is : (words : List ℕ) (blocks left : List Block) (a : ℕ)
       → find_steps (free_lists_of k) (list_count_of k) blocks (block_need n) (Some a) + (2 + carve_at_steps rule words blocks (needed + 1) a left)
       ≡ carve_steps (free_lists_of k) (list_count_of k) words blocks (block_need n) (Some a) left + 2
@@ -83,7 +84,7 @@ module _ (k : Kind) (rule : FreeLists) (count : ℕ) (rule_is : rule ≡ free_li
 four_last : (x : ℕ) → 1 + (1 + (2 + x)) ≡ x + 4
 four_last x = omega arith
 
--- the proxy and the tag are read, the proxy is released, and so is the block
+-- the steps of a free: the proxy and the tag are read, the proxy is released, and so is the block
 pub free_cost_is : (k : Kind) (rule : FreeLists) → rule ≡ free_lists_of k → (words : List ℕ) (blocks left : List Block) (a : ℕ)
     → 1 + (1 + (2 + release_steps rule words blocks a left)) ≡ release_steps (free_lists_of k) words blocks a left + 4
 free_cost_is k rule rule_is words blocks left a =

@@ -1,4 +1,5 @@
--- For `empty`: an open heap that was just put together keeps its invariant, and its state is an empty heap.
+-- For `empty`: a heap with blocks that was just opened, with one free block and no proxy in use, satisfies its invariant, and its state is that of an empty
+-- heap.
 use Rattle.std.proofs.Common.{◌≡◌, ℕ, ◌+◌, ◌*◌, ◌≤◌, List, [], Some, None, length, get_or, arith, refl, sym, ◌∙◌, ap, subst, inl, inr}
 use Rattle.std.proofs.lemmas.Bool.{cases_lt}
 use Rattle.std.proofs.lemmas.List.{get_or_past}
@@ -23,7 +24,7 @@ use Rattle.cf_model.specs.Steps.{IsEmptyHeap, IsOpeningWords, empty_heap, openin
 use Rattle.cf_model.proofs.CallerLemmas.{no_object, tiled_empty}
 use Rattle.tag_heap.specs.Heap.{Heap, IsValid, order_of, state_of}
 use Rattle.tag_heap.proofs.ByKind.{of_tiled}
-use Rattle.tag_heap.proofs.Preserved.{Becomes, becomes_rules, becomes_valid, held_is, in_range}
+use Rattle.tag_heap.proofs.Preserved.{MeetsInvariantWith, becomes_rules, becomes_valid, held_is, in_range}
 
 nothing_asked : asked_bytes (objects empty) ≡ 0
 unfolding asked_bytes
@@ -59,7 +60,7 @@ module _ (s : Settings) (t : Tagged) (p : Proxies) (blocks : t.blocks ≡ one_fr
   tiling : KeepsTiling (empty_heap Tlsf (profile_of s) t.words)
   tiling = (tiled_empty (profile_of s) (in_range s) t.words long header zeros Tlsf refl).of_kind
 
-  becomes : Becomes k fresh empty
+  becomes : MeetsInvariantWith k fresh empty
   becomes = record {
     tags = tags;
     lists = lists;

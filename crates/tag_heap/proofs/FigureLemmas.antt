@@ -1,4 +1,5 @@
--- For `totals` and `usage`: the counts that an open heap keeps are the figures of its state.
+-- For `totals` and `usage`: the counts that an open heap with blocks keeps (proxies in use, bytes asked, used words, used and free blocks) are the figures of
+-- its state.
 use Rattle.std.proofs.Common.{◌≡◌, ℕ, ◌+◌, ◌*◌, ◌^◌, ◌≤◌, List, Option, Some, None, length, arith, refl, sym, ◌∙◌, ap}
 use Rattle.std.specs.Prelude.{option_map}
 use Rattle.std.specs.FinMap.{get, len}

@@ -1,4 +1,5 @@
--- For `free_inner`: the objects and blocks after an object is freed and its block becomes free.
+-- For `free`: after an object is removed and its block becomes free, a heap with blocks satisfies its invariant, and the order lists the free block and the
+-- number first.
 use Rattle.std.proofs.Common.{◌≡◌, ◌≢◌, ℕ, ◌+◌, ◌-◌, ◌/◌, ◌^◌, ◌≤◌, [], ◌∷◌, Some, None, length, get_or, arith, refl, sym, ◌∙◌, ap, subst}
 use Rattle.std.proofs.lemmas.Option.{same_Some as some_placed}
 use Rattle.std.specs.FinMap.{get, remove}
@@ -22,7 +23,7 @@ use Rattle.cf_model.specs.Steps.{FreesObject, MovesIn, slot_in, tiling_left, cal
 use Rattle.cf_model.proofs.CallerLemmas.{owned_free}
 use Rattle.tag_heap.specs.Heap.{Heap, IsValid, held_in, order_of, state_of}
 use Rattle.tag_heap.proofs.ByKind.{frames_stay, of_tiled}
-use Rattle.tag_heap.proofs.Preserved.{Becomes, are_bytes, becomes_rules, becomes_valid, held_is, places_are}
+use Rattle.tag_heap.proofs.Preserved.{MeetsInvariantWith, are_bytes, becomes_rules, becomes_valid, held_is, places_are}
 use Rattle.tag_heap.proofs.ReadLemmas.{held, object}
 use Rattle.page_model.proofs.CallerLemmas.{bytes_long}
 
@@ -78,7 +79,7 @@ module _ {k : Kind} (h : Heap) (v : IsValid k h) (q a : ℕ) (some : get h.proxi
       let other : p ≢ q = λ is. away (sym own.2 ∙ ap (λ (x : Placed). x.place) (some_placed own.0 old (sym own.1 ∙ ap (get (held_in h)) is ∙ found))) in
       rw (get_remove_other (held_in h) q p other) refl)
 
-  becomes : Becomes k freed left
+  becomes : MeetsInvariantWith k freed left
   becomes = record {
     tags = tags;
     lists = lists;

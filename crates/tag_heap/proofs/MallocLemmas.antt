@@ -1,4 +1,5 @@
--- For `malloc_inner` and `room`: the objects and blocks after an object is added in a block that was carved for it, and the causes of refusals.
+-- For `malloc` and `has_room`: after an object of zeros is added in the next block of the order, a heap with blocks satisfies its invariant; and the cause of
+-- each refusal, no proxy or no block.
 use Rattle.std.proofs.Common.{◌≡◌, ◌≢◌, ℕ, zero, suc, ◌+◌, ◌^◌, ◌<◌, ◌≤◌, ◌∷◌, Some, None, length, replicate, arith, refl, sym, ◌∙◌, ap, subst, inl, inr}
 use Rattle.std.proofs.lemmas.List.{length-replicate}
 use Rattle.std.specs.FinMap.{get, insert, len}
@@ -31,7 +32,7 @@ use Rattle.cf_model.proofs.CallerLemmas.{fresh_word, no_one, owned_malloc}
 use Rattle.tag_heap.specs.Heap.{Heap, IsValid, held_in, order_of, state_of}
 use Rattle.tag_heap.specs.Room.{HasRoom}
 use Rattle.tag_heap.proofs.ByKind.{of_tiled}
-use Rattle.tag_heap.proofs.Preserved.{Becomes, are_bytes, becomes_rules, becomes_state, becomes_valid, held_many, no_place, places_are}
+use Rattle.tag_heap.proofs.Preserved.{MeetsInvariantWith, are_bytes, becomes_rules, becomes_state, becomes_valid, held_many, no_place, places_are}
 
 -- the demand of an object's bytes under its header
 pub asked_for : (q n : ℕ) → q < 2 ^ 32 → demand (need n + 1) (header_word q n) ≡ record { need = block_need n; owner = q }
@@ -50,7 +51,7 @@ module _ {k : Kind} (rule : FreeLists) (h : Heap) (v : IsValid k h) (q n a : ℕ
   abbrev grown : Held
   grown = insert (held_in h) q (zeros_at a n)
 
-  -- the heap with the object
+  -- the heap with the new object
   abbrev pub given : Heap
   given = record h {
     tagged = t;
@@ -106,7 +107,7 @@ module _ {k : Kind} (rule : FreeLists) (h : Heap) (v : IsValid k h) (q n a : ℕ
       ∙ used_after_malloc h.tagged.blocks a (record { need = block_need n; owner = q }) carves.found carves.there carves.serves.free
       ∙ ap (λ bs. used_words h.tagged.blocks + size_at bs a) (sym carves.carved)
 
-  -- the words fit the count
+  -- the words of all used blocks, with those of the new one, are at most 2^23
   pub used_small : h.used_words + size ≤ 2 ^ 23
   used_small =
       let s = size_is in
@@ -122,7 +123,7 @@ module _ {k : Kind} (rule : FreeLists) (h : Heap) (v : IsValid k h) (q n a : ℕ
     | inr (other, was) ↦ are_bytes h v p x was
   ]
 
-  becomes : Becomes k given grown
+  becomes : MeetsInvariantWith k given grown
   becomes = record {
     tags = tags;
     lists = lists;

@@ -1,4 +1,4 @@
--- For `read` and `write`: the bytes of the words of a block are those of the object in it.
+-- For `read` and `write`: bytes within an object are within its block, and the bytes read from the block's words are those of the object.
 use Rattle.std.proofs.Common.{◌≡◌, ℕ, ◌+◌, ◌/◌, ◌%◌, ◌<◌, ◌≤◌, List, length, get_or, take, drop, Some, arith, sym, ◌∙◌, ap}
 use Rattle.std.specs.Prelude.{option_map}
 use Rattle.std.proofs.lemmas.Grind.{same_number_lists}
@@ -17,7 +17,7 @@ use Rattle.tag_heap.proofs.Preserved.{places-read}
 use Rattle.tag_heap.proofs.ReadLemmas.{room}
 use Rattle.page_model.proofs.CallerLemmas.{byte_is}
 
--- the words of a part are in the object's block
+-- the words that hold the bytes read or written are in the object's block
 module _ {k : Kind} (h : Heap) (v : IsValid k h) (q at count a : ℕ) (l : HoldsBytesAt h (record { number = q; from = at }) count a) where
   pub lies_place : get h.proxies.places q ≡ Some a
   lies_place = ap (λ m. get m q) (sym (places-read h.tagged.words h.proxies.places)) ∙ get-map_values (λ (x : Placed). x.place) (held_in h) q

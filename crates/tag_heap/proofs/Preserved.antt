@@ -1,4 +1,5 @@
--- For all calls: an open heap whose objects, words, blocks, proxies and counts changed together keeps its invariant, and so the rules.
+-- For all calls: if the words, blocks, proxies and counts of an open heap with blocks agree with a map of objects (`MeetsInvariantWith`), the heap has these
+-- objects and satisfies its invariant and the rules.
 use Rattle.std.proofs.Common.{◌≡◌, ℕ, ◌+◌, ◌*◌, ◌<◌, List, Option, Some, None, length, arith, refl, sym, ◌∙◌, ap, subst}
 use Rattle.std.specs.Prelude.{option_map}
 use Rattle.std.specs.List.{Contains}
@@ -27,8 +28,8 @@ use Rattle.cf_model.proofs.CallerLemmas.{objects_shown}
 use Rattle.tag_heap.specs.Heap.{Heap, IsValid, held_in, order_of, state_of}
 use Rattle.tag_heap.proofs.ByKind.{of_tiled}
 
--- the heap has the objects m
-pub record Becomes (k : Kind) (h : Heap) (m : Held) : Type 0 where
+-- the heap h meets each fact of the invariant with the objects m, and its proxies hold their addresses
+pub record MeetsInvariantWith (k : Kind) (h : Heap) (m : Held) : Type 0 where
   pub tags : AreTags h.tagged
   pub lists : AreListsOf (free_lists_of k) (list_count_of k) (listed h.tagged)
   pub words_long : length h.tagged.words ≡ h.settings.pages * h.settings.page_words
@@ -53,7 +54,7 @@ in_range s = record {
   small_region = s.small_region;
 }
 
--- the heap, seen with the objects m
+-- the state of the heap h, with m as its live objects
 abbrev seen_with : Kind → Heap → Held → HeapState
 seen_with k h m = record (state_of k h) { held = m }
 
@@ -62,7 +63,7 @@ unplaced : (m : Held) (q : ℕ) (o : Option Placed) → get m q ≡ o → option
 unplaced m q None is e = is
 unplaced m q (Some x) is e = absurd (let e' : ◌≡◌ {A = Option ℕ} (Some x.place) None = e in cc)
 
-module _ {k : Kind} (h : Heap) (m : Held) (b : Becomes k h m) where
+module _ {k : Kind} (h : Heap) (m : Held) (b : MeetsInvariantWith k h m) where
   proxy_of : (q : ℕ) (x : Placed) → get m q ≡ Some x → get h.proxies.places q ≡ Some x.place
   proxy_of q x e = ap (λ p. get p q) b.places ∙ get-map_values (λ (x : Placed). x.place) m q ∙ ap (option_map (λ (x : Placed). x.place)) e
 
@@ -138,7 +139,7 @@ places-read words at = equal_maps _ _ (λ q. get-map_values (λ (x : Placed). x.
     go None = refl
     go (Some a) = refl
 
--- an object that is read from words
+-- x is the object of number q: its address is that in `at`, and its bytes are those that the words hold there
 pub record ReadsAs (words : List ℕ) (at : FinMap nat_cmp ℕ) (q : ℕ) (x : Placed) : Type 0 where
   pub place : get at q ≡ Some x.place
   pub bytes : x.bytes ≡ bytes_at words (x.place + 1)
@@ -159,7 +160,7 @@ module _ {k : Kind} (h : Heap) (v : IsValid k h) where
   pub are_bytes : (q : ℕ) (x : Placed) → get (held_in h) q ≡ Some x → AreBytes x.bytes
   are_bytes q x e = subst AreBytes (sym (read_is h.tagged.words h.proxies.places q x e).bytes) (bytes_at-AreBytes h.tagged.words (x.place + 1))
 
-  pub stays : Becomes k h (held_in h)
+  pub stays : MeetsInvariantWith k h (held_in h)
   stays = record {
     tags = v.tags;
     lists = v.lists;
@@ -191,7 +192,7 @@ module _ {k : Kind} (h : Heap) (v : IsValid k h) where
   pub held_many : len (held_in h) ≡ len h.proxies.places
   held_many = len-map_values (λ a. record { place = a; bytes = bytes_at h.tagged.words (a + 1) }) h.proxies.places
 
-  -- and has a used block there
+  -- a number with an address has a used block there
   pub used_at : (q a : ℕ) → get h.proxies.places q ≡ Some a → IsUsedAt h.tagged.blocks a
   used_at q a e = (let own = v.owned.placed q _ (has_place q a e) in record { block = own.0; owner = q; there = own.1; used = own.2.owner })
 

@@ -1,4 +1,5 @@
--- For `place` and `find`, and for calls that look an object up: the object at a number's address, by its header.
+-- For calls that look an object up by its number: its address is that of the proxy, its bytes are in a block large enough for them, and a range of bytes
+-- passes its end or not.
 use Rattle.std.proofs.Common.{◌≡◌, ℕ, ◌+◌, ◌/◌, ◌^◌, ◌<◌, ◌≤◌, List, length, Some, arith, sym, ◌∙◌, ap}
 use Rattle.std.specs.Prelude.{option_map}
 use Rattle.std.specs.Ordering.{nat_cmp}
@@ -29,7 +30,7 @@ module _ {k : Kind} (h : Heap) (v : IsValid k h) (q a : ℕ) (some : get h.proxi
   pub held : get (held_in h) q ≡ Some object
   held = has_place h v q a some
 
-  -- its block has two words of header, and its bytes
+  -- the object's block has room for two words, its header and its tag, and for the object's bytes
   pub room : 2 + (length bytes + 7) / 8 ≤ size_at h.tagged.blocks a
   room =
       let own = v.owned.placed q object held in
@@ -37,7 +38,7 @@ module _ {k : Kind} (h : Heap) (v : IsValid k h) (q a : ℕ) (some : get h.proxi
       let least = own.2.least in
       omega arith
 
-  -- and lies in the region
+  -- the object's block lies in the region
   pub inside : a + size_at h.tagged.blocks a ≤ length h.tagged.words
   inside =
       let own = v.owned.placed q object held in
@@ -49,7 +50,7 @@ module _ {k : Kind} (h : Heap) (v : IsValid k h) (q a : ℕ) (some : get h.proxi
   pub bytes_few : length bytes ≤ 2 ^ 26
   bytes_few = (let r = room in let i = inside in let m = v.tags.most in omega arith)
 
-  -- a part that passes the end, and one that doesn't
+  -- bytes that pass the end of the object (`passes`), and bytes that don't (`lies_there`)
   pub passes : (k : Kind) (at count : ℕ) → length bytes < at + count → PassesEnd (state_of k h) (record { number = q; from = at }) count
   passes k at count more = record { object = object; found = held; past = more }
 

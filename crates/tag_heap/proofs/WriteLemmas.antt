@@ -1,4 +1,5 @@
--- For `write`: the heap keeps its invariant when an object gets other bytes in its block.
+-- For `write`: after bytes are written into the block of an object, the object has these bytes, nothing else changes, and a heap with blocks satisfies its
+-- invariant.
 use Rattle.std.proofs.Common.{◌≡◌, ◌≢◌, ℕ, suc, ◌+◌, ◌-◌, ◌/◌, ◌%◌, ◌^◌, ◌<◌, ◌≤◌, List, [], length, get_or, Some, arith, refl, sym, ◌∙◌, ap, subst, inl, inr}
 use Rattle.std.specs.Prelude.{option_map}
 use Rattle.std.proofs.lemmas.Bool.{cases_lt}
@@ -29,7 +30,7 @@ use Rattle.cf_model.proofs.CallerLemmas.{owned_replaced}
 use Rattle.tag_heap.specs.Access.{HoldsBytesAt}
 use Rattle.tag_heap.specs.Heap.{Heap, IsValid, held_in, order_of, state_of}
 use Rattle.tag_heap.proofs.ByKind.{of_tiled}
-use Rattle.tag_heap.proofs.Preserved.{Becomes, are_bytes, becomes_rules, becomes_state, becomes_valid, places_are}
+use Rattle.tag_heap.proofs.Preserved.{MeetsInvariantWith, are_bytes, becomes_rules, becomes_state, becomes_valid, places_are}
 use Rattle.tag_heap.proofs.ReadLemmas.{bytes_few, room}
 use Rattle.tag_heap.proofs.PartLemmas.{lies_place}
 
@@ -154,7 +155,7 @@ module _ {k : Kind} (h : Heap) (v : IsValid k h) (q at a : ℕ) (part : List ℕ
   lists_now = subst (λ bs. AreListsOf (free_lists_of k) (list_count_of k) (record { blocks = bs; lists = t.lists })) (sym blocks)
       (subst (λ ls. AreListsOf (free_lists_of k) (list_count_of k) (record { blocks = h.tagged.blocks; lists = ls })) (sym same_lists) v.lists)
 
-  becomes : Becomes k wrote changed
+  becomes : MeetsInvariantWith k wrote changed
   becomes = record {
     tags = tags;
     lists = lists_now;

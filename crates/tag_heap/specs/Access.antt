@@ -1,4 +1,5 @@
--- For `find`: the object whose bytes a call reads or writes, and its address. No public clause cites this module.
+-- For `find`, which reads and writes begin with: the object that has the bytes and the address of its block, or why the call fails. No public clause cites
+-- this module.
 use Rattle.std.specs.Prelude.{◌≡◌, ℕ, ◌+◌, ◌≤◌, length, Result, Ok, Err, Some}
 use Rattle.std.specs.FinMap.{get}
 use Rattle.cf_base.specs.declared.answers.AccessFault.{AccessFault}

@@ -1,4 +1,5 @@
--- The numbers and blocks that each call uses are those that the order lists next. No public clause cites this module.
+-- The choices of a malloc and a free of a heap with blocks: a malloc uses the number and the block that the order lists next; a free puts the number and the
+-- block that it frees first. No public clause cites this module.
 use Rattle.std.specs.Prelude.{◌≡◌, ℕ, ◌∷◌, IfOk, IfSome, Result}
 use Rattle.cf_base.specs.declared.answers.Freed.{Freed}
 use Rattle.cf_base.specs.declared.answers.Handle.{Handle}
@@ -12,8 +13,8 @@ use Rattle.cf_model.specs.Ordered.{CarvesInOrder}
 use Rattle.cf_model.specs.Rules.{listed_by}
 use Rattle.tag_heap.specs.Heap.{Heap, order_of, state_of}
 
--- a malloc of `bytes` bytes, if it succeeds, uses the number and carves the block that the order of the heap `old` lists next, and leaves the order of the
--- heap `new`
+-- If a malloc of `bytes` bytes succeeds, it uses the number and carves the block that the order of the heap `old` lists next. It leaves the order of the heap
+-- `new`.
 abbrev pub MallocChooses : Kind → Heap → ℕ → Result Handle Refusal → Heap → Type 0
 MallocChooses kind old bytes answer new = IfOk answer (λ q. IfSome (place_of (state_of kind new) q.0)
     (λ a. CarvesInOrder (state_of kind old) (record { number = q.0; length = bytes }) a (state_of kind new) (order_of old) (order_of new)))

@@ -1,4 +1,4 @@
--- The steps of the calls of a heap with blocks: exact, or at most.
+-- How many steps the calls of a heap with blocks take: exactly for `has_room`, `length`, the figures, reads and writes; at most for a malloc.
 use Rattle.std.specs.Prelude.{ℕ, ◌+◌, ◌%◌, Option, Some, None, Result, Ok, Err}
 use Rattle.cf_base.specs.declared.answers.AccessFault.{AccessFault}
 use Rattle.cf_base.specs.declared.answers.AccessFault.TheVariants as access
@@ -55,7 +55,7 @@ abbrev pub malloc_steps : Result Handle Refusal → ℕ
 malloc_steps (Ok handle) = 25
 malloc_steps (Err e) = refused_steps e
 
--- the exact steps of a read or a write that is refused: the proxy, and if the number is live the header
+-- the exact steps of a read or a write that is refused: one reads the proxy; if the number is live, a second reads the object's header
 abbrev pub fault_steps : AccessFault → ℕ
 fault_steps access.Unknown = 1
 fault_steps access.Range = 2

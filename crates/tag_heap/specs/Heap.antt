@@ -1,4 +1,4 @@
--- What contracts see of an open heap with blocks, and its invariant.
+-- What contracts see of an open heap with blocks (`Heap`: settings, words, blocks, free lists, proxies, counts), and its invariant (`IsValid`).
 use Rattle.std.specs.Prelude.{◌≡◌, ℕ, ◌*◌, List, [], true, Option, Some, None, length, refl}
 use Rattle.std.specs.Coded.{Coded, code_by, coded×, coded_ℕ, coded_list}
 use Rattle.cf_base.specs.contracts.Settings as settings

@@ -26,8 +26,8 @@ done_by (Err e) = Err e
 abbrev pub length_of : HeapState → ℕ → Option ℕ
 length_of s h = option_map (λ (x : Placed). length x.bytes) (get s.held h)
 
--- An object of `bytes` bytes fits a page, a proxy is free, and `place` is the address of the free block that a malloc of it takes: the one that the free lists
--- give for its size.
+-- An object of `bytes` bytes fits a page, a proxy is free, and `place` is the address of the free block that a malloc of the object takes: the next block of
+-- the free lists for the words that it needs.
 pub record HasRoom (rule : FreeLists) (h : Heap) (bytes place : ℕ) : Type 0 where
   pub fits : need bytes ≤ h.settings.page_words
   pub few : len h.proxies.places ≢ h.proxies.limit

@@ -1,5 +1,6 @@
-//! Looks objects of an open heap with blocks up by their handles: address, length, and reads and
-//! writes of their bytes.
+//! The calls of an open heap with blocks that look an object up by its handle: its address, its length,
+//! reads and writes of its bytes, and why a resize is refused. Also `peek`, which reads any word of the
+//! region.
 ghost use Rattle.std.specs.Prelude.{◌≡◌, ℕ, if◌then◌else◌, is_some, length, slice_get};
 ghost use Rattle.step_ledger.specs.Counting.{RoseBy};
 ghost use Rattle.cf_model.specs.Answers.{place_of};
@@ -39,8 +40,8 @@ impl<B: FitPolicy> OpenHeap<B> {
         }
     }
 
-    /// Fills `out` with the bytes of an object, from byte `at` on. Fails as `find` does, and then
-    /// leaves `out` unchanged.
+    /// Fills `out` with the bytes of an object, from byte `at` on. Fails with `Unknown` if the handle
+    /// isn't live, else with `Range` if the object is shorter, and then leaves `out` unchanged.
     pub(crate) fn read(
         &self,
         h: Handle,
@@ -58,8 +59,7 @@ impl<B: FitPolicy> OpenHeap<B> {
         Ok(())
     }
 
-    /// Writes bytes into an object from byte `at` on. Fails as `find` does, and then changes
-    /// nothing.
+    /// Writes bytes into an object from byte `at` on. Fails as `read` does, and then changes nothing.
     pub(crate) fn write(
         &mut self,
         h: Handle,
@@ -78,7 +78,8 @@ impl<B: FitPolicy> OpenHeap<B> {
     }
 
     /// The address of the object, if it has `count` bytes from byte `at` on. Fails with `Unknown`
-    /// if the handle isn't live, else with `Range` if the object is shorter.
+    /// if the handle isn't live, else with `Range` if the object is shorter. Costs two steps, or one
+    /// if the handle isn't live.
     fn find(&self, h: Handle, at: u32, count: usize, steps: &mut Steps) -> Result<u32, AccessFault>
         ensures found { IsFound B.kind self.now (record { number = h.0; from = at }) count result }
         ensures steps { RoseBy steps.old steps.new (found_steps result) }

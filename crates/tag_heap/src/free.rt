@@ -1,4 +1,5 @@
-//! `free` of an open heap with blocks.
+//! `free` of an open heap with blocks: the object's proxy and its block become free, and the block
+//! is merged with its free neighbours.
 ghost use Rattle.std.specs.Prelude.{◌≡◌, ◌+◌, ◌^◌, ◌≤◌};
 ghost use Rattle.step_ledger.specs.Counting.{RoseAtMost, RoseBy};
 ghost use Rattle.cf_model.specs.Costs.{block_free_bound};

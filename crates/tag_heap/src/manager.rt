@@ -66,7 +66,8 @@ impl<B: FitPolicy> TagHeap<B> {
         Ok(())
     }
 
-    /// The number of bytes of an object; none if the handle isn't live.
+    /// The number of bytes of an object; none if the handle isn't live. Costs two steps, or one if the
+    /// handle isn't live.
     pub fn length(&self, h: Handle, steps: &mut Steps) -> Option<u32>
         requires open { IsTrue self.now.is_open }
         ensures value { result ≡ length_of self.now h.0 }
@@ -87,8 +88,8 @@ impl<B: FitPolicy> TagHeap<B> {
     }
 }
 
-// The calls pass on to the open heap. Their contracts require an open heap, so a closed one is
-// never met. There are neither size classes nor a block table.
+// Most calls are passed on to the open heap. Their contracts require an open heap, so it is never
+// closed then. There are neither size classes nor a block table.
 impl<B: FitPolicy> Manager for TagHeap<B> {
     ghost state = { λ h. h };
 

@@ -49,8 +49,8 @@ impl<B: FitPolicy> Model for OpenHeap<B> {
 }
 
 impl<B: FitPolicy> OpenHeap<B> {
-    /// Returns a heap without objects, with the settings s. Only this call allocates; it fails if
-    /// out of memory.
+    /// Returns a heap without objects, with the settings `s`. Only this call allocates. It fails with
+    /// `OutOfMemory` if an allocation fails.
     pub(crate) fn new(alloc: Global, s: &Settings) -> Result<OpenHeap<B>, OutOfMemory>
         ensures empty { IfOk result (λ h. IsEmptyHeap B.kind s.now (state_of B.kind h)) }
         ensures rules { IfOk result (λ h. KeepsRules (state_of B.kind h)) }

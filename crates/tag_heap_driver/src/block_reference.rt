@@ -6,7 +6,7 @@ use crate::free_lists::{first_for, list_of};
 use std::alloc::Global;
 use test_support::Wrong;
 
-/// The half of a free block's link that means: there is no neighbour in the list on that side.
+/// The value of half of a free block's link that means: the list has no next, or no previous, block.
 const NONE: u64 = 0xffff_ffff;
 
 /// A block: the number of its first word, its size in words, and the number of the object in it; none if it
@@ -131,8 +131,9 @@ impl BlockReference {
         (words, used, free, largest)
     }
 
-    /// Word 1 of a free block, its link: in the lower half the address of the block that was added to its list
-    /// just before it, in the upper half that of the one added just after it.
+    /// Word 1 of a free block, its link. The lower half is the address of the block that was added to the list
+    /// just before this one, the upper half that of the block added just after it; `NONE` if there is none. The
+    /// link is 0 if the block is in no list.
     pub fn link(&self, block: Block) -> u64 {
         let list = list_of(self.sizes.as_slice(), block.size);
         let Some(addresses) = self.lists.get(list) else {

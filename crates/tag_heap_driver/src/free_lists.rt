@@ -1,5 +1,5 @@
-//! The rules of TLSF and Half-Fit for free lists, as a table: for each list the least size of a block in
-//! it, in words. A block is in the last list whose least size isn't above its own.
+//! The free-list rules of TLSF and Half-Fit as tables: for each list the least size of a block in it, in
+//! words. A block is in the last list whose least size is at most the block's size.
 ghost use Rattle.std.specs.Prelude.{◌≡◌, IfOk, length};
 
 use std::alloc::{AllocError, Global};
@@ -33,7 +33,8 @@ pub fn half_fit_sizes(alloc: Global) -> Result<Vec<u32>, AllocError>
     Ok(sizes)
 }
 
-/// The index of the list for a block of `size` words: the last one whose least size isn't above it.
+/// The index of the list for a block of `size` words: the last one whose least size is at most `size`. The
+/// table `sizes` has the least size of each list.
 pub(crate) fn list_of(sizes: &[u32], size: u32) -> usize {
     let mut found = 0;
     for list in 0..sizes.len() {
@@ -45,7 +46,7 @@ pub(crate) fn list_of(sizes: &[u32], size: u32) -> usize {
 }
 
 /// The index of the first list whose blocks all have at least `need` words; the number of lists if there is
-/// none.
+/// none. The table `sizes` has the least size of each list.
 pub(crate) fn first_for(sizes: &[u32], need: u32) -> usize {
     for list in 0..sizes.len() {
         if need <= sizes[list] {

@@ -1,5 +1,5 @@
-//! Calls on a manager with blocks. Each is compared with what a plain list of blocks computes, and fails at a
-//! difference.
+//! `BlockRun`: makes calls on a manager with blocks. Each is compared with what the reference implementation
+//! (`BlockReference`, in the comments here the plain list) computes, and fails at a difference.
 ghost use Rattle.std.specs.Prelude.{◌≡◌, IfOk};
 ghost use Rattle.cf_model.specs.Answers.{totals_in};
 ghost use Rattle.cf_model.specs.Steps.{IsMallocStep};
@@ -26,13 +26,14 @@ pub struct BlockRun<H: Manager> {
     words: u32,
     /// The number of proxies.
     proxies: u32,
-    /// Whether frees are drawn more often than mallocs in this phase.
+    /// Whether frees are drawn more often than mallocs in this call of `play`.
     drains: bool,
+    /// The source of the random numbers by which calls are drawn.
     draw: Draw,
 }
 
 impl<H: Manager> BlockRun<H> {
-    /// Opens the heap without objects. `settings` has its pages, the bytes of a page, and its proxies;
+    /// Opens the heap, which then has no objects. `settings` has its pages, the bytes of a page, and its proxies;
     /// `sizes` has for each free list of its kind the least size of a block in it, in words.
     pub fn new(
         alloc: Global,
@@ -157,8 +158,8 @@ impl<H: Manager> BlockRun<H> {
         Ok(())
     }
 
-    /// Compares each word of the region with the one that its expected block has there. The heap must show no
-    /// word past the end.
+    /// Compares each word of the region with the word that the expected block at this address has. The heap must
+    /// show no word past the end of the region.
     fn compare_words(&mut self) -> Result<(), Wrong> {
         let mut before = 0;
         for i in 0..self.reference.blocks().len() {

@@ -1,5 +1,6 @@
-//! Tests of TLSF and Half-Fit: long runs of random calls, drawn from a seed and compared with the reference
-//! (`BlockRun`), which keeps plain lists of blocks; and the steps and results of `has_room` and `length`.
+//! Tests of TLSF and Half-Fit: long runs of drawn calls, compared with the reference (`BlockRun`), which
+//! keeps plain lists of blocks; and `has_room` and `length`. Modules test coalescing, the steps of single
+//! calls, and which free block is taken.
 mod coalesced;
 mod costs;
 mod tlsf;
@@ -96,8 +97,10 @@ fn lengths<B: FitPolicy>(heap: &TagHeap<B>, meter: &mut Meter) -> Option<([Optio
 
 // `has_room` returns the refusal of the malloc after it, for each malloc of `ASKED`. It takes no step if
 // it refuses for size or proxies, since it reads no list then. A search takes two steps, or four if it
-// finds a block in another group of 16 lists. `length` takes two steps for a live object, the proxy and
-// the header, and one for a number without an object.
+// finds a block in another group of 16 lists. Only TLSF's search for 61 words takes four: it begins at
+// list 47, the last of its group, and finds the block of 64 words in list 48. `length` takes two steps
+// for a live object, the proxy and the header, and one for a number without an object: 5 for two live
+// objects and one number without.
 #[test]
 fn there_is_room_for_what_is_served(rt: HostRuntime) -> Result<(), Fail> {
     let mut meter = Meter::new(&rt);

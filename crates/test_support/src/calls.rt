@@ -9,9 +9,9 @@ use cf_base::{AccessFault, Freed, Handle, NotLive, Refusal, ResizeFault, Resized
 use cf_model::Manager;
 use step_ledger::Meter;
 
-/// A manager with the meter of its calls. Each call sets the count of steps to 0 first, and fails with
-/// `Wrong::Closed` unless the heap is open; else it returns the manager's own result. A comparison fails with
-/// the result that differs from `want`.
+/// A manager with the meter of its calls. Each call fails with `Wrong::Closed` if the heap is closed; else it
+/// sets the count of steps to 0, and returns the manager's result. A comparison fails with the result if it
+/// differs from `want`.
 #[derive(Drop)]
 pub struct ManagerUnderTest<H: Manager> {
     pub heap: H,

@@ -3,10 +3,10 @@ use crate::wrong::{Wrong, hold};
 use cf_base::AccessFault;
 use std::alloc::Global;
 
-/// Each byte of a buffer before a read; a refused read must leave them.
+/// The value of each byte of a buffer before a read; a refused read must leave the buffer unchanged.
 const UNREAD: u8 = 0xee;
 
-/// A live object: its bytes, and its place, which is whatever a test computes of where the object is.
+/// A live object: its bytes, and its place. A test chooses the type of a place; it may be an address.
 #[derive(Drop)]
 pub struct Object<P: Drop> {
     pub place: P,
@@ -42,7 +42,7 @@ pub fn header(number: u32, length: u32) -> u64 {
     u64::from(number) | u64::from(length) << 32
 }
 
-/// The objects, each under the number of its handle in the heap under test.
+/// The objects that must be live, each under the number of its handle in the heap under test.
 #[derive(Drop)]
 pub struct Objects<P: Drop> {
     alloc: Global,
@@ -111,14 +111,14 @@ impl<P: Drop> Objects<P> {
     }
 
     /// Adds an object of `length` zeros with this number. Fails if the number has an object already, or is
-    /// not below the count.
+    /// not below the `count` that `none` got.
     pub fn add(&mut self, number: u32, place: P, length: u32) -> Result<(), Wrong> {
         let bytes = Vec::from_elem(self.alloc, 0, length as usize)?;
         self.put(number, Object { place, bytes })
     }
 
     /// Adds an object with this number. Fails if the number has an object already, or is not below the
-    /// count.
+    /// `count` that `none` got.
     pub fn put(&mut self, number: u32, object: Object<P>) -> Result<(), Wrong> {
         match self.entries.get_mut(number as usize) {
             Some(entry) if entry.is_none() => {
@@ -164,9 +164,9 @@ impl<P: Drop> Objects<P> {
         }
     }
 
-    /// Does in the model a write that the heap under test has done, of these bytes from byte `at` on, with
-    /// the result `done`. Fails if that is not the result that it must have. Else the object of the model
-    /// gets the bytes, unless the write was refused.
+    /// Does in the model a write of these bytes from byte `at` on, for which the heap under test has returned
+    /// `done`. Fails if `done` is not what the write must return. Else the object of the model gets the bytes,
+    /// unless the write was refused.
     pub fn written(
         &mut self,
         number: u32,

@@ -2,8 +2,8 @@
 //! heap.
 use std::alloc::{AllocError, Global};
 
-/// Returns the sizes of slots in words, in rising order: 4, then nine eighths of the size before, rounded up,
-/// and at last the page.
+/// Returns the sizes of slots in words, in rising order, as the moving manager has them: 4, then nine eighths
+/// of the size before, rounded up, and at last the page.
 pub fn slot_sizes(alloc: Global, page_words: u32) -> Result<Vec<u32>, AllocError> {
     let mut sizes = Vec::new(alloc);
     let mut size = 4_u32;

@@ -40,7 +40,7 @@ pub enum Wrong {
     Whole(Totals),
     /// The steps of the last call.
     Steps(u64),
-    /// The number of objects that moved: fewer than wanted, or some although none may.
+    /// The number of objects that moved in a run: too few, or too many in a run in which none can move.
     Moves(u32),
     /// What is named here differs from the reference implementation or the model.
     Differs(&'static str),

@@ -1,4 +1,4 @@
-//! TLSF (2004): the free lists of its two levels, and the manager with them.
+//! TLSF (2004): its free lists (`TlsfBuckets`), and the manager with them (`TlsfHeap`).
 #![tactic(auto)]
 
 mod buckets;

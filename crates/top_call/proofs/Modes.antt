@@ -1,4 +1,5 @@
--- For `cf_main` and `run_mode`: from `EndsWithCause` of the chosen mode to each clause of `cf_main`.
+-- For `cf_main` and `run_mode`, which runs the chosen mode: from what that mode did and the cause of its status (`EndsWithCause`) to each clause of
+-- `cf_main`.
 use Rattle.std.proofs.Common.{◌≡◌, ◌≢◌, ℕ, List, Option, Some, None, ap, inl, inr, refl, subst, sym}
 use Rattle.clap.specs.Words.{Text}
 use Rattle.cf_base.specs.declared.kind.Kind.TheVariants.{Moving}
@@ -44,7 +45,7 @@ sound Load choice = load_sound
 sound Slice choice = own_sound slices (IsMadeSliced choice.quantum)
 sound Quota choice = own_sound quota_tasks IsMadeForTasks
 
--- the choice is of this mode
+-- if the choice is of this mode, what holds of the mode (`EndsWithCause`) holds of the choice
 pub in_mode : (mode : Mode) (choice : Choice) → choice.mode ≡ mode → (old : CallState) (st : Status) (new : CallState) → EndsWithCause (InMode mode choice) old st new
     → EndsWithCause (InMode choice.mode choice) old st new
 in_mode mode choice is old st new ends = subst (λ (m : Mode). EndsWithCause (InMode m choice) old st new) (sym is) ends

@@ -1,4 +1,5 @@
--- For the laws of `cf_main`: two calls with the same arguments and the same script print the same, mode by mode.
+-- For the laws of `cf_main`, mode by mode: two calls with the same arguments and script that answer every line print the same and have the same status, if
+-- the managers promise an order.
 use Rattle.std.proofs.Common.{◌≡◌, ℕ, Bool, true, false, List, [], ◌∷◌, Option, Some, None, cond, refl, sym, ◌∙◌, ap, subst, length, get_or, map, inl, inr}
 use Rattle.std.proofs.lemmas.Bool.{cases_lt, le-leb, lt-leb}
 use Rattle.std.proofs.lemmas.List.{get_or_past}
@@ -144,7 +145,7 @@ all_ordered : (olds news : List HeapState) (end : Option (List RunState)) → Ea
 all_ordered olds news None stand order = tt
 all_ordered olds news (Some rs) stand order = each_ordered rs (subst (All PromisesOrder) stand order)
 
--- promises that were kept
+-- if the call keeps the promises, and each manager promised an order before it, each does after it
 all_kept : (olds news : List HeapState) → map (λ h. is_some h.order) news ≡ map (λ h. is_some h.order) olds → All PromisesOrder olds → All PromisesOrder news
 all_kept olds [] same order = All-nil PromisesOrder
 all_kept [] (y ∷ news) same order = absurd cc
@@ -191,7 +192,7 @@ own_status : {S P : Type 0} (m : Semantics S P) (IsMade : S → Type 0) (all : L
     → PlaysOwn m IsMade call.old call.status call.new → call.status ≡ status_of all
 own_status m IsMade all call whole did = met_status m did.begin did.end all (effects_of call.old call.status call.new) whole.had did.outcome whole.answered
 
--- the replies of a run in slices of this many words
+-- the replies of a run in slices of at most `quantum` words
 record RunInSlices (quantum : ℕ) (items : List Item) (replies : List Reply) : Type 0 where
   begin : SlicePlay
   plan : begin.quantum ≡ quantum
@@ -353,7 +354,7 @@ bench_calls_once choice one two last end a b before =
     subst (λ w. EndsBench Done choice.seed choice.count begun b.end w end.sink.written) before b.outcome in
     bench_once choice.seed choice.count begun begun a.end b.end one.sink.written last.sink.written end.sink.written refl a.outcome again a.ordered b.ordered
 
--- a bench that ends well is done
+-- a bench whose status is one after which all items are answered ended by `Done`
 bench_ended : (st : Status) (seed count : ℕ) (from to : RunState) (before after : Option (List ℕ)) → EndsBench st seed count from to before after → AnswersAll st
     → st ≡ Done
 bench_ended Done seed count from to before after ends all = refl
@@ -371,7 +372,7 @@ bench_status choice call all did = bench_ended call.status choice.seed choice.co
 
 -- ---- any mode
 
--- the call kept kinds and promises
+-- the call kept the kinds of the managers and their promises of an order
 record KeepsAlike (call : TopCall) : Type 0 where
   kinds : kinds_in call.new ≡ kinds_in call.old
   orders : orders_in call.new ≡ orders_in call.old
@@ -426,7 +427,7 @@ module _ (choice : Choice) (all : List ℕ) (one two : TopCall) (keeps : KeepsAl
   mode_once Load does does' shows shows' order order' =
       load_once all one two (load_printed all one whole does shows) (load_printed all two whole' does' shows') before
 
--- a call that answered all items has answered what it read
+-- if all items are answered (`AnswersAll`), the input is (`AnswersInput`)
 as_input : (st : Status) → AnswersAll st → AnswersInput st
 as_input Done all = all
 as_input BadScript all = all
@@ -482,7 +483,7 @@ each_promises : (kinds : List Kind) → All PromisesOrder (map closed_state kind
 each_promises [] = All-nil PromisesOrder
 each_promises (k ∷ kinds) = All-cons PromisesOrder (closed_state k) (map closed_state kinds) refl (each_promises kinds)
 
--- an item of a list of such managers, or another such manager
+-- if each manager of a list promises an order, so does its item i or, past its end, the closed manager that is the default
 read_promises : (kind : Kind) (heaps : List HeapState) (i : ℕ) → All PromisesOrder heaps → PromisesOrder (get_or heaps i (closed_state kind))
 read_promises kind heaps i each = elim (cases_lt i (length heaps)) [
   | inl lt ↦ each i (closed_state kind) lt

@@ -1,4 +1,4 @@
--- The words of the laws of `cf_main`: conditions under which the arguments (here `words`) and the script determine the output of a call.
+-- For the laws of `cf_main`: conditions under which the arguments (here `words`) and the script determine the output of a call.
 use Rattle.std.specs.Prelude.{◌≡◌, ⊤, ℕ, IsSome, List, [], Option, None, Some, if◌then◌else◌, length, nat_le}
 use Rattle.std.specs.List.{All}
 use Rattle.clap.specs.Words.{Text}

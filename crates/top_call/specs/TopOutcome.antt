@@ -59,7 +59,8 @@ pub record DoesChosen (words : List Text) (old : CallState) (status : Status) (n
   pub chosen : Chooses words choice
   pub done : InMode choice.mode choice old status new
 
--- with the status `Words`, the arguments are refused, and the call changed nothing; with any other, it did what they choose
+-- With the status `Words` the arguments are refused, and the call changed nothing. With any other it did what they choose; but with `OutOfMemory` it may have
+-- changed nothing, and wrote nothing (`OrLacks`).
 abbrev pub EndsWell : List Text → CallState → Status → CallState → Type 0
 EndsWell words old Words new = AreRefused words × (new ≡ old)
 EndsWell words old status new = OrLacks (DoesChosen words) old status new

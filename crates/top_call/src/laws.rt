@@ -1,5 +1,5 @@
-//! Theorems on calls of `cf_main`: when two calls print the same bytes. On a manager with an order, a call
-//! prints the replies of a run in that order.
+//! Theorems on calls of `cf_main`: when two calls print the same bytes. On a manager that promises an order, a
+//! call prints the replies of a run in that order.
 ghost use Rattle.std.specs.Prelude.{◌≡◌, ℕ, IsSome, List, Option, map};
 ghost use Rattle.clap.specs.Words.{Text};
 ghost use Rattle.cf_base.specs.declared.kind.Kind.{Kind};
@@ -31,7 +31,7 @@ pub fn equal_scripts_get_equal_output()
 {}
 
 /// In mode `run`, on a manager that promises an order, the replies printed are those of a run in that
-/// order: each address, choice, word and count of steps is the one that the order gives. There is one
+/// order: each address, choice, word and count of steps follows from the order. There is one
 /// such list of replies (`one_output` of `headline_laws`).
 pub fn a_run_in_order_is_printed()
     ensures { (words : List Text) (choice : Choice) (all : List ℕ) (call : TopCall) → Chooses words choice
@@ -48,7 +48,7 @@ pub fn closed_managers_leave_no_choice()
 {}
 
 /// Two benches of one seed and one count on managers of one kind print the same line, with all six
-/// numbers. Clause `calls`: two calls in mode `bench`. Clause `runs`: any two benches whose managers have
+/// numbers. Clause `calls`: two calls in mode `bench`. Clause `runs`: any two benches whose managers promise
 /// an order at the end.
 pub fn equal_benches_print_equal_lines()
     ensures calls { (choice : Choice) (one two last end : CallState)

@@ -8,7 +8,8 @@ use quota_heap::QuotaHeap;
 use quota_session::{QuotaHandler, run_quotas};
 use std::alloc::Global;
 
-/// Runs a script of tasks, each with a quota of pages, on a heap of tasks that is made for it.
+/// Runs a script of tasks, each with a quota of pages, on a heap of tasks that is made for it. Returns the
+/// status, `OutOfMemory` also if the session can't be allocated.
 pub fn play_quotas<S: Source, K: Sink>(
     rt: &HostRuntime,
     alloc: Global,

@@ -1,4 +1,4 @@
-//! Mode `slice`: runs a script on a heap whose frees leave work to later calls.
+//! Mode `slice`: runs a script on a sliced heap, whose frees leave work to later calls.
 ghost use Rattle.std.specs.Prelude.{◌≤◌};
 ghost use Rattle.manager_modes.specs.Outcomes.{EndsBeside, sink_seen, source_seen};
 ghost use Rattle.top_call.specs.TopOutcome.{PlaysSlices};
@@ -10,7 +10,7 @@ use sliced_heap::SlicedHeap;
 use std::alloc::Global;
 
 /// Runs a script on a sliced heap that is made for it. Each free and each command `s` does at most `quantum`
-/// words of the pending work.
+/// words of the pending job. Returns the status, `OutOfMemory` also if the session can't be allocated.
 pub fn play_slices<S: Source, K: Sink>(
     rt: &HostRuntime,
     alloc: Global,

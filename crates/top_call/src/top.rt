@@ -14,7 +14,7 @@ use command_line::{ArgumentsFault, Choice, Mode, read_arguments};
 use manager_modes::{bench_seed, compare_all, load_image, play_large, run_chosen, save_image};
 use std::alloc::Global;
 
-/// Parses the arguments, the first of them the program's name, and runs the mode that they choose.
+/// Parses the arguments `words` (the first is the program's name), and runs the mode that they choose.
 ///
 /// In mode `run` the first of `managers` of the chosen kind, or a closed one made for the call if there is none,
 /// runs a script of at most 268,435,455 bytes. The `heap` line opens the manager, and the reply to each command

@@ -17,7 +17,7 @@ use Rattle.transcript_laws.specs.ById.{ById, begun, paging_by_id}
 use Rattle.transcript_laws.specs.Replies.{after_by_id, bounds_with, class_bounded}
 use Rattle.transcript_laws.specs.Transcripts.{AskForOne, AsksForOne, IsItemAtOne, StaysAtOne, after_at}
 
--- a bound that becomes 1
+-- a bound that is 1 stays 1 if any bound becomes 1
 set_to_one : (bounds : List ℕ) (c d : ℕ) → get_or bounds d 0 ≡ 1 → get_or (set bounds c 1) d 0 ≡ 1
 set_to_one bounds c d one = elim (cases_eq d c) [
   | inl is ↦ elim (cases_lt c (length bounds)) [

@@ -1,5 +1,5 @@
--- A session's ids name numbers, and numbers have values. The lemmas are about the map from ids to these values: its length, sums over it, and how it changes
--- with the values.
+-- The objects of a session, or any values of its handles, as a map from ids: what it has for an id, its length, sums over it, and how it changes with the
+-- ids and with the values.
 use Rattle.std.proofs.Common.{◌≡◌, ◌≢◌, ℕ, List, [], Option, Some, None, sym, ◌∙◌, ap, refl, inl, inr}
 use Rattle.std.specs.Prelude.{option_map}
 use Rattle.std.specs.Option.{unwrap_or}
@@ -114,7 +114,7 @@ module _ {V : Type 0} (d : V) where
             ∙ sym (get_insert_other (renamed ids m) id v q ne)
       ])
 
--- Of objects: the bytes alone.
+-- The same facts if the values are the bytes of objects (`objects_by_id`).
 module _ (ids : Ids) (m : Objects) where
   pub live_by_id : (id h : ℕ) (v : List ℕ) → get ids id ≡ Some h → get m h ≡ Some v → get (objects_by_id ids m) id ≡ Some v
   live_by_id = live_renamed [] ids m

@@ -1,4 +1,5 @@
--- The figures of a sound arrangement if every bound is 1 are those of `AtOne`, computed from the objects alone. `headline_laws` cites them.
+-- If every bound is 1, the figures of a sound arrangement (objects and pages of each class, and totals) are those of `AtOne`, computed from the objects
+-- without addresses. `headline_laws` cites these lemmas.
 use Rattle.std.proofs.Common.{◌≡◌, ℕ, zero, suc, ◌+◌, ◌-◌, ◌*◌, ◌%◌, ◌<◌, ◌≤◌, Bool, true, false, ◌∷◌, length, map, arith, sym, ◌∙◌, ap, refl, subst, cond}
 use Rattle.std.specs.Prelude.{filter, nat_eq}
 use Rattle.std.specs.List.{range_with_len}
@@ -21,7 +22,7 @@ divides n m is = (let e = eq_yes (n % m) 0 is in rw e)
 leaves : (n m : ℕ) → 0 < n % m → part_pages n m ≡ 1
 leaves n m some = (let e = eq_no (n % m) 0 (λ is. omega arith) in rw e)
 
--- at most one page is partly full, and none if the objects fill the pages
+-- n objects on pages of m slots, with at most one page partly full: q, how many are, is `part_pages n m`
 part_is : (h n m q : ℕ) → 0 < m → LieOn h n m 1 q → q ≡ part_pages n m
 part_is h n m zero pos s =
     let e : h - 0 ≡ h = omega arith in
@@ -64,7 +65,7 @@ module _ (p : Paging) (ok : IsPaging p) (ones : EveryBoundIsOne p) (m : Held) (s
         cond (nat_eq (p.pages - used) 0) 0 p.page_words;
   }) (used_at_one p ok ones m s)
 
--- objects that count alike, by number and by bytes, have equal figures
+-- two maps of objects with equal counts and equal sums over their bytes (`CountAlike`) have equal figures
 module _ (p : Paging) (m n : Objects) (a : CountAlike m n) where
   pub live_alike : (c : ℕ) → live p n c ≡ live p m c
   unfolding live

@@ -1,4 +1,5 @@
--- For `a_small_transcript`: the small script worked out, from its bytes to its items, states and replies.
+-- For the law `a_small_transcript`: the transcript of the small script of `Small`, worked out command by command, from its bytes to items, objects and
+-- replies.
 use Rattle.std.proofs.Common.{◌≡◌, ℕ, true, false, List, [], ◌∷◌, Some, length, cond, refl, sym, ◌∙◌, ap, inl, inr}
 use Rattle.std.proofs.lemmas.Bool.{cases_eq, eq-eqb}
 use Rattle.cf_lemmas.proofs.Tests.{eq_no}
@@ -30,7 +31,7 @@ use Rattle.transcript_laws.specs.Transcripts.{replies_from, transcript}
 use Rattle.transcript_laws.proofs.SmallMaps.{counted, got, got_none, listed, listed_none}
 use Rattle.transcript_laws.specs.Small.{small_replies, small_script}
 
--- the first key alone goes
+-- removing the key q from a map with k inserted: the entry of k is dropped if q is k, else it stays
 gone : (m : Objects) (k : ℕ) (v : List ℕ) (q : ℕ) → remove (insert m k v) q ≡ cond (eq_by_cmp nat_cmp q k) (remove m q) (insert (remove m q) k v)
 gone m k v q = elim (cases_eq q k) [
   | inl is ↦ (let yes : eq_by_cmp nat_cmp q k ≡ true = unsigned_tied q k ∙ eq-eqb q k is in rw yes (equal_maps _ _ (λ x. elim (cases_eq x q) [
@@ -55,7 +56,7 @@ gone_none q = equal_maps _ _ (λ x. elim (cases_eq x q) [
 
 ruleset maps = (got, got_none, counted, listed, listed_none, gone, gone_none)
 
--- one command of a transcript
+-- the replies from a command on: its own, then those to the items after it
 one_more : (t u : ById) (c : Command) (rest : List Item) (reply : Reply) (replies : List Reply) → reply_by_id t c ≡ reply → after_by_id t c ≡ u
     → replies_from Moving (Some u) rest ≡ replies → replies_from Moving (Some t) (asks c ∷ rest) ≡ reply ∷ replies
 one_more t u c rest reply replies r s more = (λ i. r i ∷ replies_from Moving (Some (s i)) rest) ∙ ap (λ l. reply ∷ l) more
@@ -142,7 +143,7 @@ left = (2, written (replicate 176 0) 0 (161 ∷ 178 ∷ [])) ∷ (4, replicate 1
 left_is : entries o8 ≡ left
 left_is = simp (listed, listed_none, gone, gone_none)
 
--- the report on classes, from the live objects by class and their number
+-- `report alive n`: the reply to `walk` if class c has `alive c` live objects, and n objects are live
 abbrev pages : Paging
 pages = paging_by_id (with empty)
 
@@ -180,7 +181,7 @@ walked : reply_by_id (with o8) Walk ≡ codes "class 23 slots 2 live 2 pages 1 n
     "total live 3 pages 2 free 0" ∷ []
 walked = report_is o8 ∙ (λ i. report (λ c. alive o8 left_is c i) ((counted o8 ∙ ap length left_is) i)) ∙ reported
 
--- one command of a transcript, before the rest
+-- `one_more` from `Steps`: the replies from a command on
 before : (old : Objects) (c : Command) (text : List ℕ) (new : Objects) (rest : List Item) (replies : List Reply) → Steps old c text new
     → replies_from Moving (Some (with new)) rest ≡ replies → replies_from Moving (Some (with old)) (asks c ∷ rest) ≡ said text ∷ replies
 before old c text new rest replies step more = (λ i. step.0 i ∷ replies_from Moving (Some (step.1 i)) rest) ∙ ap (λ l. said text ∷ l) more
@@ -222,7 +223,7 @@ rest1 = asks (Malloc 2 176) ∷ rest2
 abbrev rest0 : List Item
 rest0 = asks (Malloc 1 176) ∷ rest1
 
--- what the script asks for
+-- the items of the script
 asked : items small_script true ≡ starts (record { pages = 2; page_words = 64; k = 1; proxies = 8 }) ∷ rest0
 unfolding decode_pairs
 asked = refl

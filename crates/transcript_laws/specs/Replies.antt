@@ -84,7 +84,7 @@ abbrev pub class_bounded : ById → ℕ → Option ℕ
 class_bounded t slot_words = if nat_eq (len t.objects) 0 then position (λ w. nat_eq w slot_words) (paging_by_id t).sizes else None
 
 -- The reply to a command; `none` to the commands of other modes. To `q`, `b`, `p` and `steps`, whose replies depend on addresses and costs, it isn't the reply
--- of a run: the last row serves them only to make the function total.
+-- of a run: the last equation serves them only to make the function total.
 abbrev pub reply_by_id : ById → Command → Reply
 reply_by_id t (Malloc id bytes) = said (malloc_said (get t.objects id) t bytes)
 reply_by_id t (Free id) = said (free_said (get t.objects id))

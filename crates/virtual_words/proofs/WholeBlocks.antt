@@ -9,7 +9,7 @@ use Rattle.region.specs.Words.{AreDistinct, AreOther, AreWithin, ClearsBlocks, M
 use Rattle.virtual_words.specs.Words.{table_word, virtual_words}
 use Rattle.virtual_words.proofs.Standing.{virtual_at, virtual_past}
 
--- the n entries from v on
+-- `part` has the n entries of the table from v on
 module _ (t : Table) (h : IsBlockTable t) (v n : ℕ) (fits : v + n ≤ length t.frames) (part : List ℕ) (is : part ≡ take n (drop v t.frames))
     (long : length part ≡ n) where
   pub entry_at : (k : ℕ) → k < n → get_or part k 0 ≡ get_or t.frames (v + k) 0
@@ -26,7 +26,7 @@ module _ (t : Table) (h : IsBlockTable t) (v n : ℕ) (fits : v + n ≤ length t
       let a = entry_at k lt in let b = entry_at l lt' in
       frames_differ t h (v + k) (v + l) (omega arith) (omega arith) (λ f. ne (omega arith)) (omega arith)
 
-  -- the place of a word of these blocks
+  -- word i of the n virtual blocks is in the physical block that `part` lists for it
   pub word_place : (i : ℕ) → i < 4 * n → table_word t.frames (4 * v + i) ≡ 4 * get_or part (i / 4) 0 + i % 4
   word_place i lt =
       let e = entry_at (i / 4) (omega arith) in
@@ -34,7 +34,7 @@ module _ (t : Table) (h : IsBlockTable t) (v n : ℕ) (fits : v + n ≤ length t
       ap (λ (b : ℕ). get_or t.frames b 0) (let f : (4 * v + i) / 4 ≡ v + i / 4 = omega arith in f) in
       omega arith
 
-  -- a word of another block
+  -- a word outside of the n virtual blocks is in none of the physical blocks of `part`
   pub word_outside : (w : ℕ) → w < 4 * length t.frames → IsOutside (4 * v) (4 * n) w → (k : ℕ) → k < n → table_word t.frames w / 4 ≢ get_or part k 0
   word_outside w lt out k less e =
       let a = entry_at k less in
@@ -52,7 +52,7 @@ module _ (t : Table) (h : IsBlockTable t) (v n : ℕ) (fits : v + n ≤ length t
     ];
   }
 
--- the n entries from v on, and the n from w on
+-- `sources` has the n entries of the table from v on, `targets` the n from w on
 module _ (t : Table) (h : IsBlockTable t) (v w n : ℕ) (fits_v : v + n ≤ length t.frames) (fits_w : w + n ≤ length t.frames)
     (sources targets : List ℕ) (are : sources ≡ take n (drop v t.frames)) (as_long : length sources ≡ n)
     (go : targets ≡ take n (drop w t.frames)) (go_long : length targets ≡ n) where

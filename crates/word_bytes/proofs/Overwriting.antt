@@ -52,7 +52,7 @@ module _ (f : ℕ → ℕ) (at done n : ℕ) (bytes : List ℕ) (fits : done + n
     ]
   ])
 
--- one word is patched
+-- one more word gets its bytes: after `done` bytes of all, the next n
 pub cell_written : (old words : List ℕ) (at done n word : ℕ) (bytes : List ℕ) → done + n ≤ length bytes → (at + done) % 8 + n ≤ 8
     → (at + done) / 8 < length words
     → ((k : ℕ) → byte_in words k ≡ overwritten (byte_in old) at (take done bytes) k)
@@ -89,7 +89,7 @@ cell_written old words at done n word bytes fits inside lt so_far patch k =
           elim (cases_lt k (at + done)) [ inl below ↦ inl below | inr above ↦ inr (omega arith) ]))
     ]
 
--- nothing is written
+-- writing no bytes changes nothing
 pub none_overwritten : (f : ℕ → ℕ) (at : ℕ) (bytes : List ℕ) (k : ℕ) → overwritten f at (take 0 bytes) k ≡ f k
 none_overwritten f at bytes k = elim (cases_lt k at) [
   | inl before ↦ overwritten_before f at (take 0 bytes) k before
@@ -102,9 +102,9 @@ pub cell_put : (old words : List ℕ) (at done n more cell from word : ℕ) (par
     → ((k : ℕ) → byte_in words k ≡ overwritten (byte_in old) at (take done bytes) k)
     → ((j : ℕ) → j < 8 → byte_of j word ≡ overwritten (λ i. byte_of i (get_or words cell 0)) from part j)
     → (k : ℕ) → byte_in (set words cell word) k ≡ overwritten (byte_in old) at (take more bytes) k
-cell_put old words at done n more cell from word part bytes is_more is_cell is_from is_part fits inside lt so_far patch k =
+cell_put old words at done n more cell from word part bytes is_more is_cell is_from has_inner_object fits inside lt so_far patch k =
     rw (is_more, is_cell) (cell_written old words at done n word bytes (omega arith) (omega arith) (omega arith) so_far
-    (λ j l. rw (is_cell, is_from, is_part) at (patch j l)) k)
+    (λ j l. rw (is_cell, is_from, has_inner_object) at (patch j l)) k)
 
 -- byte j of a word, as the standard library defines it
 pub cell_byte : (w j : ℕ) → j < 8 → get_or (to_le_bytes w64 w) j 0 ≡ byte_of j w

@@ -1,4 +1,4 @@
--- For the calls of `runs.rt`: the bytes of a run of words, and what a borrow of the run leaves.
+-- For the calls of `runs.rt`: the bytes of a run of consecutive words, and the words that a borrow of the run leaves if bytes were written through it.
 use Rattle.std.proofs.Common.{◌≡◌, ℕ, zero, suc, ◌+◌, ◌-◌, ◌*◌, ◌/◌, ◌%◌, ◌^◌, ◌<◌, ◌≤◌, List, length, get_or, set, take, drop, arith}
 use Rattle.std.proofs.Common.{◌∙◌, ap, inl, inr, sym}
 use Rattle.std.specs.Prelude.{◌&&◌, nat_le, nat_lt, if◌then◌else◌}
@@ -34,7 +34,7 @@ byte_shift words first d k le =
     let rest : (k - 8 * d) % 8 ≡ k % 8 = omega arith in
     ap (λ (i : ℕ). byte_of ((k - 8 * d) % 8) (get_or words i 0)) cell ∙ ap (λ (i : ℕ). byte_of i (get_or words (first + k / 8) 0)) rest
 
--- the overwritten byte is the same if the byte below is
+-- if f and g have the same byte k, they still have it after both are overwritten by the same bytes
 pub overwritten_same : (f g : ℕ → ℕ) (at : ℕ) (part : List ℕ) (k : ℕ) → f k ≡ g k → overwritten f at part k ≡ overwritten g at part k
 overwritten_same f g at part k e = ap (λ (z : ℕ). if nat_le at k && nat_lt k (at + length part) then get_or part (k - at) 0 else z) e
 

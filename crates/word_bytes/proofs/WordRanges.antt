@@ -1,4 +1,5 @@
--- For the proofs of other crates: a call of `Region` that clears or moves words does what `Clears` and `MovesWords` say.
+-- For the proofs of other crates: a call of `Region` that clears or moves a range of words is a change of words as the page model defines it (`Clears`,
+-- `MovesWords`).
 use Rattle.std.proofs.Common.{ℕ, ◌+◌, ◌≤◌, List, length}
 use Rattle.page_model.specs.Image.{Clears, IsDisjoint, MovesWords}
 use Rattle.region.specs.Words.{cleared, moved}

@@ -25,8 +25,7 @@ impl Header {
         u64::from(self.handle.0) + u64::from(self.length) * HALF
     }
 
-    /// Returns the two halves of a word, which may be any, as a header. Packing that header returns
-    /// the word.
+    /// Returns the two halves of any word as a header. Packing that header returns the word.
     pub fn unpack(word: u64) -> Header
         ensures number { result.handle.0 ≡ word % 2 ^ 32 }
         ensures length { result.length ≡ word / 2 ^ 32 }

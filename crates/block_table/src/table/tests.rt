@@ -1,10 +1,10 @@
-//! A test of the fields of `BlockTable`.
+//! A test that names each field of `BlockTable` with its type, so that no field is added unseen.
 use super::BlockTable;
 use counted_cells::Cells;
 use std::test::Fail;
 use step_ledger::Meter;
 
-/// Returns the table's entries. The pattern names all three fields; the other two are numbers.
+/// Returns the table's entries. Names each field with its type, so that no field is added unseen.
 fn entries_of(table: &BlockTable) -> &Cells<u32> {
     let BlockTable {
         pages,
@@ -17,7 +17,8 @@ fn entries_of(table: &BlockTable) -> &Cells<u32> {
     frames
 }
 
-/// The entries are in counted cells; the function above names every field with its type.
+/// A new table of 2 pages of 16 blocks has 32 entries in counted cells. In it virtual block 19 is
+/// physical block 19. Reading an entry costs one step.
 #[test]
 fn the_table_has_these_fields_and_no_others(rt: HostRuntime) -> Result<(), Fail> {
     let mut meter = Meter::new(&rt);

@@ -68,7 +68,7 @@ const LINES: [&[u8]; 32] = [
     b"# a comment\n\n",
 ];
 
-/// Most bytes of a random script are of these.
+/// The bytes from which most bytes of a random script are drawn.
 const ALPHABET: &[u8; 30] = b"heapmfwrqbzkst0123456789 \t\r\n\n#";
 
 /// Pseudo-random numbers of SplitMix64; the state begins as the seed.
@@ -108,7 +108,8 @@ fn random_bytes(rt: &HostRuntime, draws: &mut Draws) -> Result<Vec<u8>, Fail> {
     Ok(bytes)
 }
 
-/// Returns a `heap` line and command lines, of which one may be removed, doubled or swapped with another one.
+/// Returns a `heap` line and up to 24 command lines. One of all these lines may then be removed, copied to another
+/// place, or swapped with another one.
 fn damaged_lines(rt: &HostRuntime, draws: &mut Draws) -> Result<Vec<u8>, Fail> {
     let mut lines: Vec<&'static [u8]> = Vec::new(rt.alloc());
     lines.push(HEADS[draws.below(4)])?;
@@ -137,7 +138,7 @@ fn damaged_lines(rt: &HostRuntime, draws: &mut Draws) -> Result<Vec<u8>, Fail> {
     Ok(bytes)
 }
 
-/// Flips one bit of up to two bytes each.
+/// Flips one bit in each of up to two bytes.
 fn flip_bits(bytes: &mut Vec<u8>, draws: &mut Draws) {
     for _i in 0..draws.below(3) {
         if bytes.len() > 0 {
@@ -162,8 +163,8 @@ fn first_lines(script: &[u8], count: usize) -> usize {
     script.len()
 }
 
-/// The outcome of a script: the status, the sink with what was printed, and whether each open manager keeps
-/// its rules afterwards (`keeps`).
+/// The outcome of a script: the status, the sink with what was printed, and whether each open manager passes the
+/// check `keeps_rules` afterwards (`keeps`).
 #[derive(Drop)]
 struct Played {
     status: Status,
@@ -205,8 +206,8 @@ fn bad_line_of(text: &[u8]) -> Option<(&[u8], usize)> {
 }
 
 /// For a script that printed `text` and ended at a bad line: returns whether the last line of `text` is
-/// `bad line N`, and the first N - 1 lines alone, run by `play` with the same `way` and `cuts`, print the rest of
-/// `text` and end with `Done`, and the managers keep their rules.
+/// `bad line N`, and the first N - 1 lines alone print the text before it. These lines are run by `play` with the
+/// same `way` and `cuts`; they must end with `Done`, and the managers must pass the check `keeps_rules`.
 fn names_first_bad(
     rt: &HostRuntime,
     way: usize,
@@ -223,8 +224,9 @@ fn names_first_bad(
     Ok(good.keeps && good.status == Status::Done && good.sink.written() == before)
 }
 
-/// For a script that printed `text` and ended with `Done`: runs it once more by `play`, with a bad line behind
-/// it. Returns whether it then prints `text` and the number of that line, and the managers keep their rules.
+/// For a script that printed `text` and ended with `Done`: runs it once more by `play`, with a bad line added at
+/// its end. Returns whether it then prints `text` and the number of that line, and the managers pass the check
+/// `keeps_rules`.
 fn names_one_more(
     rt: &HostRuntime,
     way: usize,

@@ -37,7 +37,8 @@ const MOVING: StatesByLine = [
     Some((3, Some(64))),
 ];
 
-/// The non-moving manager, whose slots have 24 words: the same line moves it from word 24 to word 64.
+/// The non-moving manager, whose slots have 24 words: the line `f 3` moves the object with handle 1 from word 24 to
+/// word 64.
 const NON_MOVING: StatesByLine = [
     None,
     Some((0, None)),
@@ -56,7 +57,8 @@ const NON_MOVING: StatesByLine = [
     Some((3, Some(64))),
 ];
 
-/// The managers with blocks: five blocks of 24 words fit the region, and at the end no object of a whole page does.
+/// The managers with blocks, which move no object: five blocks of 24 words fit the region of 128 words, and the
+/// last malloc, of a whole page, is refused.
 const BLOCKS: StatesByLine = [
     None,
     Some((0, None)),
@@ -75,8 +77,9 @@ const BLOCKS: StatesByLine = [
     Some((3, Some(24))),
 ];
 
-/// One way to run `MOVE`, and what it leads to: the arguments, the kinds of the managers, the whole output,
-/// the states of each manager, and how often a sink that takes at most 5 bytes a call is called.
+/// One way to run `MOVE`, and what it leads to: the arguments, the kinds of the managers, the whole output, and
+/// in `stands` the states of each manager. `calls` is the number of calls of a sink that takes at most 5 bytes a
+/// call.
 #[derive(Clone, Copy)]
 struct Answers {
     words: &'static [&'static str],
@@ -139,8 +142,8 @@ fn state_of_manager(rt: &HostRuntime, manager: &Boxed) -> Option<ManagerState> {
     }
 }
 
-/// A call that fails, and what is left then. If a call of the source fails, `take` is its number; if a call of
-/// the sink fails, `put` is its number. Both count from 0. Each call of the source that doesn't fail returns 7
+/// A call that fails, and the outcome. If a call of the source fails, `take` is its number; if a call of the
+/// sink fails, `put` is its number. Both count from 0. Each call of the source that doesn't fail returns 7
 /// bytes, or fewer at the end, and each such call of the sink takes at most 5. `written` counts the bytes
 /// written, and `lines` the lines that have taken effect. If a reply was cut, it was that of manager number
 /// `cut`, counted from 0; on the managers after it one line less has taken effect.
@@ -154,7 +157,7 @@ struct Fault {
     cut: usize,
 }
 
-/// Returns the list of the calls that fail: this one, or none.
+/// Returns the list of the numbers of the calls that fail: this one, or no number.
 fn failing(alloc: Global, call: Option<u64>) -> Result<Vec<u64>, AllocError> {
     let mut fails = Vec::new(alloc);
     if let Some(call) = call {
@@ -179,8 +182,8 @@ fn have_states(rt: &HostRuntime, answers: &Answers, managers: &Vec<Boxed>, fault
     true
 }
 
-/// Runs the script `MOVE` with a source or a sink of which one call fails, the one that `fault` names. Returns
-/// whether status, output and managers are then as `fault` says.
+/// Runs the script `MOVE` while the call of the source or of the sink that `fault` names fails. Returns whether
+/// status, output and managers are then as in `fault`.
 fn leaves_so(rt: &HostRuntime, answers: &Answers, fault: &Fault) -> Result<bool, Fail> {
     let alloc = rt.alloc();
     let (chunks, parts) = (vec![in alloc; 7; 16]?, vec![in alloc; 5; 128]?);
@@ -291,7 +294,7 @@ fn ends_at_the_second_line(rt: &HostRuntime) -> Result<bool, Fail> {
     Ok(got.is(Status::ReadFault, b"ok\n"))
 }
 
-/// A line of which only a part was read before a fault takes no effect.
+/// If only the beginning of a line was read before a fault, the line takes no effect.
 #[test]
 fn a_part_of_a_line_is_not_done(rt: HostRuntime) -> Result<(), Fail> {
     assert!(rt; ends_at_the_second_line(&rt)?);

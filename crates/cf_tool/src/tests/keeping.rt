@@ -1,4 +1,5 @@
-//! A check for tests: whether an open manager keeps its rules, worked out from its words and figures.
+//! A check for tests: whether the words of an open manager and its figures agree with each other, for managers
+//! with pages and with blocks.
 ghost use Rattle.std.specs.Prelude.{IsTrue};
 
 use cf_base::Handle;
@@ -31,8 +32,9 @@ fn objects_agree<H: Manager>(heap: &H, header: u32, steps: &mut Steps) -> bool
     live == totals.live && asked == totals.asked
 }
 
-/// For a manager with pages: returns whether each class has as many objects as its full and partly full pages
-/// can hold, none of them empty, and the totals are the sums over the classes.
+/// For a manager with pages: returns whether the totals are the sums over the classes, and the number of live
+/// objects of each class fits its full and partly full pages. On each partly full page at least one slot is
+/// used, and at least one is free.
 fn pages_agree<H: Manager>(heap: &H, steps: &mut Steps) -> bool
     requires { IsTrue (H.state heap.now).is_open }
 {
@@ -60,8 +62,8 @@ fn pages_agree<H: Manager>(heap: &H, steps: &mut Steps) -> bool
     live == totals.live && pages == totals.used && taken == totals.taken
 }
 
-/// For a manager with blocks: returns whether the blocks fill the region, each with the size of the block
-/// before it in its header, no two neighbours are free, and the totals are the sums over the blocks.
+/// For a manager with blocks: returns whether the blocks fill the region, no two neighbours are free, and the
+/// totals are the sums over the blocks. The header of each block must have the size of the block before it.
 fn blocks_agree<H: Manager>(heap: &H, steps: &mut Steps) -> bool
     requires { IsTrue (H.state heap.now).is_open }
 {
@@ -96,7 +98,7 @@ fn blocks_agree<H: Manager>(heap: &H, steps: &mut Steps) -> bool
     used == totals.used && free == totals.free && largest == totals.largest && used == totals.live
 }
 
-/// Returns whether an open manager keeps its rules, as its words and figures show.
+/// Returns whether the words of an open manager and its figures agree, by the functions above.
 pub fn keeps_rules<H: Manager>(rt: &HostRuntime, heap: &H) -> bool
     requires { IsTrue (H.state heap.now).is_open }
 {

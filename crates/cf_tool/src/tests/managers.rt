@@ -1,5 +1,6 @@
-//! Tests with managers that the caller passes in: what modes `run`, `compare` and `bench` print, and which
-//! objects these managers have afterwards. And `save` and `load` undo each other.
+//! Tests with managers that the caller passes in: what modes `run`, `compare` and `bench` print, and how many
+//! live objects these managers have afterwards. One more test: `load` prints again the script whose image `save`
+//! wrote.
 
 use super::rows::{MOVE, MOVED};
 use super::{OutputOn, answer_with, answered, answered_on, failing_sink};
@@ -46,7 +47,7 @@ static CASES: [Case; 16] = [
         live: &[None, Some(3)],
     },
     Case {
-        shows: "one is made where none is of the kind",
+        shows: "a manager is made if none of the kind is passed in",
         words: &["run", "--manager", "nm"],
         managers: &[Kind::Moving],
         script: b"heap 1 512 1 4\nm 1 8\nb 1 0\n",
@@ -55,7 +56,7 @@ static CASES: [Case; 16] = [
         live: &[None],
     },
     Case {
-        shows: "no manager is handed in",
+        shows: "no manager is passed in",
         words: &[],
         managers: &[],
         script: MOVE,
@@ -91,7 +92,7 @@ static CASES: [Case; 16] = [
         live: &[Some(2), Some(2)],
     },
     Case {
-        shows: "nothing is printed where none is handed in to compare",
+        shows: "compare prints nothing if no manager is passed in",
         words: &["compare"],
         managers: &[],
         script: MOVE,
@@ -224,8 +225,9 @@ fn what_is_saved_is_loaded_as_its_script(rt: HostRuntime) -> Result<(), Fail> {
     Ok(())
 }
 
-/// For two managers side by side: the number of the sink's call that fails, what was written by then, and
-/// how many live objects each manager has.
+/// For the script of `answered_until`, a `heap` line, a malloc and a bad line, on two managers side by side: the
+/// number of the sink's call that fails, counted from 0, what was written by then, and how many live objects each
+/// manager has. The `heap` line opens all managers before its first reply.
 const CUTS: [(u64, &'static [u8], [Option<u32>; 2]); 5] = [
     (0, b"", [Some(0), Some(0)]),
     (1, b"cf ok\n", [Some(0), Some(0)]),
@@ -234,7 +236,8 @@ const CUTS: [(u64, &'static [u8], [Option<u32>; 2]); 5] = [
     (4, b"cf ok\nnm ok\ncf ok\nnm ok\n", [Some(1), Some(1)]),
 ];
 
-/// Runs a script of two commands on two managers side by side, while this call of the sink fails.
+/// Runs a script of a `heap` line, a malloc and a bad line on two managers side by side, while this call of the
+/// sink fails.
 fn answered_until(rt: &HostRuntime, call: u64) -> Result<OutputOn, Fail> {
     let mut sink = failing_sink(rt, call)?;
     let mut source = SureSource::new(b"heap 1 512 1 4\nm 1 8\nx\n".to_vec(rt.alloc())?);
@@ -259,7 +262,7 @@ fn a_cut_stops_between_two_managers(rt: HostRuntime) -> Result<(), Fail> {
     Ok(())
 }
 
-/// Returns a script of a `heap` line and the first `count` commands that the generator makes of the seed.
+/// Returns a script of a `heap` line and then the first `count` commands that the generator draws from `seed`.
 fn generated_script(rt: &HostRuntime, seed: u64, count: u32) -> Result<Vec<u8>, Fail> {
     let mut script = b"heap 1024 16384 1 4096\n".to_vec(rt.alloc())?;
     let mut generator = Generator::new(seed);
@@ -273,11 +276,11 @@ fn generated_script(rt: &HostRuntime, seed: u64, count: u32) -> Result<Vec<u8>, 
     Ok(script)
 }
 
-/// The lead of each line of the four managers.
+/// The lead of each manager's lines in mode `compare`, in the order of the managers.
 const NAMES: [&[u8]; 4] = [b"cf ", b"nm ", b"tlsf ", b"half "];
 
-/// Returns how many lines four managers printed; `None` unless all printed the same replies, none of them
-/// `refused space`.
+/// Returns how many lines `text` has, the output of four managers that take turns; `None` unless all four printed
+/// the same replies, none of them `refused space`.
 fn lines_alike(text: &[u8]) -> Option<u32> {
     let mut count = 0u32;
     let mut reply: &[u8] = b"";
@@ -294,7 +297,7 @@ fn lines_alike(text: &[u8]) -> Option<u32> {
     Some(count)
 }
 
-/// Returns a sink that takes every chunk whole, and can hold a long text.
+/// Returns a sink whose every call takes all bytes that it is passed, and that can hold 1,048,576 bytes.
 fn wide_sink(rt: &HostRuntime) -> Result<MemSink, Fail> {
     let alloc = rt.alloc();
     let sink = MemSink::new(alloc, 1 << 20, Vec::new(alloc), Vec::new(alloc)).map_err(|_| "room")?;
@@ -309,16 +312,16 @@ fn compared(rt: &HostRuntime, script: Vec<u8>) -> Result<OutputOn, Fail> {
     Ok(OutputOn { left, sink })
 }
 
-/// Returns whether four managers run a generated script to its end, and print the same replies, `lines` lines
-/// in all.
+/// Returns whether four managers run a generated script of 3,000 commands to its end, and print the same replies,
+/// `lines` lines in all.
 fn prints_alike(rt: &HostRuntime, lines: u32) -> Result<bool, Fail> {
     let script = generated_script(rt, 1, 3_000)?;
     let got = compared(rt, script)?;
     Ok(got.left.status == Status::Done && lines_alike(got.sink.written()) == Some(lines))
 }
 
-// 3,000 commands and the `heap` line: the four managers print the same replies, since no malloc is
-// refused space.
+// 3,000 commands and the `heap` line: each of the four managers prints the same 3,001 replies, since no malloc
+// is refused space. So there are 12,004 lines.
 #[test]
 fn four_managers_answer_a_long_script_alike(rt: HostRuntime) -> Result<(), Fail> {
     assert!(rt; prints_alike(&rt, 12_004)?);

@@ -11,15 +11,15 @@ use cf_io::{MemSink, MemSource};
 use std::test::Fail;
 use top_call::cf_main;
 
-/// How a mode is tried: the arguments, the input, the output if no call fails, and whether each line of the
-/// input gets one line of output (else the output comes at the end).
+/// How a mode is tried: the arguments, the input, and the output if no call fails. The last field is true if each
+/// line of the input gets one line of output; it is false if the output is written at the end.
 type Case = (&'static [&'static str], &'static [u8], &'static [u8], bool);
 
 /// The first script of `LARGES` without its last line, whose reply has three lines.
 const LARGE: &[u8] =
     b"heap 4 512 1 16\nm 1 1000\nm 2 505\nm 3 505\nw 1 500 0102030405060708\nr 1 500 8\nr 1 996 5\nf 1\nm 3 505\n";
 
-/// Their replies.
+/// The replies to `LARGE`.
 const LARGE_REPLIES: &[u8] = b"ok\nok\nok\nrefused space\nok\n=0102030405060708\nrange\nok\nok\n";
 
 /// Returns a case for each of five modes.
@@ -47,8 +47,8 @@ struct Ended {
     stopped: bool,
 }
 
-/// Runs a case on a source that returns 7 bytes a call and a sink that takes 5. Call number `take` of the
-/// source and call number `put` of the sink fail.
+/// Runs a case on a source that returns at most 7 bytes a call and a sink that takes at most 5. Call number `take`
+/// of the source and call number `put` of the sink fail, both counted from 0.
 fn played(rt: &HostRuntime, case: &Case, take: u64, put: u64) -> Result<Ended, Fail> {
     let alloc = rt.alloc();
     let (words, read, _, _) = *case;
@@ -83,7 +83,7 @@ fn played(rt: &HostRuntime, case: &Case, take: u64, put: u64) -> Result<Ended, F
     })
 }
 
-/// In place of the number of a call: no call of that device fails.
+/// For `take` or `put` of `played`, if no call of the source or of the sink is to fail.
 const NEVER: u64 = u64::MAX;
 
 /// Returns the first `count` lines of a text.
@@ -138,8 +138,8 @@ fn read_faults(rt: &HostRuntime, case: &Case) -> Result<Option<u64>, Fail> {
     Ok(None)
 }
 
-/// The same of the sink: returns the number of calls that failed, `None` if a run has a wrong outcome. Each
-/// failed call must leave a longer prefix of the text than the one before.
+/// As `read_faults`, for the sink: returns the number of calls that failed, `None` if a run has a wrong outcome.
+/// Each failed call must leave a longer prefix of the text than the failed call of the run before.
 fn write_faults(rt: &HostRuntime, case: &Case) -> Result<Option<u64>, Fail> {
     let (_, _, text, _) = *case;
     let mut shorter = 0;
@@ -162,8 +162,8 @@ fn write_faults(rt: &HostRuntime, case: &Case) -> Result<Option<u64>, Fail> {
     Ok(None)
 }
 
-/// Each call of the source and of the sink fails in turn, and ends the run. A script of n bytes takes n / 7
-/// calls of the source, rounded up, and one that finds the end.
+/// Each call of the source and of the sink fails in turn, and ends the run. The source returns 7 bytes a call, so
+/// a script of n bytes takes n / 7 calls, rounded up, and one more that finds the end.
 #[test]
 fn each_fault_ends_the_run_in_the_other_modes(rt: HostRuntime) -> Result<(), Fail> {
     for case in cases() {

@@ -1,5 +1,5 @@
-//! Tests with a padded manager: each of its mallocs, frees and resizes counts extra steps until it has its
-//! step bound less a slack. The command `steps` must print just this count.
+//! Tests with a padded manager: each of its mallocs, frees and resizes counts extra steps, until its steps are
+//! its step bound less a slack. The command `steps` must print exactly this count.
 ghost use Rattle.std.specs.Prelude.{◌≡◌, ◌≤◌, ◌+◌, ◌^◌, None};
 ghost use Rattle.step_ledger.specs.Counting.{RoseAtMost};
 ghost use Rattle.cf_base.specs.declared.kind.Kind.TheVariants.{Moving};
@@ -209,8 +209,8 @@ fn prints_in(
     Ok(status == Status::Done && sink.written() == text)
 }
 
-/// Returns whether a script on a padded manager with this slack prints this text in mode `run`, and in mode
-/// `compare` the same with the manager's name before each line.
+/// Returns whether a script on a padded manager with this slack prints this text in mode `run`. Mode `compare`
+/// must print the same, with the manager's name before each line.
 fn prints_padded(rt: &HostRuntime, slack: u64, script: &[u8], text: &[u8]) -> Result<bool, Fail> {
     let beside = led(rt, b"cf ", text)?;
     let is_beside = prints_in(rt, "compare", slack, script, beside.as_slice())?;
@@ -219,7 +219,7 @@ fn prints_padded(rt: &HostRuntime, slack: u64, script: &[u8], text: &[u8]) -> Re
 
 /// The reply to `steps` has exactly the steps that the padded manager added, and their bound.
 #[test]
-fn each_steps_line_shows_the_steps_of_the_manager_handed_in(rt: HostRuntime) -> Result<(), Fail> {
+fn each_steps_line_shows_the_steps_of_the_manager_passed_in(rt: HostRuntime) -> Result<(), Fail> {
     for (slack, calls, resizes) in PADDED {
         assert!(rt; prints_padded(&rt, slack, PADDED_CALLS, calls)?, "{slack}");
         assert!(rt;

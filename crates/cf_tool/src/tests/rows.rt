@@ -1,5 +1,5 @@
-//! Scripts of mode `run`, with the status and the replies of each, worked out by hand; and scripts whose replies
-//! have counts of steps, on heaps of this repository and on the padded managers of `padded`.
+//! Scripts of mode `run`, with the status and the replies of each, worked out by hand (`ROWS`); and scripts whose
+//! replies have counts of steps, on heaps of this repository (`STEPS`) and on the managers of `padded` (`PADDED`).
 
 use cf_base::Status;
 
@@ -14,7 +14,8 @@ pub const MOVED: &[u8] =
 /// A script on the moving manager: what it shows, the script, the status, and what is printed.
 pub type Row = (&'static str, &'static [u8], Status, &'static [u8]);
 
-/// The scripts whose replies are known beforehand.
+/// Scripts whose replies have no count of steps. Objects of 176 bytes take slots of 23 words, two to a page of 512
+/// bytes; an object of 504 bytes fills such a page.
 pub static ROWS: [Row; 30] = [
     (
         "an object reads as zeros",
@@ -90,7 +91,7 @@ pub static ROWS: [Row; 30] = [
         b"ok\nok\nok\nok\nok\n=0000000000000000\n",
     ),
     (
-        "commands said twice",
+        "a malloc of a live id, and commands of a freed one",
         b"heap 1 512 1 4\nm 1 8\nm 1 8\nf 1\nf 1\nr 1 0 0\nw 1 0 00\nq 1\n",
         Status::Done,
         b"ok\nok\nlive\nok\nunknown\nunknown\nunknown\nunknown\n",
@@ -194,9 +195,9 @@ pub static ROWS: [Row; 30] = [
 ];
 
 /// Scripts whose output contains a count of steps: the arguments, the script, the text before the count, its
-/// least and its greatest value, and the text after it. The last call of the first and of the third script
-/// clears a slot of 23 words, that of the last script a slot of 24 words: at least a step a word. The greatest
-/// value is the step bound.
+/// least and its greatest value, and the text after it. The greatest value is the step bound. In the first and
+/// the third script the call that `steps` reports clears a slot of 23 words, in the last one a slot of 24 words.
+/// So it takes at least one step for each of these words.
 pub const STEPS: [(&[&str], &[u8], &[u8], u32, u32, &[u8]); 4] = [
     (
         &[],
@@ -243,9 +244,9 @@ pub const PADDED_RESIZES: &[u8] =
     b"heap 3 512 1 8\nm 1 176\nm 2 176\nm 3 176\nz 1 504\nsteps\nz 2 175\nsteps\nz 1 505\nsteps\n";
 
 /// In each row: the slack of a padded manager, what `PADDED_CALLS` prints on it, and what `PADDED_RESIZES`
-/// prints. Each call stops the slack's number of steps below its bound. The bounds are 64 for a malloc; 142
-/// for a free of a slot of 23 words; 352 for a resize to 64 words, 229 for one within 23 words, and 160 for a
-/// refused one.
+/// prints. Each call takes exactly its bound less the slack, in steps. The bounds are 64 for a malloc; 142 for a
+/// free of a slot of 23 words; 352 for a resize to 64 words, 229 for one within 23 words, and 160 for a refused
+/// one.
 pub const PADDED: [(u64, &[u8], &[u8]); 4] = [
     (
         0,

@@ -6,16 +6,16 @@ use cf_base::Failed;
 use cf_io::{Sink, Source};
 use std::cell::Cell;
 
-/// What the source and the sink of one call have done so far.
+/// What the source and the sink of one call of `cf_main` have done so far.
 #[derive(Drop)]
 pub struct Log {
-    /// The line feeds that the sink took.
+    /// The number of line feeds that the sink took.
     lines: Cell<u64>,
-    /// A call of the source or the sink has failed.
+    /// Whether a call of the source or the sink has failed.
     failed: Cell<bool>,
-    /// The calls of the source and the sink after the first that failed.
+    /// The number of calls of the source and the sink after the first that failed.
     after: Cell<u64>,
-    /// A chunk was taken before the replies to all chunks before it were put.
+    /// Whether a chunk was read before the replies to all earlier chunks were written.
     early: Cell<bool>,
 }
 

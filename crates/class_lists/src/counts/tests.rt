@@ -1,4 +1,5 @@
-//! A test of the fields of `Counts`.
+//! A test that names each field of `Counts`, the lengths of the page lists, so that no field is
+//! added unseen.
 use super::Counts;
 use crate::Which;
 use std::test::Fail;

@@ -32,9 +32,9 @@ fn puts_each<K: Sink>(rt: &impl Abort, sink: &mut K, wanted: &[(&[u8], Result<us
     }
 }
 
-// `MemSource` follows its schedule. Calls 0 and 1 return one byte each: `cuts` has 1 and 0, and no call
-// with bytes left returns less than one. Call 2 is in `fails`, and leaves the buffer. The other calls
-// return what fits. After the last byte a call returns 0.
+// `MemSource` follows its schedule. Calls 0 and 1 return one byte each: `cuts` has 1 and 0, and 0 counts as
+// 1. Call 2 is in `fails`, and leaves the buffer unchanged; call 9, also in `fails`, isn't made. Call 3 has
+// an empty buffer. The other calls return what fits. After the last byte a call returns 0.
 #[test]
 fn a_source_fails_and_is_cut_as_planned(rt: HostRuntime) -> Result<(), Fail> {
     let alloc = rt.alloc();
@@ -60,8 +60,8 @@ fn a_source_fails_and_is_cut_as_planned(rt: HostRuntime) -> Result<(), Fail> {
     Ok(())
 }
 
-// `SureSource` and `StdSource` fill each buffer until their bytes end, and then return 0. `LoopSource`
-// starts its pattern again in each call, and never ends.
+// `SureSource` and `StdSource` fill each buffer until their bytes end, and then return 0. `LoopSource` never
+// ends: it repeats its pattern, and each call continues where the call before ended.
 #[test]
 fn other_sources_give_what_they_have(rt: HostRuntime) -> Result<(), Fail> {
     let alloc = rt.alloc();
@@ -90,7 +90,7 @@ fn other_sources_give_what_they_have(rt: HostRuntime) -> Result<(), Fail> {
 }
 
 // A `MemSink` with room for two bytes writes two of three, and fails when no room is left; a call without
-// bytes doesn't fail. `NullSink` accepts all.
+// bytes doesn't fail. `NullSink` accepts all bytes.
 #[test]
 fn sinks_take_what_they_have_room_for(rt: HostRuntime) -> Result<(), Fail> {
     let alloc = rt.alloc();
@@ -107,7 +107,7 @@ fn sinks_take_what_they_have_room_for(rt: HostRuntime) -> Result<(), Fail> {
 }
 
 // `MemSink` follows its schedule, and `put_all` calls it until all bytes are written or a call fails. Call
-// 0 writes one byte of `one`, and call 1 fails, so `put_all` does. Call 2 writes all of `two`.
+// 0 writes one byte of `one`, and call 1 fails, so `put_all` fails. Call 2 writes all of `two`.
 #[test]
 fn a_sink_fails_and_is_cut_as_planned(rt: HostRuntime) -> Result<(), Fail> {
     let alloc = rt.alloc();
@@ -119,8 +119,8 @@ fn a_sink_fails_and_is_cut_as_planned(rt: HostRuntime) -> Result<(), Fail> {
     Ok(())
 }
 
-/// A reader and writer of std for tests. Each call reads or writes at most `moves` bytes; without a number
-/// each call fails. A flush fails unless `flushes` is set.
+/// A reader and writer of std for tests. Each call reads or writes at most `moves` bytes; if `moves` is
+/// `None`, each call fails. A flush fails unless `flushes` is true.
 #[derive(Drop)]
 struct Pipe {
     moves: Option<usize>,
@@ -150,7 +150,7 @@ impl Write for Pipe {
         Ok(self.turn(buf.len())?.min(buf.len()))
     }
 
-    // Fails unless `flushes` is set.
+    // Fails unless `flushes` is true.
     fn flush(&mut self) -> io::Result<()> {
         if self.flushes {
             Ok(())

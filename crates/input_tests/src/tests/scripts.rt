@@ -108,8 +108,8 @@ static SCRIPTS: [(&str, &str); 60] = [
 ];
 
 /// Long scripts: a beginning, a byte that is repeated, how often, an end, and the items. A line has at most
-/// 9,000 bytes with its line feed, or 8,999 without one at the end of the script; a write has at most 4,096
-/// bytes.
+/// 8,999 bytes, its carriage return counted, its line feed not; a write has at most 4,096 bytes. A last line
+/// `x` is bad, so `bad 2` shows that line 1 was accepted, and `bad 1` that it was too long.
 static LONG_SCRIPTS: [(&str, u8, usize, &str, &str); 12] = [
     ("#", b'x', 8_998, "\nx", "bad 2;"),
     ("#", b'x', 8_999, "\nx", "bad 1;"),
@@ -190,7 +190,8 @@ fn shown_command(alloc: Global, command: &Command) -> Result<String, AllocError>
     }
 }
 
-/// Takes the items that the reader has, and appends each to the text. Returns whether a line was bad.
+/// Takes the items that the reader has, at most 100, and appends each to the text. Returns whether a line was
+/// bad.
 fn drain(alloc: Global, reader: &mut Reader, text: &mut String) -> Result<bool, AllocError>
     ensures { reader.new.ended ≡ reader.old.ended }
 {
@@ -206,8 +207,8 @@ fn drain(alloc: Global, reader: &mut Reader, text: &mut String) -> Result<bool, 
     Ok(false)
 }
 
-/// The items, as text, that a reader returns for the script in chunks of `size` bytes. `feed` may take just
-/// a part of a chunk; the rest is fed after the items that are read from it.
+/// The items, as text, that a reader returns for the script in chunks of `size` bytes. `feed` may take just a
+/// prefix of a chunk; the rest of the chunk is fed after the items of the prefix were read.
 fn read(alloc: Global, script: &[u8], size: usize) -> Result<String, AllocError>
     requires { 0 < size }
 {
@@ -252,7 +253,8 @@ fn scripts_are_read_alike_in_every_cut(rt: HostRuntime) -> Result<(), Fail> {
     Ok(())
 }
 
-// `Payload::new` makes the bytes of a write from 1 to 4,096 bytes, and returns none for 0 or more than that.
+// `Payload::new` makes the bytes of a write from 1 to 4,096 bytes, and returns none for 0 bytes and for more
+// than 4,096.
 #[test]
 fn payloads_have_1_to_4096_bytes(rt: HostRuntime) {
     let bytes = [7; 4097];

@@ -12,7 +12,7 @@ use std::test::Fail;
 use step_ledger::Meter;
 use test_support::{Draw, Wrong, hold};
 
-/// The bytes of a full part, on pages of 512 bytes.
+/// The bytes of a whole part, on pages of 512 bytes.
 const PART: u32 = 504;
 
 /// The proxies of the heap.

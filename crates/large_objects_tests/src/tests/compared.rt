@@ -17,7 +17,7 @@ pub struct Shape {
     pub pages: u32,
     /// The bytes of a page.
     pub page_bytes: u32,
-    /// The bytes of a full part: those of a page but for the header.
+    /// The bytes of a whole part: those of a page but for the header.
     pub part_bytes: u32,
     /// The number of proxies.
     pub proxies: u32,
@@ -36,7 +36,7 @@ pub struct Compared<H: Manager> {
     sizes: Vec<u32>,
     /// The expected objects by handle.
     pub objects: Objects<()>,
-    /// How often a free was refused although the manager below has an object of that handle: a part.
+    /// How often a free was refused because its handle was that of a part.
     pub refused_part_frees: u32,
 }
 
@@ -62,7 +62,7 @@ impl<H: Manager> Compared<H> {
         })
     }
 
-    /// The lengths in bytes of all inner objects that the manager below must have.
+    /// The lengths in bytes of all inner objects that the inner manager must have.
     fn inner_lengths(&self) -> Result<Vec<u32>, Wrong> {
         let mut inner = Vec::new(self.alloc);
         let lengths = self.objects.lengths_at(|_place| true)?;
@@ -72,9 +72,9 @@ impl<H: Manager> Compared<H> {
         Ok(inner)
     }
 
-    /// Why a malloc of `bytes` bytes must be refused; none if it must succeed. The cause is `Size` if its
-    /// spine is longer than a part; else `Proxy` if all inner objects are more than the proxies; else
-    /// `Space` if they need more pages than there are.
+    /// Why a malloc of `bytes` bytes must be refused; none if it must succeed. The cause is `Size` if the
+    /// object's spine would be longer than a whole part; else `Proxy` if there would be more inner objects than
+    /// proxies; else `Space` if they would need more pages than there are.
     fn refusal(&self, bytes: u32) -> Result<Option<Refusal>, Wrong> {
         let mut lengths = self.inner_lengths()?;
         let last = push_inner(&mut lengths, self.shape.part_bytes, bytes)?;
@@ -89,8 +89,8 @@ impl<H: Manager> Compared<H> {
         })
     }
 
-    /// Makes an object of `bytes` bytes in the heap, and adds the expected one. Fails unless the heap
-    /// refuses it exactly if it must, and for that cause. Returns the heap's result.
+    /// Makes an object of `bytes` bytes in the heap, and adds the expected one. The heap must refuse it if and
+    /// only if `refusal` returns a cause, and for this cause; else this fails. Returns the heap's result.
     pub fn malloc(&mut self, bytes: u32) -> Result<Result<Handle, Refusal>, Wrong> {
         let want = self.refusal(bytes)?;
         let answer = self.driver.malloc(bytes)?;
@@ -105,21 +105,21 @@ impl<H: Manager> Compared<H> {
     /// only if no object has the handle; else this fails. A long object has the handle of its spine; those of
     /// its parts name no object.
     pub fn free(&mut self, h: Handle) -> Result<(), Wrong> {
-        let is_part = self.is_part(h)?;
+        let has_inner_object = self.has_inner_object(h)?;
         let answer = self.driver.free(h)?;
         let is_object = self.objects.take(h.0).is_some();
         hold(
             answer.is_ok() == is_object,
             Wrong::Differs("whether a free was refused"),
         )?;
-        if is_part && !is_object {
+        if has_inner_object && !is_object {
             self.refused_part_frees = self.refused_part_frees.saturating_add(1);
         }
         Ok(())
     }
 
-    /// Whether the manager below has an inner object of this handle: an object, a spine or a part.
-    fn is_part(&mut self, h: Handle) -> Result<bool, Wrong> {
+    /// Whether the inner manager has an object of this handle: a short object, a spine or a part.
+    fn has_inner_object(&mut self, h: Handle) -> Result<bool, Wrong> {
         let inner = self.driver.heap.inner();
         if !inner.is_open() {
             return Err(Wrong::Closed);
@@ -127,8 +127,9 @@ impl<H: Manager> Compared<H> {
         Ok(inner.place(h, self.driver.meter.steps()).is_some())
     }
 
-    /// Writes the bytes from byte `at` on, into the heap and into the expected object. Fails unless the heap
-    /// refuses the write exactly if it must, and for the same cause.
+    /// Writes the bytes from byte `at` on, into the heap and into the expected object. The heap must refuse the
+    /// write if and only if no object has the handle (`Unknown`) or the bytes pass its end (`Range`); else this
+    /// fails.
     pub fn write(&mut self, h: Handle, at: u32, bytes: &[u8]) -> Result<(), Wrong> {
         let answer = self.driver.write(h, at, bytes)?;
         self.objects.written(h.0, at, bytes, answer)
@@ -143,8 +144,8 @@ impl<H: Manager> Compared<H> {
     }
 
     /// Fails unless a read of every expected object returns all its bytes, and an empty read of every other
-    /// handle is refused. Then fails unless the manager below has as many inner objects and as many pages in
-    /// use as the expected objects need.
+    /// handle is refused. Then fails unless the inner manager has the number of objects and of pages in use
+    /// that the expected objects need.
     pub fn compare(&mut self) -> Result<(), Wrong> {
         for number in 0..self.shape.proxies {
             let length = self.objects.length(number).unwrap_or(0);
@@ -164,10 +165,10 @@ impl<H: Manager> Compared<H> {
     }
 }
 
-/// Adds the lengths of the inner objects that an object of `bytes` bytes has, if a full part has
-/// `part_bytes`. An object of at most one part is its own inner object. A longer one has its parts, and
-/// at last its spine, with four bytes for each part. Returns the length that was added last, which is that of
-/// the spine if there is one. Fails if `part_bytes` is 0.
+/// Adds the lengths of the inner objects that an object of `bytes` bytes has, if a whole part has `part_bytes`.
+/// An object of at most one part is its own inner object. A longer one has its parts, and at last its spine,
+/// with four bytes for each part. Returns the length that was added last, which is that of the spine if there
+/// is one. Fails if `part_bytes` is 0.
 fn push_inner(lengths: &mut Vec<u32>, part_bytes: u32, bytes: u32) -> Result<u32, Wrong> {
     if part_bytes == 0 {
         return Err(Wrong::OutOfRange);

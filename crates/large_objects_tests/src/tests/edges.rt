@@ -15,10 +15,10 @@ use test_support::Wrong;
 /// Three page sizes: the bytes of a page, and those of a part, which fills a page with its header.
 static PAGES: [(u32, u32); 3] = [(512, 504), (4_096, 4_088), (131_072, 131_064)];
 
-/// Makes an object of five parts and seven bytes on pages of this size, and reads and writes around each
-/// edge and over several parts. Fails if a result differs from that of a plain list of bytes (`Compared`).
-/// `inner` is the manager that holds the parts, `page` a row of `PAGES`, and `layout` the slot sizes that the
-/// manager has: `Words` for the moving one, `Blocks` for the non-moving one.
+/// Makes an object of five whole parts and one of seven bytes on pages of this size, and reads and writes
+/// around each edge and over several parts. Fails if a result differs from that of a plain list of bytes
+/// (`Compared`). `inner` is the manager that holds the parts, `page` a row of `PAGES`, and `layout` the slot
+/// sizes that the manager has: `Words` for the moving one, `Blocks` for the non-moving one.
 fn across_edges<H: Manager>(
     alloc: Global,
     inner: H,
@@ -52,8 +52,9 @@ fn across_edges<H: Manager>(
     both.compare()
 }
 
-/// Writes eight bytes across the edge before byte `edge`, then from it on, then up to it. Then reads up to
-/// six bytes from each of the six bytes around it.
+/// Writes eight bytes across the edge before byte `edge`, then from this byte on, then up to it. Then reads up
+/// to six bytes from each of the six bytes around the edge. After the last edge the object has seven bytes, so
+/// a write and a read there pass its end, and must be refused.
 fn around_edge<H: Manager>(both: &mut Compared<H>, h: Handle, edge: u32) -> Result<(), Wrong>
     requires first { 16 ≤ edge }
     requires last { edge ≤ 5000000 }
@@ -70,9 +71,9 @@ fn around_edge<H: Manager>(both: &mut Compared<H>, h: Handle, edge: u32) -> Resu
     Ok(())
 }
 
-/// Writes from the last byte of the first part over two whole parts into the fourth, and reads around that.
-/// Then reads up to the last byte of the object. The last read and the last write pass its end, and must be
-/// refused.
+/// Writes from the last byte of the first part, over two whole parts, up to the second byte of the fourth. Then
+/// reads the same number of bytes from one byte earlier on, and reads up to the last byte of the object. The
+/// last read and the last write pass its end, and must be refused.
 fn over_many<H: Manager>(
     alloc: Global,
     both: &mut Compared<H>,

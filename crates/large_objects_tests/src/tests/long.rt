@@ -1,4 +1,5 @@
-//! One object of 60,000,000 bytes, written and read in chunks, and then read across each edge of its parts.
+//! One object of 60,000,000 bytes, written and read in chunks of 4,096 bytes, and then read across each edge
+//! between its parts.
 ghost use Rattle.std.specs.Prelude.{◌≡◌, ◌≤◌, ◌<◌, length};
 ghost use Rattle.cf_model.specs.Families.{IsPaged};
 

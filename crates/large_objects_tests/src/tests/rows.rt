@@ -30,14 +30,14 @@ enum Call {
     NotLive(usize),
     /// A write of the eight bytes into the object with this id, from this byte on.
     Write(usize, u32),
-    /// A read that must find them there.
+    /// A read of eight bytes of the object with this id, from this byte on, which must return the eight bytes.
     Read(usize, u32),
     /// A read of five bytes of the object with this id, from this byte on, which fails with this fault.
     Fault(usize, u32, AccessFault),
-    /// The figures of the manager's class with slots of this many words: the slots of a page, the live inner
-    /// objects, the pages, and the partly full pages.
+    /// The figures of the inner manager's class with slots of this many words: the slots of a page, the live
+    /// inner objects, the pages, and the partly full pages.
     Class(u32, [u32; 4]),
-    /// Of the manager below: the live inner objects, the pages in use, and the free pages.
+    /// Of the inner manager: the live inner objects, the pages in use, and the free pages.
     Totals([u32; 3]),
 }
 
@@ -47,12 +47,13 @@ struct Row {
     calls: &'static [Call],
 }
 
-/// The first three rows do the same on pages of 512 bytes, 4 KiB and 128 KiB: a part has 504, 4,088 and
-/// 131,064 bytes. Of the four pages, object 0 of two parts has two. Its spine is on a third, which it
-/// shares with other spines and with parts of one byte. Object 1 is one byte longer than a part, so it has
-/// the fourth page. A second such object is refused until object 0 is freed. The eight bytes are written
-/// over the end of the first part. At the end two objects have six inner ones: two full parts, two parts of
-/// one byte, and two spines.
+/// The first three rows make the same objects on four pages of 512 bytes, 4 KiB and 128 KiB: a whole part has
+/// 504, 4,088 and 131,064 bytes. The two parts of object 0 have a page each. Its spine is on a third page, with
+/// the other spines and the parts of one byte. Object 1 is one byte longer than a whole part, which has the
+/// fourth page. A second such object is refused until object 0 is freed. The eight bytes are written across the
+/// end of the first part of object 0, and a read that passes its end by one byte fails. In the first row a
+/// second free of object 0, and a read after it, fail too. At the end two objects have six inner ones: two
+/// whole parts, two parts of one byte, and two spines.
 static ROWS: [Row; 9] = [
     Row {
         settings: [4, 512, 16],
@@ -104,8 +105,8 @@ static ROWS: [Row; 9] = [
             Call::Totals([6, 3, 1]),
         ],
     },
-    // The longest object on pages of 512 bytes: 126 parts, and a spine of four bytes for each, which fills a
-    // page too. With one byte more the spine would be longer than a page.
+    // The longest object on pages of 512 bytes: 126 parts of 504 bytes, and a spine of four bytes for each, so
+    // of 504 too. They use 127 of 200 pages. With one byte more the spine would be longer than a page.
     Row {
         settings: [200, 512, 512],
         calls: &[
@@ -114,7 +115,8 @@ static ROWS: [Row; 9] = [
             Call::Totals([127, 127, 73]),
         ],
     },
-    // The longest object on pages of 4 KiB: 1,022 parts and the spine use all proxies.
+    // The longest object on pages of 4 KiB: its 1,022 parts of 4,088 bytes and its spine use all 1,023 proxies,
+    // and a page each.
     Row {
         settings: [1_024, 4_096, 1_023],
         calls: &[
@@ -124,8 +126,8 @@ static ROWS: [Row; 9] = [
             Call::Totals([1_023, 1_023, 1]),
         ],
     },
-    // The longest object on pages of 128 KiB, 32,766 parts and a spine: there are proxies, but not pages
-    // enough.
+    // The longest object on pages of 128 KiB has 32,766 parts of 131,064 bytes and a spine: there are enough
+    // proxies for them, but only eight pages.
     Row {
         settings: [8, 131_072, 32_767],
         calls: &[
@@ -133,7 +135,7 @@ static ROWS: [Row; 9] = [
             Call::Refused(4_294_443_025, Refusal::Size),
         ],
     },
-    // If both proxies and pages are too few, the proxies are the cause.
+    // The same with one proxy fewer: proxies and pages are too few, and the proxies are the cause.
     Row {
         settings: [8, 131_072, 32_766],
         calls: &[
@@ -141,7 +143,8 @@ static ROWS: [Row; 9] = [
             Call::Refused(4_294_443_025, Refusal::Size),
         ],
     },
-    // Two parts and a spine need three proxies. Of two proxies none is used by the refused malloc.
+    // An object of 505 bytes needs three proxies, for two parts and a spine. There are two, and the refused
+    // malloc uses none.
     Row {
         settings: [4, 512, 2],
         calls: &[
@@ -150,7 +153,7 @@ static ROWS: [Row; 9] = [
             Call::Malloc(0, 504),
         ],
     },
-    // Of three proxies none is left.
+    // With three proxies that object is made, and none is left for an object of 0 bytes.
     Row {
         settings: [4, 512, 3],
         calls: &[
@@ -161,8 +164,7 @@ static ROWS: [Row; 9] = [
     },
 ];
 
-/// The error of a call that returned something else: the index of its row, its index in the row, and the
-/// result.
+/// The error of a call with a wrong result: the index of its row, its index in the row, and what was wrong.
 #[derive(Debug, Drop)]
 struct Failure {
     row: usize,
@@ -170,8 +172,8 @@ struct Failure {
     wrong: Wrong,
 }
 
-/// Makes the calls of a row on a heap of long objects over this manager. Fails at the first call that returns
-/// something else than it must. `call` is the index of the last call that was begun.
+/// Makes the calls of a row on a heap of long objects over this manager. Fails at the first call whose result
+/// is not the expected one. `call` is the index of the last call that was begun.
 fn play<H: Manager>(
     alloc: Global,
     inner: H,

@@ -1,4 +1,4 @@
-//! A test of the fields of `PagePool`.
+//! A test that names each field of `PagePool` with its type, so that no field is added unseen.
 use super::PagePool;
 use counted_cells::Cells;
 use std::test::Fail;

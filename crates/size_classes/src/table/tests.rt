@@ -1,11 +1,12 @@
-//! A test of the fields of `Classes`.
+//! A test that names each field of `Classes` with its type, so that no field is added unseen.
 use super::Classes;
 use cf_base::Layout;
 use counted_cells::Cells;
 use std::test::Fail;
 
 /// Names each field with its type, so that no field is added unseen: a size for each class, a cell
-/// for each need of at most a page, and two plain numbers.
+/// for each need of at most a page, and two plain numbers. A page of 64 = 2^6 words has 20 classes,
+/// and needs from 0 to 64.
 #[test]
 fn a_table_has_these_fields_and_no_others(rt: HostRuntime) -> Result<(), Fail> {
     let Classes {

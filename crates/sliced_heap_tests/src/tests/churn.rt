@@ -1,6 +1,5 @@
-//! Long runs of random calls on a sliced heap, drawn from a seed. Each is compared with what the slow
-//! reference implementation (`slow`) computes. Four tasks call in a random order; a task writes and frees
-//! only the objects that it made. The heap itself doesn't know the tasks.
+//! Long runs of random calls of four tasks on a sliced heap, drawn from a seed; a task writes and frees only
+//! objects that it made. Each result is compared with that of the slow reference implementation (`slow`).
 ghost use Rattle.std.specs.Prelude.{◌≡◌, ◌≤◌, IsTrue, OnOk};
 
 use super::slow::{MOST, PAGE_WORDS, PAGES, PROXIES, SliceReference, Slot, slot_at, slots};
@@ -12,7 +11,7 @@ use std::test::Fail;
 use step_ledger::Meter;
 use test_support::{Draw, Wrong, header, hold};
 
-/// How many tasks call in turns.
+/// How many tasks call the heap.
 const TASKS: u32 = 4;
 
 /// How many calls a run makes.
@@ -90,7 +89,7 @@ impl Churn {
         hold(self.heap.is_open(), Wrong::Closed)
     }
 
-    /// Makes one drawn call of a drawn task. The shorter the slices, the more of the calls are steps.
+    /// Makes one random call of a random task. The shorter the slices, the more of the calls are slices.
     fn call(&mut self) -> Result<(), Wrong> {
         let task = self.draw.below(TASKS);
         let number = self.number();
@@ -292,9 +291,7 @@ impl Churn {
 // slot, so no job is ever left pending. In each other run a malloc must have been refused because of a
 // job, a job followed another one, and an object in motion been read or written.
 #[test]
-fn calls_of_four_tasks_are_answered_as_the_slow_program_computes(
-    rt: HostRuntime,
-) -> Result<(), Fail> {
+fn calls_of_four_tasks_return_what_the_reference_computes(rt: HostRuntime) -> Result<(), Fail> {
     for quantum in [1, 7, 64, 16384] {
         assert!(rt; 1 <= quantum && quantum <= 16384);
         let mut churn = Churn::new(rt.alloc(), quantum, Meter::new(&rt))?;

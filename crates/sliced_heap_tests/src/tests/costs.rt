@@ -66,8 +66,18 @@ fn first_with_other_steps(
     None
 }
 
-/// Calls on four pages of 64 words, with 8 proxies and slices of 10 words. An object of 232 bytes has a
-/// slot of 30 words, two to a page.
+/// Calls on four pages of 64 words, with 8 proxies and slices of 10 words, each with its steps. An object of
+/// 232 bytes has a slot of 30 words, two to a page; one of 504 bytes fills a page.
+///
+/// A malloc takes 1 step for the class, 2 for the proxy and 1 for the header. The slot takes 11 steps on a free
+/// page; on a partly full page 13 if the page becomes full, else 5; and 2 if there is no slot.
+///
+/// A free takes 5 steps, and 1 to test whether the slot must be filled, or 6 to fill it; then the slice. A slice
+/// takes 1 step for each word, and 1 if it moves an object. At the end of a job it takes 14 more if the slot's
+/// page was full until then; 11 if that page becomes free.
+///
+/// A read and a write take 1 step for the proxy, 1 for the header, and 1 for each word that holds one of the
+/// bytes.
 const CALLS: [(Call, u64); 30] = [
     // Refused: the object and its header are more than a page.
     (Call::Malloc(505), 1),

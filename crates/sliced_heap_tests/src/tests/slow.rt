@@ -72,7 +72,7 @@ fn page_of(place: u32) -> u32 {
 }
 
 impl SliceReference {
-    /// A heap without objects and without a job.
+    /// A heap without objects and without a job. Fails only if out of memory.
     pub fn new(alloc: Global) -> Result<SliceReference, Wrong> {
         Ok(SliceReference {
             objects: Objects::none(alloc, PROXIES)?,

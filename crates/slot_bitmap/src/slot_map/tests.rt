@@ -1,4 +1,4 @@
-//! A test of the fields of `SlotMap`.
+//! A test that names each field of `SlotMap` with its type, so that no field is added unseen.
 use super::SlotMap;
 use counted_cells::{CellArray, WordCell};
 

@@ -1,4 +1,5 @@
-//! A test of the fields of `ListHeads`.
+//! A test that each field of `ListHeads`, the heads of the free lists and their bitmaps, is in
+//! counted cells.
 use super::ListHeads;
 use counted_cells::{CellArray, Cells};
 use std::test::Fail;

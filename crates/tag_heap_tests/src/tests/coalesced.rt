@@ -1,5 +1,5 @@
-//! A free coalesces the block with its free neighbours: what the words of the region hold after it, worked
-//! out by hand.
+//! A free coalesces the freed block with its free neighbours: what some words of the region hold after frees,
+//! worked out by hand.
 use crate::tests::costs::{Call, run_script};
 use cf_base::Settings;
 use cf_model::Manager;
@@ -8,11 +8,12 @@ use std::test::Fail;
 use step_ledger::Meter;
 use tlsf_heap::TlsfHeap;
 
-/// The numbers of the words that are compared. The first row leaves three blocks: words 0 and 1 are of the
-/// block of 10 words, words 10 to 13 of the block of 12 words after it, and words 22 and 23 of the rest.
+/// The addresses of the words that are compared. The script of the first row of `ROWS` leaves three blocks:
+/// words 0 and 1 are of the block of 10 words, words 10 to 13 of the block of 12 words after it, and words 22
+/// and 23 of the 42 words that are left.
 const WORDS: [u32; 8] = [0, 1, 10, 11, 12, 13, 22, 23];
 
-/// A script, and the values that those words must have after it.
+/// A script, and the values that the words at the addresses `WORDS` must have after it.
 struct Row {
     script: &'static [Call],
     hold: [u64; 8],
@@ -20,10 +21,10 @@ struct Row {
 
 /// Object 0 has 64 bytes, object 1 has 80. Bytes 7 and 8 of object 1, which are in two words, get the value
 /// 7. The first row then frees object 0. The second row also frees object 1, between two free blocks: all 64
-/// words are one free block then. Word 0 of a block has its size, the size of the
-/// block before it above, and bit 31 if the block is used. Word 1 of a used block is its tag: the
-/// object's length above its number. Word 1 of a free block is its link: `u64::MAX` if it is the only one
-/// in its list.
+/// words are one free block then. Word 0 of a block has in its lower half the block's size, with bit 31 set if
+/// the block is used, and in its upper half the size of the block before it. Word 1 of a used block is its tag:
+/// the object's length in the upper half, its number in the lower half. Word 1 of a free block is its link:
+/// `u64::MAX` if it is the only block of its list.
 static ROWS: [Row; 2] = [
     Row {
         script: &[

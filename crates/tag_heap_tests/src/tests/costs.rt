@@ -12,6 +12,7 @@ use tlsf_heap::TlsfHeap;
 pub(super) enum Call {
     /// A malloc of this many bytes.
     Malloc(u32),
+    /// A free of the object.
     Free(u32),
     /// A read from the object: the first byte that is read, and how many bytes.
     Read(u32, u32, usize),
@@ -29,18 +30,18 @@ pub(super) enum Call {
     Usage,
 }
 
-/// A script on a heap with these pages, bytes of a page and proxies, and the steps that its last call must
-/// take.
+/// A script, and the steps that its last call must take. `settings` has the pages of the heap, the bytes of a
+/// page, and the proxies.
 struct Row {
     settings: [u32; 3],
     script: &'static [Call],
     steps: u64,
 }
 
-/// The longest malloc of TLSF, which finds a list by bitmaps, in groups of 16 lists. It needs 15 words.
-/// The rest of its group of lists is empty, so the next group is searched. The list that is found has two
-/// blocks of 17 words; one is taken, and the other becomes the head. The two words that are over go into
-/// a list that has a block already.
+/// The longest malloc of TLSF, which finds a list by bitmaps, in groups of 16 lists. 104 bytes need 15 words.
+/// List 15, the last of its group, is empty, so the next group is searched. The list that is found has the two
+/// freed blocks of 17 words; one is taken, and the other becomes the head. The two words that are over go into
+/// a list that already has a block, that of object 4.
 static TLSF_MALLOC: [Row; 1] = [Row {
     settings: [16, 512, 16],
     script: &[
@@ -58,9 +59,10 @@ static TLSF_MALLOC: [Row; 1] = [Row {
     steps: 25,
 }];
 
-/// The longest malloc of Half-Fit. Five freed objects of a page are one free block; it and the rest of the
-/// region are both in list 16, the first of the second group. The malloc takes two words of one, and what
-/// is over goes into the same list.
+/// The longest malloc of Half-Fit. Each of the eight objects takes 16,385 of 262,144 words. Five of them, freed,
+/// are one free block of 81,925 words, and 131,064 words are free behind the last object. These two free blocks
+/// are in list 16, the first of the second group. The malloc takes two words of one of them, and what is over
+/// goes into the same list.
 static HALF_FIT_MALLOC: [Row; 1] = [Row {
     settings: [16, 131_072, 16],
     script: &[
@@ -82,9 +84,10 @@ static HALF_FIT_MALLOC: [Row; 1] = [Row {
     steps: 25,
 }];
 
-/// Calls that take the same steps with both kinds.
+/// Calls that take the same steps with TLSF and with Half-Fit.
 static BOTH: [Row; 22] = [
-    // Mallocs that are refused: for size and for proxies, which read no list, and for space.
+    // Mallocs that are refused: for size and for proxies, which read no list, and for space, since 504 bytes
+    // need 65 of 64 words.
     Row {
         settings: [16, 512, 16],
         script: &[Call::Malloc(505)],

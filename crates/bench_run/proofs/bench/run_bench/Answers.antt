@@ -5,7 +5,7 @@ use Rattle.cf_io.specs.Texts.{led, said}
 use Rattle.cf_model.specs.State.{HeapState}
 use Rattle.cf_session.specs.Apply.{run_at}
 use Rattle.run_model.proofs.CallerLemmas.{begins_going}
-use Rattle.bench_run.proofs.EndsWithCause.{ends_bench, opened, run_of_bench, shown_figures}
+use Rattle.bench_run.proofs.BenchLemmas.{ends_bench, opened, run_of_bench, shown_figures}
 use Rattle.bench_run.proofs.bench.run_bench.Goals as goal
 
 pub apply_commands-tally-requires : goal.apply_commands-tally-requires

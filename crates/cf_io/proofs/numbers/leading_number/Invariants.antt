@@ -4,7 +4,7 @@ use Rattle.std.specs.Str.Parse.{digits_value}
 use Rattle.cf_io.specs.Numbers.{is_digit}
 use Rattle.cf_io.proofs.numbers.leading_number.Given as goal
 
--- a value past the largest number stays just past it
+-- the first `at` bytes are digits, and `value` is the number that they spell, but at most 2^32, one past the largest number accepted
 abbrev pub invariant-digits : goal.invariant-digits
 invariant-digits l = record {
   within : l.at ≤ length l.text;

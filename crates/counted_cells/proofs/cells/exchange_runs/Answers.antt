@@ -1,4 +1,4 @@
--- The two parts are joined again after their runs were exchanged.
+-- The list is split in two parts, n items of each are exchanged, and the parts make up the list again.
 use Rattle.std.proofs.Common.{◌+◌, ◌-◌, ◌≤◌, ◌∙◌, min, max, arith, inl, inr}
 use Rattle.cf_lemmas.proofs.Swapping.{parted}
 use Rattle.cf_lemmas.proofs.SwappedRuns.{swapped_is}

@@ -6,7 +6,7 @@ use Rattle.cf_session.specs.Apply.{run_at}
 use Rattle.heap_image.specs.Counts.{CountsFree}
 use Rattle.heap_image.specs.Feed.{feed_at}
 use Rattle.heap_image.specs.Stages.{TakesFewer}
-use Rattle.heap_image.proofs.PartLemmas.{falls_more, held_in, leads_first, leads_removed, leads_written, part_fits, written_next}
+use Rattle.heap_image.proofs.FillObjectLemmas.{falls_more, held_in, leads_first, leads_removed, leads_written, part_fits, written_next}
 use Rattle.heap_image.proofs.StageLemmas.{takes_nothing, takes_then}
 use Rattle.heap_image.proofs.objects_in.fill_object.Goals as goal
 
@@ -64,8 +64,8 @@ returns-in-Failed-clause-fills g c =
           c.free_object-in-Failed.ensures.frees,
     )
 
-pub write_part-requires-clause-within : goal.write_part-requires-clause-within
-write_part-requires-clause-within g c =
+pub write_object_bytes-requires-clause-within : goal.write_object_bytes-requires-clause-within
+write_object_bytes-requires-clause-within g c =
     let so_far = c.chunks.invariant in
     let size : length c.fill.new.buffer ≡ c.min-count.result = c.fill.auto.buffer ∙ length-take-le c.min-count.result c.chunks.buffer
     (omega (arith, c.min-count.ensures, c.requires.buffer, c.chunks.auto.buffer)) in
@@ -89,10 +89,10 @@ chunks-preserved g c =
       bytes = so_far.bytes ++ c.fill.new.buffer;
       count = (let l = length-append so_far.bytes c.fill.new.buffer in let m = so_far.count in omega (arith, l, m, size));
       took = takes_then so_far.bytes c.fill.new.buffer _ _ _ so_far.took c.in-Whole.ensures.fills;
-      leads = leads_written old mid (run_at c.write_part.new.session (g.H.Manager.state c.write_part.new.heap)) c.args.id _ _ _ so_far.leads
-          (c.write_part.ensures.writes (so_far.bytes ++ replicate (c.args.n - c.chunks.done) 0) (held_in old mid c.args.id _ so_far.leads))
+      leads = leads_written old mid (run_at c.write_object_bytes.new.session (g.H.Manager.state c.write_object_bytes.new.heap)) c.args.id _ _ _ so_far.leads
+          (c.write_object_bytes.ensures.writes (so_far.bytes ++ replicate (c.args.n - c.chunks.done) 0) (held_in old mid c.args.id _ so_far.leads))
           (written_next so_far.bytes c.fill.new.buffer c.args.n c.chunks.done c.min-count.result so_far.count size fits);
-      counts = c.write_part.ensures.counts ∙ so_far.counts;
+      counts = c.write_object_bytes.ensures.counts ∙ so_far.counts;
       same = c.in-Whole.ensures.same (λ e. cc) ∙ so_far.same;
     }
 

@@ -6,7 +6,7 @@ use Rattle.cf_session.specs.Apply.{run_at}
 use Rattle.heap_image.specs.Decoded.{breaks_in, entry_decoded, length_decoded}
 use Rattle.heap_image.specs.Entries.{reached_in}
 use Rattle.heap_image.proofs.CountLemmas.{counts_nothing}
-use Rattle.heap_image.proofs.PartLemmas.{entry_then, leads_still}
+use Rattle.heap_image.proofs.FillObjectLemmas.{entry_then, leads_still}
 use Rattle.heap_image.proofs.StageLemmas.{field_bad, field_good, field_stops}
 use Rattle.heap_image.proofs.objects_in.read_entry.Goals as goal
 

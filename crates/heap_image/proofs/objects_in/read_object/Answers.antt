@@ -11,7 +11,7 @@ use Rattle.heap_image.specs.Stages.{LeadsTo}
 use Rattle.run_model.specs.Sessions.{Ids, SessionState}
 use Rattle.heap_image.specs.Counts.{after_mallocs}
 use Rattle.heap_image.proofs.CountLemmas.{counts_nothing, free_then}
-use Rattle.heap_image.proofs.PartLemmas.{held_in, leads_still, object_read, object_stops}
+use Rattle.heap_image.proofs.FillObjectLemmas.{held_in, leads_still, object_read, object_stops}
 use Rattle.heap_image.proofs.StageLemmas.{field_bad, field_stops}
 use Rattle.heap_image.proofs.objects_in.read_object.Goals as goal
 

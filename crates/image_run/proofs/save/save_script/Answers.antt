@@ -24,7 +24,7 @@ returns-in_default g c =
       };
     }
 
--- no `heap` line came
+-- the script has no `heap` line
 pub returns-in_default-settings-clause-ends : goal.returns-in_default-settings-clause-ends
 returns-in_default-settings-clause-ends g c =
     let by = c.play_script.ensures in
@@ -33,7 +33,7 @@ returns-in_default-settings-clause-ends g c =
     ends_unopened from to _ _ _ _ _ _ c.play_script.result c.in-Done.is by.outcome
     (unopened from to _ by.outcome c.in-Done.is c.in_default-settings.is c.requires.closed) refl
 
--- a `heap` line came
+-- the script has a `heap` line
 pub save-requires-clause-open : goal.save-requires-clause-open
 save-requires-clause-open g c =
     let from = settled (run_at c.args.mode_handler.now.mode_handler (g.H.Manager.state c.args.heap.now)) c.args.mode_handler.now.settings in

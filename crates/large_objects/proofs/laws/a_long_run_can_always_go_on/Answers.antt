@@ -1,11 +1,11 @@
-use Rattle.run_laws.proofs.CallerLemmas.{runs_on, runs_there}
+use Rattle.run_laws.proofs.CallerLemmas.{runs_on, runs_exist}
 use Rattle.large_objects.specs.LargeRun.{LargeStep}
 use Rattle.large_objects.specs.Playing.{BeginsAtOne}
 use Rattle.large_objects.proofs.Turns.{large_goes_on}
 use Rattle.large_objects.proofs.laws.a_long_run_can_always_go_on.Goals as goal
 
 pub returns-clause-there : goal.returns-clause-there
-returns-clause-there c = λ kind given ended paged. runs_there (BeginsAtOne kind) LargeStep (large_goes_on kind paged) given ended
+returns-clause-there c = λ kind given ended paged. runs_exist (BeginsAtOne kind) LargeStep (large_goes_on kind paged) given ended
 
 pub returns-clause-on : goal.returns-clause-on
 returns-clause-on c = λ kind given ended done after replies mid paged. runs_on (BeginsAtOne kind) LargeStep (large_goes_on kind paged) given ended done after

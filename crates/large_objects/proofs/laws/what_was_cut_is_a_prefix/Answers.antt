@@ -1,4 +1,4 @@
-use Rattle.script_loop.proofs.Prefix.{cut_is_prefix_by}
+use Rattle.script_loop.proofs.CallerLemmas.{cut_is_prefix_by}
 use Rattle.large_objects.specs.Playing.{large_heap}
 use Rattle.large_objects.proofs.Turns.{large_goes_on}
 use Rattle.large_objects.proofs.laws.what_was_cut_is_a_prefix.Goals as goal

@@ -3,7 +3,7 @@ use Rattle.cf_session.specs.Apply.{run_at}
 use Rattle.manager_modes.proofs.Outcomes.{first_ends}
 use Rattle.manager_modes.proofs.run.run_chosen.Goals as goal
 
--- the first of the kind runs the script
+-- the first manager of the kind runs the script
 pub returns-in-Some : goal.returns-in-Some
 returns-in-Some g c =
     let f = λ (m : g.row.H.Denot). g.H.Manager.state m in
@@ -13,6 +13,6 @@ returns-in-Some g c =
     c.in-Ok.session (run_at c.run_script.new.session (f c.run_script.new.heap)) c.in-Ok.ensures f c.args.managers.now.items c.in-Some.i
     c.index_mut.result.now c.run_script.new.heap (sym c.in-Some.ensures) c.index_mut.ensures.value refl by.plan by.outcome
 
--- none is of the kind: one that is made for it runs the script
+-- no manager is of the kind: one that is made for the script runs it
 pub returns : goal.returns
 returns g c = c.run_own.ensures _ (sym c.in-None.ensures)

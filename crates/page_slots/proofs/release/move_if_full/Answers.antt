@@ -1,4 +1,4 @@
--- A full page left its list before it joins the other, so it is in none.
+-- A full page leaves the full pages first, so it is in no list when it joins the partly full ones.
 use Rattle.std.proofs.Common.{◌<◌, arith, subst}
 use Rattle.std.specs.List.{Contains}
 use Rattle.class_lists.specs.declared.Which.TheVariants.{Full}

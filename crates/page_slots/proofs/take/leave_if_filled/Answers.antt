@@ -1,4 +1,4 @@
--- A filled page left its list before it joins the other, so it is in none.
+-- A filled page leaves the partly full pages first, so it is in no list when it joins the full ones.
 use Rattle.std.proofs.Common.{◌<◌, arith}
 use Rattle.class_lists.specs.declared.Which.TheVariants.{NotFull}
 use Rattle.page_slots.proofs.Listing.{left_unlisted, left_pages}

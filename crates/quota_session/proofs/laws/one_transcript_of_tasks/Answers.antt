@@ -1,4 +1,4 @@
-use Rattle.run_laws.proofs.CallerLemmas.{items_sayable}
+use Rattle.run_laws.proofs.CallerLemmas.{all_items_valid}
 use Rattle.quota_session.proofs.ScriptShown.{transcript_shown}
 use Rattle.quota_session.proofs.laws.one_transcript_of_tasks.Goals as goal
 
@@ -6,4 +6,4 @@ pub returns-clause-run : goal.returns-clause-run
 returns-clause-run c = transcript_shown
 
 pub returns-clause-script : goal.returns-clause-script
-returns-clause-script c = λ given ended replies new run. transcript_shown _ replies new (items_sayable given ended) run
+returns-clause-script c = λ given ended replies new run. transcript_shown _ replies new (all_items_valid given ended) run

@@ -1,4 +1,4 @@
-use Rattle.script_loop.proofs.Prefix.{cut_is_prefix_by}
+use Rattle.script_loop.proofs.CallerLemmas.{cut_is_prefix_by}
 use Rattle.quota_session.specs.Playing.{quota_tasks}
 use Rattle.quota_session.proofs.CommandSteps.{tasks_go_on}
 use Rattle.quota_session.proofs.laws.what_was_cut_is_a_prefix.Goals as goal

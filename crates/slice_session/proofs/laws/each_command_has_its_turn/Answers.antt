@@ -1,6 +1,6 @@
 use Rattle.slice_session.proofs.RunInvariant.{still_going}
 use Rattle.slice_session.proofs.OpenLemmas.{begins_going}
-use Rattle.slice_session.proofs.CommandSteps.{begins_sliced, turn_there}
+use Rattle.slice_session.proofs.CommandSteps.{begins_sliced, step_exists}
 use Rattle.slice_session.proofs.laws.each_command_has_its_turn.Goals as goal
 
 pub returns-clause-begins : goal.returns-clause-begins
@@ -10,7 +10,7 @@ pub returns-clause-begun : goal.returns-clause-begun
 returns-clause-begun c = begins_going
 
 pub returns-clause-answered : goal.returns-clause-answered
-returns-clause-answered c = turn_there
+returns-clause-answered c = step_exists
 
 pub returns-clause-going : goal.returns-clause-going
 returns-clause-going c = λ old new command reply going step. still_going old new going reply command step

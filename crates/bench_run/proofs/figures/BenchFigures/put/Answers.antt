@@ -2,7 +2,7 @@ use Rattle.std.proofs.Common.{[]}
 use Rattle.std.specs.Prelude.{Ok, Err}
 use Rattle.cf_io.proofs.CallerLemmas.{puts_line}
 use Rattle.bench_run.specs.Bench.{bench_line}
-use Rattle.bench_run.proofs.EndsWithCause.{six}
+use Rattle.bench_run.proofs.BenchLemmas.{six}
 use Rattle.bench_run.proofs.figures.BenchFigures.put.Goals as goal
 
 pub returns-in-Ok-clause-written : goal.returns-in-Ok-clause-written

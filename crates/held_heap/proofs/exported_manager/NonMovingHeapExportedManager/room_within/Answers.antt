@@ -1,4 +1,4 @@
--- `has_room` is refused exactly if a refusal has a cause.
+-- `has_room` returns a refusal if and only if its cause holds.
 use Rattle.held_heap.proofs.Rooms.{room_by_result}
 use Rattle.held_heap.proofs.exported_manager.NonMovingHeapExportedManager.room_within.Goals as goal
 

@@ -1,4 +1,5 @@
--- For `unsafe impl Send for HeapBlock`: the open heap of a `HeapBlock`, and so the `HeapBlock`, may go to another thread.
+-- For `unsafe impl Send for HeapBlock` of `moving.rt`: the open heap of the moving manager, and so the `HeapBlock` that owns its block, may go to another
+-- thread.
 use denote.Param.Send.{AllSend, IsSend, owning_send, sendable, struct_send}
 use denote.Struct.Owning.{fields, shape, to}
 use denote.Struct.Struct.{exits_of}

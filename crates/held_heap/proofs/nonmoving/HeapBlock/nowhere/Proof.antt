@@ -1,5 +1,6 @@
 -- By hand, the contract of `HeapBlock::nowhere`: the `HeapBlock` has the null pointer, and owns nothing.
 -- The proof steps through the compiled body; a comment in brackets lists what is owned at that point, in order.
+-- The tokens are those of the call's lifetimes; here there are none.
 use Rattle.std.proofs.Common.{◌≡◌, [], ◌∷◌, refl, Option, None, lit<}
 use Rattle.std.proofs.raw_atomic.Walks.{proved_at, leaves}
 use base.Logic.{SProp, emp}

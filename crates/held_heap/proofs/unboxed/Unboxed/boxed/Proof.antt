@@ -1,5 +1,6 @@
 -- By hand, the contract of `Unboxed::boxed`: it makes a box of the block, its address and its allocator.
 -- The proof steps through the compiled body; a comment in brackets lists what is owned at that point, in order.
+-- The tokens are those of the call's lifetimes, one for T and one for A.
 use Rattle.std.proofs.Common.{◌≡◌, List, [], ◌∷◌, ◌++◌, refl, sym, ap, subst}
 use Rattle.std.proofs.raw_atomic.Walks.{proved_at, leaves}
 use base.Fml.{ftrue, flft}

@@ -7,7 +7,7 @@ use Rattle.moving_heap.proofs.manager.MovingHeap.lend.Goals as goal
 pub invariant_of-self-lent : goal.invariant_of-self-lent
 invariant_of-self-lent c = λ ws. lent_kept c.self.inside.inner c.self.invariant c.args.h.0 ws
 
--- whatever is left behind the borrow
+-- whatever words ws are in the place of the lent ones after the borrow
 pub returns : goal.returns
 returns c =
     let same = ap (λ s. payload_of s c.args.h.0) c.self.view_is in (

@@ -1,4 +1,4 @@
--- `payload_mut` passes on the words that `lend` lends, or ends the loan if the handle is not live.
+-- `payload_mut` passes on the words that `lend` lends, or ends the loan if the handle is not live. A comment in brackets lists what the proof holds there.
 use Rattle.std.proofs.Common.{◌≡◌, ℕ, Bool, true, List, [], ◌∷◌, ◌++◌, length, Some, None, refl, sym, ap, ◌∙◌, lit<, MutBor}
 use Rattle.std.proofs.raw_atomic.Walks.{proved, leaves}
 use mir.Syntax.{named}

@@ -1,4 +1,4 @@
--- What a block owns names no thread, so a block may go to another thread.
+-- What a `Block`, the memory of a region, owns names no thread. So it may be sent to another thread.
 use denote.Array.{Array}
 use denote.Builtin.{u64}
 use denote.Param.Send.{AllSend, IsSend, array_send, owning_send, sendable, struct_send}

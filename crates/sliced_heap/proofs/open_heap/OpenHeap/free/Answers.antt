@@ -6,7 +6,7 @@ use Rattle.sliced_heap.specs.declared.open_heap.Pending.TheVariants as pending
 use Rattle.sliced_heap.proofs.Facts.{has_place, no_place}
 use Rattle.sliced_heap.proofs.open_heap.OpenHeap.free.Goals as goal
 
--- a job that isn't none is none of the model's either
+-- if the code has a pending job, the model has one too
 not_idle : (j : Pending) → (j ≡ pending.Idle → ⊥) → job_of j ≡ Idle → ⊥
 not_idle pending.Idle not e = not refl
 not_idle (pending.Clear k) not e = (let e' : Clear k ≡ Idle = e in cc)

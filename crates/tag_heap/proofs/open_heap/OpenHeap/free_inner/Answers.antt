@@ -1,6 +1,6 @@
 use Rattle.std.proofs.Common.{◌/◌, ◌^◌, refl, sym, ◌∙◌, ap, subst}
 use Rattle.step_ledger.proofs.CallerLemmas.{rose_both}
-use Rattle.tag_blocks.proofs.CostLemmas.{by_same}
+use Rattle.tag_blocks.proofs.CallerLemmas.{by_same}
 use Rattle.block_model.specs.FreeOrder.{lists_released}
 use Rattle.tag_blocks.specs.Blocks.{listed}
 use Rattle.proxy_table.specs.Proxies.{AreBelowLimit}

@@ -1,7 +1,7 @@
 use Rattle.std.proofs.Common.{◌∷◌, arith, refl, sym, ap, ◌∙◌, subst}
 use Rattle.std.proofs.lemmas.Result.{err_from_is_err_and}
 use Rattle.step_ledger.proofs.CallerLemmas.{rose_both}
-use Rattle.tag_blocks.proofs.CostLemmas.{by_same}
+use Rattle.tag_blocks.proofs.CallerLemmas.{by_same}
 use Rattle.proxy_table.specs.Proxies.{AreBelowLimit, Proxies}
 use Rattle.tag_heap.proofs.ByKind.{lists_of_kind}
 use Rattle.tag_heap.proofs.CostLemmas.{malloc_cost_is}

@@ -1,5 +1,5 @@
 use Rattle.std.proofs.Common.{[], Some, None, arith, sym, ◌∙◌}
-use Rattle.tag_blocks.proofs.CostLemmas.{by_same}
+use Rattle.tag_blocks.proofs.CallerLemmas.{by_same}
 use Rattle.tag_heap.proofs.CostLemmas.{find_cost}
 use Rattle.tag_heap.proofs.Preserved.{rules}
 use Rattle.tag_heap.proofs.MallocLemmas.{has_no_cause, lacks_proxy, lacks_space}

@@ -1,0 +1,240 @@
+//! The commands that change nothing but the count of steps: `r`, `q`, `b`, `p` and `steps`. Each but `r` builds
+//! its reply in `line`, after the lead, or returns a short reply, and the caller writes it to the sink. `r`
+//! writes its reply itself.
+ghost use Rattle.std.specs.Prelude.{◌≡◌, ◌^◌, ◌<◌, ◌≤◌, ◌++◌, IsTrue, OnErr, codes, length, slice_get, take, OnOk};
+ghost use Rattle.std.specs.FinMap as map;
+ghost use Rattle.cf_io.specs.Feeds.{FailsLast};
+ghost use Rattle.cf_io.specs.Lines.{line_capacity};
+ghost use Rattle.hex.specs.Hex.{encode_lower};
+ghost use Rattle.cf_session.specs.OneLine.{IsPut, SaidOn, lines_at};
+ghost use Rattle.cf_session.specs.Records.{run_with, session_of};
+ghost use Rattle.run_model.specs.Replies.{block_text_at, object_of, peek_text, place_text, read_text, steps_text};
+ghost use Rattle.run_model.specs.Sessions.{AreTied};
+ghost use Rattle.run_model.specs.Texts.{led, said};
+
+use crate::outcome::Outcome;
+use crate::records::Records;
+use crate::reply::{ended, put_short_line};
+use crate::short::{OneLine, Short, fault_reply};
+use cf_base::{Failed, Handle, Kind};
+use cf_io::{Line, Sink, begin_line, push_field, put_all};
+use cf_model::Manager;
+use step_ledger::Steps;
+
+/// `r`: writes to the sink `len` bytes of an id's object from byte `at` on, in hexadecimal; `unknown` if the id
+/// isn't live, `range` if they would pass the end of the object. `buffer` and `text` are scratch, for the bytes
+/// and for the line.
+pub(crate) fn read<H: Manager, K: Sink>(
+    records: &Records,
+    heap: &H,
+    id: u16,
+    at: u32,
+    len: u16,
+    buffer: &mut [u8],
+    text: &mut [u8],
+    lead: &[u8],
+    line: &mut Line,
+    out: &mut K,
+    steps: &mut Steps,
+) -> Result<Outcome, Failed>
+    requires open { IsTrue (H.state heap.now).is_open }
+    requires room { steps.old ≤ 2 ^ 63 }
+    requires few { len ≤ 4096 }
+    requires buffer { length buffer.old ≡ 4096 }
+    requires text { length text.old ≡ 8202 }
+    requires lead { length lead.now ≤ 8 }
+    ensures shown { IsPut (read_text (object_of (run_with records.now (H.state heap.now)) id) at len) lead.now
+        (K.written out.old) result (K.written out.new) }
+    ensures grows { K.faults out.old ≤ K.faults out.new }
+    ensures same { OnOk result (K.faults out.new ≡ K.faults out.old) }
+    ensures failed { OnErr result (FailsLast (K.faults out.old) (K.faults out.new) (K.last_failed out.new)) }
+{
+    let Some(h) = records.ids.handle(id) else {
+        return put_short_line(Short::Unknown, lead, line, out);
+    };
+    read_part(
+        heap,
+        h,
+        at,
+        &mut buffer[..len as usize],
+        text,
+        lead,
+        line,
+        out,
+        steps,
+    )
+}
+
+/// Reads bytes of object `h` from byte `at` on until `buffer` is full, and writes them to the sink in
+/// hexadecimal, as a line built in `text`; writes `range`, built in `line`, if they would pass the end of the
+/// object. Fails if the sink fails; else returns the outcome of the reply.
+fn read_part<H: Manager, K: Sink>(
+    heap: &H,
+    h: Handle,
+    at: u32,
+    buffer: &mut [u8],
+    text: &mut [u8],
+    lead: &[u8],
+    line: &mut Line,
+    out: &mut K,
+    steps: &mut Steps,
+) -> Result<Outcome, Failed>
+    requires open { IsTrue (H.state heap.now).is_open }
+    requires room { steps.old ≤ 2 ^ 63 }
+    requires few { length buffer.old ≤ 4096 }
+    requires text { length text.old ≡ 8202 }
+    requires lead { length lead.now ≤ 8 }
+    ensures shown { IsPut (read_text (map.get (H.state heap.now).held h.0) at (length buffer.old)) lead.now
+        (K.written out.old) result (K.written out.new) }
+    ensures grows { K.faults out.old ≤ K.faults out.new }
+    ensures same { OnOk result (K.faults out.new ≡ K.faults out.old) }
+    ensures failed { OnErr result (FailsLast (K.faults out.old) (K.faults out.new) (K.last_failed out.new)) }
+{
+    match heap.read(h, at, buffer, steps) {
+        Ok(()) => {
+            let n = spell_bytes(text, lead, buffer);
+            ended(put_all(out, &text[..n]), Outcome::Good)
+        }
+        Err(fault) => put_short_line(fault_reply(fault), lead, line, out),
+    }
+}
+
+/// Fills the start of `text` with the lead, `=`, the bytes in hexadecimal and a line feed, and returns how many
+/// bytes of `text` these take.
+fn spell_bytes(text: &mut [u8], lead: &[u8], bytes: &[u8]) -> usize
+    requires text { length text.old ≡ 8202 }
+    requires few { length bytes.now ≤ 4096 }
+    requires lead { length lead.now ≤ 8 }
+    ensures within { result ≤ length text.new }
+    ensures text { take result text.new ≡ led lead.now (said (codes "=" ++ encode_lower bytes.now)) }
+{
+    let count = 2 * bytes.len();
+    let (head, rest) = text.split_at_mut(lead.len());
+    head.copy_from_slice(lead);
+    let (mark, rest) = rest.split_at_mut(1);
+    mark[0] = b'=';
+    let (digits, rest) = rest.split_at_mut(count);
+    hex::encode_to_slice(bytes, digits).unwrap();
+    rest[0] = b'\n';
+    lead.len() + count + 2
+}
+
+/// `q`: the address of an id's object, in words from the start of the region; `unknown` if the id isn't live.
+pub(crate) fn place<H: Manager>(
+    records: &Records,
+    heap: &H,
+    id: u16,
+    lead: &[u8],
+    line: &mut Line,
+    steps: &mut Steps,
+) -> OneLine
+    requires open { IsTrue (H.state heap.now).is_open }
+    requires lead { length lead.now ≤ 8 }
+    ensures { SaidOn (lines_at lead.now line.new)
+        (place_text (object_of (run_with records.now (H.state heap.now)) id)) result }
+{
+    let Some(h) = records.ids.handle(id) else {
+        return OneLine::Short(Short::Unknown);
+    };
+    match heap.place(h, steps) {
+        Some(word) => {
+            begin_line(line, lead);
+            push_field(line, b"at ", word as u64);
+            OneLine::Written(Outcome::Other)
+        }
+        None => OneLine::Short(Short::Unknown),
+    }
+}
+
+/// `b`: the number of the physical block that holds block `i` (four words) of an id's object. `unknown` if the
+/// id isn't live; else `none` if the kind isn't non-moving; else `range` if the object has no block `i`.
+pub(crate) fn block<H: Manager>(
+    records: &Records,
+    heap: &H,
+    id: u16,
+    i: u32,
+    lead: &[u8],
+    line: &mut Line,
+    steps: &mut Steps,
+) -> OneLine
+    requires open { IsTrue (H.state heap.now).is_open }
+    requires tied { AreTied (session_of records.now) (H.state heap.now) }
+    requires lead { length lead.now ≤ 8 }
+    ensures { SaidOn (lines_at lead.now line.new)
+        (block_text_at (H.state heap.now) (object_of (run_with records.now (H.state heap.now)) id) i) result }
+{
+    let Some(h) = records.ids.handle(id) else {
+        return OneLine::Short(Short::Unknown);
+    };
+    match heap.kind() {
+        Kind::NonMoving => match heap.block(h, i, steps) {
+            Some(frame) => {
+                begin_line(line, lead);
+                push_field(line, b"block ", frame as u64);
+                OneLine::Written(Outcome::Other)
+            }
+            None => OneLine::Short(Short::Range),
+        },
+        Kind::Moving | Kind::Tlsf | Kind::HalfFit => OneLine::Short(Short::Lacking),
+    }
+}
+
+/// `p`: the value of word `word` of the region, in hexadecimal; `range` if the region has no such word. With a
+/// block table, the number counts virtual words.
+pub(crate) fn peek<H: Manager>(
+    heap: &H,
+    word: u32,
+    lead: &[u8],
+    line: &mut Line,
+    steps: &mut Steps,
+) -> OneLine
+    requires open { IsTrue (H.state heap.now).is_open }
+    requires lead { length lead.now ≤ 8 }
+    ensures { SaidOn (lines_at lead.now line.new) (peek_text (slice_get (H.state heap.now).words word)) result }
+{
+    match heap.peek(word, steps) {
+        Some(v) => {
+            begin_line(line, lead);
+            line.push_word(v).unwrap();
+            OneLine::Written(Outcome::Other)
+        }
+        None => OneLine::Short(Short::Range),
+    }
+}
+
+/// `steps`: the steps of the last malloc, free or resize; with pages also the bound on them, how many objects
+/// have moved since the start, and the words of their slots.
+pub(crate) fn put_steps_line<H: Manager>(
+    records: &Records,
+    heap: &H,
+    lead: &[u8],
+    line: &mut Line,
+) -> OneLine
+    requires open { IsTrue (H.state heap.now).is_open }
+    requires lead { length lead.now ≤ 8 }
+    ensures { SaidOn (lines_at lead.now line.new)
+        (steps_text (H.state heap.now).kind (session_of records.now) (H.state heap.now).cost) result }
+{
+    begin_line(line, lead);
+    push_steps(records, heap, line);
+    OneLine::Written(Outcome::Other)
+}
+
+/// Appends the text of the reply to command `steps` to the line, which holds the lead.
+fn push_steps<H: Manager>(records: &Records, heap: &H, line: &mut Line)
+    requires open { IsTrue (H.state heap.now).is_open }
+    requires begun { length line.old ≤ 8 }
+    ensures text { line.new
+        ≡ line.old ++ steps_text (H.state heap.now).kind (session_of records.now) (H.state heap.now).cost }
+    ensures short { length line.new < line_capacity }
+{
+    push_field(line, b"steps last ", heap.cost());
+    match heap.kind() {
+        Kind::Moving | Kind::NonMoving => {
+            push_field(line, b" bound ", records.counters.bound);
+            push_field(line, b" moves ", records.counters.moves);
+            push_field(line, b" words ", records.counters.words);
+        }
+        Kind::Tlsf | Kind::HalfFit => {}
+    }
+}
