@@ -7,7 +7,7 @@
 #[derive(Clone, Copy, Debug, PartialEq, Eq)]
 pub struct Handle(pub u32);
 
-/// Why a call fails; the header explains each, as NPH_SIZE.
+/// Why a call fails; the header explains each, `Size` under the name NPH_SIZE.
 #[derive(Clone, Copy, Debug, PartialEq, Eq)]
 #[rustfmt::skip]
 pub enum Error { Size, Proxy, Space, Unknown, Range, Kind, Closed, Open, Memory, Pages, PageBytes, Bound, Proxies, Region }

@@ -1,4 +1,4 @@
-"""The cases of checks/one_output: a plain program that follows the definitions says what each drawn script prints.
+"""The cases of checks/one_output: a plain program that follows the definitions computes what each drawn script prints.
 
 It computes each address, number, word and count of steps from the rules alone: which page, slot, number, object and free
 block comes first (`page_model/specs/Order`), and what a call costs (`cf_model/specs/ExactCosts`, `block_model/specs/Costs`).

@@ -1,5 +1,5 @@
 /* Loaded before the C library: refuses one allocation, that with the number in the variable REFUSE. If the program makes
-   so many, the file that the variable REFUSED names is made, to show that one was refused. */
+   it, the file that the variable REFUSED names is made, to show that it was refused. */
 #define _GNU_SOURCE
 #include <dlfcn.h>
 #include <errno.h>

@@ -104,7 +104,8 @@ def callgrind(program, script, name, every):
         for out in glob.glob(folder + '/calls*'):
             text = open(out).read()
             events = re.search(r'^events: (.*)$', text, re.M)[1].split()
-            count = dict(zip(events, map(int, re.search(r'^totals: (.*)$', text, re.M)[1].split())))
+            # The line `totals` counts an instruction of each earlier call too.
+            count = dict(zip(events, map(int, re.search(r'^summary: (.*)$', text, re.M)[1].split())))
             if count.get('Ir'):
                 counts.append((count['Ir'], count.get('Bcm', 0) + count.get('Bim', 0)))
         return counts

@@ -83,8 +83,9 @@ typedef struct nph_class {
     uint32_t not_full;
 } nph_class;
 
-/* The whole heap. Bytes: that live objects asked for, of their slots or blocks, and that the heap holds. Then the live
- * objects, the pages or blocks in use, those free, and the words of the largest free one. */
+/* The whole heap. Bytes: those asked for the live objects, those of their slots or blocks, and those of the pages in use,
+ * with TLSF those of the region. Then the numbers of live objects, of pages or blocks in use, and of free ones; and the
+ * words of the largest free one, 0 if none is free. */
 typedef struct nph_heap_totals {
     uint64_t asked;
     uint64_t taken;
@@ -108,8 +109,9 @@ int32_t nph_malloc(nph_heap *heap, uint32_t bytes, uint32_t *handle);
 /* Frees an object, and writes into `freed` what was freed and moved. Fails with NPH_UNKNOWN. */
 int32_t nph_free(nph_heap *heap, uint32_t handle, nph_freed *freed);
 
-/* Changes the length of an object to `bytes` bytes: its first bytes stay, and added bytes are zero. Writes its slots into
- * `resized`. Fails with NPH_UNKNOWN, NPH_KIND, NPH_SIZE or NPH_SPACE; the object then stays as it was. */
+/* Changes the length of an object to `bytes` bytes: its first bytes stay, and added bytes are zero. Writes into
+ * `resized` the words of its slots and what moved. Fails with NPH_UNKNOWN, NPH_KIND, NPH_SIZE or NPH_SPACE; the object
+ * then stays as it was. */
 int32_t nph_resize(nph_heap *heap, uint32_t handle, uint32_t bytes, nph_resized *resized);
 
 /* Writes `count` bytes into an object, from its byte `at` on. Fails with NPH_UNKNOWN or NPH_RANGE. */

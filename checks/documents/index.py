@@ -1,5 +1,5 @@
-"""Checks tools/index: what it prints of a small repository, that docs/INDEX.md is what it prints of this one, and its line
-and its status if there is no crates.txt."""
+"""Checks tools/index: what it prints of a small repository, that docs/INDEX.md is what it prints of this one, and its error
+line and status if there is no crates.txt."""
 import difflib
 import subprocess
 import tempfile
@@ -140,7 +140,7 @@ Things that are counted: one by one. It holds no lists.
 
 - [`◌+++◌`](../crates/low/specs/Alone.antt)
 
-Cited by proofs alone: Inner.
+Cited by no public clause: Inner.
 """
 
 
