@@ -31,5 +31,10 @@ fn a_page_that_joins_becomes_the_front(rt: HostRuntime) -> Result<(), Fail> {
         lists.len(2, Which::NotFull),
     ];
     assert_eq!(rt; lengths, [1, 0, 0]);
+    let others = [
+        lists.front(0, Which::Full, meter.steps()),
+        lists.front(2, Which::NotFull, meter.steps()),
+    ];
+    assert_eq!(rt; others, [None, None]);
     Ok(())
 }
