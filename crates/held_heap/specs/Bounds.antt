@@ -11,6 +11,7 @@ use Rattle.cf_base.specs.declared.answers.Resized.{Resized}
 use Rattle.cf_base.specs.declared.answers.ResizeFault.{ResizeFault}
 use Rattle.cf_base.specs.declared.answers.Totals.{Totals}
 use Rattle.cf_base.specs.declared.kind.Kind.{Kind}
+use Rattle.cf_model.specs.Costs.{RoseByCost}
 use Rattle.cf_model.specs.Ordered.{IsOrderedFree, IsOrderedMalloc, IsOrderedResize}
 use Rattle.cf_model.specs.Rules.{KeepsRules}
 use Rattle.cf_model.specs.State.{HeapState}
@@ -18,7 +19,8 @@ use Rattle.cf_model.specs.Steps.{IsFreeStep, IsMallocStep, IsReadAnswer, IsResiz
 use Rattle.page_model.specs.Steps.{Request}
 
 -- For each call its most steps, as a function of its result; `access` is a read or a write, `room` is `has_room`. A resize has its new length in bytes as
--- another argument; an access has two, the first byte and the count of bytes. The numbers of an access and of a length are exact.
+-- another argument; an access has two, the first byte and the count of bytes. The numbers of an access and of a length are exact. So are `room_exact`, by the
+-- heap, the bytes asked for and the result, and `totals_exact`, by the heap.
 pub record Bounds : Type 0 where
   pub malloc : Result Handle Refusal → ℕ
   pub free : Result Freed NotLive → ℕ
@@ -26,7 +28,9 @@ pub record Bounds : Type 0 where
   pub access : ℕ → ℕ → Result (Unit {0}) AccessFault → ℕ
   pub length : Option ℕ → ℕ
   pub room : Result (Unit {0}) Refusal → ℕ
+  pub room_exact : HeapState → ℕ → Result (Unit {0}) Refusal → ℕ
   pub totals : Totals → ℕ
+  pub totals_exact : HeapState → ℕ
 
 -- the heap s is open, and of the kind `of_kind`
 pub record IsOpenOfKind (of_kind : Kind) (s : HeapState) : Type 0 where
@@ -51,13 +55,14 @@ pub record IsFree (most : Bounds) (old : HeapState) (number : ℕ) (answer : Res
   pub bound : RoseAtMost from to (most.free answer)
   pub cost : to ≡ from + new.cost
 
--- a resize of the object `asked.number` to `asked.length` bytes
+-- a resize of the object `asked.number` to `asked.length` bytes; with pages its steps are the cost that the new heap records
 pub record IsResize (most : Bounds) (old : HeapState) (asked : Request) (answer : Result Resized ResizeFault) (new : HeapState) (from to : ℕ) : Type 0 where
   pub step : IsResizeStep old asked answer new
   pub ordered : IsOrderedResize old asked answer new
   pub rules : KeepsRules new
   pub same : StaysOpen old new
   pub bound : RoseAtMost from to (most.resize asked.length answer)
+  pub cost : RoseByCost old.kind from to new.cost
 
 -- a write of `bytes` into object `position.number`, from byte `position.from` on
 pub record IsWrite (most : Bounds) (old : HeapState) (position : Position) (bytes : List ℕ) (answer : Result (Unit {0}) AccessFault) (new : HeapState) (from to : ℕ) : Type 0 where

@@ -112,6 +112,7 @@ pub record IsRoomCall (most : Bounds) (old : HeldState) (bytes : ℕ) (code : �
   pub room : IsHasRoomAnswer old.heap bytes answer
   pub kept : new.heap ≡ old.heap
   pub bound : RoseAtMost 0 new.steps (most.room answer)
+  pub exact : RoseBy 0 new.steps (most.room_exact old.heap bytes answer)
 
 -- the code of a call for the figures of a class: 4 (`UNKNOWN`) if there is no such class
 abbrev pub figures_code : HeapState → ℕ → ℤ
@@ -148,6 +149,7 @@ pub record IsTotalsCall (most : Bounds) (old : HeldState) (code : ℤ) (after : 
   pub by_totals : after ≡ totals_shown old.heap
   pub kept : new.heap ≡ old.heap
   pub bound : RoseAtMost 0 new.steps (most.totals (totals_in old.heap.kind old.heap))
+  pub exact : RoseBy 0 new.steps (most.totals_exact old.heap)
 
 -- a call of `last_steps`: it returns the steps of the last other call, but for `figures`, and changes nothing
 pub record IsStepsCall (old : HeldState) (code : ℤ) (after : ℕ) (new : HeldState) : Type 0 where

@@ -21,7 +21,9 @@ page_bounds kind = record {
   access = pages.access_steps kind;
   length = length_steps kind;
   room = λ answer. 1;
+  room_exact = λ s bytes answer. 1;
   totals = λ totals. 0;
+  totals_exact = λ s. 0;
 }
 
 -- the most steps of each call of a kind with blocks; a resize is always refused, after at most 1 step, and the totals take at most 3 steps and 2 for each
@@ -34,5 +36,7 @@ block_bounds = record {
   access = blocks.access_steps;
   length = blocks.length_steps;
   room = blocks.room_steps;
+  room_exact = λ s bytes answer. blocks.has_room_steps s s.order bytes answer;
   totals = λ totals. 3 + 2 * totals.free;
+  totals_exact = λ s. blocks.totals_steps s.order;
 }

@@ -92,17 +92,19 @@ pub trait ExportedManager: Manager {
         ensures exact { RoseBy steps.old steps.new (most.length result) };
 
     /// Returns whether a malloc of `bytes` bytes would succeed now: `Ok`, or the refusal that it would return.
-    /// Takes at most `most.room` steps.
+    /// Takes exactly `most.room_exact` steps, at most `most.room`.
     fn room_within(&self, bytes: u32, steps: &mut Steps) -> Result<(), Refusal>
         requires { IsTrue (Self.state self.now).is_open }
         ensures answer { IsHasRoomAnswer (Self.state self.now) bytes result }
-        ensures bound { RoseAtMost steps.old steps.new (most.room result) };
+        ensures bound { RoseAtMost steps.old steps.new (most.room result) }
+        ensures exact { RoseBy steps.old steps.new (most.room_exact (Self.state self.now) bytes result) };
 
-    /// Returns the figures of the whole heap, in at most `most.totals` steps.
+    /// Returns the figures of the whole heap, in exactly `most.totals_exact` steps, at most `most.totals`.
     fn totals_within(&self, steps: &mut Steps) -> Totals
         requires { IsTrue (Self.state self.now).is_open }
         ensures value { result ≡ totals_in (Self.state self.now).kind (Self.state self.now) }
-        ensures bound { RoseAtMost steps.old steps.new (most.totals result) };
+        ensures bound { RoseAtMost steps.old steps.new (most.totals result) }
+        ensures exact { RoseBy steps.old steps.new (most.totals_exact (Self.state self.now)) };
 }
 
 // Each function calls the function of the moving heap whose name is the same without `_within`; `new_closed` calls `closed`,
