@@ -4,7 +4,7 @@ use cf_base::{
     AccessFault, Figures, Freed, Handle, Kind, NotLive, OutOfMemory, Refusal, ResizeFault, Resized,
     Settings, Totals,
 };
-use cf_model::{Manager, Usage};
+use cf_model::{Manager, StepBounds, Usage};
 use step_ledger::Steps;
 
 /// A manager of any kind, behind a box. Each call of `Boxed` makes the same call of `inner`, and its state is
@@ -14,9 +14,15 @@ pub struct Boxed {
     pub inner: Box<dyn Manager>,
 }
 
+impl StepBounds for Boxed {
+    ghost use Rattle.std.specs.Prelude.{None};
+
+    ghost most = { None };
+}
+
 // Each call has the contract of `Manager`, which is that of the manager in the box.
 impl Manager for Boxed {
-    ghost state = { λ b. (Manager-box b.inner).state b.inner.value };
+    ghost state = { λ b. (Manager-box b.inner).Manager.state b.inner.value };
 
     fn kind(&self) -> Kind {
         self.inner.kind()
@@ -90,8 +96,16 @@ impl Manager for Boxed {
         self.inner.totals(steps)
     }
 
-    fn usage(&self, steps: &mut Steps) -> Usage {
-        self.inner.usage(steps)
+    fn length(&self, h: Handle, steps: &mut Steps) -> Option<u32> {
+        self.inner.length(h, steps)
+    }
+
+    fn has_room(&self, bytes: u32, steps: &mut Steps) -> Result<(), Refusal> {
+        self.inner.has_room(bytes, steps)
+    }
+
+    fn usage(&self) -> Usage {
+        self.inner.usage()
     }
 
     fn cost(&self) -> u64 {

@@ -2,7 +2,7 @@
 -- number: no digit, another byte, or more than 2^32 - 1.
 use Rattle.std.proofs.Common.{◌≡◌, ◌∙◌, ◌<◌, ◌≤◌, ◌+◌, ◌-◌, ◌*◌, ◌&&◌, if◌then◌else◌, nat_le, not, Bool, List, ℕ, None, Some, true, false, refl, ap, sym, take}
 use Rattle.std.proofs.Common.{length, get_or, arith, inl, inr}
-use Rattle.std.proofs.Common.{Option, min, option_map}
+use Rattle.std.proofs.Common.{Option, option_map}
 use Rattle.std.proofs.Math.Bool.{and-false}
 use Rattle.std.specs.List.{list_all}
 use Rattle.std.specs.Char.{digit_value}
@@ -129,10 +129,3 @@ pub whole_other : (text : List ℕ) (v n : ℕ) → Some (v, n) ≡ leading_numb
 whole_other text v n shown below =
     let e = (first_shown text v n shown).0 in
     sym (other_byte text (digits_first text) (omega (arith, e)) (digits_stop text (omega (arith, e))))
-
--- one more digit turns the loop's value from v to w: the values of the first i and i + 1 digits, each cut to at most 2^32
-pub value_grows : (text : List ℕ) (i v w : ℕ) → i < length text → is_digit (get_or text i 0) ≡ true → v ≡ min (digits_value 10 (take i text)) 4294967296
-    → w ≡ min (10 * v + (get_or text i 0 - 48)) 4294967296 → w ≡ min (digits_value 10 (take (i + 1) text)) 4294967296
-value_grows text i v w inside digit value grown =
-    let next = value_more text i (digits_value 10 (take i text)) inside digit refl in
-    omega (arith, value, grown, next)

@@ -1,5 +1,5 @@
 -- What contracts say of the bytes and the faults of any source or sink. Its bytes are `None` if it isn't observable.
-use Rattle.std.specs.Prelude.{◌≡◌, ◌≤◌, ◌+◌, ◌⊎◌, ◌++◌, ℕ, Bool, true, List, [], min, Option, option_map, IfSome, Result, Ok, Err}
+use Rattle.std.specs.Prelude.{◌≡◌, ◌≤◌, ◌+◌, ◌⊎◌, ◌++◌, ⊤, ℕ, Bool, true, false, List, [], min, Option, Some, None, option_map, IfSome, Result, Ok, Err}
 use Rattle.cf_base.specs.declared.answers.Failed.{Failed}
 
 -- the last value of a counter of 64 bits
@@ -35,3 +35,9 @@ Puts old bytes (Err e) new = (front : List ℕ) × (lost : List ℕ) × (bytes �
 -- the count of returned bytes rose from `old` to `new` by n, or is saturated
 abbrev pub HasGiven : ℕ → ℕ → ℕ → Type 0
 HasGiven old n new = (new ≡ old + n) ⊎ (last_count ≤ new)
+
+-- `more` are bytes that the source may still have: exactly `left`, if it is observable; else no bytes if it has ended, and any bytes if it has not
+abbrev pub MayFollow : Option (List ℕ) → Bool → List ℕ → Type 0
+MayFollow (Some left) ended more = more ≡ left
+MayFollow None true more = more ≡ []
+MayFollow None false more = ⊤

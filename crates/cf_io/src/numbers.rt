@@ -14,15 +14,14 @@ pub fn leading_number(text: &[u8]) -> Option<(u32, usize)>
 {
     let mut value = 0u64;
     let mut at = 0;
-    // A value past `LARGEST` is kept as `LARGEST + 1`: it can't overflow, and the loop reads all digits.
     'digits: while at < text.len() && text[at].is_ascii_digit() {
-        value = (10 * value + (text[at] - b'0') as u64).min(LARGEST + 1);
+        value = 10 * value + (text[at] - b'0') as u64;
+        if value > LARGEST {
+            return None;
+        }
         at += 1;
     }
     if at == 0 {
-        return None;
-    }
-    if value > LARGEST {
         return None;
     }
     Some((value as u32, at))

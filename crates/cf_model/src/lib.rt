@@ -8,6 +8,6 @@ mod manager;
 mod opening;
 mod usage;
 
-pub use manager::Manager;
+pub use manager::{FREE_BOUND, MALLOC_BOUND, Manager, RESIZE_BOUND, StepBounds};
 pub use opening::open_all;
 pub use usage::Usage;

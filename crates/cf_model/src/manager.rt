@@ -1,17 +1,30 @@
 //! The trait `Manager`, which every memory manager implements, with the contract of each call.
-ghost use Rattle.std.specs.Prelude.{◌≡◌, ◌+◌, ◌^◌, ◌≤◌, IsTrue, OnOk, OnErr, is_some, length, slice_get};
+ghost use Rattle.std.specs.Prelude.{◌≡◌, ◌+◌, ◌^◌, ◌≤◌, IfErr, IfOk, IsTrue, Option, OnOk, OnErr, is_some, length, slice_get};
 ghost use Rattle.std.specs.FinMap as map;
-ghost use Rattle.step_ledger.specs.Counting.{RoseAtMost};
+ghost use Rattle.step_ledger.specs.Counting.{RoseAtMost, RoseBy};
 ghost use Rattle.cf_model.specs.Answers.{place_of, block_in, classes_in, figures_in, totals_in, usage_in, class_with, with_bound};
-ghost use Rattle.cf_model.specs.Costs.{TakesAtMost, access_bound, block_free_bound, free_bound, resize_bound, RoseByCost};
+ghost use Rattle.cf_model.specs.Bounds.{Bounds, ByOwn};
+ghost use Rattle.cf_base.specs.declared.answers.Refusal.{Refusal};
+ghost use Rattle.cf_model.specs.Room.{length_of};
+ghost use Rattle.cf_model.specs.Costs.{
+  TakesAtMost,
+  RoseByCost,
+  access_bound,
+  block_free_bound,
+  block_steps,
+  free_bound,
+  length_steps,
+  peek_steps,
+  resize_bound,
+};
 ghost use Rattle.cf_model.specs.Ordered.{IsOrderedFree, IsOrderedMalloc, IsOrderedResize, KeepsPromise};
 ghost use Rattle.cf_model.specs.Rules.{KeepsRules};
 ghost use Rattle.cf_model.specs.State.{HeapState};
 ghost use Rattle.cf_model.specs.Steps.{
   IsEmptyHeap,
   IsClosed,
-  StaysOpen,
   IsMallocStep,
+  IsRefusedBy,
   IsFreeStep,
   IsWriteStep,
   IsReadAnswer,
@@ -26,6 +39,22 @@ use cf_base::{
 };
 use step_ledger::Steps;
 
+/// The most steps of a malloc with pages.
+pub const MALLOC_BOUND: u64 = 64;
+
+/// The most steps of a free with pages, beside two for each word of the freed slot.
+pub const FREE_BOUND: u64 = 96;
+
+/// The most steps of a resize with pages, beside three for each word of the larger slot.
+pub const RESIZE_BOUND: u64 = 160;
+
+/// The step bounds of a manager's own. They are in a trait of their own, above `Manager`, because the proofs of
+/// `Boxed` are found only if `Manager` has one ghost member.
+pub trait StepBounds {
+    /// The most steps of each call, tighter than those for all kinds; none if the manager claims none.
+    ghost most: { Option Bounds };
+}
+
 /// A memory manager over one region of words. Objects are lists of bytes; handles refer to them.
 ///
 /// A manager of kind `Moving` or `NonMoving` divides the region into pages, and pages into slots of
@@ -39,7 +68,7 @@ use step_ledger::Steps;
 ///
 /// Only `kind`, `is_open` and `open_heap` may be called while the heap is closed. Calls add their steps to the
 /// ledger `steps`. Before a malloc, free, write, read or resize its count is at most 2 ^ 63 (clause `room`).
-pub trait Manager: Drop {
+pub trait Manager: StepBounds + Drop {
     /// What contracts see of a manager.
     ghost state: { Self → HeapState };
 
@@ -68,11 +97,11 @@ pub trait Manager: Drop {
     fn malloc(&mut self, bytes: u32, steps: &mut Steps) -> Result<Handle, Refusal>
         requires open { IsTrue (state self.old).is_open }
         requires room { steps.old ≤ 2 ^ 63 }
-        ensures same { StaysOpen (state self.old) (state self.new) }
         ensures step { IsMallocStep (state self.old) bytes result (state self.new) }
         ensures rules { KeepsRules (state self.new) }
         ensures ordered { IsOrderedMalloc (state self.old) bytes result (state self.new) }
-        ensures bound { TakesAtMost (state self.old).kind steps.old steps.new 64 25 }
+        ensures bound { TakesAtMost (state self.old).kind steps.old steps.new MALLOC_BOUND 25 }
+        ensures most { ByOwn Self.most (λ b. RoseAtMost steps.old steps.new (b.malloc result)) }
         ensures cost { steps.new ≡ steps.old + (state self.new).cost };
 
     /// Removes an object, and returns the words of its slot or block. Refused if the handle isn't live. With
@@ -83,11 +112,11 @@ pub trait Manager: Drop {
     fn free(&mut self, h: Handle, steps: &mut Steps) -> Result<Freed, NotLive>
         requires open { IsTrue (state self.old).is_open }
         requires room { steps.old ≤ 2 ^ 63 }
-        ensures same { StaysOpen (state self.old) (state self.new) }
         ensures step { IsFreeStep (state self.old) h.0 result (state self.new) }
         ensures rules { KeepsRules (state self.new) }
         ensures ordered { IsOrderedFree (state self.old) h.0 result (state self.new) }
         ensures bound { TakesAtMost (state self.old).kind steps.old steps.new (free_bound result) (block_free_bound result) }
+        ensures most { ByOwn Self.most (λ b. RoseAtMost steps.old steps.new (b.free result)) }
         ensures cost { steps.new ≡ steps.old + (state self.new).cost }
         ensures blocks { BlocksStayIn (state self.old).kind (state self.old) h.0 (state self.new) };
 
@@ -104,10 +133,10 @@ pub trait Manager: Drop {
     ) -> Result<(), AccessFault>
         requires open { IsTrue (state self.old).is_open }
         requires room { steps.old ≤ 2 ^ 63 }
-        ensures same { StaysOpen (state self.old) (state self.new) }
         ensures step { IsWriteStep (state self.old) (record { number = h.0; from = at }) bytes.now result (state self.new) }
         ensures rules { KeepsRules (state self.new) }
-        ensures bound { RoseAtMost steps.old steps.new (access_bound at (length bytes.now)) };
+        ensures bound { RoseAtMost steps.old steps.new (access_bound at (length bytes.now)) }
+        ensures most { ByOwn Self.most (λ b. RoseBy steps.old steps.new (b.access at (length bytes.now) result)) };
 
     /// Fills `out` with the bytes of an object from byte `at` on. Refused as `write` is; then `out`
     /// stays unchanged. At most 16 steps plus three for each word that holds at least one of the
@@ -117,7 +146,8 @@ pub trait Manager: Drop {
         requires room { steps.old ≤ 2 ^ 63 }
         ensures answer { IsReadAnswer (state self.now) (record { number = h.0; from = at }) out.old result out.new }
         ensures rules { KeepsRules (state self.now) }
-        ensures bound { RoseAtMost steps.old steps.new (access_bound at (length out.old)) };
+        ensures bound { RoseAtMost steps.old steps.new (access_bound at (length out.old)) }
+        ensures most { ByOwn Self.most (λ b. RoseBy steps.old steps.new (b.access at (length out.old) result)) };
 
     /// Changes an object's length: its first bytes stay, and added bytes are zeros. With pages the
     /// object stays in its slot if its class stays. Otherwise it takes a slot of the new class, and
@@ -129,11 +159,11 @@ pub trait Manager: Drop {
     fn resize(&mut self, h: Handle, bytes: u32, steps: &mut Steps) -> Result<Resized, ResizeFault>
         requires open { IsTrue (state self.old).is_open }
         requires room { steps.old ≤ 2 ^ 63 }
-        ensures same { StaysOpen (state self.old) (state self.new) }
         ensures step { IsResizeStep (state self.old) (record { number = h.0; length = bytes }) result (state self.new) }
         ensures rules { KeepsRules (state self.new) }
         ensures ordered { IsOrderedResize (state self.old) (record { number = h.0; length = bytes }) result (state self.new) }
         ensures bound { TakesAtMost (state self.old).kind steps.old steps.new (resize_bound result) 1 }
+        ensures most { ByOwn Self.most (λ b. RoseAtMost steps.old steps.new (b.resize bytes result)) }
         ensures cost { RoseByCost (state self.old).kind steps.old steps.new (state self.new).cost }
         ensures blocks { BlocksStayIn (state self.old).kind (state self.old) h.0 (state self.new) };
 
@@ -154,7 +184,7 @@ pub trait Manager: Drop {
     fn place(&self, h: Handle, steps: &mut Steps) -> Option<u32>
         requires { IsTrue (state self.now).is_open }
         ensures value { result ≡ place_of (state self.now) h.0 }
-        ensures rises { steps.old ≤ steps.new };
+        ensures steps { RoseBy steps.old steps.new 1 };
 
     /// The word of the region at the index `word`; none if that is beyond the region's end. With a
     /// block table the index counts virtual words.
@@ -162,7 +192,7 @@ pub trait Manager: Drop {
         requires { IsTrue (state self.now).is_open }
         ensures value { result ≡ slice_get (state self.now).words word }
         ensures rules { KeepsRules (state self.now) }
-        ensures rises { steps.old ≤ steps.new };
+        ensures steps { RoseBy steps.old steps.new (peek_steps (state self.now).kind result) };
 
     /// The number of the physical block that holds block i of the object's slot. Blocks have four
     /// words, and i counts from 0. None if the kind isn't `NonMoving`, the handle isn't live, or
@@ -170,7 +200,7 @@ pub trait Manager: Drop {
     fn block(&self, h: Handle, i: u32, steps: &mut Steps) -> Option<u32>
         requires { IsTrue (state self.now).is_open }
         ensures value { result ≡ block_in (state self.now).kind (state self.now) h.0 i }
-        ensures rises { steps.old ≤ steps.new };
+        ensures steps { RoseBy steps.old steps.new (block_steps (state self.now).kind (map.get (state self.now).held h.0) result) };
 
     /// The number of size classes; 0 with blocks.
     fn classes(&self) -> u32
@@ -187,18 +217,30 @@ pub trait Manager: Drop {
     fn totals(&self, steps: &mut Steps) -> Totals
         requires { IsTrue (state self.now).is_open }
         ensures value { result ≡ totals_in (state self.now).kind (state self.now) }
-        ensures rises { steps.old ≤ steps.new };
+        ensures rises { steps.old ≤ steps.new }
+        ensures most { ByOwn Self.most (λ b. RoseAtMost steps.old steps.new (b.totals result)) }
+        ensures exact { ByOwn Self.most (λ b. RoseBy steps.old steps.new (b.totals_exact (state self.now))) };
+
+    /// The number of bytes of an object; none if the handle isn't live.
+    fn length(&self, h: Handle, steps: &mut Steps) -> Option<u32>
+        requires { IsTrue (state self.now).is_open }
+        ensures value { result ≡ length_of (state self.now) h.0 }
+        ensures steps { RoseBy steps.old steps.new (length_steps (state self.now).kind result) };
+
+    /// What a malloc of `bytes` bytes would return now, without the handle: `Ok`, or its refusal.
+    fn has_room(&self, bytes: u32, steps: &mut Steps) -> Result<(), Refusal>
+        requires { IsTrue (state self.now).is_open }
+        ensures ok { IfOk result (λ u. (e : Refusal) → ¬ IsRefusedBy (state self.now) bytes e) }
+        ensures err { IfErr result (λ e. IsRefusedBy (state self.now) bytes e) }
+        ensures rises { steps.old ≤ steps.new }
+        ensures most { ByOwn Self.most (λ b. RoseAtMost steps.old steps.new (b.room result)) }
+        ensures exact { ByOwn Self.most (λ b. RoseBy steps.old steps.new (b.room_exact (state self.now) bytes result)) };
 
     /// The bytes that live objects asked for, those of their slots or blocks, and those that the heap holds for
-    /// them: three of the figures of `totals`. Each manager of this repository keeps them as counts and has a
-    /// body of its own for this call, which costs no step.
-    fn usage(&self, steps: &mut Steps) -> Usage
+    /// them: three of the figures of `totals`. It costs no step.
+    fn usage(&self) -> Usage
         requires { IsTrue (state self.now).is_open }
-        ensures value { result ≡ usage_in (state self.now).kind (state self.now) }
-        ensures rises { steps.old ≤ steps.new }
-    {
-        Usage::of(&self.totals(steps))
-    }
+        ensures { result ≡ usage_in (state self.now).kind (state self.now) };
 
     /// The steps that the last malloc or free since the opening added to its ledger, refused or
     /// not; with pages also the last resize. 0 before the first one.

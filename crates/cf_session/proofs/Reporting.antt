@@ -2,7 +2,7 @@
 -- `AppliesOneManager` holds, and the run stays in progress.
 use Rattle.std.proofs.Common.{◌≡◌, ◌∙◌, ℕ, ◌++◌, List, [], ◌∷◌, Option, Some, None, Result, Ok, Err, length, map, refl, ap}
 use Rattle.std.proofs.Common.{ap₂, sym, subst, append_assoc}
-use Rattle.std.specs.Prelude.{IsTrue, codes}
+use Rattle.std.specs.Prelude.{codes}
 use Rattle.std.specs.FinMap.{get}
 use Rattle.hex.specs.Hex.{encode_lower}
 use Rattle.cf_base.specs.declared.answers.AccessFault.{AccessFault}
@@ -13,7 +13,6 @@ use Rattle.cf_base.specs.declared.answers.Figures.{Figures}
 use Rattle.cf_base.specs.declared.kind.Kind.{Kind}
 use Rattle.cf_base.specs.declared.kind.Kind.TheVariants.{Moving, NonMoving, Tlsf, HalfFit}
 use Rattle.cf_io.specs.Feeds.{appended, Puts}
-use Rattle.cf_model.specs.Rules.{KeepsRules}
 use Rattle.cf_model.specs.State.{HeapState, paging_in}
 use Rattle.cf_model.specs.Answers.{totals_in}
 use Rattle.cf_model.specs.Steps.{IsFault, Position, ReadsBytes}
@@ -25,7 +24,7 @@ use Rattle.run_model.specs.Answering.{Moment}
 use Rattle.run_model.specs.Replies.{object_of, read_text, shown, write_text}
 use Rattle.run_model.specs.Reports.{class_line, total_line, frag_of, walk_of, live_classes}
 use Rattle.run_model.specs.Runs.{IsCommandStep}
-use Rattle.run_model.specs.Sessions.{AreTied, IsGoing, RunState, SessionState}
+use Rattle.run_model.specs.Sessions.{IsGoing, RunState, SessionState}
 use Rattle.run_model.specs.Steps.{Step}
 use Rattle.run_model.specs.Texts.{Reply, led, said}
 use Rattle.run_model.proofs.CallerLemmas.{step_meets_bounds, step_going}
@@ -178,7 +177,5 @@ applied_going old new c lead w y (Ok outcome) going a = step_going old new c a.0
 applied_going old new c lead w y (Err e) going a = step_going old new c a.reply going a.turn.step
 
 -- a session and an open heap make a run in progress if the heap keeps its rules and the session's ids are tied to its objects
-pub going_before : (inside session : SessionState) (heap : HeapState) → IsTrue heap.is_open → KeepsRules heap → inside ≡ session
-    → AreTied session heap → IsGoing (run_at inside heap)
-going_before inside session heap opened rules same tied =
-    record { opened = opened; rules = rules; tied = subst (λ (s : SessionState). AreTied s heap) (sym same) tied }
+pub going_before : (inside session : SessionState) (heap : HeapState) → inside ≡ session → IsGoing (run_at session heap) → IsGoing (run_at inside heap)
+going_before inside session heap same going = subst (λ (s : SessionState). IsGoing (run_at s heap)) (sym same) going

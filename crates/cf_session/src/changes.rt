@@ -12,7 +12,7 @@ ghost use Rattle.run_model.specs.Texts.{said};
 use crate::records::Records;
 use crate::short::{Short, fault_reply, refusal_reply};
 use cf_base::ResizeFault;
-use cf_model::Manager;
+use cf_model::{FREE_BOUND, MALLOC_BOUND, Manager, RESIZE_BOUND};
 use step_ledger::Steps;
 
 /// `m`: makes an object of `bytes` bytes, which `id` then names. If the id is live already, the reply is `live`;
@@ -32,7 +32,7 @@ pub(crate) fn malloc<H: Manager>(
     if records.ids.handle(id).is_some() {
         return Short::Live;
     }
-    records.counters.bound = 64;
+    records.counters.bound = MALLOC_BOUND;
     match heap.malloc(bytes, steps) {
         Ok(h) => {
             records.ids.bind(id, h);
@@ -62,7 +62,7 @@ pub(crate) fn free<H: Manager>(
         unreachable!();
     };
     records.ids.unbind(id);
-    records.counters.bound = 96 + 2 * freed.slot_words as u64;
+    records.counters.bound = FREE_BOUND + 2 * freed.slot_words as u64;
     records.counters.count_move(freed.moved, freed.slot_words);
     Short::Done
 }
@@ -110,12 +110,13 @@ pub(crate) fn resize<H: Manager>(
     };
     match heap.resize(h, bytes, steps) {
         Ok(done) => {
-            records.counters.bound = 160 + 3 * done.old_slot_words.max(done.slot_words) as u64;
+            records.counters.bound = RESIZE_BOUND
+                + 3 * done.old_slot_words.max(done.slot_words) as u64;
             records.counters.count_move(done.moved, done.old_slot_words);
             Short::Done
         }
         Err(fault) => {
-            records.counters.bound = 160;
+            records.counters.bound = RESIZE_BOUND;
             resize_fault_reply(fault)
         }
     }

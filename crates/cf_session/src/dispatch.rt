@@ -1,5 +1,6 @@
 //! `answer`, the one match over all commands: does a command on the heap and writes its reply.
 ghost use Rattle.std.specs.Prelude.{◌≡◌, ◌^◌, ◌≤◌, OnErr, length, OnOk};
+ghost use Rattle.cf_base.specs.declared.numbers.TheConstants.{CHUNK};
 ghost use Rattle.cf_io.specs.Feeds.{FailsLast};
 ghost use Rattle.cf_session.specs.Apply.{AppliesOneManager, moment_at};
 ghost use Rattle.cf_session.specs.Records.{run_with, session_of};
@@ -39,7 +40,7 @@ pub(crate) fn answer<H: Manager, K: Sink>(
     requires going { IsGoing (run_with records.old (H.state heap.old)) }
     requires formed { IsWellFormed (owned_command c) }
     requires lead { length lead.now ≤ 8 }
-    requires buffer { length buffer.old ≡ 4096 }
+    requires buffer { length buffer.old ≡ CHUNK }
     requires text { length text.old ≡ 8202 }
     requires room { steps.old ≤ 2 ^ 63 }
     ensures step { AppliesOneManager (moment_at (session_of records.old) (H.state heap.old) (K.written out.old))

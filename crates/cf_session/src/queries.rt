@@ -3,6 +3,7 @@
 //! writes its reply itself.
 ghost use Rattle.std.specs.Prelude.{◌≡◌, ◌^◌, ◌<◌, ◌≤◌, ◌++◌, IsTrue, OnErr, codes, length, slice_get, take, OnOk};
 ghost use Rattle.std.specs.FinMap as map;
+ghost use Rattle.cf_base.specs.declared.numbers.TheConstants.{CHUNK};
 ghost use Rattle.cf_io.specs.Feeds.{FailsLast};
 ghost use Rattle.cf_io.specs.Lines.{line_capacity};
 ghost use Rattle.hex.specs.Hex.{encode_lower};
@@ -16,7 +17,7 @@ use crate::outcome::Outcome;
 use crate::records::Records;
 use crate::reply::{ended, put_short_line};
 use crate::short::{OneLine, Short, fault_reply};
-use cf_base::{Failed, Handle, Kind};
+use cf_base::{Failed, Kind};
 use cf_io::{Line, Sink, begin_line, push_field, put_all};
 use cf_model::Manager;
 use step_ledger::Steps;
@@ -39,8 +40,8 @@ pub(crate) fn read<H: Manager, K: Sink>(
 ) -> Result<Outcome, Failed>
     requires open { IsTrue (H.state heap.now).is_open }
     requires room { steps.old ≤ 2 ^ 63 }
-    requires few { len ≤ 4096 }
-    requires buffer { length buffer.old ≡ 4096 }
+    requires few { len ≤ CHUNK }
+    requires buffer { length buffer.old ≡ CHUNK }
     requires text { length text.old ≡ 8202 }
     requires lead { length lead.now ≤ 8 }
     ensures shown { IsPut (read_text (object_of (run_with records.now (H.state heap.now)) id) at len) lead.now
@@ -52,47 +53,10 @@ pub(crate) fn read<H: Manager, K: Sink>(
     let Some(h) = records.ids.handle(id) else {
         return put_short_line(Short::Unknown, lead, line, out);
     };
-    read_part(
-        heap,
-        h,
-        at,
-        &mut buffer[..len as usize],
-        text,
-        lead,
-        line,
-        out,
-        steps,
-    )
-}
-
-/// Reads bytes of object `h` from byte `at` on until `buffer` is full, and writes them to the sink in
-/// hexadecimal, as a line built in `text`; writes `range`, built in `line`, if they would pass the end of the
-/// object. Fails if the sink fails; else returns the outcome of the reply.
-fn read_part<H: Manager, K: Sink>(
-    heap: &H,
-    h: Handle,
-    at: u32,
-    buffer: &mut [u8],
-    text: &mut [u8],
-    lead: &[u8],
-    line: &mut Line,
-    out: &mut K,
-    steps: &mut Steps,
-) -> Result<Outcome, Failed>
-    requires open { IsTrue (H.state heap.now).is_open }
-    requires room { steps.old ≤ 2 ^ 63 }
-    requires few { length buffer.old ≤ 4096 }
-    requires text { length text.old ≡ 8202 }
-    requires lead { length lead.now ≤ 8 }
-    ensures shown { IsPut (read_text (map.get (H.state heap.now).held h.0) at (length buffer.old)) lead.now
-        (K.written out.old) result (K.written out.new) }
-    ensures grows { K.faults out.old ≤ K.faults out.new }
-    ensures same { OnOk result (K.faults out.new ≡ K.faults out.old) }
-    ensures failed { OnErr result (FailsLast (K.faults out.old) (K.faults out.new) (K.last_failed out.new)) }
-{
-    match heap.read(h, at, buffer, steps) {
+    let part = &mut buffer[..len as usize];
+    match heap.read(h, at, part, steps) {
         Ok(()) => {
-            let n = spell_bytes(text, lead, buffer);
+            let n = spell_bytes(text, lead, part);
             ended(put_all(out, &text[..n]), Outcome::Good)
         }
         Err(fault) => put_short_line(fault_reply(fault), lead, line, out),
@@ -103,7 +67,7 @@ fn read_part<H: Manager, K: Sink>(
 /// bytes of `text` these take.
 fn spell_bytes(text: &mut [u8], lead: &[u8], bytes: &[u8]) -> usize
     requires text { length text.old ≡ 8202 }
-    requires few { length bytes.now ≤ 4096 }
+    requires few { length bytes.now ≤ CHUNK }
     requires lead { length lead.now ≤ 8 }
     ensures within { result ≤ length text.new }
     ensures text { take result text.new ≡ led lead.now (said (codes "=" ++ encode_lower bytes.now)) }
@@ -216,18 +180,6 @@ pub(crate) fn put_steps_line<H: Manager>(
         (steps_text (H.state heap.now).kind (session_of records.now) (H.state heap.now).cost) result }
 {
     begin_line(line, lead);
-    push_steps(records, heap, line);
-    OneLine::Written(Outcome::Other)
-}
-
-/// Appends the text of the reply to command `steps` to the line, which holds the lead.
-fn push_steps<H: Manager>(records: &Records, heap: &H, line: &mut Line)
-    requires open { IsTrue (H.state heap.now).is_open }
-    requires begun { length line.old ≤ 8 }
-    ensures text { line.new
-        ≡ line.old ++ steps_text (H.state heap.now).kind (session_of records.now) (H.state heap.now).cost }
-    ensures short { length line.new < line_capacity }
-{
     push_field(line, b"steps last ", heap.cost());
     match heap.kind() {
         Kind::Moving | Kind::NonMoving => {
@@ -237,4 +189,5 @@ fn push_steps<H: Manager>(records: &Records, heap: &H, line: &mut Line)
         }
         Kind::Tlsf | Kind::HalfFit => {}
     }
+    OneLine::Written(Outcome::Other)
 }

@@ -45,7 +45,7 @@ pub(crate) fn put_reply<K: Sink>(
 }
 
 /// Writes the lead and a short reply to the sink, and returns the outcome of the reply, or `Failed` if the sink
-/// failed; then a prefix was written. `line` is scratch.
+/// failed; then a prefix was written. If the lead is empty, the text is not copied into `line`, which is scratch.
 pub(crate) fn put_short_line<K: Sink>(
     short: Short,
     lead: &[u8],
@@ -58,32 +58,10 @@ pub(crate) fn put_short_line<K: Sink>(
     ensures same { OnOk result (K.faults out.new ≡ K.faults out.old) }
     ensures failed { OnErr result (FailsLast (K.faults out.old) (K.faults out.new) (K.last_failed out.new)) }
 {
-    ended(put_short(short, lead, line, out), short.outcome())
-}
-
-/// Writes the lead and the fixed text of `short` to the sink. If the lead is empty, the text is not copied into `line`.
-fn put_short<K: Sink>(short: Short, lead: &[u8], line: &mut Line, out: &mut K) -> Result<(), Failed>
-    requires { length lead.now ≤ 8 }
-    ensures puts { Puts (K.written out.old) (led lead.now (said (short_text short))) result (K.written out.new) }
-    ensures grows { K.faults out.old ≤ K.faults out.new }
-    ensures same { OnOk result (K.faults out.new ≡ K.faults out.old) }
-    ensures failed { OnErr result (FailsLast (K.faults out.old) (K.faults out.new) (K.last_failed out.new)) }
-{
     if lead.len() > 0 {
-        return put_led(short, lead, line, out);
+        begin_line(line, lead);
+        push_text(line, short.text_line());
+        return ended(put_all(out, line.bytes()), short.outcome());
     }
-    put_all(out, short.text_line())
-}
-
-/// Writes the lead and a short reply to the sink, as one line built in `line`.
-fn put_led<K: Sink>(short: Short, lead: &[u8], line: &mut Line, out: &mut K) -> Result<(), Failed>
-    requires { length lead.now ≤ 8 }
-    ensures puts { Puts (K.written out.old) (led lead.now (said (short_text short))) result (K.written out.new) }
-    ensures grows { K.faults out.old ≤ K.faults out.new }
-    ensures same { OnOk result (K.faults out.new ≡ K.faults out.old) }
-    ensures failed { OnErr result (FailsLast (K.faults out.old) (K.faults out.new) (K.last_failed out.new)) }
-{
-    begin_line(line, lead);
-    push_text(line, short.text_line());
-    put_all(out, line.bytes())
+    ended(put_all(out, short.text_line()), short.outcome())
 }

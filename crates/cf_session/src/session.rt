@@ -4,25 +4,22 @@ ghost use Rattle.std.specs.FinMap as map;
 ghost use Rattle.cf_io.specs.Feeds.{FailsLast};
 ghost use Rattle.cf_model.specs.Rules.{KeepsRules};
 ghost use Rattle.cf_model.specs.Steps.{number_of};
-ghost use Rattle.cf_session.specs.Apply.{AppliesOneManager, moment_at};
+ghost use Rattle.cf_session.specs.Apply.{AppliesOneManager, moment_at, run_at};
 ghost use Rattle.id_table.specs.Ids.{AreWithin};
 ghost use Rattle.script_reader.specs.Commands.{IsWellFormed};
 ghost use Rattle.script_reader.specs.Owned.{owned_command};
-ghost use Rattle.run_model.specs.Sessions.{AreTied, fresh_session};
+ghost use Rattle.run_model.specs.Sessions.{AreTied, IsGoing, fresh_session};
 
 use crate::dispatch::answer;
 use crate::outcome::Outcome;
 use crate::records::Records;
-use cf_base::{Failed, Handle, OutOfMemory};
+use cf_base::{CHUNK, Failed, Handle, OutOfMemory};
 use cf_io::{Line, Sink};
 use cf_model::Manager;
 use script_reader::{Command, CommandRef};
 use std::alloc::Global;
 use std::marker::Model;
 use step_ledger::Meter;
-
-/// The most bytes of one read.
-const MOST: usize = 4_096;
 
 /// The most bytes of the reply to a read: a lead, `=`, two digits for each byte, and a line feed.
 const MOST_TEXT: usize = 8_202;
@@ -35,7 +32,7 @@ pub struct Session {
     records: Records,
     line: Line,
     /// The bytes that a read returns.
-    buffer: [u8; MOST],
+    buffer: [u8; CHUNK],
     /// The line of the reply to a read.
     text: [u8; MOST_TEXT],
 }
@@ -61,7 +58,7 @@ impl Session {
             meter: Meter::new(rt),
             records: Records::new(alloc)?,
             line: Line::new(),
-            buffer: [0; MOST],
+            buffer: [0; CHUNK],
             text: [0; MOST_TEXT],
         })
     }
@@ -90,10 +87,13 @@ impl Session {
         ensures same { OnOk result (K.faults out.new ≡ K.faults out.old) }
         ensures failed { OnErr result (FailsLast (K.faults out.old) (K.faults out.new) (K.last_failed out.new)) }
     {
+        // For its contract: an open heap keeps its rules.
+        let _open = heap.is_open();
         self.apply_ref(heap, c.as_ref(), lead, out)
     }
 
-    /// `apply` for a command whose bytes (those of a write) are borrowed from the caller's buffer.
+    /// `apply` for a command whose bytes (those of a write) are borrowed from the caller's buffer, in a run in
+    /// progress.
     pub fn apply_ref<H: Manager, K: Sink>(
         &mut self,
         heap: &mut H,
@@ -101,22 +101,17 @@ impl Session {
         lead: &[u8],
         out: &mut K,
     ) -> Result<Outcome, Failed>
-        requires open { IsTrue (H.state heap.old).is_open }
-        requires tied { AreTied self.old (H.state heap.old) }
+        requires going { IsGoing (run_at self.old (H.state heap.old)) }
         requires formed { IsWellFormed (owned_command c) }
         requires lead { length lead.now ≤ 8 }
         ensures step { AppliesOneManager (moment_at self.old (H.state heap.old) (K.written out.old))
             (record { command = owned_command c.entry; lead = lead.now })
             result (moment_at self.new (H.state heap.new) (K.written out.new)) }
-        ensures tied { AreTied self.new (H.state heap.new) }
-        ensures open { IsTrue (H.state heap.new).is_open }
-        ensures rules { KeepsRules (H.state heap.new) }
+        ensures going { IsGoing (run_at self.new (H.state heap.new)) }
         ensures grows { K.faults out.old ≤ K.faults out.new }
         ensures same { OnOk result (K.faults out.new ≡ K.faults out.old) }
         ensures failed { OnErr result (FailsLast (K.faults out.old) (K.faults out.new) (K.last_failed out.new)) }
     {
-        // For its contract: an open heap keeps its rules.
-        let _open = heap.is_open();
         self.meter.lap();
         answer(
             &mut self.records,

@@ -1,6 +1,7 @@
 //! Replies of one line: the fixed texts that sessions of all modes use (`Short`), which text each refusal of a
 //! heap gets, and how a reply is appended to a line.
 ghost use Rattle.std.specs.Prelude.{◌≡◌, ◌<◌, ◌≤◌, ◌++◌, ◌∷◌, [], Err, codes, length};
+ghost use Rattle.cf_base.specs.declared.numbers.TheConstants.{CHUNK};
 ghost use Rattle.cf_io.specs.Lines.{line_capacity};
 ghost use Rattle.cf_session.specs.Apply.{outcome_in};
 ghost use Rattle.cf_session.specs.Short.{short_text};
@@ -116,7 +117,7 @@ pub fn push_short(line: &mut Line, short: Short) -> Outcome
 /// its outcome.
 pub fn push_bytes(line: &mut Line, bytes: &[u8]) -> Outcome
     requires empty { line.old ≡ [] }
-    requires few { length bytes.now ≤ 4096 }
+    requires few { length bytes.now ≤ CHUNK }
     ensures text { line.new ≡ codes "=" ++ encode_lower bytes.now }
     ensures room { length line.new < line_capacity }
     ensures outcome { result ≡ outcome_in line.new }

@@ -11,11 +11,10 @@ ghost use Rattle.class_lists.specs.PageLists.{AreApart, AreEmpty, IsUnlisted, Ke
 mod counts;
 
 use cf_base::{OutOfMemory, numbers_below};
-use counted_cells::Cells;
 use counts::Counts;
 use std::alloc::{AllocError, Global};
 use std::marker::Model;
-use step_ledger::Steps;
+use step_ledger::{Cells, Steps};
 
 /// Which of the two lists of a class is meant.
 #[derive(Clone, Copy, Debug, PartialEq, Eq)]

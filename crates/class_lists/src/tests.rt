@@ -1,7 +1,7 @@
 //! A test that names each field of `ClassLists` with its type, so that no field is added unseen.
 use super::{ClassLists, Counts, Links, Which};
-use counted_cells::Cells;
 use std::test::Fail;
+use step_ledger::Cells;
 
 /// Names each field with its type, so that no field is added unseen: the links are in counted
 /// cells, the other fields are numbers. The two lists of each of two classes have nodes of their

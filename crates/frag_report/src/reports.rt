@@ -3,16 +3,15 @@
 //! sink `out` as a whole. If the sink fails, the result is `Failed`, and a prefix of the report was written.
 ghost use Rattle.std.specs.Prelude.{◌≡◌, ◌≤◌, IsTrue, OnErr, length, OnOk};
 ghost use Rattle.cf_io.specs.Feeds.{FailsLast, Puts};
-ghost use Rattle.cf_base.specs.declared.answers.Totals.{Totals};
-ghost use Rattle.cf_model.specs.Answers.{classes_in, totals_in, usage_of};
+ghost use Rattle.cf_model.specs.Answers.{classes_in, totals_in};
 ghost use Rattle.cf_model.specs.State.{paging_in};
 ghost use Rattle.frag_report.specs.Classes.{classes_below, class_if_live, totals_with};
-ghost use Rattle.run_model.specs.Reports.{blocks_line, frag_line as frag_text, frag_of, pages_report, total_line, walk_of};
+ghost use Rattle.run_model.specs.Reports.{blocks_line, frag_of, pages_report, total_line, walk_of};
 ghost use Rattle.run_model.specs.Texts.{led, said};
 
 use cf_base::{Failed, Figures, Kind, Totals};
 use cf_io::{Line, Sink, begin_line, push_field, put_line};
-use cf_model::{Manager, Usage};
+use cf_model::Manager;
 use step_ledger::Steps;
 
 /// `walk`: writes the report on classes and pages, or on blocks, to the sink.
@@ -47,7 +46,7 @@ pub fn frag_line<H: Manager, K: Sink>(
     lead: &[u8],
     line: &mut Line,
     out: &mut K,
-    steps: &mut Steps,
+    _steps: &mut Steps,
 ) -> Result<(), Failed>
     requires open { IsTrue (H.state heap.now).is_open }
     requires lead { length lead.now ≤ 8 }
@@ -56,10 +55,14 @@ pub fn frag_line<H: Manager, K: Sink>(
     ensures grows { K.faults out.old ≤ K.faults out.new }
     ensures same { OnOk result (K.faults out.new ≡ K.faults out.old) }
     ensures failed { OnErr result (FailsLast (K.faults out.old) (K.faults out.new) (K.last_failed out.new)) }
-    ensures rises { steps.old ≤ steps.new }
+    ensures steps { _steps.new ≡ _steps.old }
 {
-    let usage = heap.usage(steps);
-    put_frag(&usage, lead, line, out)
+    let usage = heap.usage();
+    begin_line(line, lead);
+    push_field(line, b"frag asked ", usage.asked);
+    push_field(line, b" taken ", usage.taken);
+    push_field(line, b" held ", usage.held);
+    put_line(line, out)
 }
 
 /// Writes the report on pages: a line for each class with live objects, then the line of totals, from
@@ -188,21 +191,5 @@ fn put_blocks<K: Sink>(
     push_field(line, b"blocks used ", totals.used as u64);
     push_field(line, b" free ", totals.free as u64);
     push_field(line, b" largest ", totals.largest as u64);
-    put_line(line, out)
-}
-
-/// Writes the line on the bytes asked for, taken and held.
-fn put_frag<K: Sink>(usage: &Usage, lead: &[u8], line: &mut Line, out: &mut K) -> Result<(), Failed>
-    requires { length lead.now ≤ 8 }
-    ensures puts { (totals : Totals) → usage_of totals ≡ usage.now
-        → Puts (K.written out.old) (led lead.now (said (frag_text totals))) result (K.written out.new) }
-    ensures grows { K.faults out.old ≤ K.faults out.new }
-    ensures same { OnOk result (K.faults out.new ≡ K.faults out.old) }
-    ensures failed { OnErr result (FailsLast (K.faults out.old) (K.faults out.new) (K.last_failed out.new)) }
-{
-    begin_line(line, lead);
-    push_field(line, b"frag asked ", usage.asked);
-    push_field(line, b" taken ", usage.taken);
-    push_field(line, b" held ", usage.held);
     put_line(line, out)
 }

@@ -5,7 +5,7 @@ use Rattle.std.specs.Prelude.{Result, Ok, Err, nat_lt}
 use Rattle.std.specs.FinMap.{len}
 use Rattle.run_model.specs.Sessions.{RunState, SessionState, counted}
 use Rattle.heap_image.specs.Counts.{CountsFree, CountsLoad, CountsStop, after_mallocs}
-use Rattle.heap_image.specs.Heaps.{objects_of}
+use Rattle.heap_image.specs.Heaps.{live_objects}
 use Rattle.heap_image.specs.declared.fault.LoadFault.{LoadFault}
 
 pub counts_nothing : (s : SessionState) → CountsStop s s
@@ -32,6 +32,6 @@ stop_then old mid new some first (inr f) = inr (free_then old mid new some first
 
 -- after all n entries the end of the load counts nothing, whether it was read or not
 pub all_counted : (old : SessionState) (s : RunState) (n : ℕ) (r : Result Unit LoadFault) → s.session ≡ after_mallocs old (nat_lt 0 n) s.session.ids
-    → len (objects_of s) ≡ n → CountsLoad old r s
+    → len (live_objects s) ≡ n → CountsLoad old r s
 all_counted old s n (Ok u) counts same = counts ∙ ap (λ k. after_mallocs old (nat_lt 0 k) s.session.ids) (sym same)
 all_counted old s n (Err f) counts same = inl (nat_lt 0 n, counts)

@@ -12,7 +12,7 @@ use Rattle.heap_image.specs.Decoded.{BreaksNoRule, Decoded, Reached, at_first, b
 use Rattle.heap_image.specs.Ends.{EndRead, EndsReading}
 use Rattle.heap_image.specs.Entries.{ReadsEntry, reached_in}
 use Rattle.heap_image.specs.Feed.{Feed, TakesBytes}
-use Rattle.heap_image.specs.Heaps.{objects_of}
+use Rattle.heap_image.specs.Heaps.{live_objects}
 use Rattle.heap_image.specs.Load.{HoldsObjects, IsLoading}
 use Rattle.heap_image.specs.Stages.{LeadsTo, WholeFields, StopsReading}
 use Rattle.heap_image.specs.declared.fault.LoadFault.{LoadFault}
@@ -33,17 +33,17 @@ reached_is : (next next2 at at2 : ℕ) (o o2 : Objects) → next ≡ next2 → o
 reached_is next next2 at at2 o o2 a b c = λ i. record { next = a i; objects = b i; at = c i }
 
 -- before the first entry all `count` entries are still to be decoded, from byte 20 on
-pub entries_begin : (p : Profile) (count : ℕ) (s : RunState) (had : Feed) → objects_of s ≡ empty
+pub entries_begin : (p : Profile) (count : ℕ) (s : RunState) (had : Feed) → live_objects s ≡ empty
     → WholeFields (entries_decoded p count at_first) had had (entries_decoded p (count - 0) (reached_in s 0 20))
 entries_begin p count s had none = passes_same _ _ had (λ bytes.
     let same : count ≡ count - 0 = omega arith in
-    let r : at_first ≡ reached_in s 0 20 = reached_is 0 0 20 20 empty (objects_of s) refl (sym none) refl in
+    let r : at_first ≡ reached_in s 0 20 = reached_is 0 0 20 20 empty (live_objects s) refl (sym none) refl in
     λ i. entries_decoded p (same i) (r i) bytes)
 
-pub nothing_fresh : (s : RunState) → objects_of s ≡ empty → (id : ℕ) → get (objects_of s) id ≡ None
+pub nothing_fresh : (s : RunState) → live_objects s ≡ empty → (id : ℕ) → get (live_objects s) id ≡ None
 nothing_fresh s none id = ap (λ (o : Objects). get o id) none ∙ get-empty nat_cmp id
 
-pub nothing_counts : (s : RunState) → objects_of s ≡ empty → len (objects_of s) ≡ 0
+pub nothing_counts : (s : RunState) → live_objects s ≡ empty → len (live_objects s) ≡ 0
 nothing_counts s none = ap len none ∙ len-empty nat_cmp (List ℕ)
 
 -- after one more entry, one entry fewer is to be decoded
@@ -51,11 +51,11 @@ module _ (p q : Profile) (count i next at : ℕ) (had mid left : Feed) (old new 
     (before : WholeFields (entries_decoded p count at_first) had mid (entries_decoded p (count - i) (reached_in old next at)))
     (entry : (go : Reached → List ℕ → Decoded) → ReadsEntry (λ bytes. entry_decoded q (reached_in old next at) bytes go) go old (reached_in old next at) mid
     (Ok e) left new)
-    (fresh : (id : ℕ) → next ≤ id → get (objects_of old) id ≡ None) where
+    (fresh : (id : ℕ) → next ≤ id → get (live_objects old) id ≡ None) where
   abbrev go : Reached → List ℕ → Decoded
   go r rest = entries_decoded p (count - (i + 1)) r rest
 
-  pub entry_leads : LeadsTo old new (insert (objects_of old) e.id (entry go).0)
+  pub entry_leads : LeadsTo old new (insert (live_objects old) e.id (entry go).0)
   entry_leads = (entry go).4
 
   step : (bytes : List ℕ) → entries_decoded p (count - i) (reached_in old next at) bytes ≡ entry_decoded q (reached_in old next at) bytes go
@@ -74,16 +74,16 @@ module _ (p q : Profile) (count i next at : ℕ) (had mid left : Feed) (old new 
       let all = passes_then _ _ had mid left before (go (passed (reached_in old next at) e.id (entry go).0)) here in
       record { taken = all.taken; took = all.took; shows = λ more. all.shows more ∙ ap (λ (r : Reached). go r more) reached }
 
-  pub entry_fresh : (id : ℕ) → e.id + 1 ≤ id → get (objects_of new) id ≡ None
+  pub entry_fresh : (id : ℕ) → e.id + 1 ≤ id → get (live_objects new) id ≡ None
   entry_fresh id le =
       let least = (entry go).2 in
       let ne : id ≢ e.id = (λ is. omega arith) in
-      ap (λ (o : Objects). get o id) entry_leads.objects ∙ get_insert_other (objects_of old) e.id (entry go).0 id ne ∙ fresh id (omega arith)
+      ap (λ (o : Objects). get o id) entry_leads.objects ∙ get_insert_other (live_objects old) e.id (entry go).0 id ne ∙ fresh id (omega arith)
 
-  pub entry_counts : len (objects_of old) ≡ i → len (objects_of new) ≡ i + 1
+  pub entry_counts : len (live_objects old) ≡ i → len (live_objects new) ≡ i + 1
   entry_counts n =
       let least = (entry go).2 in
-      ap len entry_leads.objects ∙ len_fresh (objects_of old) e.id (entry go).0 (fresh e.id least) ∙ ap (λ k. k + 1) n
+      ap len entry_leads.objects ∙ len_fresh (live_objects old) e.id (entry go).0 (fresh e.id least) ∙ ap (λ k. k + 1) n
 
 -- an entry wasn't read: the load ends there
 pub entry_ends : (p q : Profile) (count i next at : ℕ) (had mid left : Feed) (old new : RunState) (f : LoadFault) → i < count → q ≡ p → old.heap.profile ≡ p
@@ -102,11 +102,11 @@ entry_ends p q count i next at had mid left old new f lt same profile before ent
         ap (λ n. entries_decoded p n (reached_in old next at) bytes) more ∙ entries_next p (count - (i + 1)) (reached_in old next at) bytes
         ∙ ap (λ (p : Profile). entry_decoded p (reached_in old next at) bytes go) (sym same)))
 
-    holds : (t : Decoded) → t.objects ≡ objects_of old → LeadsTo old new (objects_of old) → HoldsObjects p t.objects new
+    holds : (t : Decoded) → t.objects ≡ live_objects old → LeadsTo old new (live_objects old) → HoldsObjects p t.objects new
     holds t is w = record { loading = w.loading; profile = w.profile ∙ profile; objects = w.objects ∙ sym is }
 
-    by : (f : LoadFault) → StopsReading (Some old.heap.profile) (objects_of old) (λ bytes. entry_decoded q (reached_in old next at) bytes go) mid f left
-        → LeadsTo old new (objects_of old) → EndsReading (entries_decoded p count at_first) p had (Err f) left new
+    by : (f : LoadFault) → StopsReading (Some old.heap.profile) (live_objects old) (λ bytes. entry_decoded q (reached_in old next at) bytes go) mid f left
+        → LeadsTo old new (live_objects old) → EndsReading (entries_decoded p count at_first) p had (Err f) left new
     by (fault.Bad b) s w = (s.0, s.1, s.2 ∙ ap (λ p. Some p) profile, broken_then _ _ had mid left all s.0 s.4, holds s.0 s.3 w)
     by fault.Read s w = (s.0, s.1 ∙ ap (λ p. Some p) profile, shows_then _ _ had mid left all s.0 s.3, s.4, holds s.0 s.2 w)
     by fault.OutOfMemory s w = absurd s
@@ -148,11 +148,11 @@ all_end p count i next at had mid left s answer past loading profile before end 
     here : TakesBytes [] mid left → WholeFields (entries_decoded p count at_first) had left (end_decoded p r)
     here none = passes_then _ _ had mid left all (end_decoded p r) (record { taken = []; took = none; shows = λ more. refl })
 
-    holds : HoldsObjects p (objects_of s) s
+    holds : HoldsObjects p (live_objects s) s
     holds = record { loading = loading; profile = profile; objects = refl }
 
     by : (answer : Result Unit LoadFault) → EndRead at mid answer left → EndsReading (entries_decoded p count at_first) p had answer left s
-    by (Ok u) end = (objects_of s, passes_part _ _ had left (whole p (objects_of s)) (here end.0) (end_whole p r), end.1, holds)
+    by (Ok u) end = (live_objects s, passes_part _ _ had left (whole p (live_objects s)) (here end.0) (end_whole p r), end.1, holds)
     by (Err (fault.Bad b)) end = (
       breaks_in p r 0,
       (let z : at + 0 ≡ b = omega (arith, end.0) in ap (λ k. Some k) z),
@@ -163,5 +163,5 @@ all_end p count i next at had mid left s answer past loading profile before end 
       holds,
     )
     by (Err fault.Read) end =
-        (whole p (objects_of s), refl, passes_part _ _ had left (whole p (objects_of s)) (here end) (end_whole p r), inl refl, holds)
+        (whole p (live_objects s), refl, passes_part _ _ had left (whole p (live_objects s)) (here end) (end_whole p r), inl refl, holds)
     by (Err fault.OutOfMemory) end = absurd end

@@ -1,13 +1,12 @@
 -- For `fill`, which fills a buffer from a source in several calls, and `read_end`, which reads at most one byte more: the bytes that a call took are added
 -- to those in the buffer.
-use Rattle.std.proofs.Common.{◌≡◌, ◌∙◌, ◌++◌, ◌+◌, ◌≤◌, ℕ, List, [], ◌∷◌, length, take, drop, get_or, refl, ap, sym, subst, arith}
-use Rattle.std.proofs.Common.{length-append}
+use Rattle.std.proofs.Common.{◌≡◌, ◌∙◌, ◌++◌, ◌+◌, ◌≤◌, ℕ, List, [], ◌∷◌, length, take, drop, get_or, refl, ap, sym, subst, arith, length-append}
 use Rattle.std.proofs.lemmas.List.{length-take-le, take-append-le}
 use Rattle.std.proofs.Math.Seq.{take-add, take-append_seam, drop-append_seam}
 use borrow.Rule.Slice.PartMut.{put_mid, post_of}
 use Rattle.std.specs.Prelude.{min}
 use Rattle.cf_io.specs.Feeds.{HasGiven, last_count, preceded}
-use Rattle.script_loop.proofs.CallerLemmas.{given_min}
+use Rattle.cf_io.proofs.CallerLemmas.{given_min}
 use Rattle.heap_image.specs.Feed.{Feed, TakesBytes}
 use Rattle.heap_image.proofs.StageLemmas.{takes_then}
 

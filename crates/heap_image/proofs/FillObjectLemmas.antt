@@ -17,7 +17,7 @@ use Rattle.run_model.specs.Sessions.{RunState}
 use Rattle.heap_image.specs.Decoded.{Decoded, Reached, breaks_in, bytes_decoded, cut, has_room, length_decoded, passed}
 use Rattle.heap_image.specs.Entries.{ReadsEntry, FillsObject}
 use Rattle.heap_image.specs.Feed.{Feed, TakesBytes}
-use Rattle.heap_image.specs.Heaps.{objects_of}
+use Rattle.heap_image.specs.Heaps.{live_objects}
 use Rattle.heap_image.specs.Load.{IsLoading}
 use Rattle.heap_image.specs.Stages.{TakesFewer, LeadsTo, WholeFields, ReadsNumber, StopsReading, StopsInField}
 use Rattle.heap_image.specs.declared.fault.LoadFault.{LoadFault}
@@ -34,43 +34,43 @@ module _ (m : Objects) (k : ℕ) (v : List ℕ) where
 
 -- the objects by id after two steps on one id, from `old` to `mid` and from `mid` to `new`
 module _ (old mid new : RunState) (id : ℕ) where
-  pub leads_written : (v w x : List ℕ) → LeadsTo old mid (insert (objects_of old) id v) → LeadsTo mid new (insert (objects_of mid) id w) → w ≡ x
-      → LeadsTo old new (insert (objects_of old) id x)
+  pub leads_written : (v w x : List ℕ) → LeadsTo old mid (insert (live_objects old) id v) → LeadsTo mid new (insert (live_objects mid) id w) → w ≡ x
+      → LeadsTo old new (insert (live_objects old) id x)
   leads_written v w x first next is = record {
     loading = next.loading;
     profile = next.profile ∙ first.profile;
-    objects = next.objects ∙ ap (λ (o : Objects). insert o id w) first.objects ∙ insert_twice (objects_of old) id v w
-        ∙ ap (λ (b : List ℕ). insert (objects_of old) id b) is;
+    objects = next.objects ∙ ap (λ (o : Objects). insert o id w) first.objects ∙ insert_twice (live_objects old) id v w
+        ∙ ap (λ (b : List ℕ). insert (live_objects old) id b) is;
   }
 
-  pub leads_removed : (v : List ℕ) → LeadsTo old mid (insert (objects_of old) id v) → LeadsTo mid new (remove (objects_of mid) id)
-      → LeadsTo old new (remove (objects_of old) id)
+  pub leads_removed : (v : List ℕ) → LeadsTo old mid (insert (live_objects old) id v) → LeadsTo mid new (remove (live_objects mid) id)
+      → LeadsTo old new (remove (live_objects old) id)
   leads_removed v first next = record {
     loading = next.loading;
     profile = next.profile ∙ first.profile;
-    objects = next.objects ∙ ap (λ (o : Objects). remove o id) first.objects ∙ remove_inserted (objects_of old) id v;
+    objects = next.objects ∙ ap (λ (o : Objects). remove o id) first.objects ∙ remove_inserted (live_objects old) id v;
   }
 
-  pub leads_back : (v : List ℕ) → get (objects_of old) id ≡ None → LeadsTo old mid (insert (objects_of old) id v) → LeadsTo mid new (remove (objects_of mid) id)
-      → LeadsTo old new (objects_of old)
+  pub leads_back : (v : List ℕ) → get (live_objects old) id ≡ None → LeadsTo old mid (insert (live_objects old) id v) → LeadsTo mid new (remove (live_objects mid) id)
+      → LeadsTo old new (live_objects old)
   leads_back v none first next = (let all = leads_removed v first next in
-      record { loading = all.loading; profile = all.profile; objects = all.objects ∙ remove_missing (objects_of old) id none })
+      record { loading = all.loading; profile = all.profile; objects = all.objects ∙ remove_missing (live_objects old) id none })
 
-pub leads_still : (s : RunState) → IsLoading s → LeadsTo s s (objects_of s)
+pub leads_still : (s : RunState) → IsLoading s → LeadsTo s s (live_objects s)
 leads_still s loading = record { loading = loading; profile = refl; objects = refl }
 
-pub leads_first : (s : RunState) (id n : ℕ) → IsLoading s → get (objects_of s) id ≡ Some (replicate n 0)
-    → LeadsTo s s (insert (objects_of s) id ([] ++ replicate (n - 0) 0))
+pub leads_first : (s : RunState) (id n : ℕ) → IsLoading s → get (live_objects s) id ≡ Some (replicate n 0)
+    → LeadsTo s s (insert (live_objects s) id ([] ++ replicate (n - 0) 0))
 leads_first s id n loading some =
     let same : n ≡ n - 0 = omega arith in
     record {
       loading = loading;
       profile = refl;
-      objects = insert_same (objects_of s) id (replicate n 0) some ∙ ap (λ k. insert (objects_of s) id (replicate k 0)) same;
+      objects = insert_same (live_objects s) id (replicate n 0) some ∙ ap (λ k. insert (live_objects s) id (replicate k 0)) same;
     }
 
-pub held_in : (old mid : RunState) (id : ℕ) (v : List ℕ) → LeadsTo old mid (insert (objects_of old) id v) → get (objects_of mid) id ≡ Some v
-held_in old mid id v leads = ap (λ (o : Objects). get o id) leads.objects ∙ get_inserted (objects_of old) id v
+pub held_in : (old mid : RunState) (id : ℕ) (v : List ℕ) → LeadsTo old mid (insert (live_objects old) id v) → get (live_objects mid) id ≡ Some v
+held_in old mid id v leads = ap (λ (o : Objects). get o id) leads.objects ∙ get_inserted (live_objects old) id v
 
 -- the next bytes are written over zeros
 zeros_after : (k n : ℕ) → drop n (replicate {A = ℕ} k 0) ≡ replicate (k - n) 0
@@ -126,9 +126,9 @@ module _ (p : Profile) (r : Reached) (id n : ℕ) (go : Reached → List ℕ →
   bytes_stop f q = falls_stops bytes_reading n (breaks_in p r 6) bytes_short had left (r.at + 6) f (Some p) r.objects refl refl refl q
 
 -- an entry after its id: the length was read and the object made, and then it was filled or freed
-module _ (old mid new : RunState) (r : Reached) (id n : ℕ) (had rest left : Feed) (mine : r.objects ≡ objects_of old) (rises : r.next ≤ id)
+module _ (old mid new : RunState) (r : Reached) (id n : ℕ) (had rest left : Feed) (mine : r.objects ≡ live_objects old) (rises : r.next ≤ id)
     (good : has_room old.heap.profile r.objects n ≡ true) (reads : ReadsNumber w32 (r.at + 2) had (Ok n) rest)
-    (made : LeadsTo old mid (insert (objects_of old) id (replicate n 0))) (go : Reached → List ℕ → Decoded) where
+    (made : LeadsTo old mid (insert (live_objects old) id (replicate n 0))) (go : Reached → List ℕ → Decoded) where
   length_passes : WholeFields (λ bytes. length_decoded old.heap.profile r id bytes go) had rest (λ bytes. bytes_decoded old.heap.profile r id n bytes go)
   unfolding length_decoded
   length_passes = field_good w32 (breaks_in old.heap.profile r 2) (λ n. has_room old.heap.profile r.objects n)
@@ -150,7 +150,7 @@ module _ (old mid new : RunState) (r : Reached) (id n : ℕ) (had rest left : Fe
         },
       )
 
-  pub object_stops : (f : LoadFault) → get (objects_of old) id ≡ None → FillsObject n (r.at + 6) mid id rest (Err f) left new
+  pub object_stops : (f : LoadFault) → get (live_objects old) id ≡ None → FillsObject n (r.at + 6) mid id rest (Err f) left new
       → ReadsEntry (λ bytes. length_decoded old.heap.profile r id bytes go) go old r had (Err f) left new
   object_stops f none q =
       let back = leads_back old mid new id (replicate n 0) none made q.1 in (

@@ -22,7 +22,7 @@ use Rattle.heap_image.specs.Decoded.{entry_decoded, has_room, image_paging, is_p
 use Rattle.heap_image.specs.Decoded.{proxies_decoded, unopened, whole}
 use Rattle.heap_image.specs.Heaps.{HaveImage, image_under}
 use Rattle.heap_image.specs.Image.{entries_of, entry_of, mark, number_bytes}
-use Rattle.heap_image.specs.Listed.{listed}
+use Rattle.heap_image.specs.Listed.{listed_objects}
 use Rattle.heap_image.proofs.Encoded.{AreBelow, below_none, below_some, needed_added, needed_more, below_end}
 use Rattle.heap_image.proofs.Listing.{listed_all, listed_end, listed_none, listed_some}
 use Rattle.heap_image.proofs.Numbers.{field_read_2, field_read_4}
@@ -99,7 +99,7 @@ module _ (p : Profile) (o : Objects) (h : HaveImage p o) where
     bytes_small = (let fit = h.fit k v some in let small = page_small p h.settings in omega arith)
 
   entries_read : (n k next at : ℕ) (m : Objects) → k + n ≡ 65536 → next ≤ k → AreBelow o k m
-      → entries_decoded p (length (listed o k n)) (record { next = next; objects = m; at = at }) (entries_of (listed o k n)) ≡ whole p o
+      → entries_decoded p (length (listed_objects o k n)) (record { next = next; objects = m; at = at }) (entries_of (listed_objects o k n)) ≡ whole p o
   entries_read zero k next at m end le b =
       ap (λ (es : List (ℕ × List ℕ)). entries_decoded p (length es) (record { next = next; objects = m; at = at }) (entries_of es)) (listed_end o k)
       ∙ entries_end p (record { next = next; objects = m; at = at }) ∙ ap (whole p) (below_end o h.ids k m (omega arith) b)
@@ -107,16 +107,16 @@ module _ (p : Profile) (o : Objects) (h : HaveImage p o) where
     where
       go : (v : Option (List ℕ)) → get o k ≡ v
           → ((next at : ℕ) (m : Objects) → next ≤ k + 1 → AreBelow o (k + 1) m
-          → entries_decoded p (length (listed o (k + 1) n)) (record { next = next; objects = m; at = at }) (entries_of (listed o (k + 1) n)) ≡ whole p o)
-          → entries_decoded p (length (listed o k (suc n))) (record { next = next; objects = m; at = at }) (entries_of (listed o k (suc n))) ≡ whole p o
+          → entries_decoded p (length (listed_objects o (k + 1) n)) (record { next = next; objects = m; at = at }) (entries_of (listed_objects o (k + 1) n)) ≡ whole p o)
+          → entries_decoded p (length (listed_objects o k (suc n))) (record { next = next; objects = m; at = at }) (entries_of (listed_objects o k (suc n))) ≡ whole p o
       go None e rest =
           ap (λ (es : List (ℕ × List ℕ)). entries_decoded p (length es) (record { next = next; objects = m; at = at }) (entries_of es)) (listed_none o k n e)
           ∙ rest next at m (omega arith) (below_none o k m b e)
       go (Some v) e rest =
           ap (λ (es : List (ℕ × List ℕ)). entries_decoded p (length es) (record { next = next; objects = m; at = at }) (entries_of es)) (listed_some o k n v e)
-          ∙ entries_next p (length (listed o (k + 1) n)) (record { next = next; objects = m; at = at }) (entry_of k v ++ entries_of (listed o (k + 1) n))
-          ∙ entry_read p (record { next = next; objects = m; at = at }) (λ r rest. entries_decoded p (length (listed o (k + 1) n)) r rest) k v
-          (entries_of (listed o (k + 1) n)) (h.ids k v e) le (bytes_small n k m v end b e) (room_read n k m v end b e)
+          ∙ entries_next p (length (listed_objects o (k + 1) n)) (record { next = next; objects = m; at = at }) (entry_of k v ++ entries_of (listed_objects o (k + 1) n))
+          ∙ entry_read p (record { next = next; objects = m; at = at }) (λ r rest. entries_decoded p (length (listed_objects o (k + 1) n)) r rest) k v
+          (entries_of (listed_objects o (k + 1) n)) (h.ids k v e) le (bytes_small n k m v end b e) (room_read n k m v end b e)
           ∙ rest (k + 1) (at + (6 + length v)) (insert m k v) (omega arith) (below_some o k m b v e)
 
   -- the entries of the whole image

@@ -18,16 +18,15 @@ use Rattle.page_model.specs.Bytes.{AreBytes}
 use Rattle.page_model.specs.Counts.{ceil_div}
 use Rattle.page_model.specs.Held.{Held, Objects, Placed, objects}
 use Rattle.page_model.specs.Paging.{IsPaging, Paging, class_for, classes, paging_of, slots_of}
-use Rattle.page_model.proofs.CallerLemmas.{class_holds, len-objects, sum_same}
+use Rattle.page_model.proofs.CallerLemmas.{class_holds, len-objects, sum_same, bytes_held}
 use Rattle.run_model.specs.Sessions.{AreTied, IsGoing, RunState}
-use Rattle.run_model.proofs.CallerLemmas.{bytes_held, names_of_objects}
+use Rattle.run_model.proofs.CallerLemmas.{names_of_objects, by_id_counts, found_by_id, gone_by_id, live_by_id, numbered_by_id}
 use Rattle.id_table.specs.Ties.{AreTiedTo}
-use Rattle.transcript_laws.specs.Histories.{bytes_of}
-use Rattle.heap_image.specs.Decoded.{IsImage, image_paging}
-use Rattle.heap_image.specs.Heaps.{HaveImage, heap_image, objects_of}
+use Rattle.run_model.specs.ById.{bytes_of}
+use Rattle.heap_image.specs.Decoded.{IsHeapImage, image_paging}
+use Rattle.heap_image.specs.Heaps.{HaveImage, heap_image, live_objects}
 use Rattle.heap_image.specs.Image.{image_of}
 use Rattle.heap_image.proofs.Headers.{pages_of}
-use Rattle.transcript_laws.proofs.CallerLemmas.{by_id_counts, found_by_id, gone_by_id, live_by_id, numbered_by_id}
 use Rattle.heap_image.proofs.ImageDecoded.{image_read}
 
 -- the pages that objects need don't depend on the bounds
@@ -45,10 +44,10 @@ unfolding pages_needed live
 needed_alike p m n alike = sum_same _ _ (range_with_len 0 (classes p)) (λ c. ap (λ n. ceil_div n (slots_of p c)) (alike.sums _))
 
 -- the bytes under an id are those of the object that its number names
-pub objects_of_is : (s : RunState) → AreTied s.session s.heap → (id : ℕ) → get (objects_of s) id ≡ bytes_of s id
+pub objects_of_is : (s : RunState) → AreTied s.session s.heap → (id : ℕ) → get (live_objects s) id ≡ bytes_of s id
 objects_of_is s tied id = go (get s.session.ids id) refl
   where
-    go : (o : Option ℕ) → get s.session.ids id ≡ o → get (objects_of s) id ≡ bytes_of s id
+    go : (o : Option ℕ) → get s.session.ids id ≡ o → get (live_objects s) id ≡ bytes_of s id
     go None e = gone_by_id s.session.ids (objects s.heap.held) id e
         ∙ sym (ap (λ (o : Option ℕ). option_map (λ (x : Placed). x.bytes) (elim o as (λ _. Option Placed) [ None ↦ None | Some h ↦ get s.heap.held h ])) e)
     go (Some h) e =
@@ -61,7 +60,7 @@ pub same_image : (one other : RunState) → AreTied one.session one.heap → Are
     → other.heap.profile.pages ≡ one.heap.profile.pages → other.heap.profile.page_words ≡ one.heap.profile.page_words
     → other.heap.profile.proxies ≡ one.heap.profile.proxies → ((id : ℕ) → bytes_of other id ≡ bytes_of one id) → heap_image other ≡ heap_image one
 same_image one other t u pages words proxies same =
-    let o : objects_of other ≡ objects_of one = equal_maps _ _ (λ id. objects_of_is other u id ∙ same id ∙ sym (objects_of_is one t id)) in
+    let o : live_objects other ≡ live_objects one = equal_maps _ _ (λ id. objects_of_is other u id ∙ same id ∙ sym (objects_of_is one t id)) in
     λ i. image_of (pages i) (8 * words i) (proxies i) (o i)
 
 -- a run in progress on a manager of kind Moving: the object under an id is held under the number that the id names
@@ -69,7 +68,7 @@ module _ (s : RunState) (going : IsGoing s) (ids : AreWithin s.session.ids) (mov
   names : AreTiedTo s.session.ids (objects s.heap.held)
   names = names_of_objects s.session.ids s.heap.held going.tied.ids
 
-  placed : (id : ℕ) (v : List ℕ) → get (objects_of s) id ≡ Some v → (h : ℕ) × (x : Placed) × (get s.heap.held h ≡ Some x) × (v ≡ x.bytes)
+  placed : (id : ℕ) (v : List ℕ) → get (live_objects s) id ≡ Some v → (h : ℕ) × (x : Placed) × (get s.heap.held h ≡ Some x) × (v ≡ x.bytes)
   placed id v is =
       let h = found_by_id s.session.ids (objects s.heap.held) names id v is in
       let x = going.tied.ids.named id h.0 h.1 in
@@ -86,11 +85,11 @@ module _ (s : RunState) (going : IsGoing s) (ids : AreWithin s.session.ids) (mov
       omega arith
 
   pub lives_have_image : pages_needed (image_paging s.heap.profile) (objects s.heap.held) ≤ s.heap.profile.pages
-      → HaveImage (at_bound_one s.heap.profile) (objects_of s)
+      → HaveImage (at_bound_one s.heap.profile) (live_objects s)
   lives_have_image room =
       let r = going.rules.settings in
       let counts = by_id_counts s.session.ids (objects s.heap.held) names in
-      let same = needed_alike (image_paging s.heap.profile) (objects s.heap.held) (objects_of s) counts in
+      let same = needed_alike (image_paging s.heap.profile) (objects s.heap.held) (live_objects s) counts in
       record {
         settings = record {
           some_pages = r.some_pages;
@@ -107,7 +106,7 @@ module _ (s : RunState) (going : IsGoing s) (ids : AreWithin s.session.ids) (mov
         bytes = λ id v is. (let x = placed id v is in subst AreBytes (sym x.3) (going.rules.numbers.bytes x.0 x.1 x.2));
         fit = λ id v is. (let x = placed id v is in subst (λ (w : List ℕ). need (length w) ≤ s.heap.profile.page_words) (sym x.3) (fits x.0 x.1 x.2));
         few = (let a = counts.count in let b = len-objects s.heap.held in let c = going.rules.numbers.few in omega arith);
-        room = (let e = needed_any s.heap.profile (image_paging (at_bound_one s.heap.profile)).bounds (objects_of s) in omega arith);
+        room = (let e = needed_any s.heap.profile (image_paging (at_bound_one s.heap.profile)).bounds (live_objects s) in omega arith);
       }
 
 -- the live objects need no more pages than there are
@@ -125,5 +124,5 @@ room_of s going moving enough adds =
     (adds (paging_of s.heap.profile Words s.heap.bounds) s.heap.held sound)
 
 -- the image of a heap is an image
-pub lives_image : (s : RunState) → HaveImage (at_bound_one s.heap.profile) (objects_of s) → IsImage (heap_image s)
-lives_image s h = ap (λ d. d.broken) (image_read (at_bound_one s.heap.profile) (objects_of s) h)
+pub lives_image : (s : RunState) → HaveImage (at_bound_one s.heap.profile) (live_objects s) → IsHeapImage (heap_image s)
+lives_image s h = ap (λ d. d.broken) (image_read (at_bound_one s.heap.profile) (live_objects s) h)

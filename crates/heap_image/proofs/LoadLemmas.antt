@@ -19,18 +19,17 @@ use Rattle.page_model.specs.Held.{objects}
 use Rattle.page_model.specs.Paging.{EveryBoundIsOne, first_bounds, paging_of}
 use Rattle.page_model.proofs.CallerLemmas.{first_ones}
 use Rattle.run_model.specs.Sessions.{RunState, SessionState}
-use Rattle.run_model.proofs.CallerLemmas.{costs_nothing}
-use Rattle.script_loop.specs.ScriptOutcome.{MayFollow}
-use Rattle.script_loop.proofs.CallerLemmas.{nothing_follows}
+use Rattle.run_model.proofs.CallerLemmas.{costs_nothing, gone_by_id}
+use Rattle.cf_io.specs.Feeds.{MayFollow}
+use Rattle.cf_io.proofs.CallerLemmas.{nothing_follows}
 use Rattle.heap_image.specs.Decoded.{BreaksNoRule, Decoded, breaks_after, count_decoded, cut, decoded, whole}
 use Rattle.heap_image.specs.Ends.{EndsReading}
 use Rattle.heap_image.specs.Feed.{Feed}
-use Rattle.heap_image.specs.Heaps.{objects_of}
+use Rattle.heap_image.specs.Heaps.{live_objects}
 use Rattle.heap_image.specs.Load.{HoldsObjects, HoldsRead, IsLoading, LoadsBy, TakesNoMore}
-use Rattle.heap_image.specs.Stages.{WholeFields, ReadsSettings, StopsAt, StopsReading, ReadsAs, ReadsBroken}
+use Rattle.heap_image.specs.Stages.{WholeFields, ReadsSettings, StopsInImage, StopsReading, DecodesAs, ReadsBroken}
 use Rattle.heap_image.specs.declared.fault.LoadFault.{LoadFault}
 use Rattle.heap_image.specs.declared.fault.LoadFault.TheVariants as fault
-use Rattle.transcript_laws.proofs.CallerLemmas.{gone_by_id}
 use Rattle.heap_image.proofs.StageLemmas.{broken_then, shows_then}
 
 abbrev Reading : Type 0
@@ -53,7 +52,7 @@ broken_row from to had left at t broken holds q = record {
   });
 }
   where
-    by : (cut : Bool) (more : List ℕ) → StopsAt decoded q.shows.taken t left cut → MayFollow left.rest cut more
+    by : (cut : Bool) (more : List ℕ) → StopsInImage decoded q.shows.taken t left cut → MayFollow left.rest cut more
         → (decoded (q.shows.taken ++ more) ≡ t) × TakesNoMore q.shows.taken more cut
     by true more stops follows =
         let none = nothing_follows left.rest more stops follows in
@@ -62,7 +61,7 @@ broken_row from to had left at t broken holds q = record {
 
 -- the source failed: how the load ends
 part_row : (from to : RunState) (had left : Feed) (t : Decoded) → BreaksNoRule t → HoldsRead from t.settings t.objects to
-    → ReadsAs decoded had left t → LoadsBy from had (Err fault.Read) left to
+    → DecodesAs decoded had left t → LoadsBy from had (Err fault.Read) left to
 part_row from to had left t sound holds q = record {
   taken = q.taken;
   ended = false;
@@ -139,7 +138,7 @@ ends_then T U p had mid left (Err fault.Read) to passes ends = (ends.0, ends.1, 
 ends_then T U p had mid left (Err fault.OutOfMemory) to passes ends = absurd ends
 
 -- the number of objects wasn't read: the heap holds no objects
-module _ (T : Reading) (p : Profile) (had left : Feed) (s : RunState) (loading : IsLoading s) (profile : s.heap.profile ≡ p) (none : objects_of s ≡ empty) where
+module _ (T : Reading) (p : Profile) (had left : Feed) (s : RunState) (loading : IsLoading s) (profile : s.heap.profile ≡ p) (none : live_objects s ≡ empty) where
   holds : (t : Decoded) → t.objects ≡ empty → HoldsObjects p t.objects s
   holds t is = record { loading = loading; profile = profile; objects = none ∙ sym is }
 
@@ -178,6 +177,6 @@ module _ (kind : Kind) (moving : kind ≡ Moving) (session : SessionState) (heap
     ones = subst EveryBoundIsOne (sym (λ i. paging_of (opened_profile i) (layout_of (moves i)) (bounds i))) (first_ones (profile_of settings) Words one);
   }
 
-  pub opened_none : objects_of (run_at session heap) ≡ empty
+  pub opened_none : live_objects (run_at session heap) ≡ empty
   opened_none = equal_maps _ _ (λ id. gone_by_id session.ids (objects heap.held) id (ap (λ m. get m id) idle ∙ get-empty nat_cmp id)
       ∙ sym (get-empty nat_cmp id))

@@ -3,10 +3,9 @@
 use Rattle.std.proofs.Common.{◌≡◌, ◌∙◌, ◌++◌, ℕ, List, [], Option, Some, None, refl, ap, sym, subst}
 use Rattle.std.specs.Prelude.{Result}
 use Rattle.cf_base.specs.declared.settings.Settings.{Settings}
-use Rattle.cf_io.specs.Feeds.{preceded}
+use Rattle.cf_io.specs.Feeds.{preceded, MayFollow}
 use Rattle.run_model.specs.Sessions.{RunState}
-use Rattle.script_loop.specs.ScriptOutcome.{MayFollow}
-use Rattle.script_loop.proofs.CallerLemmas.{nothing_may_follow}
+use Rattle.cf_io.proofs.CallerLemmas.{nothing_may_follow}
 use Rattle.heap_image.specs.Feed.{Feed}
 use Rattle.heap_image.specs.Load.{IsLoaded, LoadsBy}
 use Rattle.heap_image.specs.declared.fault.LoadFault.{LoadFault}

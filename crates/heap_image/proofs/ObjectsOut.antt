@@ -9,11 +9,11 @@ use Rattle.cf_io.proofs.CallerLemmas.{appended_then, puts_cut, puts_then}
 use Rattle.id_table.specs.Ids.{AreWithin}
 use Rattle.page_model.specs.Held.{Placed, objects}
 use Rattle.run_model.specs.Sessions.{RunState}
-use Rattle.run_model.proofs.CallerLemmas.{bytes_held}
-use Rattle.heap_image.specs.Heaps.{objects_of}
-use Rattle.heap_image.specs.Image.{texts_of}
-use Rattle.heap_image.specs.Listed.{listed}
-use Rattle.transcript_laws.proofs.CallerLemmas.{gone_by_id, live_by_id, numbered_by_id}
+use Rattle.run_model.proofs.CallerLemmas.{gone_by_id, live_by_id, numbered_by_id}
+use Rattle.page_model.proofs.CallerLemmas.{bytes_held}
+use Rattle.heap_image.specs.Heaps.{live_objects}
+use Rattle.heap_image.specs.Image.{object_texts}
+use Rattle.heap_image.specs.Listed.{listed_objects}
 use Rattle.heap_image.proofs.Listing.{listed_all, listed_end, listed_none, listed_some}
 
 abbrev Written : Type 0
@@ -23,7 +23,7 @@ Written = Option (List ℕ)
 -- The sink held w before the loop and holds x now.
 pub record CameTo (text : ℕ → List ℕ → List ℕ) (s : RunState) (w x : Written) (id : ℕ) : Type 0 where
   pub done : List ℕ
-  pub rest : texts_of text (entries (objects_of s)) ≡ done ++ texts_of text (listed (objects_of s) id (65536 - id))
+  pub rest : object_texts text (entries (live_objects s)) ≡ done ++ object_texts text (listed_objects (live_objects s) id (65536 - id))
   pub written : x ≡ appended w done
 
 nothing_written : (w : Written) → w ≡ appended w []
@@ -32,13 +32,13 @@ nothing_written (Some all) = ap Some (sym (append-nil all))
 
 module _ (text : ℕ → List ℕ → List ℕ) (s : RunState) where
   abbrev all_texts : List ℕ
-  all_texts = texts_of text (entries (objects_of s))
+  all_texts = object_texts text (entries (live_objects s))
 
   -- before the loop nothing is written
   pub came_first : (w : Written) → AreWithin s.session.ids → CameTo text s w w 0
   came_first w ids = record {
     done = [];
-    rest = ap (λ (es : List (ℕ × List ℕ)). texts_of text es) (listed_all (objects_of s) 65536 (λ id v is.
+    rest = ap (λ (es : List (ℕ × List ℕ)). object_texts text es) (listed_all (live_objects s) 65536 (λ id v is.
         let h = numbered_by_id s.session.ids (objects s.heap.held) id v is in
         let within = ids.below id h.0 h.1 in
         omega (arith, within)));
@@ -50,8 +50,8 @@ module _ (text : ℕ → List ℕ → List ℕ) (s : RunState) where
     pub came_past : get s.session.ids id ≡ None → CameTo text s w x (id + 1)
     came_past none = record {
       done = so_far.done;
-      rest = so_far.rest ∙ ap (λ (es : List (ℕ × List ℕ)). so_far.done ++ texts_of text es) (ap (listed (objects_of s) id) left
-          ∙ listed_none (objects_of s) id n (gone_by_id s.session.ids (objects s.heap.held) id none) ∙ sym (ap (listed (objects_of s) (id + 1)) next));
+      rest = so_far.rest ∙ ap (λ (es : List (ℕ × List ℕ)). so_far.done ++ object_texts text es) (ap (listed_objects (live_objects s) id) left
+          ∙ listed_none (live_objects s) id n (gone_by_id s.session.ids (objects s.heap.held) id none) ∙ sym (ap (listed_objects (live_objects s) (id + 1)) next));
       written = so_far.written;
     }
 
@@ -60,11 +60,11 @@ module _ (text : ℕ → List ℕ → List ℕ) (s : RunState) where
       own = text id object.bytes
 
       abbrev behind : List ℕ
-      behind = texts_of text (listed (objects_of s) (id + 1) n)
+      behind = object_texts text (listed_objects (live_objects s) (id + 1) n)
 
       split : all_texts ≡ so_far.done ++ (own ++ behind)
-      split = so_far.rest ∙ ap (λ (es : List (ℕ × List ℕ)). so_far.done ++ texts_of text es) (ap (listed (objects_of s) id) left
-          ∙ listed_some (objects_of s) id n object.bytes
+      split = so_far.rest ∙ ap (λ (es : List (ℕ × List ℕ)). so_far.done ++ object_texts text es) (ap (listed_objects (live_objects s) id) left
+          ∙ listed_some (live_objects s) id n object.bytes
           (live_by_id s.session.ids (objects s.heap.held) id h object.bytes named (bytes_held s.heap.held h object some)))
 
       -- past an id with an object its text is written too
@@ -72,7 +72,7 @@ module _ (text : ℕ → List ℕ → List ℕ) (s : RunState) where
       came_on y put = record {
         done = so_far.done ++ own;
         rest = split ∙ sym (append_assoc so_far.done own behind)
-            ∙ ap (λ k. (so_far.done ++ own) ++ texts_of text (listed (objects_of s) (id + 1) k)) (sym next);
+            ∙ ap (λ k. (so_far.done ++ own) ++ object_texts text (listed_objects (live_objects s) (id + 1) k)) (sym next);
         written = put ∙ ap (λ (t : Written). appended t own) so_far.written ∙ appended_then w so_far.done own;
       }
 
@@ -84,4 +84,4 @@ module _ (text : ℕ → List ℕ → List ℕ) (s : RunState) where
   -- past the last id all texts are written
   pub came_last : (w x : Written) → CameTo text s w x 65536 → x ≡ appended w all_texts
   came_last w x so_far = so_far.written ∙ ap (appended w) (sym (so_far.rest
-      ∙ ap (λ (es : List (ℕ × List ℕ)). so_far.done ++ texts_of text es) (listed_end (objects_of s) 65536) ∙ append-nil so_far.done))
+      ∙ ap (λ (es : List (ℕ × List ℕ)). so_far.done ++ object_texts text es) (listed_end (live_objects s) 65536) ∙ append-nil so_far.done))

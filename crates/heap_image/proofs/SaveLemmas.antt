@@ -16,10 +16,9 @@ use Rattle.cf_model.specs.State.{HeapState}
 use Rattle.page_model.specs.Held.{objects}
 use Rattle.page_model.proofs.CallerLemmas.{len-objects}
 use Rattle.run_model.specs.Sessions.{AreTied, RunState}
-use Rattle.run_model.proofs.CallerLemmas.{names_of_objects}
-use Rattle.heap_image.specs.Heaps.{heap_image, objects_of}
+use Rattle.run_model.proofs.CallerLemmas.{names_of_objects, by_id_counts}
+use Rattle.heap_image.specs.Heaps.{heap_image, live_objects}
 use Rattle.heap_image.specs.Image.{entries_of, entry_of, header_of, number_bytes}
-use Rattle.transcript_laws.proofs.CallerLemmas.{by_id_counts}
 
 abbrev Written : Type 0
 Written = Option (List ℕ)
@@ -43,7 +42,7 @@ entry_cut w y id n line line2 line3 bytes e none first second same put =
 
 module _ (s : RunState) (tied : AreTied s.session s.heap) where
   -- there are as many live ids as live handles
-  pub as_many : len (objects_of s) ≡ len s.heap.held
+  pub as_many : len (live_objects s) ≡ len s.heap.held
   as_many = (by_id_counts s.session.ids (objects s.heap.held) (names_of_objects s.session.ids s.heap.held tied.ids)).count
       ∙ len-objects s.heap.held
 
@@ -51,15 +50,15 @@ module _ (s : RunState) (tied : AreTied s.session s.heap) where
   header_is : (pages page_words proxies live : ℕ) → s.heap.profile.pages ≡ pages → s.heap.profile.page_words ≡ page_words → s.heap.profile.proxies ≡ proxies
       → live ≡ len s.heap.held
       → header_of pages (8 * page_words) proxies live
-      ≡ header_of s.heap.profile.pages (8 * s.heap.profile.page_words) s.heap.profile.proxies (len (objects_of s))
+      ≡ header_of s.heap.profile.pages (8 * s.heap.profile.page_words) s.heap.profile.proxies (len (live_objects s))
   header_is pages page_words proxies live p q r l = sym (λ i. header_of (p i) (8 * q i) (r i) ((as_many ∙ sym l) i))
 
   -- the header was written, and then the objects
   pub header_then : (w x y : Written) (pages page_words proxies live : ℕ) (r : Result Unit Failed) → s.heap.profile.pages ≡ pages
       → s.heap.profile.page_words ≡ page_words → s.heap.profile.proxies ≡ proxies → live ≡ len s.heap.held
-      → x ≡ appended w (header_of pages (8 * page_words) proxies live) → Puts x (entries_of (entries (objects_of s))) r y → Puts w (heap_image s) r y
+      → x ≡ appended w (header_of pages (8 * page_words) proxies live) → Puts x (entries_of (entries (live_objects s))) r y → Puts w (heap_image s) r y
   header_then w x y pages page_words proxies live r p q t l put rest =
-      puts_then {T = Unit {0}} w x y _ (entries_of (entries (objects_of s))) r
+      puts_then {T = Unit {0}} w x y _ (entries_of (entries (live_objects s))) r
       (put ∙ ap (λ (b : List ℕ). appended w b) (header_is pages page_words proxies live p q t l)) rest
 
   -- if the header is cut, a prefix of the image is written
@@ -67,7 +66,7 @@ module _ (s : RunState) (tied : AreTied s.session s.heap) where
       → s.heap.profile.proxies ≡ proxies → live ≡ len s.heap.held → Puts {T = Unit {0}} w (header_of pages (8 * page_words) proxies live) (Err e) x
       → Puts {T = Unit {0}} w (heap_image s) (Err e) x
   header_cut w x pages page_words proxies live e p q r l put =
-      puts_cut w x _ (entries_of (entries (objects_of s))) e
+      puts_cut w x _ (entries_of (entries (live_objects s))) e
       (subst (λ (b : List ℕ). Puts {T = Unit {0}} w b (Err e) x) (header_is pages page_words proxies live p q r l) put)
 
 -- the totals contain the number of objects

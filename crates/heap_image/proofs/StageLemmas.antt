@@ -8,11 +8,11 @@ use Rattle.std.specs.Int.{Width, byte_len}
 use Rattle.cf_base.specs.Settings.{Profile}
 use Rattle.cf_io.specs.Feeds.{HasGiven}
 use Rattle.page_model.specs.Held.{Objects}
-use Rattle.script_loop.proofs.CallerLemmas.{preceded_after, preceded_none}
+use Rattle.cf_io.proofs.CallerLemmas.{preceded_after, preceded_none}
 use Rattle.heap_image.specs.Decoded.{BreaksNoRule, Decoded, cut, number}
 use Rattle.heap_image.specs.Feed.{Feed, TakesBytes}
 use Rattle.heap_image.specs.Load.{LastBreaks}
-use Rattle.heap_image.specs.Stages.{WholeFields, ReadsNumber, StopsAt, StopsReading, StopsInField, ReadsAs, ReadsBroken}
+use Rattle.heap_image.specs.Stages.{WholeFields, ReadsNumber, StopsInImage, StopsReading, StopsInField, DecodesAs, ReadsBroken}
 use Rattle.heap_image.specs.declared.fault.LoadFault.{LoadFault}
 use Rattle.heap_image.specs.declared.fault.LoadFault.TheVariants as fault
 use Rattle.heap_image.proofs.Numbers.{number_cut, number_whole}
@@ -45,14 +45,14 @@ module _ (T U : Reading) (had mid left : Feed) (p : WholeFields T had mid U) whe
     shows = λ more. ap T (append_assoc p.taken q.taken more) ∙ p.shows (q.taken ++ more) ∙ q.shows more;
   }
 
-  pub shows_then : (t : Decoded) → ReadsAs U mid left t → ReadsAs T had left t
+  pub shows_then : (t : Decoded) → DecodesAs U mid left t → DecodesAs T had left t
   shows_then t q = record {
     taken = p.taken ++ q.taken;
     took = takes_then p.taken q.taken had mid left p.took q.took;
     reads = p.shows q.taken ∙ q.reads;
   }
 
-  stops_on : (t : Decoded) (b : Bool) (taken : List ℕ) → StopsAt U taken t left b → StopsAt T (p.taken ++ taken) t left b
+  stops_on : (t : Decoded) (b : Bool) (taken : List ℕ) → StopsInImage U taken t left b → StopsInImage T (p.taken ++ taken) t left b
   stops_on t true taken spent = spent
   stops_on t false taken q = record {
     last = record {
@@ -85,14 +85,14 @@ pub field_breaks : (T : Reading) (field : List ℕ) (had left : Feed) (bad : Dec
     → ((more : List ℕ) → T (field ++ more) ≡ bad) → ((few : List ℕ) → length few < length field → BreaksNoRule (T few)) → ReadsBroken T had left bad
 field_breaks T field had left bad rule some took shows sound = record {
   shows = record { taken = field; took = took; reads = ap T (sym (append-nil field)) ∙ shows [] };
-  stops = subst (λ b. StopsAt T field bad left b) (sym rule) (record { last = last_breaks; reads_on = shows });
+  stops = subst (λ b. StopsInImage T field bad left b) (sym rule) (record { last = last_breaks; reads_on = shows });
 }
   where
     last_breaks : LastBreaks T field
     last_breaks = (let l = last_of field some in record { before = l.0; last = l.1; are = l.2; sound = sound l.0 l.3 })
 
 -- whole fields were taken and nothing after them: T decodes the bytes taken to what U decodes the empty list to
-pub passes_part : (T U : Reading) (had left : Feed) (t : Decoded) → WholeFields T had left U → U [] ≡ t → ReadsAs T had left t
+pub passes_part : (T U : Reading) (had left : Feed) (t : Decoded) → WholeFields T had left U → U [] ≡ t → DecodesAs T had left t
 passes_part T U had left t p e = record { taken = p.taken; took = p.took; reads = ap T (sym (append-nil p.taken)) ∙ p.shows [] ∙ e }
 
 -- A field of `room` bytes: fewer bytes decode to `bad`, marked as cut.

@@ -28,23 +28,23 @@ use Rattle.page_model.specs.Bytes.{written}
 use Rattle.page_model.specs.Counts.{ceil_div}
 use Rattle.page_model.specs.Held.{Objects, Placed, objects}
 use Rattle.page_model.specs.Paging.{EveryBoundIsOne, Paging, class_for, classes, paging_of, slots_of}
-use Rattle.page_model.proofs.CallerLemmas.{malloc_objects, sum_same}
+use Rattle.page_model.proofs.CallerLemmas.{malloc_objects, sum_same, bytes_held, bytes_missing}
 use Rattle.run_model.specs.Bounds.{LacksProxyOrPages, MeetsBounds, RefusesByNeed, RefusesForProxyOrSpace}
 use Rattle.run_model.specs.Replies.{malloc_text}
 use Rattle.run_model.specs.Runs.{IsCommandStep}
 use Rattle.run_model.specs.Sessions.{Ids, IsGoing, RunState, SessionState, counted}
 use Rattle.run_model.specs.Steps.{Frees, Mallocs, Writes, ids_given}
 use Rattle.run_model.specs.Texts.{Reply, said}
-use Rattle.run_model.proofs.CallerLemmas.{FreesAt, MallocsAt, WritesAt, bytes_held, bytes_missing, counted_ids, names_of_objects, step_same}
+use Rattle.run_model.proofs.CallerLemmas.{FreesAt, MallocsAt, WritesAt, counted_ids, names_of_objects, step_same}
 use Rattle.id_table.specs.Ties.{AreTiedTo}
 use Rattle.script_reader.specs.declared.command.Command.TheVariants.{Free, Malloc, Write}
-use Rattle.transcript_laws.specs.Histories.{objects_by_id}
+use Rattle.run_model.specs.ById.{objects_by_id}
 use Rattle.heap_image.specs.Counts.{CountsFree, after_mallocs}
 use Rattle.heap_image.specs.Decoded.{has_room, image_paging}
-use Rattle.heap_image.specs.Heaps.{objects_of}
+use Rattle.heap_image.specs.Heaps.{live_objects}
 use Rattle.heap_image.specs.Load.{IsLoading}
 use Rattle.heap_image.specs.Stages.{LeadsTo}
-use Rattle.transcript_laws.proofs.CallerLemmas.{by_id_changed, by_id_counts, by_id_given, by_id_gone, found_by_id, unnumbered_by_id}
+use Rattle.run_model.proofs.CallerLemmas.{by_id_changed, by_id_counts, by_id_given, by_id_gone, found_by_id, unnumbered_by_id}
 use Rattle.heap_image.proofs.SaveLemmas.{as_many}
 
 -- the pages that objects with one more of n bytes need don't depend on the bounds
@@ -77,13 +77,13 @@ module _ (old new : RunState) (loading : IsLoading old) (going : IsGoing new) wh
   m = objects old.heap.held
 
   abbrev o : Objects
-  o = objects_of old
+  o = live_objects old
 
   names : AreTiedTo ids m
   names = names_of_objects ids old.heap.held loading.going.tied.ids
 
   leads : (after : Objects) → new.heap.kind ≡ old.heap.kind → new.heap.profile ≡ old.heap.profile → new.heap.bounds ≡ old.heap.bounds
-      → objects_of new ≡ after → LeadsTo old new after
+      → live_objects new ≡ after → LeadsTo old new after
   leads after k p b is = record {
     loading = record {
       going = going;

@@ -3,7 +3,7 @@ use Rattle.std.specs.Prelude.{◌≡◌, ◌⊎◌, ◌+◌, ◌*◌, Bool, Resu
 use Rattle.std.specs.FinMap.{len}
 use Rattle.cf_base.specs.declared.answers.Freed.{Freed}
 use Rattle.run_model.specs.Sessions.{Ids, RunState, SessionState, counted}
-use Rattle.heap_image.specs.Heaps.{objects_of}
+use Rattle.heap_image.specs.Heaps.{live_objects}
 use Rattle.heap_image.specs.declared.fault.LoadFault.{LoadFault}
 
 -- The session s after mallocs and writes, which move no object. Its ids are `ids`; if there was a malloc (`some`), its step bound is that of a malloc, 64.
@@ -25,5 +25,5 @@ CountsStop old new = ((some : Bool) × (new ≡ after_mallocs old some new.ids))
 -- How a load changed the session `old`, by its result; `to` is the run after it. If an image was loaded with at least one object, the step bound
 -- is that of a malloc; after an image without objects it is the old one. A load that failed changed the session as in `CountsStop`.
 abbrev pub CountsLoad : {T : Type 0} → SessionState → Result T LoadFault → RunState → Type 0
-CountsLoad old (Ok loaded) to = to.session ≡ after_mallocs old (nat_lt 0 (len (objects_of to))) to.session.ids
+CountsLoad old (Ok loaded) to = to.session ≡ after_mallocs old (nat_lt 0 (len (live_objects to))) to.session.ids
 CountsLoad old (Err fault) to = CountsStop old to.session

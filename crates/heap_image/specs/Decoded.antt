@@ -131,8 +131,8 @@ decoded bytes =
     if bytes_eq (take 4 bytes) mark then pages_decoded (drop 4 bytes) else record (unopened 0) { is_cut = nat_lt (length bytes) 4 }
 
 -- the bytes are a heap image
-abbrev pub IsImage : List ℕ → Type 0
-IsImage bytes = (decoded bytes).broken ≡ None
+abbrev pub IsHeapImage : List ℕ → Type 0
+IsHeapImage bytes = (decoded bytes).broken ≡ None
 
 -- the bytes aren't a heap image; this is the offset of the first field that breaks a rule or is cut, or of the first byte past the image
 abbrev pub IsBroken : List ℕ → ℕ → Type 0

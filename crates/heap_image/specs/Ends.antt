@@ -7,7 +7,7 @@ use Rattle.run_model.specs.Sessions.{RunState}
 use Rattle.heap_image.specs.Decoded.{BreaksNoRule, Decoded, whole}
 use Rattle.heap_image.specs.Feed.{Feed, TakesBytes}
 use Rattle.heap_image.specs.Load.{HoldsObjects}
-use Rattle.heap_image.specs.Stages.{ReadsAs, ReadsBroken}
+use Rattle.heap_image.specs.Stages.{DecodesAs, ReadsBroken}
 use Rattle.heap_image.specs.declared.fault.LoadFault.{LoadFault}
 use Rattle.heap_image.specs.declared.fault.LoadFault.TheVariants as fault
 
@@ -16,11 +16,11 @@ use Rattle.heap_image.specs.declared.fault.LoadFault.TheVariants as fault
 -- field at the offset `at` breaks a rule or is cut, and the heap holds the objects before that field. `Read`: the source failed, t breaks no rule, and the heap
 -- holds the objects of the whole entries that were read.
 abbrev pub EndsReading : (List ℕ → Decoded) → Profile → Feed → Result Unit LoadFault → Feed → RunState → Type 0
-EndsReading reading p had (Ok u) left to = (o : Objects) × ReadsAs reading had left (whole p o) × IsSpent left.rest × HoldsObjects p o to
+EndsReading reading p had (Ok u) left to = (o : Objects) × DecodesAs reading had left (whole p o) × IsSpent left.rest × HoldsObjects p o to
 EndsReading reading p had (Err (fault.Bad at)) left to =
     (t : Decoded) × (t.broken ≡ Some at) × (t.settings ≡ Some p) × ReadsBroken reading had left t × HoldsObjects p t.objects to
 EndsReading reading p had (Err fault.Read) left to =
-    (t : Decoded) × (t.settings ≡ Some p) × ReadsAs reading had left t × BreaksNoRule t × HoldsObjects p t.objects to
+    (t : Decoded) × (t.settings ≡ Some p) × DecodesAs reading had left t × BreaksNoRule t × HoldsObjects p t.objects to
 EndsReading reading p had (Err fault.OutOfMemory) left to = ⊥
 
 -- What `read_end` found at the offset `at`, by its result: the source had ended; or it returned one byte more; or it failed.

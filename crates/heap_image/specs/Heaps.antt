@@ -8,13 +8,13 @@ use Rattle.page_model.specs.Bytes.{AreBytes}
 use Rattle.page_model.specs.Held.{Objects, objects}
 use Rattle.cf_model.specs.Rules.{AreInRange}
 use Rattle.run_model.specs.Sessions.{RunState}
-use Rattle.transcript_laws.specs.Histories.{objects_by_id}
+use Rattle.run_model.specs.ById.{objects_by_id}
 use Rattle.heap_image.specs.Decoded.{image_paging}
 use Rattle.heap_image.specs.Image.{image_of}
 
 -- the live objects of a run: a map from ids to their bytes
-abbrev pub objects_of : RunState → Objects
-objects_of s = objects_by_id s.session.ids (objects s.heap.held)
+abbrev pub live_objects : RunState → Objects
+live_objects s = objects_by_id s.session.ids (objects s.heap.held)
 
 -- the image of these objects under the settings p
 abbrev pub image_under : Profile → Objects → List ℕ
@@ -22,7 +22,7 @@ image_under p objects = image_of p.pages (8 * p.page_words) p.proxies objects
 
 -- the image of a run's live objects, under the settings of its heap
 abbrev pub heap_image : RunState → List ℕ
-heap_image s = image_under s.heap.profile (objects_of s)
+heap_image s = image_under s.heap.profile (live_objects s)
 
 -- The settings p and the objects by id have an image: the bound is 1, and a heap of kind Moving with these settings can hold all the objects at once.
 pub record HaveImage (p : Profile) (objects : Objects) : Type 0 where

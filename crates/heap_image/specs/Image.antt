@@ -21,13 +21,13 @@ abbrev pub entry_of : ℕ → List ℕ → List ℕ
 entry_of id v = number_bytes w16 id ++ (number_bytes w32 (length v) ++ v)
 
 -- what is written for the objects of a list, one after the other: for each pair of an id and the object's bytes their `text`
-abbrev pub texts_of : (ℕ → List ℕ → List ℕ) → List (ℕ × List ℕ) → List ℕ
-texts_of text [] = []
-texts_of text (e ∷ es) = text e.0 e.1 ++ texts_of text es
+abbrev pub object_texts : (ℕ → List ℕ → List ℕ) → List (ℕ × List ℕ) → List ℕ
+object_texts text [] = []
+object_texts text (e ∷ es) = text e.0 e.1 ++ object_texts text es
 
 -- the entries of the objects of a list, one after the other
 abbrev pub entries_of : List (ℕ × List ℕ) → List ℕ
-entries_of es = texts_of entry_of es
+entries_of es = object_texts entry_of es
 
 -- the first 20 bytes of an image: the mark, and in four bytes each the pages, the bytes of a page, the proxies, and the number of objects
 abbrev pub header_of : ℕ → ℕ → ℕ → ℕ → List ℕ

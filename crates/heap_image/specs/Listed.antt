@@ -9,6 +9,6 @@ listed_before id None rest = rest
 listed_before id (Some v) rest = (id, v) ∷ rest
 
 -- the objects of the n ids from `id` on, each with its id
-unfoldable pub listed : Objects → ℕ → ℕ → List (ℕ × List ℕ)
-listed objects id zero = []
-listed objects id (suc n) = listed_before id (get objects id) (listed objects (id + 1) n)
+unfoldable pub listed_objects : Objects → ℕ → ℕ → List (ℕ × List ℕ)
+listed_objects objects id zero = []
+listed_objects objects id (suc n) = listed_before id (get objects id) (listed_objects objects (id + 1) n)

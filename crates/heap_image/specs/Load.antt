@@ -7,11 +7,11 @@ use Rattle.cf_model.specs.State.{paging_in}
 use Rattle.page_model.specs.Held.{Objects}
 use Rattle.page_model.specs.Paging.{EveryBoundIsOne}
 use Rattle.run_model.specs.Sessions.{IsGoing, RunState}
-use Rattle.script_loop.specs.OneManager.{LacksOne}
-use Rattle.script_loop.specs.ScriptOutcome.{MayFollow}
+use Rattle.cf_session.specs.Apply.{LacksOne}
+use Rattle.cf_io.specs.Feeds.{MayFollow}
 use Rattle.heap_image.specs.Decoded.{BreaksNoRule, Decoded, decoded, whole}
 use Rattle.heap_image.specs.Feed.{Feed, TakesBytes}
-use Rattle.heap_image.specs.Heaps.{objects_of}
+use Rattle.heap_image.specs.Heaps.{live_objects}
 use Rattle.heap_image.specs.declared.fault.LoadFault.{LoadFault}
 use Rattle.heap_image.specs.declared.fault.LoadFault.TheVariants as fault
 
@@ -39,7 +39,7 @@ pub record IsLoading (s : RunState) : Type 0 where
 pub record HoldsObjects (p : Profile) (o : Objects) (s : RunState) : Type 0 where
   pub loading : IsLoading s
   pub profile : s.heap.profile ≡ p
-  pub objects : objects_of s ≡ o
+  pub objects : live_objects s ≡ o
 
 -- if the settings weren't read, the run `to` after the load is the run `from` before it; else its heap has the settings p and holds the objects o
 abbrev pub HoldsRead : RunState → Option Profile → Objects → RunState → Type 0

@@ -11,7 +11,7 @@ use Rattle.page_model.specs.Held.{Objects}
 use Rattle.run_model.specs.Sessions.{RunState}
 use Rattle.heap_image.specs.Decoded.{BreaksNoRule, Decoded, count_decoded}
 use Rattle.heap_image.specs.Feed.{Feed, TakesBytes}
-use Rattle.heap_image.specs.Heaps.{objects_of}
+use Rattle.heap_image.specs.Heaps.{live_objects}
 use Rattle.heap_image.specs.Image.{number_of_bytes}
 use Rattle.heap_image.specs.Load.{IsLoading, LastBreaks}
 use Rattle.heap_image.specs.declared.fault.LoadFault.{LoadFault}
@@ -20,7 +20,7 @@ use Rattle.heap_image.specs.declared.fields_in.Filled.{Filled}
 use Rattle.heap_image.specs.declared.fields_in.Filled.TheVariants as filled
 
 -- `reading` decodes the bytes taken, and nothing after them, to t.
-pub record ReadsAs (reading : List ℕ → Decoded) (had left : Feed) (t : Decoded) : Type 0 where
+pub record DecodesAs (reading : List ℕ → Decoded) (had left : Feed) (t : Decoded) : Type 0 where
   pub taken : List ℕ
   pub took : TakesBytes taken had left
   pub reads : reading taken ≡ t
@@ -32,14 +32,14 @@ pub record BreaksAtLast (reading : List ℕ → Decoded) (taken : List ℕ) (t :
 
 -- No byte was taken past the broken field. If the end of the input cuts this field (`true`), the source has no byte left. Else the field breaks a rule, and the
 -- last byte of `taken` is the first that shows it.
-abbrev pub StopsAt : (List ℕ → Decoded) → List ℕ → Decoded → Feed → Bool → Type 0
-StopsAt reading taken t left true = IsSpent left.rest
-StopsAt reading taken t left false = BreaksAtLast reading taken t
+abbrev pub StopsInImage : (List ℕ → Decoded) → List ℕ → Decoded → Feed → Bool → Type 0
+StopsInImage reading taken t left true = IsSpent left.rest
+StopsInImage reading taken t left false = BreaksAtLast reading taken t
 
 -- `reading` decodes the bytes taken to t, and no byte was taken past the broken field of t.
 pub record ReadsBroken (reading : List ℕ → Decoded) (had left : Feed) (t : Decoded) : Type 0 where
-  pub shows : ReadsAs reading had left t
-  pub stops : StopsAt reading shows.taken t left t.is_cut
+  pub shows : DecodesAs reading had left t
+  pub stops : StopsInImage reading shows.taken t left t.is_cut
 
 -- The bytes taken are whole fields: whatever bytes `more` follow them, `reading` decodes all these bytes as `go` decodes `more` alone.
 pub record WholeFields (reading : List ℕ → Decoded) (had left : Feed) (go : List ℕ → Decoded) : Type 0 where
@@ -79,7 +79,7 @@ abbrev pub StopsReading : Option Profile → Objects → (List ℕ → Decoded) 
 StopsReading settings o reading had (fault.Bad at) left =
     (t : Decoded) × (t.broken ≡ Some at) × (t.settings ≡ settings) × (t.objects ≡ o) × ReadsBroken reading had left t
 StopsReading settings o reading had fault.Read left =
-    (t : Decoded) × (t.settings ≡ settings) × (t.objects ≡ o) × ReadsAs reading had left t × BreaksNoRule t
+    (t : Decoded) × (t.settings ≡ settings) × (t.objects ≡ o) × DecodesAs reading had left t × BreaksNoRule t
 StopsReading settings o reading had fault.OutOfMemory left = ⊥
 
 -- n bytes were taken, and after them the settings are s, with the bound 1; `count_decoded` decodes what follows them
@@ -99,4 +99,4 @@ ReadsSettingsOrStops n reading had (Err e) left = StopsReading None empty readin
 pub record LeadsTo (old new : RunState) (o : Objects) : Type 0 where
   pub loading : IsLoading new
   pub profile : new.heap.profile ≡ old.heap.profile
-  pub objects : objects_of new ≡ o
+  pub objects : live_objects new ≡ o

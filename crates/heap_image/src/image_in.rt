@@ -8,14 +8,14 @@ ghost use Rattle.heap_image.specs.Decoded.{at_first, count_decoded, end_decoded,
 ghost use Rattle.heap_image.specs.Ends.{EndsReading, EndRead};
 ghost use Rattle.heap_image.specs.Counts.{CountsLoad};
 ghost use Rattle.heap_image.specs.Feed.{feed_at};
-ghost use Rattle.heap_image.specs.Heaps.{objects_of};
+ghost use Rattle.heap_image.specs.Heaps.{live_objects};
 ghost use Rattle.heap_image.specs.Load.{IsLoading, LoadsBy};
 
 use crate::fault::LoadFault;
 use crate::fields_in::{Filled, fill, read_u32};
-use crate::objects_in::{CHUNK, read_entry};
+use crate::objects_in::read_entry;
 use crate::settings_in::read_settings;
-use cf_base::Settings;
+use cf_base::{CHUNK, Settings};
 use cf_io::Source;
 use cf_model::Manager;
 use cf_session::Session;
@@ -68,7 +68,7 @@ fn load_objects<S: Source, H: Manager>(
     proxies: u32,
 ) -> Result<(), LoadFault>
     requires loading { IsLoading (run_at session.old (H.state heap.old)) }
-    requires none { objects_of (run_at session.old (H.state heap.old)) ≡ map.empty }
+    requires none { live_objects (run_at session.old (H.state heap.old)) ≡ map.empty }
     requires proxies { (H.state heap.old).profile.proxies ≡ proxies }
     requires few { proxies ≤ 65536 }
     ensures ends { EndsReading (count_decoded (H.state heap.old).profile) (H.state heap.old).profile
@@ -97,7 +97,7 @@ fn load_entries<S: Source, H: Manager>(
     count: u32,
 ) -> Result<(), LoadFault>
     requires loading { IsLoading (run_at session.old (H.state heap.old)) }
-    requires none { objects_of (run_at session.old (H.state heap.old)) ≡ map.empty }
+    requires none { live_objects (run_at session.old (H.state heap.old)) ≡ map.empty }
     requires few { count ≤ (H.state heap.old).profile.proxies }
     requires proxies { (H.state heap.old).profile.proxies ≤ 65536 }
     ensures ends { EndsReading (entries_decoded (H.state heap.old).profile count at_first) (H.state heap.old).profile

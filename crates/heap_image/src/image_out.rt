@@ -10,8 +10,8 @@ ghost use Rattle.run_model.specs.Sessions.{AreTied};
 ghost use Rattle.heap_image.specs.Heaps.{heap_image};
 ghost use Rattle.heap_image.specs.Image.{entry_of, header_of};
 
-use crate::objects_out::{CHUNK, ObjectWriter, put_objects};
-use cf_base::{Failed, Handle, Settings};
+use crate::objects_out::{ObjectWriter, put_objects};
+use cf_base::{CHUNK, Failed, Handle, Settings};
 use cf_io::{Line, Sink, push_text, put_all};
 use cf_model::Manager;
 use cf_session::Session;

@@ -10,9 +10,9 @@ ghost use Rattle.page_model.specs.Arrangement.{IsSound, pages_needed};
 ghost use Rattle.page_model.specs.Held.{Held, Objects, objects};
 ghost use Rattle.page_model.specs.Paging.{IsPaging, paging_of};
 ghost use Rattle.run_model.specs.Sessions.{AreTied, IsGoing, RunState};
-ghost use Rattle.transcript_laws.specs.Histories.{bytes_of};
-ghost use Rattle.heap_image.specs.Decoded.{IsImage, decoded, image_paging, whole};
-ghost use Rattle.heap_image.specs.Heaps.{HaveImage, heap_image, image_under, objects_of};
+ghost use Rattle.run_model.specs.ById.{bytes_of};
+ghost use Rattle.heap_image.specs.Decoded.{IsHeapImage, decoded, image_paging, whole};
+ghost use Rattle.heap_image.specs.Heaps.{HaveImage, heap_image, image_under, live_objects};
 
 use page_model::{objects_need_no_more_pages, pages_and_objects_add_up};
 
@@ -36,7 +36,7 @@ pub fn live_objects_have_an_image()
     ensures pages { (p : Profile) (bounds : List ℕ) (m : Held) → IsPaging (paging_of p Words bounds)
         → IsSound (paging_of p Words bounds) m → pages_needed (image_paging p) (objects m) ≤ p.pages }
     ensures lives { (s : RunState) → IsGoing s → AreWithin s.session.ids → s.heap.kind ≡ Moving
-        → HaveImage (at_bound_one s.heap.profile) (objects_of s) × IsImage (heap_image s) }
+        → HaveImage (at_bound_one s.heap.profile) (live_objects s) × IsHeapImage (heap_image s) }
 {
     objects_need_no_more_pages();
     pages_and_objects_add_up();

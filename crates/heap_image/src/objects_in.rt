@@ -9,20 +9,18 @@ ghost use Rattle.page_model.specs.Bytes.{written};
 ghost use Rattle.heap_image.specs.Decoded.{Decoded, Reached, entry_decoded, has_room, length_decoded};
 ghost use Rattle.heap_image.specs.Counts.{CountsFree, CountsStop, after_mallocs};
 ghost use Rattle.heap_image.specs.Feed.{feed_at};
-ghost use Rattle.heap_image.specs.Heaps.{objects_of};
+ghost use Rattle.heap_image.specs.Heaps.{live_objects};
 ghost use Rattle.heap_image.specs.Load.{IsLoading};
 ghost use Rattle.heap_image.specs.Entries.{ReadsEntry, FillsObject, reached_in};
 ghost use Rattle.heap_image.specs.Stages.{LeadsTo};
 
 use crate::fault::LoadFault;
 use crate::fields_in::{Filled, fill, read_u16, read_u32};
+use cf_base::CHUNK;
 use cf_io::{NullSink, Source};
 use cf_model::Manager;
 use cf_session::{Outcome, Session};
 use script_reader::CommandRef;
-
-/// The most bytes of an object that are written at once.
-pub(crate) const CHUNK: usize = 4_096;
 
 /// An entry that was read: the id of its object, and the object's length in bytes.
 #[derive(Clone, Copy, Debug, PartialEq, Eq)]
@@ -45,8 +43,8 @@ pub(crate) fn read_entry<S: Source, H: Manager>(
     buffer: &mut [u8],
 ) -> Result<Entry, LoadFault>
     requires loading { IsLoading (run_at session.old (H.state heap.old)) }
-    requires fresh { (id : ℕ) → next ≤ id → map.get (objects_of (run_at session.old (H.state heap.old))) id ≡ None }
-    requires few { map.len (objects_of (run_at session.old (H.state heap.old))) < (H.state heap.old).profile.proxies }
+    requires fresh { (id : ℕ) → next ≤ id → map.get (live_objects (run_at session.old (H.state heap.old))) id ≡ None }
+    requires few { map.len (live_objects (run_at session.old (H.state heap.old))) < (H.state heap.old).profile.proxies }
     requires buffer { length buffer.old ≡ 4096 }
     requires offset { at < 2 ^ 60 }
     ensures entry { (go : Reached → List ℕ → Decoded) → ReadsEntry (λ bytes. entry_decoded (H.state heap.old).profile
@@ -83,8 +81,8 @@ fn read_object<S: Source, H: Manager>(
 ) -> Result<Entry, LoadFault>
     requires loading { IsLoading (run_at session.old (H.state heap.old)) }
     requires rises { next ≤ id }
-    requires fresh { map.get (objects_of (run_at session.old (H.state heap.old))) id ≡ None }
-    requires few { map.len (objects_of (run_at session.old (H.state heap.old))) < (H.state heap.old).profile.proxies }
+    requires fresh { map.get (live_objects (run_at session.old (H.state heap.old))) id ≡ None }
+    requires few { map.len (live_objects (run_at session.old (H.state heap.old))) < (H.state heap.old).profile.proxies }
     requires buffer { length buffer.old ≡ 4096 }
     requires offset { at < 2 ^ 60 }
     ensures entry { (go : Reached → List ℕ → Decoded) → ReadsEntry (λ bytes. length_decoded (H.state heap.old).profile
@@ -114,14 +112,14 @@ fn read_object<S: Source, H: Manager>(
 /// if all objects with it need more pages than the heap has.
 fn make_object<H: Manager>(heap: &mut H, session: &mut Session, id: u16, n: u32) -> bool
     requires loading { IsLoading (run_at session.old (H.state heap.old)) }
-    requires fresh { map.get (objects_of (run_at session.old (H.state heap.old))) id ≡ None }
-    requires few { map.len (objects_of (run_at session.old (H.state heap.old))) < (H.state heap.old).profile.proxies }
-    ensures test { result ≡ has_room (H.state heap.old).profile (objects_of (run_at session.old (H.state heap.old))) n }
+    requires fresh { map.get (live_objects (run_at session.old (H.state heap.old))) id ≡ None }
+    requires few { map.len (live_objects (run_at session.old (H.state heap.old))) < (H.state heap.old).profile.proxies }
+    ensures test { result ≡ has_room (H.state heap.old).profile (live_objects (run_at session.old (H.state heap.old))) n }
     ensures made { OnTrue result (LeadsTo (run_at session.old (H.state heap.old)) (run_at session.new (H.state heap.new))
-        (map.insert (objects_of (run_at session.old (H.state heap.old))) id (replicate n 0))) }
+        (map.insert (live_objects (run_at session.old (H.state heap.old))) id (replicate n 0))) }
     ensures counts { session.new ≡ after_mallocs session.old true session.new.ids }
     ensures refused { OnFalse result (LeadsTo (run_at session.old (H.state heap.old)) (run_at session.new (H.state heap.new))
-        (objects_of (run_at session.old (H.state heap.old)))) }
+        (live_objects (run_at session.old (H.state heap.old)))) }
 {
     match session.apply_ref(
         heap,
@@ -159,7 +157,7 @@ fn fill_object<S: Source, H: Manager>(
     buffer: &mut [u8],
 ) -> Result<(), LoadFault>
     requires loading { IsLoading (run_at session.old (H.state heap.old)) }
-    requires made { map.get (objects_of (run_at session.old (H.state heap.old))) id ≡ Some (replicate n 0) }
+    requires made { map.get (live_objects (run_at session.old (H.state heap.old))) id ≡ Some (replicate n 0) }
     requires buffer { length buffer.old ≡ 4096 }
     ensures fills { FillsObject n at (run_at session.old (H.state heap.old)) id (feed_at (S.rest source.old) (S.given source.old)) result (feed_at (S.rest source.new) (S.given source.new))
         (run_at session.new (H.state heap.new)) }
@@ -201,12 +199,12 @@ fn write_object_bytes<H: Manager>(
     requires loading { IsLoading (run_at session.old (H.state heap.old)) }
     requires some { 1 ≤ length bytes.now }
     requires few { length bytes.now ≤ 4096 }
-    requires within { (v : List ℕ) × (map.get (objects_of (run_at session.old (H.state heap.old))) id ≡ Some v)
+    requires within { (v : List ℕ) × (map.get (live_objects (run_at session.old (H.state heap.old))) id ≡ Some v)
         × (at + length bytes.now ≤ length v) }
     ensures counts { session.new ≡ session.old }
-    ensures writes { (v : List ℕ) → map.get (objects_of (run_at session.old (H.state heap.old))) id ≡ Some v
+    ensures writes { (v : List ℕ) → map.get (live_objects (run_at session.old (H.state heap.old))) id ≡ Some v
         → LeadsTo (run_at session.old (H.state heap.old)) (run_at session.new (H.state heap.new))
-        (map.insert (objects_of (run_at session.old (H.state heap.old))) id (written v at bytes.now)) }
+        (map.insert (live_objects (run_at session.old (H.state heap.old))) id (written v at bytes.now)) }
 {
     match session.apply_ref(
         heap,
@@ -222,10 +220,10 @@ fn write_object_bytes<H: Manager>(
 /// Frees the live object of an id.
 fn free_object<H: Manager>(heap: &mut H, session: &mut Session, id: u16)
     requires loading { IsLoading (run_at session.old (H.state heap.old)) }
-    requires live { (v : List ℕ) × (map.get (objects_of (run_at session.old (H.state heap.old))) id ≡ Some v) }
+    requires live { (v : List ℕ) × (map.get (live_objects (run_at session.old (H.state heap.old))) id ≡ Some v) }
     ensures counts { CountsFree session.old session.new }
     ensures frees { LeadsTo (run_at session.old (H.state heap.old)) (run_at session.new (H.state heap.new))
-        (map.remove (objects_of (run_at session.old (H.state heap.old))) id) }
+        (map.remove (live_objects (run_at session.old (H.state heap.old))) id) }
 {
     match session.apply_ref(heap, CommandRef::Free { id }, b"", &mut NullSink) {
         Ok(_) => {}

@@ -7,17 +7,14 @@ ghost use Rattle.cf_io.specs.Feeds.{Puts, FailsLast};
 ghost use Rattle.cf_session.specs.Apply.{run_at};
 ghost use Rattle.page_model.specs.Held.{Placed};
 ghost use Rattle.run_model.specs.Sessions.{AreTied};
-ghost use Rattle.heap_image.specs.Heaps.{objects_of};
-ghost use Rattle.heap_image.specs.Image.{texts_of};
+ghost use Rattle.heap_image.specs.Heaps.{live_objects};
+ghost use Rattle.heap_image.specs.Image.{object_texts};
 
-use cf_base::{Failed, Handle};
+use cf_base::{CHUNK, Failed, Handle};
 use cf_io::{Line, Sink};
 use cf_model::Manager;
 use cf_session::Session;
 use step_ledger::Meter;
-
-/// The most bytes of an object that are read and written at once.
-pub(crate) const CHUNK: usize = 4_096;
 
 /// How many ids there are.
 const IDS: u32 = 65_536;
@@ -65,7 +62,7 @@ pub fn put_objects<W: ObjectWriter, H: Manager, K: Sink>(
     requires moving { (H.state heap.now).kind ≡ Moving }
     requires open { IsTrue (H.state heap.now).is_open }
     requires tied { AreTied session.now (H.state heap.now) }
-    ensures puts { Puts (K.written out.old) (texts_of W.text (map.entries (objects_of (run_at session.now (H.state heap.now)))))
+    ensures puts { Puts (K.written out.old) (object_texts W.text (map.entries (live_objects (run_at session.now (H.state heap.now)))))
         result (K.written out.new) }
     ensures grows { K.faults out.old ≤ K.faults out.new }
     ensures same { OnOk result (K.faults out.new ≡ K.faults out.old) }

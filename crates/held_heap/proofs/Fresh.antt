@@ -13,18 +13,11 @@ use Rattle.cf_model.specs.Steps.{IsEmptyHeap, IsOpeningWords, opening_order, ord
 use Rattle.cf_model.proofs.CallerLemmas.{opened_in_order}
 use Rattle.held_heap.specs.Calls.{IsFreshHeap}
 
--- a manager that was closed, of this kind, is opened with the settings s: it is fresh, with a count of 0
-pub fresh_from_closed : (kind : Kind) (s : Settings) (old new : HeapState) → old ≡ closed_state kind → IsEmptyHeap old.kind s new → KeepsPromise old new
-    → KeepsRules new → IsFreshHeap kind (profile_of s) (record { heap = new; steps = 0 })
-fresh_from_closed kind s old new is opened promise rules =
-    let kinds : old.kind ≡ kind = ap (λ (t : HeapState). t.kind) is in
-    let some : IsSome old.order = subst (λ (t : HeapState). IsSome t.order) (sym is) refl in
-    record {
-      words = subst (λ k. IsOpeningWords k (profile_of s) new.words) kinds opened.words;
-      whole = subst (λ k. new ≡ ordered_heap k (profile_of s) new.words (Some (opening_order k (profile_of s)))) kinds (opened_in_order s old new some opened promise);
-      rules = rules;
-      steps = refl;
-    }
+-- a manager that promises an order is opened with the settings s: it is fresh, with a count of 0
+pub fresh_from_closed : (s : Settings) (old new : HeapState) → IsSome old.order → IsEmptyHeap old.kind s new → KeepsPromise old new → KeepsRules new
+    → IsFreshHeap old.kind (profile_of s) (record { heap = new; steps = 0 })
+fresh_from_closed s old new some opened promise rules =
+    record { words = opened.words; whole = opened_in_order s old new some opened promise; rules = rules; steps = refl }
 
 -- a clause on `Ok` holds if `ok()` returned a value
 pub at_ok : {T E : Type 0} (r : Result T E) (P : Type 0) → OnOk r P → (o : Option T) → o ≡ result_ok r → (t : T) → o ≡ Some t → P

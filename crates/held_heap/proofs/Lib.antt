@@ -3,6 +3,5 @@ pub mod Parts
 pub mod MovingPlaces
 pub mod NonMovingPlaces
 pub mod TlsfPlaces
-pub mod Rooms
 pub mod Crosses
 pub mod Sent

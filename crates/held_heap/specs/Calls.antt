@@ -1,6 +1,6 @@
 -- For `Held`: what each call of a C library does to an open heap with its step count (`old`, `new`) and to the caller's number, structure or buffer (`before`,
 -- `after`), and the `code` that it returns.
-use Rattle.std.specs.Prelude.{◌≡◌, ℕ, ℤ, pos, List, Option, Some, None, Result, Ok, Err}
+use Rattle.std.specs.Prelude.{◌≡◌, ℕ, ℤ, pos, List, Option, Some, None, Result, Ok, Err, length}
 use Rattle.cf_base.specs.Settings.{Profile}
 use Rattle.cf_base.specs.declared.answers.Handle.{Handle}
 use Rattle.cf_base.specs.declared.answers.Freed.{Freed}
@@ -13,12 +13,14 @@ use Rattle.cf_base.specs.declared.answers.Figures.{Figures}
 use Rattle.cf_base.specs.declared.answers.Totals.{Totals}
 use Rattle.cf_base.specs.declared.kind.Kind.{Kind}
 use Rattle.cf_model.specs.Answers.{figures_in, totals_in}
+use Rattle.cf_model.specs.Bounds.{Bounds, ByOwn}
+use Rattle.cf_model.specs.Costs.{RoseByCost, length_steps}
+use Rattle.cf_model.specs.Ordered.{IsOrderedFree, IsOrderedMalloc, IsOrderedResize}
+use Rattle.cf_model.specs.Room.{IsHasRoomAnswer, length_of}
 use Rattle.cf_model.specs.Rules.{KeepsRules}
 use Rattle.cf_model.specs.State.{HeapState}
-use Rattle.cf_model.specs.Steps.{IsOpeningWords, opening_order, ordered_heap}
+use Rattle.cf_model.specs.Steps.{IsFreeStep, IsMallocStep, IsOpeningWords, IsReadAnswer, IsResizeStep, IsWriteStep, opening_order, ordered_heap}
 use Rattle.step_ledger.specs.Counting.{RoseAtMost, RoseBy}
-use Rattle.tag_heap.specs.Room.{IsHasRoomAnswer, length_of}
-use Rattle.held_heap.specs.Bounds.{Bounds, IsFree, IsMalloc, IsRead, IsResize, IsWrite}
 use Rattle.held_heap.specs.Codes.{access_code, free_code, malloc_code, moved_number, resize_code}
 use Rattle.held_heap.specs.HeldState.{HeldState}
 use Rattle.held_heap.specs.declared.answers.NphClass.{NphClass}
@@ -38,49 +40,65 @@ abbrev pub malloc_number : ℕ → Result Handle Refusal → ℕ
 malloc_number before (Ok h) = h.0
 malloc_number before (Err e) = before
 
--- a malloc of `bytes` bytes; here and below `answer` is the result of the manager's call, whose steps, counted from 0, are `new.steps`, and `most` has the step
--- bounds
-pub record IsMallocCall (most : Bounds) (old : HeldState) (bytes before : ℕ) (code : ℤ) (after : ℕ) (new : HeldState) : Type 0 where
+-- A malloc of `bytes` bytes. Its steps are the cost that the new heap records. Here and below `answer` is the result of the manager's call, whose steps, counted
+-- from 0, are `new.steps`, and `most` has the manager's own step bounds.
+pub record IsMallocCall (most : Option Bounds) (old : HeldState) (bytes before : ℕ) (code : ℤ) (after : ℕ) (new : HeldState) : Type 0 where
   pub answer : Result Handle Refusal
   pub by_code : code ≡ malloc_code answer
   pub by_number : after ≡ malloc_number before answer
-  pub call : IsMalloc most old.heap bytes answer new.heap 0 new.steps
+  pub step : IsMallocStep old.heap bytes answer new.heap
+  pub ordered : IsOrderedMalloc old.heap bytes answer new.heap
+  pub rules : KeepsRules new.heap
+  pub bound : ByOwn most (λ b. RoseAtMost 0 new.steps (b.malloc answer))
+  pub cost : new.steps ≡ new.heap.cost
 
 -- the caller's structure after a free with this result: what was freed and moved, or after a refusal the structure before the call
 abbrev pub freed_shown : NphFreed → Result Freed NotLive → NphFreed
 freed_shown before (Ok f) = record { slot_words = f.slot_words; moved = moved_number f.moved }
 freed_shown before (Err e) = before
 
--- a free of the handle `number`
-pub record IsFreeCall (most : Bounds) (old : HeldState) (number : ℕ) (before : NphFreed) (code : ℤ) (after : NphFreed) (new : HeldState) : Type 0 where
+-- a free of the handle `number`; its steps are the cost that the new heap records
+pub record IsFreeCall (most : Option Bounds) (old : HeldState) (number : ℕ) (before : NphFreed) (code : ℤ) (after : NphFreed) (new : HeldState) : Type 0 where
   pub answer : Result Freed NotLive
   pub by_code : code ≡ free_code answer
   pub by_freed : after ≡ freed_shown before answer
-  pub call : IsFree most old.heap number answer new.heap 0 new.steps
+  pub step : IsFreeStep old.heap number answer new.heap
+  pub ordered : IsOrderedFree old.heap number answer new.heap
+  pub rules : KeepsRules new.heap
+  pub bound : ByOwn most (λ b. RoseAtMost 0 new.steps (b.free answer))
+  pub cost : new.steps ≡ new.heap.cost
 
 -- the caller's structure after a resize with this result: the slots and what moved, or after a refusal the structure before the call
 abbrev pub resized_shown : NphResized → Result Resized ResizeFault → NphResized
 resized_shown before (Ok done) = record { old_slot_words = done.old_slot_words; slot_words = done.slot_words; moved = moved_number done.moved }
 resized_shown before (Err e) = before
 
--- a resize of object `number` to `bytes` bytes
-pub record IsResizeCall (most : Bounds) (old : HeldState) (number bytes : ℕ) (before : NphResized) (code : ℤ) (after : NphResized) (new : HeldState) : Type 0 where
+-- a resize of object `number` to `bytes` bytes; with pages its steps are the cost that the new heap records
+pub record IsResizeCall (most : Option Bounds) (old : HeldState) (number bytes : ℕ) (before : NphResized) (code : ℤ) (after : NphResized) (new : HeldState) : Type 0 where
   pub answer : Result Resized ResizeFault
   pub by_code : code ≡ resize_code answer
   pub by_resized : after ≡ resized_shown before answer
-  pub call : IsResize most old.heap (record { number = number; length = bytes }) answer new.heap 0 new.steps
+  pub step : IsResizeStep old.heap (record { number = number; length = bytes }) answer new.heap
+  pub ordered : IsOrderedResize old.heap (record { number = number; length = bytes }) answer new.heap
+  pub rules : KeepsRules new.heap
+  pub bound : ByOwn most (λ b. RoseAtMost 0 new.steps (b.resize bytes answer))
+  pub cost : RoseByCost old.heap.kind 0 new.steps new.heap.cost
 
 -- a write of `bytes` into object `number`, from its byte `from` on
-pub record IsWriteCall (most : Bounds) (old : HeldState) (number from : ℕ) (bytes : List ℕ) (code : ℤ) (new : HeldState) : Type 0 where
+pub record IsWriteCall (most : Option Bounds) (old : HeldState) (number from : ℕ) (bytes : List ℕ) (code : ℤ) (new : HeldState) : Type 0 where
   pub answer : Result (Unit {0}) AccessFault
   pub by_code : code ≡ access_code answer
-  pub call : IsWrite most old.heap (record { number = number; from = from }) bytes answer new.heap 0 new.steps
+  pub step : IsWriteStep old.heap (record { number = number; from = from }) bytes answer new.heap
+  pub rules : KeepsRules new.heap
+  pub exact : ByOwn most (λ b. RoseBy 0 new.steps (b.access from (length bytes) answer))
 
 -- a read of object `number`, from its byte `from` on, into the caller's buffer; the heap is unchanged
-pub record IsReadCall (most : Bounds) (old : HeldState) (number from : ℕ) (before : List ℕ) (code : ℤ) (after : List ℕ) (new : HeldState) : Type 0 where
+pub record IsReadCall (most : Option Bounds) (old : HeldState) (number from : ℕ) (before : List ℕ) (code : ℤ) (after : List ℕ) (new : HeldState) : Type 0 where
   pub answer : Result (Unit {0}) AccessFault
   pub by_code : code ≡ access_code answer
-  pub call : IsRead most old.heap (record { number = number; from = from }) before answer after 0 new.steps
+  pub read : IsReadAnswer old.heap (record { number = number; from = from }) before answer after
+  pub rules : KeepsRules old.heap
+  pub exact : ByOwn most (λ b. RoseBy 0 new.steps (b.access from (length before) answer))
   pub kept : new.heap ≡ old.heap
 
 -- the code of a call for a length: 0, or 4 (`UNKNOWN`) if the handle is not live and there is no length
@@ -93,12 +111,13 @@ abbrev pub found_number : Option ℕ → ℕ → ℕ
 found_number (Some n) before = n
 found_number None before = before
 
--- a call for the length of object `number`; the heap is unchanged
-pub record IsLengthCall (most : Bounds) (old : HeldState) (number before : ℕ) (code : ℤ) (after : ℕ) (new : HeldState) : Type 0 where
+-- a call for the length of object `number` in a heap of the kind `of_kind`; the heap is unchanged
+pub record IsLengthCall (of_kind : Kind) (old : HeldState) (number before : ℕ) (code : ℤ) (after : ℕ) (new : HeldState) : Type 0 where
   pub by_code : code ≡ found_code (length_of old.heap number)
+  pub by_kind : old.heap.kind ≡ of_kind
   pub by_length : after ≡ found_number (length_of old.heap number) before
   pub kept : new.heap ≡ old.heap
-  pub exact : RoseBy 0 new.steps (most.length (length_of old.heap number))
+  pub exact : RoseBy 0 new.steps (length_steps old.heap.kind (length_of old.heap number))
 
 -- the code of `has_room` with this result: 0, or the code of a malloc with this refusal
 abbrev pub room_code : Result (Unit {0}) Refusal → ℤ
@@ -106,13 +125,13 @@ room_code (Ok u) = pos 0
 room_code (Err e) = malloc_code (Err e)
 
 -- a call that asks whether a malloc of this many bytes would be refused; the heap is unchanged
-pub record IsRoomCall (most : Bounds) (old : HeldState) (bytes : ℕ) (code : ℤ) (new : HeldState) : Type 0 where
+pub record IsRoomCall (most : Option Bounds) (old : HeldState) (bytes : ℕ) (code : ℤ) (new : HeldState) : Type 0 where
   pub answer : Result (Unit {0}) Refusal
   pub by_code : code ≡ room_code answer
   pub room : IsHasRoomAnswer old.heap bytes answer
   pub kept : new.heap ≡ old.heap
-  pub bound : RoseAtMost 0 new.steps (most.room answer)
-  pub exact : RoseBy 0 new.steps (most.room_exact old.heap bytes answer)
+  pub bound : ByOwn most (λ b. RoseAtMost 0 new.steps (b.room answer))
+  pub exact : ByOwn most (λ b. RoseBy 0 new.steps (b.room_exact old.heap bytes answer))
 
 -- the code of a call for the figures of a class: 4 (`UNKNOWN`) if there is no such class
 abbrev pub figures_code : HeapState → ℕ → ℤ
@@ -144,12 +163,12 @@ pub record IsFiguresCall (old : HeldState) (class : ℕ) (before : NphClass) (co
   pub kept : new ≡ old
 
 -- a call for the figures of the whole heap; the heap is unchanged
-pub record IsTotalsCall (most : Bounds) (old : HeldState) (code : ℤ) (after : NphHeapTotals) (new : HeldState) : Type 0 where
+pub record IsTotalsCall (most : Option Bounds) (old : HeldState) (code : ℤ) (after : NphHeapTotals) (new : HeldState) : Type 0 where
   pub by_code : code ≡ pos 0
   pub by_totals : after ≡ totals_shown old.heap
   pub kept : new.heap ≡ old.heap
-  pub bound : RoseAtMost 0 new.steps (most.totals (totals_in old.heap.kind old.heap))
-  pub exact : RoseBy 0 new.steps (most.totals_exact old.heap)
+  pub bound : ByOwn most (λ b. RoseAtMost 0 new.steps (b.totals (totals_in old.heap.kind old.heap)))
+  pub exact : ByOwn most (λ b. RoseBy 0 new.steps (b.totals_exact old.heap))
 
 -- a call of `last_steps`: it returns the steps of the last other call, but for `figures`, and changes nothing
 pub record IsStepsCall (old : HeldState) (code : ℤ) (after : ℕ) (new : HeldState) : Type 0 where

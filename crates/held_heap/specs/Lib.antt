@@ -1,5 +1,3 @@
-pub mod Bounds
-pub mod ManagerBounds
 pub mod Codes
 pub mod HeldState
 pub mod Calls

@@ -1,11 +1,11 @@
 //! `Held`: an open heap with the step count of its last call, for a C library. Each call returns a code, and
 //! writes its other results through references.
-ghost use Rattle.std.specs.Prelude.{◌≡◌, IfSome};
+ghost use Rattle.std.specs.Prelude.{◌≡◌, IfSome, IsSome};
 ghost use Rattle.cf_base.specs.Settings.{profile_of};
 
 use crate::answers::{NphClass, NphFreed, NphHeapTotals, NphResized};
 use crate::codes::{DONE, UNKNOWN, number_of, of_access, of_refusal, of_resize};
-use crate::exported_manager::ExportedManager;
+use crate::of_kind::OfKind;
 use cf_base::{Handle, Settings};
 use std::alloc::Global;
 use std::marker::Model;
@@ -16,15 +16,14 @@ use step_ledger::Meter;
 /// number unchanged. Each other call makes a ledger of its own from `memory`, so that the compiler keeps the
 /// count in a register.
 #[derive(Drop)]
-pub struct Held<H: ExportedManager> {
+pub struct Held<H: OfKind> {
     heap: H,
     steps: u64,
     memory: Memory,
 }
 
-impl<H: ExportedManager> Model for Held<H> {
-    ghost use Rattle.held_heap.specs.Bounds.{IsOpenOfKind};
-    ghost use Rattle.held_heap.specs.HeldState.{HeldState, held_code};
+impl<H: OfKind> Model for Held<H> {
+    ghost use Rattle.held_heap.specs.HeldState.{HeldState, IsOpenOfKind, held_code};
 
     ghost Value = { HeldState };
 
@@ -35,22 +34,23 @@ impl<H: ExportedManager> Model for Held<H> {
     ghost invariant = { λ h. IsOpenOfKind H.of_kind (H.state h.heap) };
 }
 
-impl<H: ExportedManager> Held<H> {
+impl<H: OfKind> Held<H> {
     ghost use Rattle.held_heap.specs.Calls.{IsFiguresCall, IsFreeCall, IsFreshHeap, IsLengthCall, IsMallocCall, IsReadCall, IsResizeCall, IsRoomCall, IsStepsCall, IsTotalsCall, IsWriteCall};
 
-    /// Opens a heap without objects, in a block of its own. Returns `None` if out of memory.
-    pub fn open(memory: Memory, s: &Settings) -> Option<Box<Held<H>>>
-        ensures { IfSome result (λ b. IsFreshHeap H.of_kind (profile_of s.now) b.value) }
+    /// Opens `heap`, a manager of its type's kind that promises an order, without objects and in a block of its own. Returns
+    /// `None` if out of memory.
+    pub fn open(memory: Memory, mut heap: H, s: &Settings) -> Option<Box<Held<H>>>
+        requires order { IsSome (H.state heap).order }
+        requires kind { (H.state heap).kind ≡ H.of_kind }
+        ensures { IfSome result (λ b. IsFreshHeap (H.state heap).kind (profile_of s.now) b.value) }
     {
-        let alloc = Global::new(memory);
-        let mut heap = H::new_closed(alloc);
         heap.open_heap(s).ok()?;
         let held = Held {
             heap,
             steps: 0,
             memory,
         };
-        Box::new(alloc, held).ok()
+        Box::new(Global::new(memory), held).ok()
     }
 
     /// Makes an object of `bytes` zeros and writes its handle into `handle`. Returns `DONE`, or the code of
@@ -59,7 +59,7 @@ impl<H: ExportedManager> Held<H> {
         ensures { IsMallocCall H.most self.old bytes handle.old result handle.new self.new }
     {
         let mut meter = Meter::for_library(self.memory);
-        let answer = self.heap.malloc_within(bytes, meter.steps());
+        let answer = self.heap.malloc(bytes, meter.steps());
         self.steps = meter.lap();
         match answer {
             Ok(h) => {
@@ -77,7 +77,7 @@ impl<H: ExportedManager> Held<H> {
         ensures { IsFreeCall H.most self.old handle freed.old result freed.new self.new }
     {
         let mut meter = Meter::for_library(self.memory);
-        let answer = self.heap.free_within(Handle(handle), meter.steps());
+        let answer = self.heap.free(Handle(handle), meter.steps());
         self.steps = meter.lap();
         match answer {
             Ok(done) => {
@@ -98,9 +98,7 @@ impl<H: ExportedManager> Held<H> {
         ensures { IsResizeCall H.most self.old handle bytes resized.old result resized.new self.new }
     {
         let mut meter = Meter::for_library(self.memory);
-        let answer = self
-            .heap
-            .resize_within(Handle(handle), bytes, meter.steps());
+        let answer = self.heap.resize(Handle(handle), bytes, meter.steps());
         self.steps = meter.lap();
         match answer {
             Ok(done) => {
@@ -121,9 +119,7 @@ impl<H: ExportedManager> Held<H> {
         ensures { IsWriteCall H.most self.old handle at bytes.now result self.new }
     {
         let mut meter = Meter::for_library(self.memory);
-        let answer = self
-            .heap
-            .write_within(Handle(handle), at, bytes, meter.steps());
+        let answer = self.heap.write(Handle(handle), at, bytes, meter.steps());
         self.steps = meter.lap();
         match answer {
             Ok(()) => DONE,
@@ -137,9 +133,7 @@ impl<H: ExportedManager> Held<H> {
         ensures { IsReadCall H.most self.old handle at out.old result out.new self.new }
     {
         let mut meter = Meter::for_library(self.memory);
-        let answer = self
-            .heap
-            .read_within(Handle(handle), at, out, meter.steps());
+        let answer = self.heap.read(Handle(handle), at, out, meter.steps());
         self.steps = meter.lap();
         match answer {
             Ok(()) => DONE,
@@ -150,10 +144,10 @@ impl<H: ExportedManager> Held<H> {
     /// Writes the object's length in bytes into `bytes`. Returns `DONE`, or `UNKNOWN` if the handle isn't
     /// live; then `bytes` is unchanged.
     pub fn length(&mut self, handle: u32, bytes: &mut u32) -> i32
-        ensures { IsLengthCall H.most self.old handle bytes.old result bytes.new self.new }
+        ensures { IsLengthCall H.of_kind self.old handle bytes.old result bytes.new self.new }
     {
         let mut meter = Meter::for_library(self.memory);
-        let answer = self.heap.length_within(Handle(handle), meter.steps());
+        let answer = self.heap.length(Handle(handle), meter.steps());
         self.steps = meter.lap();
         match answer {
             Some(n) => {
@@ -169,7 +163,7 @@ impl<H: ExportedManager> Held<H> {
         ensures { IsRoomCall H.most self.old bytes result self.new }
     {
         let mut meter = Meter::for_library(self.memory);
-        let answer = self.heap.room_within(bytes, meter.steps());
+        let answer = self.heap.has_room(bytes, meter.steps());
         self.steps = meter.lap();
         match answer {
             Ok(()) => DONE,
@@ -202,7 +196,7 @@ impl<H: ExportedManager> Held<H> {
         ensures { IsTotalsCall H.most self.old result totals.new self.new }
     {
         let mut meter = Meter::for_library(self.memory);
-        let all = self.heap.totals_within(meter.steps());
+        let all = self.heap.totals(meter.steps());
         self.steps = meter.lap();
         *totals = NphHeapTotals {
             asked: all.asked,

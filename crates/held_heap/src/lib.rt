@@ -4,10 +4,10 @@
 
 mod answers;
 mod codes;
-mod exported_manager;
 mod held;
 pub mod moving;
 pub mod nonmoving;
+mod of_kind;
 mod place;
 pub mod tlsf;
 mod unboxed;

@@ -9,8 +9,8 @@ use Rattle.cf_io.specs.Feeds.{appended, Puts}
 use Rattle.cf_io.proofs.CallerLemmas.{puts_cut, puts_then}
 use Rattle.generator.specs.CommandText.{line_of}
 use Rattle.generator.specs.ReadBack.{lines_of}
-use Rattle.heap_image.specs.Heaps.{objects_of}
-use Rattle.heap_image.specs.Image.{texts_of}
+use Rattle.heap_image.specs.Heaps.{live_objects}
+use Rattle.heap_image.specs.Image.{object_texts}
 use Rattle.image_run.proofs.LineLemmas.{puts_same}
 use Rattle.image_run.specs.Script.{commands_of, heap_script, object_commands, object_lines, opening_line, writes_of}
 use Rattle.run_model.specs.Sessions.{RunState}
@@ -38,21 +38,21 @@ object_cut w y id n bytes e same put =
     (puts_same w y (line_of (Malloc id n)) (line_of (Malloc id (length bytes))) (Err e) (ap (λ n. line_of (Malloc id n)) same) put)
 
 -- the lines of all objects
-lines_are : (es : List (ℕ × List ℕ)) → lines_of (commands_of es) ≡ texts_of object_lines es
+lines_are : (es : List (ℕ × List ℕ)) → lines_of (commands_of es) ≡ object_texts object_lines es
 lines_are [] = refl
 lines_are (e ∷ es) = lines_joined (object_commands e.0 e.1) (commands_of es) ∙ ap (λ (l : List ℕ). object_lines e.0 e.1 ++ l) (lines_are es)
 
 module _ (s : RunState) where
   -- the `heap` line was written, and then those of the objects
   pub opening_then : (w x y : Written) (p : Profile) (r : Result Unit Failed) → s.heap.profile ≡ p → x ≡ appended w (opening_line p)
-      → Puts x (texts_of object_lines (entries (objects_of s))) r y → Puts w (heap_script s) r y
+      → Puts x (object_texts object_lines (entries (live_objects s))) r y → Puts w (heap_script s) r y
   opening_then w x y p r same put rest =
-      puts_then {T = Unit {0}} w x y (opening_line s.heap.profile) (lines_of (commands_of (entries (objects_of s)))) r
+      puts_then {T = Unit {0}} w x y (opening_line s.heap.profile) (lines_of (commands_of (entries (live_objects s)))) r
       (put ∙ ap (λ (p : Profile). appended w (opening_line p)) (sym same))
-      (puts_same x y _ (lines_of (commands_of (entries (objects_of s)))) r (sym (lines_are (entries (objects_of s)))) rest)
+      (puts_same x y _ (lines_of (commands_of (entries (live_objects s)))) r (sym (lines_are (entries (live_objects s)))) rest)
 
   -- the `heap` line was cut
   pub opening_cut : (w y : Written) (p : Profile) (e : Failed) → s.heap.profile ≡ p → Puts {T = Unit {0}} w (opening_line p) (Err e) y
       → Puts {T = Unit {0}} w (heap_script s) (Err e) y
-  opening_cut w y p e same put = puts_cut w y (opening_line s.heap.profile) (lines_of (commands_of (entries (objects_of s)))) e
+  opening_cut w y p e same put = puts_cut w y (opening_line s.heap.profile) (lines_of (commands_of (entries (live_objects s)))) e
       (puts_same w y (opening_line p) (opening_line s.heap.profile) (Err e) (ap opening_line (sym same)) put)

@@ -11,7 +11,8 @@ use Rattle.cf_io.specs.Feeds.{FailsLast, Puts, appended}
 use Rattle.heap_image.specs.Heaps.{heap_image}
 use Rattle.image_run.specs.Saves.{CanBeSaved, EndsSave, saved}
 use Rattle.run_model.specs.Sessions.{IsGoing, RunState}
-use Rattle.script_loop.proofs.CallerLemmas.{appended_none, whole_run, wrote_settled}
+use Rattle.script_loop.proofs.CallerLemmas.{whole_run, wrote_settled}
+use Rattle.cf_io.proofs.CallerLemmas.{appended_none}
 use Rattle.script_loop.specs.OneManager.{one_manager}
 use Rattle.script_loop.specs.ScriptOutcome.{Effects, HasCauses, IsStatusRow, MeetsOutcome, SinkState, SourceState, EndsAt}
 use Rattle.script_loop.specs.WithSettings.{GoesWith, Settled, with_settings}

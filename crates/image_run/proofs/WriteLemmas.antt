@@ -1,19 +1,17 @@
 -- For `put_writes`, of mode `load`: the bytes of an object, written as `w` lines of at most 4,096 bytes each, one after the other, or cut by a failed sink.
 use Rattle.std.proofs.Common.{◌≡◌, ◌∙◌, ◌++◌, ◌+◌, ◌-◌, ◌<◌, ◌≤◌, ℕ, zero, suc, List, [], ◌∷◌, Option, length, take, drop, refl, ap, sym, arith}
-use Rattle.std.proofs.Common.{append_assoc, append-nil, inl, inr}
-use Rattle.std.proofs.Common.{length-drop}
+use Rattle.std.proofs.Common.{append_assoc, append-nil, inl, inr, length-drop}
 use Rattle.std.specs.Prelude.{Err, min}
 use Rattle.std.specs.Int.{div_ceil}
 use Rattle.std.proofs.lemmas.Bool.{cases_lt}
 use Rattle.std.proofs.lemmas.List.{drop-drop, take_all}
 use Rattle.cf_base.specs.declared.answers.Failed.{Failed}
 use Rattle.cf_io.specs.Feeds.{appended, Puts}
-use Rattle.cf_io.proofs.CallerLemmas.{appended_then, puts_cut, puts_then}
+use Rattle.cf_io.proofs.CallerLemmas.{appended_then, puts_cut, puts_then, appended_none}
 use Rattle.generator.specs.CommandText.{line_of}
 use Rattle.generator.specs.ReadBack.{lines_of}
 use Rattle.image_run.proofs.LineLemmas.{puts_same}
 use Rattle.image_run.specs.Script.{writes_from, writes_of}
-use Rattle.script_loop.proofs.CallerLemmas.{appended_none}
 use Rattle.script_reader.specs.declared.command.Command.{Command}
 use Rattle.script_reader.specs.declared.command.Command.TheVariants.{Write}
 

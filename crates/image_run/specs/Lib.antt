@@ -1,3 +1,5 @@
 pub mod Script
 pub mod Saves
 pub mod Loads
+pub mod Images
+pub mod Claims

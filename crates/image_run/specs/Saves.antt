@@ -6,7 +6,7 @@ use Rattle.cf_base.specs.declared.kind.Kind.TheVariants.{Moving}
 use Rattle.cf_base.specs.declared.status.Status.{Status}
 use Rattle.cf_base.specs.declared.status.Status.TheVariants.{Done, WriteFault}
 use Rattle.cf_io.specs.Feeds.{appended}
-use Rattle.heap_image.specs.Heaps.{HaveImage, heap_image, objects_of}
+use Rattle.heap_image.specs.Heaps.{HaveImage, heap_image, live_objects}
 use Rattle.run_model.specs.Sessions.{IsGoing, RunState}
 use Rattle.script_loop.specs.OneManager.{one_manager}
 use Rattle.script_loop.specs.ScriptOutcome.{Effects, MeetsOutcome}
@@ -38,7 +38,7 @@ WritesAtEnd status before bytes after = after ≡ before
 pub record CanBeSaved (s : RunState) : Type 0 where
   pub going : IsGoing s
   pub kind : s.heap.kind ≡ Moving
-  pub have : HaveImage (at_bound_one s.heap.profile) (objects_of s)
+  pub have : HaveImage (at_bound_one s.heap.profile) (live_objects s)
 
 -- what the call did: the script led the run from `from` to `to`; the image of `to`, or a prefix of it, was written; and if the
 -- status is `Done` and a heap was opened, its objects have an image (`CanBeSaved`)

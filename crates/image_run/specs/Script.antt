@@ -1,14 +1,20 @@
--- The script that makes the live objects of a heap, which mode `load` prints, as commands and as bytes.
-use Rattle.std.specs.Prelude.{ℕ, zero, suc, ◌+◌, ◌*◌, ◌++◌, List, [], ◌∷◌, length, take, drop}
+-- The script that makes the live objects of a heap, which mode `load` prints, as commands, as items and as bytes; and the settings, bounds and objects by
+-- id (`ById`, without addresses) that the items of a script leave if every bound is 1.
+use Rattle.std.specs.Prelude.{ℕ, zero, suc, ◌+◌, ◌*◌, ◌++◌, List, [], ◌∷◌, length, take, drop, Option, map}
 use Rattle.std.specs.FinMap.{entries}
 use Rattle.std.specs.Int.{div_ceil}
 use Rattle.cf_base.specs.Settings.{Profile}
 use Rattle.generator.specs.ReadBack.{heap_line, lines_of}
-use Rattle.heap_image.specs.Heaps.{objects_of}
+use Rattle.heap_image.specs.Heaps.{live_objects}
 use Rattle.page_model.specs.Held.{Objects}
 use Rattle.run_model.specs.Sessions.{RunState}
 use Rattle.script_reader.specs.declared.command.Command.{Command}
 use Rattle.script_reader.specs.declared.command.Command.TheVariants.{Malloc, Write}
+use Rattle.cf_base.specs.declared.kind.Kind.{Kind}
+use Rattle.cf_base.specs.declared.kind.Kind.TheVariants.{Moving}
+use Rattle.script_reader.specs.Items.{Item, asks, starts}
+use Rattle.script_laws.specs.ById.{ById, begun}
+use Rattle.script_laws.specs.Transcripts.{after_at}
 
 -- n write commands, where n is the first argument: they write `bytes` into the object of `id`, from its byte `at` on, 4,096 bytes each; the last command may
 -- write fewer
@@ -43,4 +49,17 @@ script_under p objects = opening_line p ++ lines_of (commands_of (entries object
 
 -- the script that makes the live objects of a run in state `s`
 abbrev pub heap_script : RunState → List ℕ
-heap_script s = script_under s.heap.profile (objects_of s)
+heap_script s = script_under s.heap.profile (live_objects s)
+
+-- the state by id after the items, from state `t` on; None before the `heap` line
+abbrev pub after_items : Kind → Option ById → List Item → Option ById
+after_items kind t [] = t
+after_items kind t (item ∷ rest) = after_items kind (after_at kind t item) rest
+
+-- the state by id of a moving manager with the settings `p` and the objects `o`, and in each class the bound of the settings
+abbrev pub state_of_objects : Profile → Objects → ById
+state_of_objects p o = record (begun Moving p) { objects = o }
+
+-- the items of the script that makes the objects `o` on a heap with the settings `p`
+abbrev pub script_items : Profile → Objects → List Item
+script_items p o = starts p ∷ map (λ c. asks c) (commands_of (entries o))

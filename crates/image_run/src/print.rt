@@ -12,15 +12,12 @@ ghost use Rattle.page_model.specs.Held.{Placed};
 ghost use Rattle.run_model.specs.Sessions.{AreTied};
 ghost use Rattle.script_reader.specs.declared.command.Command.TheVariants.{Malloc, Write};
 
-use cf_base::{Failed, Handle, Settings};
+use cf_base::{CHUNK, Failed, Handle, Settings};
 use cf_io::{Line, Sink, push_field, push_text, put_line};
 use cf_model::Manager;
 use cf_session::Session;
 use heap_image::{ObjectWriter, length_of, put_objects};
 use step_ledger::Meter;
-
-/// The most bytes of an object that one `w` line writes.
-const CHUNK: u64 = 4_096;
 
 /// The writer with which `put_objects` writes each object as the lines of a script that make it: an `m` line
 /// and its `w` lines.
@@ -126,7 +123,7 @@ fn put_writes<H: Manager, K: Sink>(
 {
     let mut at = 0;
     'chunks: while at < n as u64 {
-        let count = (n as u64 - at).min(CHUNK);
+        let count = (n as u64 - at).min(CHUNK as u64);
         let chunk = &mut buffer[..count as usize];
         meter.lap();
         match heap.read(h, at as u32, chunk, meter.steps()) {
@@ -137,7 +134,7 @@ fn put_writes<H: Manager, K: Sink>(
             Ok(()) => {}
             Err(failed) => return Err(failed),
         }
-        at += CHUNK;
+        at += CHUNK as u64;
     }
     Ok(())
 }

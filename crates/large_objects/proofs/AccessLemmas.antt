@@ -14,7 +14,7 @@ use Rattle.cf_base.specs.Settings.{Profile}
 use Rattle.page_model.specs.Bytes.{written}
 use Rattle.page_model.specs.Held.{Objects}
 use Rattle.page_model.proofs.CallerLemmas.{inserted_there, length-written, written_nothing}
-use Rattle.large_objects.specs.InnerCalls.{IsReady}
+use Rattle.large_objects.specs.InnerCalls.{IsReadyInner}
 use Rattle.large_objects.specs.Large.{KeepsParts, LargeState}
 use Rattle.large_objects.specs.LargeSteps.{HasLong, HasPartRange, StaysKept, WritesLarge, part_bytes_in}
 use Rattle.large_objects.specs.InnerObjects.{whole_part_bytes, part_count}
@@ -112,7 +112,7 @@ then_kept a b c x y = record {
 pub same_part : (a b : LargeState) → StaysKept a b → part_bytes_in b ≡ part_bytes_in a
 same_part a b x = ap (λ (p : Profile). whole_part_bytes p) x.stays.inner.profile
 
-pub is_ready : (s : LargeState) → KeepsParts s → IsReady s.inner
+pub is_ready : (s : LargeState) → KeepsParts s → IsReadyInner s.inner
 is_ready s k = record { opened = k.opened; rules = k.rules; pages = k.pages; ones = k.ones }
 
 -- a part's place in its spine is a number of 32 bits

@@ -1,4 +1,4 @@
--- The bytes of each object can be gathered from its inner objects; and after a malloc, free or write the number of inner objects in each class (`AreCounted`)
+-- The bytes of each object can be gathered from its inner objects; and after a malloc, free or write the number of inner objects in each class (`AreInnerCounted`)
 -- and the table of lengths (`AreLengths`) are right.
 use Rattle.std.proofs.Common.{◌≡◌, ◌≢◌, ℕ, zero, suc, ◌+◌, ◌-◌, ◌*◌, ◌<◌, ◌≤◌, List, [], ◌∷◌, ◌++◌}
 use Rattle.std.proofs.Common.{Some, None, length, get_or, set, drop, replicate, arith, sym, ◌∙◌, ap, refl, inl, inr, length-drop}
@@ -15,7 +15,7 @@ use Rattle.page_model.specs.Held.{Objects}
 use Rattle.page_model.specs.Paging.{Paging, class_for}
 use Rattle.page_model.proofs.CallerLemmas.{live_added, live_taken}
 use Rattle.large_objects.specs.Growing.{IsGrowing}
-use Rattle.large_objects.specs.Large.{AreCounted, AreLaidOut, bytes_in, named}
+use Rattle.large_objects.specs.Large.{AreInnerCounted, AreLaidOut, bytes_found, named}
 use Rattle.large_objects.specs.Layout.{AreLengths, gathered, gathered_from, gathered_objects}
 use Rattle.large_objects.specs.InnerObjects.{in_class, inner_lengths, part_count, spine_bytes}
 use Rattle.large_objects.specs.Shrinking.{IsShrinking}
@@ -45,10 +45,10 @@ gathered_is : (u : ℕ) (large inner : Objects) → 0 < u → AreLaidOut u large
     ≡ v
 unfolding gathered
 gathered_is u large inner some laid h v is = elim (cases_lt u (length v)) [
-  | inl long ↦ rw (le_no (length v) u long) (parts_whole u v (λ i. bytes_in (get inner (named inner h i))) (part_count u (length v))
+  | inl long ↦ rw (le_no (length v) u long) (parts_whole u v (λ i. bytes_found (get inner (named inner h i))) (part_count u (length v))
       (parts_enough u (length v) some)
-      (λ i lt. ap bytes_in (laid.parts_are h v is long i lt)))
-  | inr short ↦ rw (le_yes (length v) u short) (ap bytes_in (laid.small h v is short))
+      (λ i lt. ap bytes_found (laid.parts_are h v is long i lt)))
+  | inr short ↦ rw (le_yes (length v) u short) (ap bytes_found (laid.small h v is short))
 ]
 
 -- the gathered objects are the objects of the heap
@@ -95,7 +95,7 @@ lengths_same lengths large proxies h v w known is same = record {
 }
 
 -- a short object is made
-module _ (p : Paging) (u : ℕ) (some : 0 < u) (large inner : Objects) (laid : AreLaidOut u large inner) (counted : AreCounted p u large inner) (h n : ℕ)
+module _ (p : Paging) (u : ℕ) (some : 0 < u) (large inner : Objects) (laid : AreLaidOut u large inner) (counted : AreInnerCounted p u large inner) (h n : ℕ)
     (unused : get inner h ≡ None) where
   abbrev zeros : List ℕ
   zeros = replicate n 0
@@ -121,7 +121,7 @@ module _ (p : Paging) (u : ℕ) (some : 0 < u) (large inner : Objects) (laid : A
         ];
       }
 
-  pub counted_short : n ≤ u → AreCounted p u (insert large h (replicate n 0)) (insert inner h (replicate n 0))
+  pub counted_short : n ≤ u → AreInnerCounted p u (insert large h (replicate n 0)) (insert inner h (replicate n 0))
   counted_short short =
       let none = not_large u large inner laid h unused in
       record {
@@ -168,7 +168,7 @@ module _ (p : Paging) (u : ℕ) (some : 0 < u) (large inner : Objects) (laid : A
           ];
         }
 
-    pub counted_long : AreCounted p u (insert large h (replicate n 0)) next
+    pub counted_long : AreInnerCounted p u (insert large h (replicate n 0)) next
     counted_long =
         let none = not_large u large inner laid h unused in
         let l = length_long u n some long in
@@ -190,7 +190,7 @@ module _ (p : Paging) (u : ℕ) (some : 0 < u) (large inner : Objects) (laid : A
         }
 
 -- an object is freed
-module _ (p : Paging) (u : ℕ) (some : 0 < u) (large inner : Objects) (laid : AreLaidOut u large inner) (counted : AreCounted p u large inner) (h : ℕ)
+module _ (p : Paging) (u : ℕ) (some : 0 < u) (large inner : Objects) (laid : AreLaidOut u large inner) (counted : AreInnerCounted p u large inner) (h : ℕ)
     (v : List ℕ)
     (found : get large h ≡ Some v) where
   pub others_short : length v ≤ u → (q : ℕ) → (IsInnerOf u inner h v q → ⊥) → get (remove inner h) q ≡ get inner q
@@ -200,7 +200,7 @@ module _ (p : Paging) (u : ℕ) (some : 0 < u) (large inner : Objects) (laid : A
   gone_short short q (inl at) = ap (get (remove inner h)) at ∙ get_removed inner h
   gone_short short q (inr (long, part)) = absurd (omega arith)
 
-  pub counted_gone_short : length v ≤ u → AreCounted p u (remove large h) (remove inner h)
+  pub counted_gone_short : length v ≤ u → AreInnerCounted p u (remove large h) (remove inner h)
   counted_gone_short short =
       let there = laid.small h v found short in
       record {
@@ -232,7 +232,7 @@ module _ (p : Paging) (u : ℕ) (some : 0 < u) (large inner : Objects) (laid : A
       | inr ne ↦ get_remove_other mid h q ne ∙ ap (get mid) at ∙ shrunk.gone i lt
     ]
 
-    pub counted_gone_long : ((j : ℕ) → j < part_count u (length v) → named inner h j ≢ h) → AreCounted p u (remove large h) (remove mid h)
+    pub counted_gone_long : ((j : ℕ) → j < part_count u (length v) → named inner h j ≢ h) → AreInnerCounted p u (remove large h) (remove mid h)
     counted_gone_long apart =
         let s = laid.spines h v found long in
         let there : get mid h ≡ Some s.spine = shrunk.others h (λ j lt e. apart j lt (sym e)) ∙ s.found in
@@ -272,8 +272,8 @@ module _ (p : Paging) (u : ℕ) (some : 0 < u) (large inner : Objects) (laid : A
         }
 
 -- the counts after a write into an inner object, which keeps its length and that of the object
-pub counted_written : (p : Paging) (u : ℕ) (large inner : Objects) (h q : ℕ) (v w b c : List ℕ) → AreCounted p u large inner → get large h ≡ Some v
-    → length w ≡ length v → get inner q ≡ Some b → length c ≡ length b → AreCounted p u (insert large h w) (insert inner q c)
+pub counted_written : (p : Paging) (u : ℕ) (large inner : Objects) (h q : ℕ) (v w b c : List ℕ) → AreInnerCounted p u large inner → get large h ≡ Some v
+    → length w ≡ length v → get inner q ≡ Some b → length c ≡ length b → AreInnerCounted p u (insert large h w) (insert inner q c)
 counted_written p u large inner h q v w b c counted found same there alike = record {
   all = (
       let x = count_replaced p u large h v w found same in

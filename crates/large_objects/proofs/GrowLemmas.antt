@@ -20,7 +20,7 @@ use Rattle.page_model.proofs.CallerLemmas.{length-written, live_added}
 use Rattle.cf_model.specs.State.{HeapState, paging_in}
 use Rattle.large_objects.specs.Growing.{GrowsInner, HasObjectRoom, IsGrowing, NamesPart}
 use Rattle.large_objects.specs.InnerCalls.{MakesOneInner, HasInner, HasInnerRoom, WritesInner}
-use Rattle.large_objects.specs.Large.{bytes_in, handle_at, named}
+use Rattle.large_objects.specs.Large.{bytes_found, handle_at, named}
 use Rattle.large_objects.specs.InnerObjects.{in_class, length_sum, inner_lengths, part_length, part_count, spine_bytes}
 use Rattle.large_objects.proofs.Bytes.{handle_other, handle_written}
 use Rattle.large_objects.proofs.Cutting.{in_class_cons, in_class_more, in_class_one, in_class_take_none}
@@ -104,10 +104,10 @@ module _ (p : Paging) (u n : ℕ) (some : 0 < u) (long : u < n) (old : Objects) 
     part_there = get_insert_other mid h spine' q not_h ∙ get_inserted now q part_bytes
 
     named_now : (j : ℕ) → named now h j ≡ handle_at spine j
-    named_now j = ap (λ o. handle_at (bytes_in o) j) found
+    named_now j = ap (λ o. handle_at (bytes_found o) j) found
 
     named_next : (j : ℕ) → named next h j ≡ handle_at spine' j
-    named_next j = ap (λ o. handle_at (bytes_in o) j) spine_there
+    named_next j = ap (λ o. handle_at (bytes_found o) j) spine_there
 
     named_new : named next h i ≡ q
     named_new = named_next i ∙ handle_written spine i q room small

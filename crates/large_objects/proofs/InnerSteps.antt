@@ -22,11 +22,11 @@ use Rattle.cf_model.specs.Rules.{KeepsPages, KeepsRules}
 use Rattle.cf_model.specs.State.{HeapState, layout_of, paging_in}
 use Rattle.cf_model.specs.Steps.{AddsObject, IsFault, IsFreeStep, IsReadAnswer, IsRefusedBy, IsWriteStep, KeepsSettings, LacksRoomIn, Position}
 use Rattle.cf_model.proofs.CallerLemmas.{pages_kept}
-use Rattle.run_model.proofs.CallerLemmas.{bytes_held, bytes_missing, held_of_bytes}
-use Rattle.large_objects.specs.InnerCalls.{FreesInner, MakesOneInner, HasInner, HasInnerRoom, IsReady, StaysReady, WritesInner}
+use Rattle.page_model.proofs.CallerLemmas.{bytes_held, bytes_missing, held_of_bytes}
+use Rattle.large_objects.specs.InnerCalls.{FreesInner, MakesOneInner, HasInner, HasInnerRoom, IsReadyInner, StaysReady, WritesInner}
 
 -- a ready manager keeps the rules of its pages
-pub keeps_pages : (s : HeapState) → IsReady s → KeepsPages s
+pub keeps_pages : (s : HeapState) → IsReadyInner s → KeepsPages s
 keeps_pages s r = pages_kept s.kind s r.pages r.rules.of_kind
 
 -- a manager that keeps its settings and bounds has the same pages and classes
@@ -36,7 +36,7 @@ same_paging old new k =
     ∙ ap (λ p. paging_of p (layout_of old.kind) new.bounds) k.profile
     ∙ ap (λ b. paging_of old.profile (layout_of old.kind) b) k.bounds
 
-pub stays_ready : (old new : HeapState) → IsReady old → KeepsSettings old new → KeepsRules new → StaysReady old new
+pub stays_ready : (old new : HeapState) → IsReadyInner old → KeepsSettings old new → KeepsRules new → StaysReady old new
 stays_ready old new r k rules = record {
   settings = k;
   ready = record {
@@ -59,14 +59,14 @@ then_ready a b c x y = record {
   ready = y.ready;
 }
 
-pub same_ready : (s : HeapState) → IsReady s → StaysReady s s
+pub same_ready : (s : HeapState) → IsReadyInner s → StaysReady s s
 same_ready s r = record { settings = record { kind = refl; opened = refl; profile = refl; bounds = refl }; ready = r }
 
 not_both : (o : Objects) (h : ℕ) (v : List ℕ) → get o h ≡ Some v → get o h ≡ None → ⊥
 not_both o h v some none = (let g : Some v ≡ None = sym some ∙ none in cc)
 
 -- a malloc with room isn't refused
-pub inner_not_refused : (s : HeapState) (n : ℕ) → IsReady s → HasInnerRoom s n → (e : Refusal) → IsRefusedBy s n e → ⊥
+pub inner_not_refused : (s : HeapState) (n : ℕ) → IsReadyInner s → HasInnerRoom s n → (e : Refusal) → IsRefusedBy s n e → ⊥
 inner_not_refused s n r room refusal.Size cause = (let fits = room.fits in omega arith)
 inner_not_refused s n r room refusal.Proxy cause = (let few = room.few in let all = cause.all in let l = len-objects s.held in omega arith)
 inner_not_refused s n r room refusal.Space cause =
@@ -75,7 +75,7 @@ inner_not_refused s n r room refusal.Space cause =
     let past = (lacks_room_at_one (paging_in s) kept.paging r.ones s.held kept.sound n (class_fits (paging_in s) kept.paging n room.fits)).0 lacking in
     let pages = room.pages in omega arith
 
-pub inner_given : (old new : HeapState) (asked : Request) → IsReady old → AddsObject old asked new → KeepsRules new
+pub inner_given : (old new : HeapState) (asked : Request) → IsReadyInner old → AddsObject old asked new → KeepsRules new
     → MakesOneInner old asked.number asked.length new
 inner_given old new asked r given rules = record {
   stays = stays_ready old new r (record {
@@ -97,7 +97,7 @@ module _ (old : HeapState) (position : Position) (count : ℕ) (has : HasInner o
       let e = same_Some past.object.bytes has.bytes (sym (bytes_held old.held position.number past.object past.found) ∙ has.found) in
       let l = ap length e in let more = past.past in let within = has.within in omega arith
 
-pub inner_written : (old new : HeapState) (position : Position) (bytes : List ℕ) (r : Result Unit AccessFault) → IsReady old
+pub inner_written : (old new : HeapState) (position : Position) (bytes : List ℕ) (r : Result Unit AccessFault) → IsReadyInner old
     → HasInner old position.number position.from (length bytes)
     → IsWriteStep old position bytes r new → KeepsRules new → WritesInner old position.number position.from bytes new
 inner_written old new position bytes (Ok u) ready has step rules = record {
@@ -121,14 +121,14 @@ inner_read s position room out (Ok u) v found within answer =
 inner_read s position room out (Err e) v found within (fault, same) =
     absurd (inner_no_fault s position (length room) (record { bytes = v; found = found; within = within }) e fault)
 
-pub inner_freed : (old new : HeapState) (h : ℕ) (v : List ℕ) (r : Result Freed NotLive) → IsReady old → get (objects old.held) h ≡ Some v
+pub inner_freed : (old new : HeapState) (h : ℕ) (v : List ℕ) (r : Result Freed NotLive) → IsReadyInner old → get (objects old.held) h ≡ Some v
     → IsFreeStep old h r new → KeepsRules new → FreesInner old h new
 inner_freed old new h v (Ok freed) ready found step rules = record { stays = stays_ready old new ready step.rest rules; left = step.left }
 inner_freed old new h v (Err e) ready found (none, same) rules =
     absurd (not_both (objects old.held) h v found (bytes_missing old.held h none))
 
 -- an inner object is not longer than a page, so its length is a number of 32 bits
-pub inner_small : (s : HeapState) → IsReady s → (q : ℕ) (v : List ℕ) → get (objects s.held) q ≡ Some v → length v < 2 ^ 32
+pub inner_small : (s : HeapState) → IsReadyInner s → (q : ℕ) (v : List ℕ) → get (objects s.held) q ≡ Some v → length v < 2 ^ 32
 inner_small s r q v is =
     let x = held_of_bytes s.held q v is in
     let kept = keeps_pages s r in
@@ -143,5 +143,5 @@ inner_small s r q v is =
     omega arith
 
 -- a handle that is live is below the number of proxies
-pub handle_below : (s : HeapState) → IsReady s → (q : ℕ) (v : List ℕ) → get (objects s.held) q ≡ Some v → q < s.profile.proxies
+pub handle_below : (s : HeapState) → IsReadyInner s → (q : ℕ) (v : List ℕ) → get (objects s.held) q ≡ Some v → q < s.profile.proxies
 handle_below s r q v is = (let x = held_of_bytes s.held q v is in r.rules.numbers.handles q x.0 x.1)

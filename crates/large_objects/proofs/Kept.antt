@@ -19,13 +19,13 @@ use Rattle.cf_model.specs.Answers.{totals_in}
 use Rattle.cf_model.specs.Families.{IsPaged}
 use Rattle.cf_model.specs.State.{HeapState, paging_in}
 use Rattle.large_objects.specs.Growing.{HasObjectRoom, MakesInner}
-use Rattle.large_objects.specs.InnerCalls.{HasInner, IsReady, StaysReady, WritesInner}
-use Rattle.large_objects.specs.Large.{AreCounted, AreLaidOut, KeepsParts, LargeState, named, part_bytes_at}
-use Rattle.large_objects.specs.LargeSteps.{FitsSpine, FreesLarge, GivesLarge, HasPartRange, HasRoom, HasShort}
+use Rattle.large_objects.specs.InnerCalls.{HasInner, IsReadyInner, StaysReady, WritesInner}
+use Rattle.large_objects.specs.Large.{AreInnerCounted, AreLaidOut, KeepsParts, LargeState, named, part_bytes_at}
+use Rattle.large_objects.specs.LargeSteps.{FitsSpine, FreesLarge, GivesLarge, HasPartRange, HasLargeRoom, HasShort}
 use Rattle.large_objects.specs.LargeSteps.{StaysKept, HasLongSpine, LacksPages, LacksProxies, WritesLarge, part_bytes_in}
 use Rattle.large_objects.specs.Layout.{AreKept, AreLengths, IsValid, gathered_objects, large_state}
 use Rattle.large_objects.specs.InnerObjects.{in_class, inner_count, inner_pages_with, inner_lengths, whole_part_bytes, part_count, spine_bytes}
-use Rattle.large_objects.specs.Shrinking.{HasInnerObjects, HasParts, IsShrinking, Releases}
+use Rattle.large_objects.specs.Shrinking.{HasInnerObjects, HasParts, IsShrinking, ReleasesInner}
 use Rattle.large_objects.proofs.Bytes.{range_of_part, part_of_length, part_other, part_written}
 use Rattle.large_objects.proofs.Gathering.{all_gathered, counted_gone_long, counted_gone_short, counted_long, counted_short, counted_written, gone_long}
 use Rattle.large_objects.proofs.Gathering.{gone_short, lengths_less, lengths_more, lengths_same, new_long, new_short, others_long, others_short}
@@ -54,7 +54,7 @@ module _ (b : Bool) (pages u : ℕ) (lengths : List (Option ℕ)) (s : HeapState
   pub kept : AreKept pages u lengths old.objects s
   kept = subst (λ (o : Objects). AreKept pages u lengths o s) objects_are valid_open
 
-  pub ready : IsReady s
+  pub ready : IsReadyInner s
   ready = record { opened = kept.parts.opened; rules = kept.parts.rules; pages = kept.parts.pages; ones = kept.parts.ones }
 
   pub part_is : u ≡ part_bytes_in old
@@ -63,8 +63,8 @@ module _ (b : Bool) (pages u : ℕ) (lengths : List (Option ℕ)) (s : HeapState
   pub laid : AreLaidOut u old.objects (objects s.held)
   laid = subst (λ (u : ℕ). AreLaidOut u old.objects (objects s.held)) (sym kept.part_bytes) kept.parts.laid
 
-  pub counted : AreCounted (paging_in s) u old.objects (objects s.held)
-  counted = subst (λ (u : ℕ). AreCounted (paging_in s) u old.objects (objects s.held)) (sym kept.part_bytes) kept.parts.counted
+  pub counted : AreInnerCounted (paging_in s) u old.objects (objects s.held)
+  counted = subst (λ (u : ℕ). AreInnerCounted (paging_in s) u old.objects (objects s.held)) (sym kept.part_bytes) kept.parts.counted
 
   pub keeps : KeepsParts old
   keeps =
@@ -80,7 +80,7 @@ module _ (b : Bool) (pages u : ℕ) (lengths : List (Option ℕ)) (s : HeapState
 
   -- the heap after a call, from the fields after it
   module _ (s' : HeapState) (lengths' : List (Option ℕ)) (large' : Objects) (stays : StaysReady s s') (laid' : AreLaidOut u large' (objects s'.held))
-      (counted' : AreCounted (paging_in s) u large' (objects s'.held)) (known : AreLengths lengths' large' s.profile.proxies) where
+      (counted' : AreInnerCounted (paging_in s) u large' (objects s'.held)) (known : AreLengths lengths' large' s.profile.proxies) where
     abbrev new : LargeState
     new = record { is_open = true; objects = large'; inner = s' }
 
@@ -94,8 +94,8 @@ module _ (b : Bool) (pages u : ℕ) (lengths : List (Option ℕ)) (s : HeapState
       pages = stays.ready.pages;
       ones = stays.ready.ones;
       laid = subst (λ (u : ℕ). AreLaidOut u large' (objects s'.held)) part_still laid';
-      counted = subst (λ (u : ℕ). AreCounted (paging_in s') u large' (objects s'.held)) part_still
-          (subst (λ (p : Paging). AreCounted p u large' (objects s'.held)) (sym (same_paging s s' stays.settings)) counted');
+      counted = subst (λ (u : ℕ). AreInnerCounted (paging_in s') u large' (objects s'.held)) part_still
+          (subst (λ (p : Paging). AreInnerCounted p u large' (objects s'.held)) (sym (same_paging s s' stays.settings)) counted');
     }
 
     kept_new : AreKept pages u lengths' large' s'
@@ -170,8 +170,8 @@ module _ (b : Bool) (pages u : ℕ) (lengths : List (Option ℕ)) (s : HeapState
           | inr (_, same) ↦ (c, same)
         ]))
 
-    pub short_counted : AreCounted (paging_in s) u (insert old.objects h (written has.bytes at bytes)) (objects s'.held)
-    short_counted = subst (λ (o : Objects). AreCounted (paging_in s) u (insert old.objects h (written has.bytes at bytes)) o) (sym left)
+    pub short_counted : AreInnerCounted (paging_in s) u (insert old.objects h (written has.bytes at bytes)) (objects s'.held)
+    short_counted = subst (λ (o : Objects). AreInnerCounted (paging_in s) u (insert old.objects h (written has.bytes at bytes)) o) (sym left)
         (counted_written (paging_in s) u old.objects (objects s.held) h h has.bytes w has.bytes w counted has.found same_length there same_length)
 
     pub short_lengths : AreLengths lengths (insert old.objects h (written has.bytes at bytes)) s.profile.proxies
@@ -292,8 +292,8 @@ module _ (b : Bool) (pages u : ℕ) (lengths : List (Option ℕ)) (s : HeapState
           | inr (_, same) ↦ (c, same)
         ]))
 
-    pub long_counted : AreCounted (paging_in s) u (insert old.objects h (written has.bytes (u * i + at) bytes)) (objects s'.held)
-    long_counted = subst (λ (o : Objects). AreCounted (paging_in s) u (insert old.objects h whole) o) (sym part_left)
+    pub long_counted : AreInnerCounted (paging_in s) u (insert old.objects h (written has.bytes (u * i + at) bytes)) (objects s'.held)
+    long_counted = subst (λ (o : Objects). AreInnerCounted (paging_in s) u (insert old.objects h whole) o) (sym part_left)
         (counted_written (paging_in s) u old.objects (objects s.held) h q has.bytes whole part_bytes (written part_bytes at bytes) counted has.found same_whole q_found
         (length-written part_bytes at bytes fits_part))
 
@@ -301,7 +301,7 @@ module _ (b : Bool) (pages u : ℕ) (lengths : List (Option ℕ)) (s : HeapState
     long_lengths = lengths_same lengths old.objects s.profile.proxies h has.bytes whole kept.lengths_are has.found same_whole
 
   -- there is room for the parts of an object
-  pub object_room : (n : ℕ) → HasRoom old n → HasObjectRoom u n s
+  pub object_room : (n : ℕ) → HasLargeRoom old n → HasObjectRoom u n s
   object_room n room = record {
     ready = ready;
     part_bytes = kept.part_bytes;
@@ -334,8 +334,8 @@ module _ (b : Bool) (pages u : ℕ) (lengths : List (Option ℕ)) (s : HeapState
     made_laid (inr m) = laid_more u old.objects (objects s.held) laid h (replicate n 0) (objects s'.held)
         (new_long (paging_in s) u kept.some old.objects (objects s.held) laid counted h n m.grown.growing.unused m.long (objects s'.held) m.grown.growing)
 
-    pub made_counted : MakesInner u n s h s' → AreCounted (paging_in s) u (insert old.objects h (replicate n 0)) (objects s'.held)
-    made_counted (inl m) = subst (λ (o : Objects). AreCounted (paging_in s) u (insert old.objects h (replicate n 0)) o) (sym m.left)
+    pub made_counted : MakesInner u n s h s' → AreInnerCounted (paging_in s) u (insert old.objects h (replicate n 0)) (objects s'.held)
+    made_counted (inl m) = subst (λ (o : Objects). AreInnerCounted (paging_in s) u (insert old.objects h (replicate n 0)) o) (sym m.left)
         (counted_short (paging_in s) u kept.some old.objects (objects s.held) laid counted h n m.unused m.short)
     made_counted (inr m) =
         counted_long (paging_in s) u kept.some old.objects (objects s.held) laid counted h n m.grown.growing.unused m.long (objects s'.held) m.grown.growing
@@ -383,11 +383,11 @@ module _ (b : Bool) (pages u : ℕ) (lengths : List (Option ℕ)) (s : HeapState
           | inr short ↦ inl (short, (o.0, laid.small h o.0 o.1 short, refl))
         ])
 
-    pub gone_stays : (s' : HeapState) → Releases u n s h s' → StaysReady s s'
+    pub gone_stays : (s' : HeapState) → ReleasesInner u n s h s' → StaysReady s s'
     gone_stays s' (inl r) = r.stays
     gone_stays s' (inr r) = r.stays
 
-    pub gone_laid : (s' : HeapState) → Releases u n s h s' → AreLaidOut u (remove old.objects h) (objects s'.held)
+    pub gone_laid : (s' : HeapState) → ReleasesInner u n s h s' → AreLaidOut u (remove old.objects h) (objects s'.held)
     gone_laid s' (inl r) =
         let o = object_there in
         let short : length o.0 ≤ u = (let e = o.2 in let l = r.short in omega arith) in
@@ -404,18 +404,18 @@ module _ (b : Bool) (pages u : ℕ) (lengths : List (Option ℕ)) (s : HeapState
         (others_long (paging_in s) u kept.some old.objects (objects s.held) laid counted h o.0 o.1 long r.mid shrunk)
         (gone_long (paging_in s) u kept.some old.objects (objects s.held) laid counted h o.0 o.1 long r.mid shrunk))
 
-    pub gone_counted : (s' : HeapState) → Releases u n s h s' → AreCounted (paging_in s) u (remove old.objects h) (objects s'.held)
+    pub gone_counted : (s' : HeapState) → ReleasesInner u n s h s' → AreInnerCounted (paging_in s) u (remove old.objects h) (objects s'.held)
     gone_counted s' (inl r) =
         let o = object_there in
         let short : length o.0 ≤ u = (let e = o.2 in let l = r.short in omega arith) in
-        subst (λ (m : Objects). AreCounted (paging_in s) u (remove old.objects h) m) (sym r.left)
+        subst (λ (m : Objects). AreInnerCounted (paging_in s) u (remove old.objects h) m) (sym r.left)
         (counted_gone_short (paging_in s) u kept.some old.objects (objects s.held) laid counted h o.0 o.1 short)
     gone_counted s' (inr r) =
         let o = object_there in
         let long : u < length o.0 = (let e = o.2 in let l = r.long in omega arith) in
         let shrunk = subst (λ (n : ℕ). IsShrinking (paging_in s) u n (objects s.held) h (part_count u n) r.mid) (sym o.2) r.shrunk in
         let mine = has_parts u old.objects (objects s.held) laid h o.0 o.1 long in
-        subst (λ (m : Objects). AreCounted (paging_in s) u (remove old.objects h) m) (sym r.left)
+        subst (λ (m : Objects). AreInnerCounted (paging_in s) u (remove old.objects h) m) (sym r.left)
         (counted_gone_long (paging_in s) u kept.some old.objects (objects s.held) laid counted h o.0 o.1 long r.mid shrunk mine.not_spine)
 
     pub gone_lengths : AreLengths (set lengths h None) (remove old.objects h) s.profile.proxies
@@ -460,7 +460,7 @@ module _ (b : Bool) (pages u : ℕ) (lengths : List (Option ℕ)) (s : HeapState
           ∙ ap (λ (k : ℕ). insert old.objects h (written has.bytes k bytes)) (from_is h i at (length bytes) has);
     }
 
-  module _ (n h : ℕ) (s' : HeapState) (room : HasRoom old n) (m : MakesInner u n s h s') where
+  module _ (n h : ℕ) (s' : HeapState) (room : HasLargeRoom old n) (m : MakesInner u n s h s') where
     pub made_valid : IsValid b pages u (set lengths h (Some n)) s'
     made_valid = valid_new s' (set lengths h (Some n)) _ (made_stays n h s' m) (made_laid n h s' m) (made_counted n h s' m) (made_lengths n h s' m)
 
@@ -474,7 +474,7 @@ module _ (b : Bool) (pages u : ℕ) (lengths : List (Option ℕ)) (s : HeapState
       given = objects_new s' (set lengths h (Some n)) _ (made_stays n h s' m) (made_laid n h s' m) (made_counted n h s' m) (made_lengths n h s' m);
     }
 
-  module _ (h n : ℕ) (is : option_map length (get old.objects h) ≡ Some n) (s' : HeapState) (r : Releases u n s h s') where
+  module _ (h n : ℕ) (is : option_map length (get old.objects h) ≡ Some n) (s' : HeapState) (r : ReleasesInner u n s h s') where
     pub gone_valid : IsValid b pages u (set lengths h None) s'
     gone_valid = valid_new s' (set lengths h None) _ (gone_stays h n is s' r) (gone_laid h n is s' r) (gone_counted h n is s' r) (gone_lengths h n is)
 
@@ -551,7 +551,7 @@ module _ (b : Bool) (pages u : ℕ) (lengths : List (Option ℕ)) (s : HeapState
   pub not_refused : (n count more needed : ℕ) → FitsSpine u n → count ≡ (totals_in s.kind s).live → more ≡ length (inner_lengths u n)
       → count + more ≤ length lengths
       → needed ≡ pages_for (paging_in s) (λ c. live (paging_in s) (objects s.held) c + in_class (paging_in s) c (inner_lengths u n))
-      → needed ≤ pages → HasRoom old n
+      → needed ≤ pages → HasLargeRoom old n
   not_refused n count more needed fits count_is more_is few needed_is enough = record {
     fits = fits_old n fits;
     proxies = (let a = count_old n in let b = proxies_old in let c = live_total in omega arith);

@@ -7,7 +7,7 @@ use Rattle.std.proofs.lemmas.Option.{same_Some}
 use Rattle.std.specs.FinMap.{get, insert, remove}
 use Rattle.cf_lemmas.proofs.Maps.{get_inserted, get_insert_other, get_remove_other, some_inserted, some_removed}
 use Rattle.page_model.specs.Held.{Objects}
-use Rattle.large_objects.specs.Large.{AreLaidOut, HasSpine, IsPart, bytes_in, handle_at, named, part_bytes_at}
+use Rattle.large_objects.specs.Large.{AreLaidOut, HasSpine, IsPart, bytes_found, handle_at, named, part_bytes_at}
 use Rattle.large_objects.specs.InnerObjects.{part_count, spine_bytes}
 use Rattle.large_objects.specs.Shrinking.{HasParts}
 use Rattle.large_objects.proofs.Bytes.{part_of_length}
@@ -81,7 +81,7 @@ module _ (u : ℕ) (large inner : Objects) (laid : AreLaidOut u large inner) (h 
   same_handle g w is = (let b = in_inner u large inner laid g w is in new.others g b.0 b.1 ∙ sym b.1)
 
   same_named : (g : ℕ) (w : List ℕ) → get large g ≡ Some w → (i : ℕ) → named next g i ≡ named inner g i
-  same_named g w is i = ap (λ o. handle_at (bytes_in o) i) (same_handle g w is)
+  same_named g w is i = ap (λ o. handle_at (bytes_found o) i) (same_handle g w is)
 
   -- each part afterwards is a part of the new object, or was a part before
   before_or_own : (q g i : ℕ) → IsPart u more next q g i
@@ -171,7 +171,7 @@ module _ (u : ℕ) (large inner : Objects) (laid : AreLaidOut u large inner) (h 
   ])
 
   pub kept_named : (g : ℕ) (w : List ℕ) → get large g ≡ Some w → g ≢ h → (i : ℕ) → named next g i ≡ named inner g i
-  kept_named g w is ne i = ap (λ o. handle_at (bytes_in o) i) (kept_handle g w is ne)
+  kept_named g w is ne i = ap (λ o. handle_at (bytes_found o) i) (kept_handle g w is ne)
 
   pub kept_part : (q g j : ℕ) → IsPart u large inner q g j → g ≢ h → get next q ≡ get inner q
   kept_part q g j k ne = others q (elim [
@@ -249,7 +249,7 @@ module _ (u : ℕ) (large inner : Objects) (laid : AreLaidOut u large inner) (h 
           let e : get large h ≡ Some x = sym (ap (get large) at) ∙ is in
           let l = ap length (same_Some x v (sym e ∙ found)) in
           let s : get next g ≡ get inner g = ap (get next) at ∙ spine (omega arith) ∙ sym (ap (get inner) at) in
-          ap (λ o. handle_at (bytes_in o) i) s)
+          ap (λ o. handle_at (bytes_found o) i) s)
       | inr ne ↦ kept_named g x is ne i
     ]
 

@@ -12,13 +12,5 @@ pub mod Kept
 pub mod AccessLemmas
 pub mod Opening
 pub mod PagesWith
-pub mod RunInvariant
-pub mod ReplyLemmas
 pub mod ObjectLaws
-pub mod OpenReply
-pub mod OwnRun
-pub mod InnerThere
-pub mod LargeThere
-pub mod Turns
-pub mod ReadBack
 pub mod CallerLemmas

@@ -19,7 +19,7 @@ use Rattle.cf_model.specs.Families.{IsPaged}
 use Rattle.cf_model.specs.Rules.{KeepsRules}
 use Rattle.cf_model.specs.State.{HeapState, layout_of, paging_in}
 use Rattle.cf_model.specs.Steps.{IsEmptyHeap, opening_bounds}
-use Rattle.large_objects.specs.Large.{AreCounted, AreLaidOut, KeepsParts, LargeState}
+use Rattle.large_objects.specs.Large.{AreInnerCounted, AreLaidOut, KeepsParts, LargeState}
 use Rattle.large_objects.specs.LargeSteps.{IsEmptyLarge}
 use Rattle.large_objects.specs.Layout.{AreKept, AreLengths, IsValid, gathered_objects, large_state}
 use Rattle.large_objects.specs.InnerObjects.{inner_count, inner_live, inner_sum, length_sum}
@@ -50,7 +50,7 @@ none_laid u inner is = record {
   no_others = λ q b some. no_object inner is q b some;
 }
 
-none_counted : (p : Paging) (u : ℕ) (inner : Objects) → inner ≡ nothing → AreCounted p u nothing inner
+none_counted : (p : Paging) (u : ℕ) (inner : Objects) → inner ≡ nothing → AreInnerCounted p u nothing inner
 unfolding live inner_count inner_live inner_sum length_sum
 none_counted p u inner is = record {
   all = ap (λ (o : Objects). len o) is ∙ len-empty nat_cmp (List ℕ) ∙ sym (ap (sum_by _) no_values);

@@ -22,7 +22,7 @@ use Rattle.page_model.proofs.CallerLemmas.{len-objects, slots_some}
 use Rattle.cf_model.specs.Answers.{classes_in, figures_in}
 use Rattle.cf_model.specs.Families.{IsPaged}
 use Rattle.cf_model.specs.State.{HeapState, paging_in}
-use Rattle.large_objects.specs.InnerCalls.{IsReady}
+use Rattle.large_objects.specs.InnerCalls.{IsReadyInner}
 use Rattle.large_objects.specs.InnerObjects.{in_class, inner_lengths, part_count}
 use Rattle.large_objects.proofs.Cutting.{ceil_is, length_long, length_short, parts_few}
 use Rattle.large_objects.proofs.Fitting.{before_more, ceil_small, in_before, pages_more, pages_up_to, within_before}
@@ -61,7 +61,7 @@ inner_lengths_few u n some = elim (cases_lt u n) [
 by_kind : (k : Kind) (s : HeapState) → IsPaged k → classes_in k s ≡ classes (paging_in s)
 by_kind k s is = rw (is, classes_in) refl
 
-module _ (s : HeapState) (ready : IsReady s) where
+module _ (s : HeapState) (ready : IsReadyInner s) where
   pub classes_are : classes_in s.kind s ≡ classes (paging_in s)
   classes_are = by_kind s.kind s ready.pages
 

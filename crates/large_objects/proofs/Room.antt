@@ -12,7 +12,7 @@ use Rattle.page_model.specs.Arrangement.{live, pages_for, pages_needed_with}
 use Rattle.page_model.specs.Held.{Objects}
 use Rattle.page_model.specs.Paging.{Paging, class_for}
 use Rattle.page_model.proofs.CallerLemmas.{pages_grow, pages_same}
-use Rattle.large_objects.specs.Large.{AreCounted}
+use Rattle.large_objects.specs.Large.{AreInnerCounted}
 use Rattle.large_objects.specs.InnerObjects.{in_class, inner_count, inner_live, inner_pages_with, inner_lengths, whole_part_bytes}
 
 -- if there are pages for all inner objects of an object, there are for one of them
@@ -68,7 +68,7 @@ module _ (p : Paging) (o : Objects) (h : ℕ) (v : List ℕ) where
       let l = ap (λ n. one (nat_eq (class_for p n) c)) same in omega arith
 
 -- the pages computed from the inner objects are those computed from the objects
-pub pages_counted : (p : Paging) (u : ℕ) (large inner : Objects) (n : ℕ) → AreCounted p u large inner
+pub pages_counted : (p : Paging) (u : ℕ) (large inner : Objects) (n : ℕ) → AreInnerCounted p u large inner
     → pages_for p (λ c. live p inner c + in_class p c (inner_lengths u n)) ≡ inner_pages_with p u large n
 unfolding inner_pages_with
 pages_counted p u large inner n counted = pages_same p (λ c. live p inner c + in_class p c (inner_lengths u n)) (λ c. inner_live p u large c + in_class p c (inner_lengths u n))

@@ -12,8 +12,8 @@ use Rattle.page_model.specs.Held.{Objects, objects}
 use Rattle.page_model.specs.Paging.{Paging, class_for}
 use Rattle.page_model.proofs.CallerLemmas.{live_taken}
 use Rattle.cf_model.specs.State.{HeapState, paging_in}
-use Rattle.large_objects.specs.InnerCalls.{FreesInner, HasInner, IsReady}
-use Rattle.large_objects.specs.Large.{bytes_in, handle_at, named}
+use Rattle.large_objects.specs.InnerCalls.{FreesInner, HasInner, IsReadyInner}
+use Rattle.large_objects.specs.Large.{bytes_found, handle_at, named}
 use Rattle.large_objects.specs.InnerObjects.{inner_lengths, part_length, part_count}
 use Rattle.large_objects.specs.Shrinking.{HasParts, IsShrinking, ReleasesLong, Shrinks}
 use Rattle.large_objects.proofs.Cutting.{in_class_more, in_class_take_none, length_long, inner_length_is}
@@ -40,7 +40,7 @@ module _ (p : Paging) (u n : ℕ) (some : 0 < u) (long : u < n) (old : Objects) 
     spine_there = g.others h (λ j lt e. has.not_spine j (omega arith) (sym e))
 
     pub named_there : named now h i ≡ named old h i
-    named_there = ap (λ o. handle_at (bytes_in o) i) spine_there
+    named_there = ap (λ o. handle_at (bytes_found o) i) spine_there
 
     pub part_there : get now (named old h i) ≡ get old (named old h i)
     part_there = g.others (named old h i) (λ j lt e. (let same = has.apart i j below (omega arith) e in absurd (omega arith)))
@@ -106,7 +106,7 @@ module _ (u n : ℕ) (old now : HeapState) (h i : ℕ) (some : 0 < u) (long : u 
         (shrinking_more (paging_in old) u n some long (objects old.held) h has i below (objects now.held) g.shrinking);
   }
 
-pub shrinks_first : (u n : ℕ) (old : HeapState) (h : ℕ) → 0 < u → u < n → HasParts u n (objects old.held) h → IsReady old → Shrinks u n old h 0 old
+pub shrinks_first : (u n : ℕ) (old : HeapState) (h : ℕ) → 0 < u → u < n → HasParts u n (objects old.held) h → IsReadyInner old → Shrinks u n old h 0 old
 shrinks_first u n old h some long has ready = record {
   stays = same_ready old ready;
   shrinking = shrinking_first (paging_in old) u n some long (objects old.held) h has;

@@ -8,15 +8,15 @@ use Rattle.page_model.specs.Bytes.{written}
 use Rattle.page_model.specs.Held.{Objects, objects}
 use Rattle.page_model.specs.Paging.{Paging}
 use Rattle.cf_model.specs.State.{HeapState, paging_in}
-use Rattle.large_objects.specs.InnerCalls.{IsReady, StaysReady}
+use Rattle.large_objects.specs.InnerCalls.{IsReadyInner, StaysReady}
 use Rattle.large_objects.specs.Large.{HasSpine, named}
 use Rattle.large_objects.specs.LargeSteps.{FitsSpine}
 use Rattle.large_objects.specs.InnerObjects.{in_class, length_sum, inner_lengths, whole_part_bytes, part_length, part_count}
 
--- the inner manager s is ready (`IsReady`: open, with its rules, with pages, every bound 1), and has the proxies and the pages for all inner objects of one
+-- the inner manager s is ready (`IsReadyInner`: open, with its rules, with pages, every bound 1), and has the proxies and the pages for all inner objects of one
 -- more object of n bytes
 pub record HasObjectRoom (u n : ℕ) (s : HeapState) : Type 0 where
-  pub ready : IsReady s
+  pub ready : IsReadyInner s
   pub part_bytes : u ≡ whole_part_bytes s.profile
   pub fits : FitsSpine u n
   pub proxies : len (objects s.held) + length (inner_lengths u n) ≤ s.profile.proxies
@@ -40,7 +40,7 @@ pub record IsGrowing (p : Paging) (u n : ℕ) (old : Objects) (h i : ℕ) (now :
   pub all : len now ≡ len old + (1 + i)
   pub sums_now : (f : ℕ → ℕ) → length_sum f now ≡ length_sum f old + sum_by f (take (1 + i) (inner_lengths u n))
 
--- `IsGrowing` for the objects that an inner manager has before the malloc (`old`) and now; the manager has the same settings and is ready (`IsReady`)
+-- `IsGrowing` for the objects that an inner manager has before the malloc (`old`) and now; the manager has the same settings and is ready (`IsReadyInner`)
 pub record GrowsInner (u n : ℕ) (old : HeapState) (h i : ℕ) (now : HeapState) : Type 0 where
   pub stays : StaysReady old now
   pub growing : IsGrowing (paging_in old) u n (objects old.held) h i (objects now.held)

@@ -13,7 +13,7 @@ use Rattle.cf_model.specs.State.{HeapState, paging_in}
 use Rattle.cf_model.specs.Steps.{KeepsSettings}
 
 -- the manager is open, keeps its rules, has pages, and every class has the bound 1
-pub record IsReady (s : HeapState) : Type 0 where
+pub record IsReadyInner (s : HeapState) : Type 0 where
   pub opened : IsTrue s.is_open
   pub rules : KeepsRules s
   pub pages : IsPaged s.kind
@@ -22,7 +22,7 @@ pub record IsReady (s : HeapState) : Type 0 where
 -- after a call the manager has the same settings and bounds, and is ready
 pub record StaysReady (old new : HeapState) : Type 0 where
   pub settings : KeepsSettings old new
-  pub ready : IsReady new
+  pub ready : IsReadyInner new
 
 -- the manager has room for one more inner object of n bytes
 pub record HasInnerRoom (s : HeapState) (n : ℕ) : Type 0 where

@@ -24,9 +24,9 @@ large_code = code_by (Bool × (Objects × HeapState)) (coded× coded_bool (coded
     (λ s. (s.is_open, (s.objects, s.inner))) (λ q. record { is_open = q.0; objects = q.1.0; inner = q.1.1 }) (λ _. refl)
 
 -- the bytes of an object that was looked up; no bytes if it isn't live
-abbrev pub bytes_in : Option (List ℕ) → List ℕ
-bytes_in None = []
-bytes_in (Some v) = v
+abbrev pub bytes_found : Option (List ℕ) → List ℕ
+bytes_found None = []
+bytes_found (Some v) = v
 
 -- the handle in place i of a spine: four bytes, the least significant first
 unfoldable pub handle_at : List ℕ → ℕ → ℕ
@@ -34,7 +34,7 @@ handle_at spine i = from_le_bytes w32 (take 4 (drop (4 * i) spine))
 
 -- the handle of part i of the object whose spine is h: the one in place i of the spine, which is among the inner objects `inner`
 abbrev pub named : Objects → ℕ → ℕ → ℕ
-named inner h i = handle_at (bytes_in (get inner h)) i
+named inner h i = handle_at (bytes_found (get inner h)) i
 
 -- the bytes of part i of an object with the bytes v; a whole part has u bytes
 abbrev pub part_bytes_at : ℕ → List ℕ → ℕ → List ℕ
@@ -66,7 +66,7 @@ pub record AreLaidOut (u : ℕ) (large inner : Objects) : Type 0 where
   pub no_others : (q : ℕ) (b : List ℕ) → get inner q ≡ Some b → get large q ≡ None → (h : ℕ) × (i : ℕ) × IsPart u large inner q h i
 
 -- The number of inner objects, in all and in each class, follows from the lengths of the objects `large`; so does every sum over the inner lengths.
-pub record AreCounted (p : Paging) (u : ℕ) (large inner : Objects) : Type 0 where
+pub record AreInnerCounted (p : Paging) (u : ℕ) (large inner : Objects) : Type 0 where
   pub all : len inner ≡ inner_count u large
   pub each : (c : ℕ) → live p inner c ≡ inner_live p u large c
   pub sums : (f : ℕ → ℕ) → length_sum f inner ≡ inner_sum f u large
@@ -79,4 +79,4 @@ pub record KeepsParts (s : LargeState) : Type 0 where
   pub pages : IsPaged s.inner.kind
   pub ones : EveryBoundIsOne (paging_in s.inner)
   pub laid : AreLaidOut (whole_part_bytes s.inner.profile) s.objects (objects s.inner.held)
-  pub counted : AreCounted (paging_in s.inner) (whole_part_bytes s.inner.profile) s.objects (objects s.inner.held)
+  pub counted : AreInnerCounted (paging_in s.inner) (whole_part_bytes s.inner.profile) s.objects (objects s.inner.held)

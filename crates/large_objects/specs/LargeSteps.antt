@@ -49,14 +49,14 @@ abbrev pub HasPages : LargeState → ℕ → Type 0
 HasPages s n = inner_pages_with (paging_in s.inner) (part_bytes_in s) s.objects n ≤ s.inner.profile.pages
 
 -- the heap has room for one more object of n bytes, so a malloc of n bytes isn't refused
-pub record HasRoom (s : LargeState) (n : ℕ) : Type 0 where
+pub record HasLargeRoom (s : LargeState) (n : ℕ) : Type 0 where
   pub fits : FitsSpine (part_bytes_in s) n
   pub proxies : HasProxies s n
   pub pages : HasPages s n
 
 -- A malloc made an object of n zero bytes, which the heap had room for, under a handle that wasn't live.
 pub record GivesLarge (old : LargeState) (h n : ℕ) (new : LargeState) : Type 0 where
-  pub room : HasRoom old n
+  pub room : HasLargeRoom old n
   pub unused : get old.objects h ≡ None
   pub given : new.objects ≡ insert old.objects h (replicate n 0)
 

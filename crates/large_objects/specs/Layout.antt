@@ -6,12 +6,12 @@ use Rattle.std.specs.List.{flat_map, range_with_len}
 use Rattle.cf_lemmas.specs.Maps.{numbered}
 use Rattle.page_model.specs.Held.{Objects, objects}
 use Rattle.cf_model.specs.State.{HeapState}
-use Rattle.large_objects.specs.Large.{KeepsParts, LargeState, bytes_in, named}
+use Rattle.large_objects.specs.Large.{KeepsParts, LargeState, bytes_found, named}
 use Rattle.large_objects.specs.InnerObjects.{whole_part_bytes, part_count}
 
 -- the bytes of the object h, which has n bytes: those of the inner object h if it fits a page, else those of its parts, in order
 unfoldable pub gathered : ℕ → Objects → ℕ → ℕ → List ℕ
-gathered u inner h n = if nat_le n u then bytes_in (get inner h) else flat_map (λ i. bytes_in (get inner (named inner h i))) (range_with_len 0 (part_count u n))
+gathered u inner h n = if nat_le n u then bytes_found (get inner h) else flat_map (λ i. bytes_found (get inner (named inner h i))) (range_with_len 0 (part_count u n))
 
 -- for each handle from k on: the gathered bytes of its object, or None if the handle has no length
 abbrev pub gathered_from : ℕ → Objects → ℕ → List (Option ℕ) → List (Option (List ℕ))

@@ -5,6 +5,3 @@ pub mod Layout
 pub mod InnerCalls
 pub mod Growing
 pub mod Shrinking
-pub mod LargeRun
-pub mod Speaking
-pub mod Playing

@@ -27,7 +27,7 @@ pub record HasParts (u n : ℕ) (o : Objects) (h : ℕ) : Type 0 where
   pub not_spine : (j : ℕ) → j < part_count u n → named o h j ≢ h
   pub apart : (j k : ℕ) → j < part_count u n → k < part_count u n → named o h j ≡ named o h k → j ≡ k
 
--- `IsShrinking` for the objects that an inner manager has before the free (`old`) and now; the manager has the same settings and is ready (`IsReady`)
+-- `IsShrinking` for the objects that an inner manager has before the free (`old`) and now; the manager has the same settings and is ready (`IsReadyInner`)
 pub record Shrinks (u n : ℕ) (old : HeapState) (h i : ℕ) (now : HeapState) : Type 0 where
   pub stays : StaysReady old now
   pub shrinking : IsShrinking (paging_in old) u n (objects old.held) h i (objects now.held)
@@ -51,5 +51,5 @@ pub record ReleasesLong (u n : ℕ) (old : HeapState) (h : ℕ) (new : HeapState
   pub left : objects new.held ≡ remove mid h
 
 -- all inner objects of the object h of n bytes were freed
-abbrev pub Releases : ℕ → ℕ → HeapState → ℕ → HeapState → Type 0
-Releases u n old h new = ReleasesShort u n old h new ⊎ ReleasesLong u n old h new
+abbrev pub ReleasesInner : ℕ → ℕ → HeapState → ℕ → HeapState → Type 0
+ReleasesInner u n old h new = ReleasesShort u n old h new ⊎ ReleasesLong u n old h new

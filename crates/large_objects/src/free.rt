@@ -2,10 +2,10 @@
 //! spine. In all functions `part_bytes` is the bytes of a whole part, the largest object that fits a page.
 ghost use Rattle.std.specs.Prelude.{◌≡◌, ◌*◌, ◌<◌, ◌^◌};
 ghost use Rattle.page_model.specs.Held.{objects};
-ghost use Rattle.large_objects.specs.InnerCalls.{FreesInner, HasInner, IsReady};
+ghost use Rattle.large_objects.specs.InnerCalls.{FreesInner, HasInner, IsReadyInner};
 ghost use Rattle.large_objects.specs.Large.{named};
 ghost use Rattle.large_objects.specs.InnerObjects.{part_count};
-ghost use Rattle.large_objects.specs.Shrinking.{HasInnerObjects, HasParts, Releases, ReleasesLong, Shrinks};
+ghost use Rattle.large_objects.specs.Shrinking.{HasInnerObjects, HasParts, ReleasesInner, ReleasesLong, Shrinks};
 
 use crate::cut::count_parts;
 use crate::inner_calls::release_inner;
@@ -24,9 +24,9 @@ pub(crate) fn release<H: Manager>(
     meter: &mut Meter,
 )
     requires some { 0 < part_bytes }
-    requires ready { IsReady (H.state inner.old) }
+    requires ready { IsReadyInner (H.state inner.old) }
     requires has { HasInnerObjects part_bytes bytes (H.state inner.old) h.0 }
-    ensures { Releases part_bytes bytes (H.state inner.old) h.0 (H.state inner.new) }
+    ensures { ReleasesInner part_bytes bytes (H.state inner.old) h.0 (H.state inner.new) }
 {
     if bytes <= part_bytes {
         release_inner(inner, h, meter);
@@ -44,7 +44,7 @@ fn release_long<H: Manager>(
     meter: &mut Meter,
 )
     requires some { 0 < part_bytes }
-    requires ready { IsReady (H.state inner.old) }
+    requires ready { IsReadyInner (H.state inner.old) }
     requires has { HasParts part_bytes bytes (objects (H.state inner.old).held) spine.0 }
     requires long { part_bytes < bytes }
     ensures { ReleasesLong part_bytes bytes (H.state inner.old) spine.0 (H.state inner.new) }
@@ -63,7 +63,7 @@ fn release_parts<H: Manager>(
     meter: &mut Meter,
 )
     requires some { 0 < part_bytes }
-    requires ready { IsReady (H.state inner.old) }
+    requires ready { IsReadyInner (H.state inner.old) }
     requires has { HasParts part_bytes bytes (objects (H.state inner.old).held) spine.0 }
     requires long { part_bytes < bytes }
     ensures { Shrinks part_bytes bytes (H.state inner.old) spine.0 (part_count part_bytes bytes) (H.state inner.new) }
@@ -75,7 +75,7 @@ fn release_parts<H: Manager>(
 
 /// Frees part i, counted from 0, whose handle it reads from the spine.
 fn release_part<H: Manager>(inner: &mut H, spine: Handle, i: u32, meter: &mut Meter)
-    requires ready { IsReady (H.state inner.old) }
+    requires ready { IsReadyInner (H.state inner.old) }
     requires has { HasInner (H.state inner.old) spine.0 (4 * i) 4 }
     requires live { HasInner (H.state inner.old) (named (objects (H.state inner.old).held) spine.0 i) 0 0 }
     ensures { FreesInner (H.state inner.old) (named (objects (H.state inner.old).held) spine.0 i) (H.state inner.new) }

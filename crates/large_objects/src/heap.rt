@@ -5,7 +5,7 @@ ghost use Rattle.std.specs.FinMap.{get};
 ghost use Rattle.cf_lemmas.specs.Maps.{vacant};
 ghost use Rattle.cf_model.specs.Families.{IsPaged};
 ghost use Rattle.large_objects.specs.Large.{KeepsParts};
-ghost use Rattle.large_objects.specs.LargeSteps.{FreesLarge, GivesLarge, HasRoom, IsEmptyLarge, IsLargeFault, IsShutLarge};
+ghost use Rattle.large_objects.specs.LargeSteps.{FreesLarge, GivesLarge, HasLargeRoom, IsEmptyLarge, IsLargeFault, IsShutLarge};
 ghost use Rattle.large_objects.specs.LargeSteps.{IsLargeFree, IsLargeMalloc, IsLargeRead, IsLargeWrite, StaysKept};
 
 use crate::free::release;
@@ -194,7 +194,7 @@ impl<H: Manager> LargeHeap<H> {
     /// Makes an object of `bytes` zero bytes, for which the heap has room, and returns its handle.
     fn make_object(&mut self, bytes: u32, meter: &mut Meter) -> Handle
         requires open { IsTrue self.old.is_open }
-        requires room { HasRoom self.old bytes }
+        requires room { HasLargeRoom self.old bytes }
         ensures given { GivesLarge self.old result.0 bytes self.new }
         ensures kept { StaysKept self.old self.new }
     {

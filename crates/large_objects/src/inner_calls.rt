@@ -4,7 +4,7 @@
 ghost use Rattle.std.specs.Prelude.{◌≡◌, ℕ, List, Some, length, take, drop};
 ghost use Rattle.std.specs.FinMap.{get};
 ghost use Rattle.page_model.specs.Held.{objects};
-ghost use Rattle.large_objects.specs.InnerCalls.{FreesInner, MakesOneInner, HasInner, HasInnerRoom, IsReady, WritesInner};
+ghost use Rattle.large_objects.specs.InnerCalls.{FreesInner, MakesOneInner, HasInner, HasInnerRoom, IsReadyInner, WritesInner};
 
 use cf_base::Handle;
 use cf_model::Manager;
@@ -12,7 +12,7 @@ use step_ledger::Meter;
 
 /// Makes an inner object of `bytes` zero bytes, for which the manager has room, and returns its handle.
 pub(crate) fn make_inner<H: Manager>(inner: &mut H, bytes: u32, meter: &mut Meter) -> Handle
-    requires ready { IsReady (H.state inner.old) }
+    requires ready { IsReadyInner (H.state inner.old) }
     requires room { HasInnerRoom (H.state inner.old) bytes }
     ensures { MakesOneInner (H.state inner.old) result.0 bytes (H.state inner.new) }
 {
@@ -31,7 +31,7 @@ pub(crate) fn write_inner<H: Manager>(
     bytes: &[u8],
     meter: &mut Meter,
 )
-    requires ready { IsReady (H.state inner.old) }
+    requires ready { IsReadyInner (H.state inner.old) }
     requires has { HasInner (H.state inner.old) object.0 at (length bytes.now) }
     ensures { WritesInner (H.state inner.old) object.0 at bytes.now (H.state inner.new) }
 {
@@ -47,7 +47,7 @@ pub(crate) fn read_inner<H: Manager>(
     out: &mut [u8],
     meter: &mut Meter,
 )
-    requires ready { IsReady (H.state inner.now) }
+    requires ready { IsReadyInner (H.state inner.now) }
     requires has { HasInner (H.state inner.now) object.0 at (length out.old) }
     ensures { (v : List ℕ) → get (objects (H.state inner.now).held) object.0 ≡ Some v → out.new ≡ take (length out.old) (drop at v) }
 {
@@ -57,7 +57,7 @@ pub(crate) fn read_inner<H: Manager>(
 
 /// Frees the live inner object `object`.
 pub(crate) fn release_inner<H: Manager>(inner: &mut H, object: Handle, meter: &mut Meter)
-    requires ready { IsReady (H.state inner.old) }
+    requires ready { IsReadyInner (H.state inner.old) }
     requires live { HasInner (H.state inner.old) object.0 0 0 }
     ensures { FreesInner (H.state inner.old) object.0 (H.state inner.new) }
 {

@@ -2,7 +2,7 @@
 //! functions `part_bytes` is the bytes of a whole part, the largest object that fits a page.
 ghost use Rattle.std.specs.Prelude.{◌≡◌, ◌*◌, ◌<◌, ◌^◌};
 ghost use Rattle.large_objects.specs.Growing.{GrowsInner, HasObjectRoom, MakesInner, NamesPart};
-ghost use Rattle.large_objects.specs.InnerCalls.{HasInner, HasInnerRoom, IsReady};
+ghost use Rattle.large_objects.specs.InnerCalls.{HasInner, HasInnerRoom, IsReadyInner};
 ghost use Rattle.large_objects.specs.InnerObjects.{part_count};
 
 use crate::cut::{bytes_of_part, count_parts};
@@ -47,7 +47,7 @@ fn make_long<H: Manager>(inner: &mut H, bytes: u32, part_bytes: u32, meter: &mut
 /// Makes a part of `bytes` zero bytes, and writes its handle into place i of the spine: its four bytes from
 /// byte 4 i on.
 fn make_part<H: Manager>(inner: &mut H, spine: Handle, i: u32, bytes: u32, meter: &mut Meter)
-    requires ready { IsReady (H.state inner.old) }
+    requires ready { IsReadyInner (H.state inner.old) }
     requires room { HasInnerRoom (H.state inner.old) bytes }
     requires has { HasInner (H.state inner.old) spine.0 (4 * i) 4 }
     requires fits { 4 * i < 2 ^ 32 }

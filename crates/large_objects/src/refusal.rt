@@ -6,8 +6,8 @@ ghost use Rattle.std.specs.Option.{MatchOption};
 ghost use Rattle.page_model.specs.Arrangement.{live, pages_for};
 ghost use Rattle.page_model.specs.Held.{objects};
 ghost use Rattle.cf_model.specs.State.{paging_in};
-ghost use Rattle.large_objects.specs.InnerCalls.{IsReady};
-ghost use Rattle.large_objects.specs.LargeSteps.{FitsSpine, HasRoom, IsRefusedLarge, StaysKept};
+ghost use Rattle.large_objects.specs.InnerCalls.{IsReadyInner};
+ghost use Rattle.large_objects.specs.LargeSteps.{FitsSpine, HasLargeRoom, IsRefusedLarge, StaysKept};
 ghost use Rattle.large_objects.specs.InnerObjects.{in_class, inner_lengths};
 
 use crate::cut::{has_spine_that_fits, inner_objects, inner_objects_within};
@@ -21,7 +21,7 @@ impl<H: Manager> LargeHeap<H> {
     /// in the order `Size`, `Proxy`, `Space`, and nothing changes.
     pub(crate) fn refusal(&self, bytes: u32, meter: &mut Meter) -> Option<Refusal>
         requires { IsTrue self.now.is_open }
-        ensures cause { MatchOption result (HasRoom self.now bytes) (λ e. IsRefusedLarge self.now bytes e) }
+        ensures cause { MatchOption result (HasLargeRoom self.now bytes) (λ e. IsRefusedLarge self.now bytes e) }
         ensures kept { StaysKept self.now self.now }
     {
         if !has_spine_that_fits(bytes, self.part_bytes) {
@@ -44,7 +44,7 @@ impl<H: Manager> LargeHeap<H> {
 fn pages_with<H: Manager>(inner: &H, bytes: u32, part_bytes: u32) -> u64
     requires some { 0 < part_bytes }
     requires fits { FitsSpine part_bytes bytes }
-    requires ready { IsReady (H.state inner.now) }
+    requires ready { IsReadyInner (H.state inner.now) }
     ensures { result ≡ pages_for (paging_in (H.state inner.now)) (λ c. live (paging_in (H.state inner.now)) (objects (H.state inner.now).held) c
         + in_class (paging_in (H.state inner.now)) c (inner_lengths part_bytes bytes)) }
 {

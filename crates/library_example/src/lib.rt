@@ -21,7 +21,7 @@ use step_ledger::Meter;
 /// which begins with the bytes ca fe (hexadecimal). Returns the heap and the object's handle, or `None`
 /// if out of memory.
 pub fn first_object(rt: &HostRuntime, alloc: Global) -> Option<(MovingHeap, Handle)>
-    ensures { IfSome result (λ r. HoldsOne r.0 r.1.0 (0xca ∷ 0xfe ∷ [])) }
+    ensures { IfSome result (λ r. HoldsOne r.0.state r.1.0 (0xca ∷ 0xfe ∷ [])) }
 {
     let settings = Settings::check(2, 512, 1, 8).ok()?;
     let mut heap = MovingHeap::closed(alloc);

@@ -17,12 +17,13 @@ use Rattle.image_run.specs.Loads.{EndsLoad}
 use Rattle.image_run.specs.Saves.{EndsSave}
 use Rattle.script_loop.specs.ScriptOutcome.{Effects, HasCauses, MeetsOutcome, SinkState, SourceState}
 use Rattle.script_loop.specs.Semantics.{Semantics}
-use Rattle.side_by_side.proofs.CallerLemmas.{begun_side_by_side, chosen_first, chosen_kinds, chosen_none, chosen_orders, first_within, with_first, with_none}
-use Rattle.side_by_side.specs.FirstOfKind.{chosen_manager, first_of_kind, with_chosen_manager}
-use Rattle.side_by_side.specs.SideBySide.{AreFresh, SideBySide, side_by_side_at, many_managers}
-use Rattle.bench_run.specs.Bench.{EndsBench}
+use Rattle.manager_modes.proofs.Fresh.{begun_side_by_side}
+use Rattle.manager_modes.proofs.FirstOfKindLemmas.{chosen_first, chosen_kinds, chosen_none, chosen_orders, first_within, with_first, with_none}
+use Rattle.manager_modes.specs.FirstOfKind.{chosen_manager, first_of_kind, with_chosen_manager}
+use Rattle.manager_modes.specs.SideBySide.{AreFresh, SideBySide, side_by_side_at, many_managers}
+use Rattle.manager_modes.specs.Bench.{EndsBench}
 use Rattle.command_line.specs.declared.choice.Choice.{Choice}
-use Rattle.manager_modes.specs.Outcomes.{Benches, Compares, EndsWithCause, CallState, Loads, OrLacks, PlaysOwn, Runs, Saves, effects_of, call_state}
+use Rattle.manager_modes.specs.Outcomes.{Benches, Compares, EndsWithCause, CallState, Loads, OrLacks, PlaysOwn, RunsChosen, Saves, effects_of, call_state}
 
 -- `OrLacks`, if the mode's record `Does` holds and nothing was written if memory ran out
 or_lacks : (Does : CallState → Status → CallState → Type 0) (old : CallState) (st : Status) (new : CallState)
@@ -59,8 +60,8 @@ module _ (kind : Kind) (s s' : SourceState) (k k' : SinkState) (st : Status) (ca
   pub own_ends : (old : HeapState) → old ≡ closed_state kind → (hs : List HeapState) → first_of_kind kind hs ≡ None
       → one_manager.plan end ≡ one_manager.plan (run_at session old)
       → MeetsOutcome one_manager (run_at session old) (effects_of (call_state s k hs) st (call_state s' k' hs)) end
-      → EndsWithCause (Runs kind) (call_state s k hs) st (call_state s' k' hs)
-  own_ends old closed hs none plan met = ends_of (Runs kind) s k hs st s' k' hs causes refl refl (record {
+      → EndsWithCause (RunsChosen kind) (call_state s k hs) st (call_state s' k' hs)
+  own_ends old closed hs none plan met = ends_of (RunsChosen kind) s k hs st s' k' hs causes refl refl (record {
     end = end;
     outcome = subst (λ (from : RunState). MeetsOutcome one_manager from (effects_of (call_state s k hs) st (call_state s' k' hs)) end)
         (ap (λ t. run_at t old) fresh ∙ ap (λ h. run_at fresh_session h) (closed ∙ sym (chosen_none kind hs none))) met;
@@ -82,11 +83,11 @@ module _ (kind : Kind) (s s' : SourceState) (k k' : SinkState) (st : Status) (ca
 
     pub first_ends : one_manager.plan end ≡ one_manager.plan (run_at session (f x))
         → MeetsOutcome one_manager (run_at session (f x)) (effects_of (call_state s k (map f ms)) st (call_state s' k' (map f (set ms i n)))) end
-        → EndsWithCause (Runs kind) (call_state s k (map f ms)) st (call_state s' k' (map f (set ms i n)))
+        → EndsWithCause (RunsChosen kind) (call_state s k (map f ms)) st (call_state s' k' (map f (set ms i n)))
     first_ends plan met =
         let promise : KeepsPromise (chosen_manager kind (map f ms)) end.heap =
         ap (λ (p : Kind × Bool). p.1) plan ∙ ap (λ (h : HeapState). is_some h.order) (sym seen) in
-        ends_of (Runs kind) s k (map f ms) st s' k' (map f (set ms i n)) causes
+        ends_of (RunsChosen kind) s k (map f ms) st s' k' (map f (set ms i n)) causes
         (ap (λ l. map (λ (h : HeapState). h.kind) l) stands
         ∙ chosen_kinds kind (map f ms) end.heap (ap (λ (p : Kind × Bool). p.0) plan ∙ ap (λ (h : HeapState). h.kind) (sym seen)))
         (ap (λ l. map (λ (h : HeapState). is_some h.order) l) stands ∙ chosen_orders kind (map f ms) end.heap promise)

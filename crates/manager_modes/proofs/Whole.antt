@@ -13,8 +13,8 @@ use Rattle.command_line.specs.declared.choice.Choice.{Choice}
 use Rattle.script_reader.specs.Items.{Item}
 use Rattle.run_model.specs.Sessions.{RunState, fresh_session}
 use Rattle.run_model.specs.Texts.{Reply}
-use Rattle.headline_laws.proofs.CallerLemmas.{headline_met}
-use Rattle.headline_laws.specs.Headline.{MeetsHeadline}
+use Rattle.script_laws.proofs.CallerLemmas.{headline_met}
+use Rattle.script_laws.specs.Headline.{MeetsHeadline}
 use Rattle.script_loop.proofs.CallerLemmas.{observed_row, some_row, wrote_by, within_all}
 use Rattle.script_loop.specs.Consequences.{AnswersAll}
 use Rattle.script_loop.specs.OneManager.{one_manager}
@@ -26,12 +26,14 @@ use Rattle.heap_image.specs.Feed.{Feed}
 use Rattle.heap_image.specs.Load.{LoadsBy}
 use Rattle.heap_image.specs.declared.fault.LoadFault.TheVariants as fault
 use Rattle.image_run.specs.Saves.{unseen}
-use Rattle.side_by_side.proofs.CallerLemmas.{chosen_kind, headlines_met, own_of}
-use Rattle.side_by_side.specs.FirstOfKind.{chosen_manager}
-use Rattle.side_by_side.specs.SideBySide.{fresh_side_by_side, many_managers}
-use Rattle.side_by_side.specs.OwnRuns.{MeetHeadlines}
+use Rattle.manager_modes.proofs.FirstOfKindLemmas.{chosen_kind}
+use Rattle.manager_modes.proofs.Headlines.{headlines_met}
+use Rattle.manager_modes.proofs.OwnOutcomes.{own_of}
+use Rattle.manager_modes.specs.FirstOfKind.{chosen_manager}
+use Rattle.manager_modes.specs.SideBySide.{fresh_side_by_side, many_managers}
+use Rattle.manager_modes.specs.OwnRuns.{MeetHeadlines}
 use Rattle.manager_modes.specs.Claims.{HoldsImage, MeetsClaim}
-use Rattle.manager_modes.specs.Outcomes.{Benches, Compares, EndsWithCause, EndsWhole, CallState, Loads, OrLacks, PlaysOwn, Runs, Saves, effects_of, kinds_in}
+use Rattle.manager_modes.specs.Outcomes.{Benches, Compares, EndsWithCause, EndsWhole, CallState, Loads, OrLacks, PlaysOwn, RunsChosen, Saves, effects_of, kinds_in}
 
 -- A mode is sound: no call ends by `Words`, the status of refused arguments; a call whose input is right, and that met no fault of source or sink, ends by
 -- `Done` or `OutOfMemory`.
@@ -127,13 +129,13 @@ did_all Does old new = outcome_at Does old new (λ st. AnswersAll st → Does ol
 
 -- Mode `run`.
 module _ (kind : Kind) where
-  pub run_sound : IsSound (Runs kind) IsClean
-  run_sound = script_sound one_manager (Runs kind) λ old st new done. ((run_at fresh_session (chosen_manager kind old.managers), done.end), done.outcome)
+  pub run_sound : IsSound (RunsChosen kind) IsClean
+  run_sound = script_sound one_manager (RunsChosen kind) λ old st new done. ((run_at fresh_session (chosen_manager kind old.managers), done.end), done.outcome)
 
-  pub run_shown : (old : CallState) (st : Status) (new : CallState) → OrLacks (Runs kind) old st new → AnswersAll st
+  pub run_shown : (old : CallState) (st : Status) (new : CallState) → OrLacks (RunsChosen kind) old st new → AnswersAll st
       → MeetsClaim (MeetsHeadline kind) old.source.rest (effects_of old st new)
   run_shown old st new done is =
-      let did = did_all (Runs kind) old new st done is in
+      let did = did_all (RunsChosen kind) old new st done is in
       subst (λ (k : Kind). MeetsClaim (MeetsHeadline k) old.source.rest (effects_of old st new)) (chosen_kind kind old.managers)
       (claim_of one_manager (run_at fresh_session (chosen_manager kind old.managers)) did.end (MeetsHeadline (chosen_manager kind old.managers).kind)
       (λ all call w. headline_met (chosen_manager kind old.managers).kind (items_within all) w.replies w.end w.run) (effects_of old st new) old.source.rest refl did.outcome is)

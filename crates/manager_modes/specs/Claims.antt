@@ -5,7 +5,7 @@ use Rattle.cf_io.specs.Feeds.{appended}
 use Rattle.script_reader.specs.Items.{Item}
 use Rattle.run_model.specs.Texts.{Reply, text_of}
 use Rattle.script_loop.specs.ScriptOutcome.{Effects, items_within}
-use Rattle.heap_image.specs.Decoded.{IsImage}
+use Rattle.heap_image.specs.Decoded.{IsHeapImage}
 
 -- The call printed a reply to each of the items `wanted`, and `Claim` holds of the items and these replies.
 pub record PrintsAs (Claim : List Item → List Reply → Type 0) (wanted : List Item) (call : Effects) : Type 0 where
@@ -21,4 +21,4 @@ MeetsClaim Claim (Some all) call = PrintsAs Claim (items_within all) call
 -- the source is observable, and the bytes that it had are a heap image
 abbrev pub HoldsImage : Option (List ℕ) → Type 0
 HoldsImage None = ⊥
-HoldsImage (Some all) = IsImage all
+HoldsImage (Some all) = IsHeapImage all

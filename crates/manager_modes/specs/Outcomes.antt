@@ -10,20 +10,19 @@ use Rattle.cf_io.specs.declared.sink.Sink as sink
 use Rattle.cf_io.specs.declared.source.Source as source
 use Rattle.cf_model.specs.Ordered.{KeepsPromise}
 use Rattle.cf_model.specs.State.{HeapState, closed_state}
-use Rattle.cf_model.specs.declared.manager.Manager as manager
 use Rattle.command_line.specs.declared.choice.Choice.{Choice}
 use Rattle.run_model.specs.Sessions.{RunState, fresh_session}
-use Rattle.bench_run.specs.Bench.{EndsBench}
+use Rattle.manager_modes.specs.Bench.{EndsBench}
 use Rattle.cf_session.specs.Apply.{run_at}
 use Rattle.script_loop.specs.OneManager.{one_manager}
 use Rattle.script_loop.specs.ScriptOutcome.{Effects, MOST_BYTES, MeetsOutcome, SinkState, SourceState, effects, sink_at, source_at}
 use Rattle.script_loop.specs.Semantics.{Semantics}
 use Rattle.image_run.specs.Loads.{EndsLoad}
 use Rattle.image_run.specs.Saves.{EndsSave}
-use Rattle.large_objects.specs.LargeRun.{LargeRun}
-use Rattle.large_objects.specs.Playing.{IsFreshLarge, large_heap}
-use Rattle.side_by_side.specs.FirstOfKind.{chosen_manager, first_of_kind, with_chosen_manager}
-use Rattle.side_by_side.specs.SideBySide.{SideBySide, fresh_side_by_side, many_managers}
+use Rattle.large_session.specs.LargeRun.{LargeRun}
+use Rattle.large_session.specs.Playing.{IsFreshLarge, large_heap}
+use Rattle.manager_modes.specs.FirstOfKind.{chosen_manager, first_of_kind, with_chosen_manager}
+use Rattle.manager_modes.specs.SideBySide.{SideBySide, fresh_side_by_side, many_managers}
 
 -- what a call works on: the state of its source, that of its sink, and those of the managers that it is given, in order
 pub record CallState : Type 0 where
@@ -43,9 +42,10 @@ source_seen S s = source_at (S.rest s) (S.given s) (S.faults s) (S.last_failed s
 abbrev pub sink_seen : {K : Type 0} → sink.Ghosts K → K → SinkState
 sink_seen K k = sink_at (K.written k) (K.faults k) (K.last_failed k)
 
--- what contracts see of a source `s`, a sink `k` and managers `hs`; the first three arguments have the functions that show it for their types
-abbrev pub seen : {S K H : Type 0} → source.Ghosts S → sink.Ghosts K → manager.Ghosts H → S → K → List H → CallState
-seen S K H s k hs = call_state (source_seen S s) (sink_seen K k) (map (λ h. H.state h) hs)
+-- what contracts see of a source `s`, a sink `k` and managers `hs`; the first two arguments have the functions that show it for the types of `s` and `k`, and
+-- `state` is the state of a manager
+abbrev pub seen : {S K H : Type 0} → source.Ghosts S → sink.Ghosts K → (H → HeapState) → S → K → List H → CallState
+seen S K state s k hs = call_state (source_seen S s) (sink_seen K k) (map (λ h. state h) hs)
 
 -- the status of a call, and what it did to the bytes of its source and its sink
 abbrev pub effects_of : CallState → Status → CallState → Effects
@@ -53,7 +53,7 @@ effects_of old status new = effects old.source old.sink status new.source new.si
 
 -- Mode `run`: the script ran on the first manager of the kind, which is now in the last state `end` of the run; no other manager changes. If none is of the
 -- kind, it ran on a manager made for it. `promise`: the manager promises an order at the end if and only if it did before; one made for the script does.
-pub record Runs (kind : Kind) (old : CallState) (status : Status) (new : CallState) : Type 0 where
+pub record RunsChosen (kind : Kind) (old : CallState) (status : Status) (new : CallState) : Type 0 where
   pub end : RunState
   pub outcome : MeetsOutcome one_manager (run_at fresh_session (chosen_manager kind old.managers)) (effects_of old status new) end
   pub stand : new.managers ≡ with_chosen_manager kind old.managers end.heap
@@ -141,7 +141,7 @@ EndsBeside Does source sink status source' sink' = (managers : List HeapState) �
 -- `EndsWithCause` for mode `run` on a manager made for the script, with any list of managers of which none is of the kind; the call doesn't touch them
 abbrev pub RunsOwn : Kind → SourceState → SinkState → Status → SourceState → SinkState → Type 0
 RunsOwn kind source sink status source' sink' = (managers : List HeapState) → first_of_kind kind managers ≡ None
-    → EndsWithCause (Runs kind) (call_state source sink managers) status (call_state source' sink' managers)
+    → EndsWithCause (RunsChosen kind) (call_state source sink managers) status (call_state source' sink' managers)
 
 -- the status is `Done` (the call did all that the mode asks) or `OutOfMemory`
 abbrev pub EndsWhole : Status → Type 0

@@ -1,16 +1,28 @@
-//! Mode `bench`: runs generated commands on one manager of the chosen kind and prints a line of counts.
+//! Mode `bench`: runs generated commands on one manager of the chosen kind. It prints no replies, but one line
+//! that counts them, the live objects, the pages or blocks in use and the objects that moved.
 ghost use Rattle.script_loop.specs.ScriptOutcome.{SourceState};
 ghost use Rattle.manager_modes.specs.Outcomes.{Benches, EndsBeside, sink_seen};
+ghost use Rattle.std.specs.Prelude.{◌≡◌, ◌≤◌, ◌≢◌};
+ghost use Rattle.manager_modes.specs.Bench.{EndsBench, IsAppliedTo};
+ghost use Rattle.cf_io.specs.Feeds.{FailsLast};
+ghost use Rattle.cf_model.specs.Ordered.{KeepsPromise};
+ghost use Rattle.cf_session.specs.Apply.{run_at};
+ghost use Rattle.generator.specs.Generated.{generated};
+ghost use Rattle.run_model.specs.Sessions.{IsGoing, fresh_session};
 
-use bench_run::run_bench;
-use cf_base::{Kind, Status};
-use cf_io::Sink;
+use crate::figures::BenchFigures;
+use crate::tally::Tally;
+use cf_base::{Kind, Settings, Status};
+use cf_io::{NullSink, Sink};
+use cf_model::Manager;
 use cf_session::Session;
 use command_line::Choice;
+use generator::Generator;
 use half_fit_heap::HalfFitHeap;
 use moving_heap::MovingHeap;
 use nonmoving_heap::NonMovingHeap;
 use std::alloc::Global;
+use step_ledger::Meter;
 use tlsf_heap::TlsfHeap;
 
 /// Makes a closed manager of the chosen kind, and runs on it the chosen number of commands, generated from the
@@ -43,4 +55,72 @@ pub fn bench_seed<K: Sink>(rt: &HostRuntime, alloc: Global, choice: Choice, sink
             run_bench(rt, &mut session, &mut own, seed, count, sink)
         }
     }
+}
+
+/// Opens the manager as `heap 64 16384 1 4096` does, and applies the first `count` commands that the generator
+/// makes of the seed. Drops their replies, and writes one line with the numbers of the bench (`BenchFigures`).
+/// `session` must be fresh. Returns `Done`; `OutOfMemory` if the manager can't be opened, and then nothing is written; or `WriteFault`
+/// if the sink failed, and then a prefix of the line is written.
+fn run_bench<H: Manager, K: Sink>(
+    rt: &HostRuntime,
+    session: &mut Session,
+    heap: &mut H,
+    seed: u64,
+    count: u64,
+    sink: &mut K,
+) -> Status
+    requires { session.old ≡ fresh_session }
+    ensures outcome { EndsBench result seed count (run_at session.old (H.state heap.old)) (run_at session.new (H.state heap.new))
+        (K.written sink.old) (K.written sink.new) }
+    ensures kind { (H.state heap.new).kind ≡ (H.state heap.old).kind }
+    ensures promise { KeepsPromise (H.state heap.old) (H.state heap.new) }
+    ensures grows { K.faults sink.old ≤ K.faults sink.new }
+    ensures sink_same { result ≢ Status.WriteFault → K.faults sink.new ≡ K.faults sink.old }
+    ensures write_fault { result ≡ Status.WriteFault → FailsLast (K.faults sink.old) (K.faults sink.new) (K.last_failed sink.new) }
+{
+    let settings = Settings {
+        pages: 64,
+        page_words: 2_048,
+        k: 1,
+        proxies: 4_096,
+    };
+    match heap.open_heap(&settings) {
+        Ok(()) => {}
+        Err(_) => return Status::OutOfMemory,
+    }
+    let tally = apply_commands(session, heap, seed, count);
+    let mut meter = Meter::new(rt);
+    let totals = heap.totals(meter.steps());
+    let figures = BenchFigures {
+        commands: count,
+        ok: tally.ok,
+        refused: tally.refused,
+        live: totals.live,
+        pages: totals.used,
+        moves: session.moves(),
+    };
+    figures.put(sink)
+}
+
+/// Applies the first `count` commands that the generator makes of the seed. Counts how many of their replies
+/// are good, that is `ok` or the bytes of a read, and how many are refusals.
+fn apply_commands<H: Manager>(session: &mut Session, heap: &mut H, seed: u64, count: u64) -> Tally
+    requires { IsGoing (run_at session.old (H.state heap.old)) }
+    ensures applied { IsAppliedTo (run_at session.old (H.state heap.old)) (generated seed count) (run_at session.new (H.state heap.new))
+        result.ok result.refused }
+    ensures going { IsGoing (run_at session.new (H.state heap.new)) }
+    ensures kind { (H.state heap.new).kind ≡ (H.state heap.old).kind }
+    ensures promise { KeepsPromise (H.state heap.old) (H.state heap.new) }
+{
+    let mut generator = Generator::new(seed);
+    let mut bytes = [0; 8];
+    let mut tally = Tally { ok: 0, refused: 0 };
+    for i in 0..count {
+        let command = generator.next_ref(&mut bytes);
+        match session.apply_ref(heap, command, b"", &mut NullSink) {
+            Ok(outcome) => tally.add(outcome),
+            Err(_) => unreachable!(),
+        }
+    }
+    tally
 }

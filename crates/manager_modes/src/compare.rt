@@ -1,11 +1,11 @@
 //! Mode `compare`: runs one script on several managers and prints the replies of all.
 ghost use Rattle.manager_modes.specs.Outcomes.{Compares, EndsWithCause, seen};
 
+use crate::each::Sessions;
 use cf_base::Status;
 use cf_io::{Sink, Source};
 use cf_model::Manager;
 use script_loop::play_script;
-use side_by_side::Sessions;
 use std::alloc::Global;
 
 /// Runs a script on all managers. Each has its own session. A command is done on the first manager, then
@@ -19,8 +19,8 @@ pub fn compare_all<H: Manager, S: Source, K: Sink>(
     sink: &mut K,
 ) -> Status
     ensures { EndsWithCause Compares
-        (seen S.Source K.Sink H.Manager source.old sink.old managers.old.items) result
-        (seen S.Source K.Sink H.Manager source.new sink.new managers.new.items) }
+        (seen S.Source K.Sink (λ m. H.state m) source.old sink.old managers.old.items) result
+        (seen S.Source K.Sink (λ m. H.state m) source.new sink.new managers.new.items) }
 {
     let Ok(mut sessions) = Sessions::start(rt, alloc, managers.len()) else {
         return Status::OutOfMemory;

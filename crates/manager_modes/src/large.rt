@@ -3,7 +3,8 @@ ghost use Rattle.manager_modes.specs.Outcomes.{EndsBeside, PlaysLarge, sink_seen
 
 use cf_base::Status;
 use cf_io::{Sink, Source};
-use large_objects::{LargeHandler, LargeHeap, run_large};
+use large_objects::LargeHeap;
+use large_session::{LargeHandler, run_large};
 use moving_heap::MovingHeap;
 use std::alloc::Global;
 

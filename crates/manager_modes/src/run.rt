@@ -2,8 +2,9 @@
 ghost use Rattle.std.specs.Prelude.{◌≡◌};
 ghost use Rattle.cf_model.specs.State.{closed_state};
 ghost use Rattle.run_model.specs.Sessions.{fresh_session};
-ghost use Rattle.manager_modes.specs.Outcomes.{EndsWithCause, Runs, RunsOwn, seen, sink_seen, source_seen};
+ghost use Rattle.manager_modes.specs.Outcomes.{EndsWithCause, RunsChosen, RunsOwn, seen, sink_seen, source_seen};
 
+use crate::first_of_kind::first_of;
 use boxed_managers::Boxed;
 use cf_base::{Kind, Status};
 use cf_io::{Sink, Source};
@@ -13,7 +14,6 @@ use half_fit_heap::HalfFitHeap;
 use moving_heap::MovingHeap;
 use nonmoving_heap::NonMovingHeap;
 use script_loop::run_script;
-use side_by_side::first_of;
 use std::alloc::Global;
 use tlsf_heap::TlsfHeap;
 
@@ -28,9 +28,9 @@ pub fn run_chosen<H: Manager, S: Source, K: Sink>(
     source: &mut S,
     sink: &mut K,
 ) -> Status
-    ensures { EndsWithCause (Runs kind)
-        (seen S.Source K.Sink H.Manager source.old sink.old managers.old.items) result
-        (seen S.Source K.Sink H.Manager source.new sink.new managers.new.items) }
+    ensures { EndsWithCause (RunsChosen kind)
+        (seen S.Source K.Sink (λ m. H.state m) source.old sink.old managers.old.items) result
+        (seen S.Source K.Sink (λ m. H.state m) source.new sink.new managers.new.items) }
 {
     let Ok(mut session) = Session::start(rt, alloc) else {
         return Status::OutOfMemory;

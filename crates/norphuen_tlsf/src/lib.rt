@@ -10,7 +10,7 @@ ghost use Rattle.cf_base.specs.declared.kind.Kind.TheVariants.{Tlsf};
 ghost use Rattle.held_heap.specs.Calls.{IsFiguresCall, IsFreeCall, IsLengthCall, IsMallocCall, IsReadCall, IsResizeCall, IsRoomCall, IsStepsCall, IsTotalsCall, IsWriteCall};
 ghost use Rattle.held_heap.specs.AtPlace.{IsOpenCall, IsCallOnOpen};
 ghost use Rattle.held_heap.specs.TlsfPlace.{held_in};
-ghost use Rattle.held_heap.specs.ManagerBounds.{block_bounds};
+ghost use Rattle.held_heap.specs.Tlsf.{bounds};
 
 use held_heap::tlsf::NphHeap;
 use held_heap::{CLOSED, NphClass, NphFreed, NphHeapTotals, NphResized};
@@ -45,7 +45,7 @@ pub extern "C" fn nph_close(heap: &mut NphHeap, memory: Memory)
 #[unsafe(no_mangle)]
 pub extern "C" fn nph_malloc(heap: &mut NphHeap, bytes: u32, handle: &mut u32) -> i32
     ensures { IsCallOnOpen (held_in heap.old) result (held_in heap.new) (handle.new ≡ handle.old)
-        (λ h h2. IsMallocCall block_bounds h bytes handle.old result handle.new h2) }
+        (λ h h2. IsMallocCall bounds h bytes handle.old result handle.new h2) }
 {
     if heap.is_open() {
         heap.held().malloc(bytes, handle)
@@ -58,7 +58,7 @@ pub extern "C" fn nph_malloc(heap: &mut NphHeap, bytes: u32, handle: &mut u32) -
 #[unsafe(no_mangle)]
 pub extern "C" fn nph_free(heap: &mut NphHeap, handle: u32, freed: &mut NphFreed) -> i32
     ensures { IsCallOnOpen (held_in heap.old) result (held_in heap.new) (freed.new ≡ freed.old)
-        (λ h h2. IsFreeCall block_bounds h handle freed.old result freed.new h2) }
+        (λ h h2. IsFreeCall bounds h handle freed.old result freed.new h2) }
 {
     if heap.is_open() {
         heap.held().free(handle, freed)
@@ -76,7 +76,7 @@ pub extern "C" fn nph_resize(
     resized: &mut NphResized,
 ) -> i32
     ensures { IsCallOnOpen (held_in heap.old) result (held_in heap.new) (resized.new ≡ resized.old)
-        (λ h h2. IsResizeCall block_bounds h handle bytes resized.old result resized.new h2) }
+        (λ h h2. IsResizeCall bounds h handle bytes resized.old result resized.new h2) }
 {
     if heap.is_open() {
         heap.held().resize(handle, bytes, resized)
@@ -89,7 +89,7 @@ pub extern "C" fn nph_resize(
 #[unsafe(no_mangle)]
 pub extern "C" fn nph_write(heap: &mut NphHeap, handle: u32, at: u32, bytes: &[u8]) -> i32
     ensures { IsCallOnOpen (held_in heap.old) result (held_in heap.new) (Unit {0})
-        (λ h h2. IsWriteCall block_bounds h handle at bytes.now result h2) }
+        (λ h h2. IsWriteCall bounds h handle at bytes.now result h2) }
 {
     if heap.is_open() {
         heap.held().write(handle, at, bytes)
@@ -102,7 +102,7 @@ pub extern "C" fn nph_write(heap: &mut NphHeap, handle: u32, at: u32, bytes: &[u
 #[unsafe(no_mangle)]
 pub extern "C" fn nph_read(heap: &mut NphHeap, handle: u32, at: u32, out: &mut [u8]) -> i32
     ensures { IsCallOnOpen (held_in heap.old) result (held_in heap.new) (out.new ≡ out.old)
-        (λ h h2. IsReadCall block_bounds h handle at out.old result out.new h2) }
+        (λ h h2. IsReadCall bounds h handle at out.old result out.new h2) }
 {
     if heap.is_open() {
         heap.held().read(handle, at, out)
@@ -115,7 +115,7 @@ pub extern "C" fn nph_read(heap: &mut NphHeap, handle: u32, at: u32, out: &mut [
 #[unsafe(no_mangle)]
 pub extern "C" fn nph_length(heap: &mut NphHeap, handle: u32, bytes: &mut u32) -> i32
     ensures { IsCallOnOpen (held_in heap.old) result (held_in heap.new) (bytes.new ≡ bytes.old)
-        (λ h h2. IsLengthCall block_bounds h handle bytes.old result bytes.new h2) }
+        (λ h h2. IsLengthCall Tlsf h handle bytes.old result bytes.new h2) }
 {
     if heap.is_open() {
         heap.held().length(handle, bytes)
@@ -128,7 +128,7 @@ pub extern "C" fn nph_length(heap: &mut NphHeap, handle: u32, bytes: &mut u32) -
 #[unsafe(no_mangle)]
 pub extern "C" fn nph_has_room(heap: &mut NphHeap, bytes: u32) -> i32
     ensures { IsCallOnOpen (held_in heap.old) result (held_in heap.new) (Unit {0})
-        (λ h h2. IsRoomCall block_bounds h bytes result h2) }
+        (λ h h2. IsRoomCall bounds h bytes result h2) }
 {
     if heap.is_open() {
         heap.held().has_room(bytes)
@@ -154,7 +154,7 @@ pub extern "C" fn nph_figures(heap: &mut NphHeap, class: u32, figures: &mut NphC
 #[unsafe(no_mangle)]
 pub extern "C" fn nph_totals(heap: &mut NphHeap, totals: &mut NphHeapTotals) -> i32
     ensures { IsCallOnOpen (held_in heap.old) result (held_in heap.new) (totals.new ≡ totals.old)
-        (λ h h2. IsTotalsCall block_bounds h result totals.new h2) }
+        (λ h h2. IsTotalsCall bounds h result totals.new h2) }
 {
     if heap.is_open() {
         heap.held().totals(totals)

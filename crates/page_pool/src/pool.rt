@@ -5,10 +5,9 @@ ghost use Rattle.step_ledger.specs.Counting.{RoseBy};
 ghost use Rattle.page_pool.specs.Pool.{is_in_pool, IsPool, TakesFront};
 
 use cf_base::{OutOfMemory, numbers_below};
-use counted_cells::Cells;
 use std::alloc::Global;
 use std::marker::Model;
-use step_ledger::Steps;
+use step_ledger::{Cells, Steps};
 
 /// The free pages of a region. The page that was returned last is taken first.
 #[derive(Drop)]

@@ -1,7 +1,9 @@
 -- For the clauses `cost` of `malloc_inner` and `free_inner`: the steps of a call's parts add up to its exact cost, which the order determines. The tables and
 -- the order yield the same steps.
-use Rattle.std.proofs.Common.{◌≡◌, ℕ, ◌+◌, ◌<◌, length, get_or, Option, None, Some, Ok, arith, sym, ◌∙◌, ap, subst}
-use Rattle.std.specs.Prelude.{slice_get}
+use Rattle.std.proofs.Common.{◌≡◌, ℕ, ◌+◌, ◌<◌, length, get_or, Option, None, Some, Ok, arith, refl, sym, ◌∙◌, ap, subst}
+use Rattle.std.specs.Prelude.{IsSome, slice_get}
+use Rattle.std.proofs.lemmas.Bool.{false≢true}
+use Rattle.cf_base.specs.declared.kind.Kind.{Kind}
 use Rattle.cf_base.specs.Classes.{class_of}
 use Rattle.cf_base.specs.declared.answers.Freed.{Freed}
 use Rattle.cf_base.specs.declared.answers.Handle.{Handle}
@@ -13,7 +15,8 @@ use Rattle.page_model.specs.Image.{slot_for}
 use Rattle.page_model.specs.Order as Order
 use Rattle.page_model.specs.Order.{word_steps}
 use Rattle.page_model.specs.Paging.{class_for, classes, page_of}
-use Rattle.page_slots.specs.Release.{FillsFrom, steps_to_drop, steps_to_fill}
+use Rattle.page_slots.specs.Release.{steps_to_drop, steps_to_fill}
+use Rattle.size_classes.specs.Table.{ClassTable}
 use Rattle.page_slots.specs.Orders.{order_of}
 use Rattle.page_slots.specs.Tables.{Tables, page_at}
 use Rattle.page_slots.specs.Take.{TakesAt, steps_to_take}
@@ -23,11 +26,11 @@ use Rattle.step_ledger.specs.Counting.{RoseBy}
 use Rattle.virtual_words.specs.Words.{run_steps, slot_steps, wipe_steps}
 use Rattle.virtual_words.proofs.CallerLemmas.{whole_run}
 use Rattle.cf_model.specs.ExactCosts.{free_cost, leaving_cost, malloc_cost}
-use Rattle.paged_heap.specs.Free.{IsObjectAt}
+use Rattle.paged_heap.specs.Free.{IsObjectAt, Leaves, leaving_steps}
 use Rattle.paged_heap.specs.Heap.{Heap}
 use Rattle.paged_heap.specs.Layout.{IsValid, held_in, order_in, paging_at, state_of, tables_in}
 use Rattle.paged_heap.proofs.CountLimits.{class_is}
-use Rattle.paged_heap.proofs.FreedObject.{it, it_class, it_found, it_slot, it_used, page_same}
+use Rattle.paged_heap.proofs.FreedObject.{it, it_class, it_found, it_slot, it_used, page_same, taken_out}
 use Rattle.paged_heap.proofs.LayoutFacts.{as_many, table_is}
 use Rattle.paged_heap.proofs.WholeBlocks.{whole_slot}
 
@@ -64,22 +67,38 @@ module _ {h : Heap} (k : IsValid h) {q a size c : ℕ} (o : IsObjectAt h q a siz
       ∙ ap (λ s. Order.steps_to_fill (paging_at h) (held_in h) (order_of s (tables_in h) h.proxies.free) c) (sym (as_many h k))
       ∙ ap (Order.steps_to_fill (paging_at h) (held_in h) (order_in h)) (sym (it_class k o))
 
-  pub alone_sum : (words : ℕ) → words ≡ get_or h.classes.sizes c 0 → (s t u n : ℕ) → n ≡ steps_to_drop (tables_in h) (page_at h.classes a)
-      → RoseBy s t (2 + run_steps h.kind a words) → RoseBy t u n → RoseBy s u (2 + leaving_cost (state_of h) (order_in h) (it k o) None)
-  alone_sum words is s t u n drop x y =
+  -- the steps of leaving the object's slot (`leave_slot`), by the tables of a heap g that yield the same steps, and by the order
+  pub leaving_is : (g : Heap) → g.kind ≡ h.kind → g.classes ≡ h.classes
+      → steps_to_drop (tables_in g) (page_at h.classes a) ≡ steps_to_drop (tables_in h) (page_at h.classes a)
+      → steps_to_fill (tables_in g) c ≡ steps_to_fill (tables_in h) c → (r : Option Handle)
+      → (IsSome r → (page : ℕ) × (slice_get (pages_in h.lists c NotFull) 0 ≡ Some page))
+      → leaving_steps g a c r ≡ leaving_cost (state_of h) (order_in h) (it k o) r
+  leaving_is g kind classes drop fill None front =
       let w = whole_slot h k q (it k o) (it_found k o) in
-      let wiped : run_steps h.kind a words ≡ wipe_steps h.kind (slot_for (paging_at h) (length (it k o).bytes)) =
-      ap (run_steps h.kind a) (is ∙ it_slot k o) ∙ whole_run h.kind a (slot_for (paging_at h) (length (it k o).bytes)) w.0 w.1 in
+      let slot = slot_for (paging_at h) (length (it k o).bytes) in
+      let wiped : run_steps h.kind a (get_or h.classes.sizes c 0) ≡ wipe_steps h.kind slot = ap (run_steps h.kind a) (it_slot k o) ∙ whole_run h.kind a slot w.0 w.1 in
       let e = drops_by in
-      rose_by s u _ _ (omega arith) (rose_both s t u _ _ x y)
+      ap (λ (κ : Kind). run_steps κ a (get_or g.classes.sizes c 0) + steps_to_drop (tables_in g) (page_at g.classes a)) kind
+      ∙ ap (λ (t : ClassTable). run_steps h.kind a (get_or t.sizes c 0) + steps_to_drop (tables_in g) (page_at t a)) classes ∙ (omega arith)
+  leaving_is g kind classes drop fill (Some y) front =
+      let slot = slot_for (paging_at h) (length (it k o).bytes) in
+      let moved : slot_steps h.kind (get_or h.classes.sizes c 0) ≡ slot_steps h.kind slot = ap (slot_steps h.kind) (it_slot k o) in
+      let f = front refl in
+      let e = fills_by f.0 f.1 in
+      ap (λ (κ : Kind). steps_to_fill (tables_in g) c + word_steps κ + (slot_steps κ (get_or g.classes.sizes c 0) + 1)) kind
+      ∙ ap (λ (t : ClassTable). steps_to_fill (tables_in g) c + word_steps h.kind + (slot_steps h.kind (get_or t.sizes c 0) + 1)) classes ∙ (omega arith)
 
-  pub filled_sum : (words : ℕ) → words ≡ get_or h.classes.sizes c 0 → (y : Handle) (b : ℕ) (new : Tables) → FillsFrom h.classes (tables_in h) c b new
-      → (s t u v w : ℕ) → RoseBy s t (steps_to_fill (tables_in h) c) → RoseBy t u (word_steps h.kind) → RoseBy u v 2
-      → RoseBy v w (slot_steps h.kind words + 1) → RoseBy s w (2 + leaving_cost (state_of h) (order_in h) (it k o) (Some y))
-  filled_sum words is y b new f s t u v w r1 r2 r3 r4 =
-      let moved : slot_steps h.kind words ≡ slot_steps h.kind (slot_for (paging_at h) (length (it k o).bytes)) = ap (slot_steps h.kind) (is ∙ it_slot k o) in
-      let e = fills_by f.page f.front in
-      rose_by s w _ _ (omega arith) (rose_both s v w _ _ (rose_both s u v _ _ (rose_both s t u _ _ r1 r2) r3) r4)
+  -- the steps of releasing the number and leaving the slot
+  pub leaves_sum : {g : Heap} → g ≡ taken_out h q size c → (n : Heap) (r : Option Handle) → Leaves g a c r n → (s t u : ℕ) → RoseBy s t 2
+      → RoseBy t u (leaving_steps g a c r) → RoseBy s u (2 + leaving_cost (state_of h) (order_in h) (it k o) r)
+  leaves_sum {g} counted n r left s t u r1 r2 =
+      let is = subst (λ (x : Heap). leaving_steps x a c r ≡ leaving_cost (state_of h) (order_in h) (it k o) r) (sym counted)
+      (leaving_is (taken_out h q size c) refl refl refl refl r (front r left)) in
+      rose_by s u _ _ (ap (λ n. 2 + n) is) (rose_both s t u _ _ r1 r2)
+    where
+      front : (r : Option Handle) → Leaves g a c r n → IsSome r → (page : ℕ) × (slice_get (pages_in h.lists c NotFull) 0 ≡ Some page)
+      front None left none = absurd (false≢true none)
+      front (Some y) left some = (left.filled.page, subst (λ (x : Heap). slice_get (pages_in x.lists c NotFull) 0 ≡ Some left.filled.page) counted left.filled.front)
 
   -- the steps of a free's parts sum to its exact cost
   pub free_sum : (freed : Freed) (s t u v w z : ℕ) → RoseBy s t 1 → RoseBy t u (word_steps h.kind) → RoseBy u v 1 → RoseBy v w 1

@@ -1,7 +1,7 @@
--- For `free_and_fill`, a free that moves another object to the freed slot: that object is the next one of the order, its words and its proxy can be moved, and
+-- For `free_object`, a free that moves another object to the freed slot: that object is the next one of the order, its words and its proxy can be moved, and
 -- the heap keeps its invariant.
-use Rattle.std.proofs.Common.{◌≡◌, ◌≢◌, ℕ, ◌+◌, ◌-◌, ◌*◌, ◌/◌, ◌%◌, ◌^◌, ◌<◌, ◌≤◌, ◌∷◌, List, length, get_or, set, Some, arith, sym, ◌∙◌, ap, subst, inl, inr}
-use Rattle.std.specs.Prelude.{◌⊎◌, IsSome, is_some}
+use Rattle.std.proofs.Common.{◌≡◌, ◌≢◌, ℕ, ◌+◌, ◌-◌, ◌/◌, ◌%◌, ◌^◌, ◌<◌, ◌≤◌, ◌∷◌, List, length, get_or, Some, arith, sym, ◌∙◌, ap, subst, inl, inr}
+use Rattle.std.specs.Prelude.{◌⊎◌}
 use Rattle.std.specs.FinMap.{get, insert, remove}
 use Rattle.cf_lemmas.proofs.Maps.{get_inserted, get_remove_other}
 use Rattle.cf_lemmas.specs.Exchanges.{exchanged}
@@ -12,7 +12,7 @@ use Rattle.page_model.specs.Arrangement.{class_at}
 use Rattle.page_model.specs.Order.{FreeFollows, IsNextToMove, SlotFollows, slot_freed}
 use Rattle.page_model.specs.Steps.{MayFill, MustMove, Moves, moved_to}
 use Rattle.page_model.proofs.CallerLemmas.{mover_is_other, moved_places, image_after_move, object_inside, own_words, sound_apart_from, header_shown}
-use Rattle.proxy_table.specs.Proxies.{AreBelowLimit, Proxies, with_place, without_place}
+use Rattle.proxy_table.specs.Proxies.{AreBelowLimit, with_place, without_place}
 use Rattle.cf_model.specs.Steps.{frames_left}
 use Rattle.page_slots.specs.Release.{FillsFrom}
 use Rattle.page_slots.specs.Tables.{AreTables, Tables}
@@ -22,12 +22,12 @@ use Rattle.page_slots.specs.Orders.{order_of}
 use Rattle.virtual_words.specs.Words.{IsWhole}
 use Rattle.paged_heap.specs.Heap.{Heap}
 use Rattle.paged_heap.specs.Layout.{IsFramed, IsValid, held_in, order_in, paging_at, state_of, tables_in}
-use Rattle.paged_heap.specs.Free.{MustMoveInto, IsObjectAt, MovesSlot}
+use Rattle.paged_heap.specs.Free.{IsObjectAt, LeavesFilled, MovesSlot, MustMoveInto}
 use Rattle.paged_heap.proofs.ByKind.{frames_change}
 use Rattle.paged_heap.proofs.WholeBlocks.{whole_slot}
 use Rattle.paged_heap.proofs.LayoutFacts.{as_many, number_small, paging_ok, place_known, table_is}
 use Rattle.paged_heap.proofs.Preserved.{Becomes, places_are, rest_from}
-use Rattle.paged_heap.proofs.FreedObject.{follows_from, goes, it, it_class, it_found, it_inside, it_slot, must, rest_held}
+use Rattle.paged_heap.proofs.FreedObject.{follows_from, goes, it, it_class, it_found, it_slot, must, rest_held, taken_out}
 
 -- A free of object q (address a, `size` bytes, class c) in the heap h that moves another object to a. The slot that this object leaves, at b, is free in the
 -- tables `new`.
@@ -37,10 +37,6 @@ pub record Fills (h : Heap) (q a size c b : ℕ) (new : Tables) : Type 0 where
   pub moves : MustMoveInto h a c
   pub filled : FillsFrom h.classes (tables_in h) c b new
   pub tables : AreTables h.classes new
-
-pub fills_of : {h : Heap} {q a size c b : ℕ} {new : Tables} → IsValid h → IsObjectAt h q a size c → MustMoveInto h a c → FillsFrom h.classes (tables_in h) c b new
-    → AreTables h.classes new → Fills h q a size c b new
-fills_of valid object moves filled tables = record { valid = valid; object = object; moves = moves; filled = filled; tables = tables }
 
 module _ {h : Heap} {q a size c b : ℕ} {new : Tables} (f : Fills h q a size c b new) where
   abbrev k : IsValid h
@@ -136,33 +132,21 @@ module _ {h : Heap} {q a size c b : ℕ} {new : Tables} (f : Fills h q a size c 
         may moves_words in
         subst (λ z. IsSlotImage (paging_at h) (moved_to (remove (held_in h) q) r z a) left_words) (sym there) i
 
-  -- the addresses and the words of the slots are those of whole blocks
-  pub whole_target : IsWhole h.kind a
-  whole_target = (whole_slot h k q (it k o) (it_found k o)).0
-
+  -- the other object's slot is that of whole blocks
   pub whole_source : IsWhole h.kind b
   whole_source = subst (IsWhole h.kind) at (whole_slot h k r y there).0
 
-  pub whole_words : IsWhole h.kind words
-  whole_words = subst (IsWhole h.kind) (sym same_slot) (whole_slot h k r y there).1
-
-  -- the heap n after the free, by its fields: the tables are those of t, and the others are those of h after what the free does
-  module _ (t : Heap) {n : Heap}
-      (whole : n ≡ record h {
-        maps = t.maps;
-        lists = t.lists;
-        pool = t.pool;
+  -- the heap n after the free, by its fields: those of h, after what the free does, but for the tables
+  module _ {n : Heap}
+      (whole : n ≡ record (taken_out h q size c) {
+        maps = n.maps;
+        lists = n.lists;
+        pool = n.pool;
         proxies = with_place (without_place h.proxies q) r a;
         words = n.words;
         frames = n.frames;
-        live = set h.live c (get_or h.live c 0 - 1);
-        asked = h.asked - size;
-        taken = h.taken - 8 * words;
       })
-      (moved : MovesSlot h n b a words) (framed : IsFramed h.kind n) (same : tables_in t ≡ new) (handles : AreBelowLimit n.proxies) where
-    on : tables_in n ≡ new
-    on = ap tables_in whole ∙ same
-
+      (moved : MovesSlot h n b a words) (framed : IsFramed h.kind n) (on : tables_in n ≡ new) (handles : AreBelowLimit n.proxies) where
     pub refilled : Becomes h n (rest_held k o n (Some r) mover)
     refilled = goes k o n (Some r) mover
         (record { live = ap (λ (x : Heap). x.live) whole; asked = ap (λ (x : Heap). x.asked) whole; taken = ap (λ (x : Heap). x.taken) whole })
@@ -205,103 +189,45 @@ module _ {h : Heap} {q a size c b : ℕ} {new : Tables} (f : Fills h q a size c 
         ∙ ap (λ p. exchanged h.frames (p / 4) (a / 4) (slot_for (paging_at h) (length y.bytes) / 4)) (sym at)
         ∙ sym (frames_change h.kind h k.framed (rest_held k o n (Some r) mover) r y (record { place = a; bytes = y.bytes }) there e)
 
-  -- The heap before the move: the slot to fill from is found (t), the number is released, and the object is taken out of the counts (g). w is the words of the
-  -- slot, and i is the number of the other object.
-  pub record CallResult (t g : Heap) (w i : ℕ) : Type 0 where
-    pub size_w : w ≡ words
-    pub is : i ≡ r
-    pub found : t ≡ record h { maps = t.maps; lists = t.lists; pool = t.pool }
-    pub released : Heap
-    pub released_is : released ≡ record t { proxies = without_place t.proxies q }
-    pub counted : g ≡ record released {
-      live = set released.live c (get_or released.live c 0 - 1);
-      asked = released.asked - size;
-      taken = released.taken - 8 * get_or released.classes.sizes c 0;
-    }
-
-  -- as above, with the number of the other object read from its header
-  pub call_result : {t g : Heap} {w i word : ℕ} {proxies : Proxies} → t ≡ record h { maps = t.maps; lists = t.lists; pool = t.pool }
-      → word ≡ get_or t.words b 0 → i ≡ word % 2 ^ 32
-      → w ≡ words → proxies ≡ without_place t.proxies q
-      → g ≡ record t {
-        proxies = proxies;
-        live = set t.live c (get_or t.live c 0 - 1);
-        asked = t.asked - size;
-        taken = t.taken - 8 * get_or t.classes.sizes c 0;
-      }
-      → CallResult t g w i
-  call_result {t} {g} {w} {i} {word} {proxies} found read number size_w released counted = record {
-    size_w = size_w;
-    is = number ∙ ap (λ v. v % 2 ^ 32) read ∙ ap (λ (x : Heap). get_or x.words b 0 % 2 ^ 32) found ∙ number_shown;
-    found = found;
-    released = record t { proxies = proxies };
-    released_is = ap (λ p. record t { proxies = p }) released;
-    counted = counted;
+-- The heap n after `leave_slot`, which begins at the heap g: there the number is released, and the object is taken out of the counts. Object i moves.
+module _ {h : Heap} (k : IsValid h) {q a size c : ℕ} (o : IsObjectAt h q a size c) (due : MustMoveInto h a c) {g n : Heap} {i : ℕ}
+    (counted : g ≡ taken_out h q size c) (left : LeavesFilled g a c i n) (tables : AreTables g.classes (tables_in n)) where
+  abbrev pub filling : Fills h q a size c left.from (tables_in n)
+  filling = record {
+    valid = k;
+    object = o;
+    moves = due;
+    filled = subst (λ (x : Heap). FillsFrom x.classes (tables_in x) c left.from (tables_in n)) counted left.filled;
+    tables = subst (λ (x : Heap). AreTables x.classes (tables_in n)) counted tables;
   }
 
-  module _ {t g : Heap} {w i : ℕ} (l : CallResult t g w i) where
-    counted_is : g ≡ record h {
-      maps = t.maps;
-      lists = t.lists;
-      pool = t.pool;
-      proxies = without_place h.proxies q;
-      live = set h.live c (get_or h.live c 0 - 1);
-      asked = h.asked - size;
-      taken = h.taken - 8 * words;
-    }
-    counted_is = l.counted
-        ∙ ap (λ (x : Heap). record x { live = set x.live c (get_or x.live c 0 - 1); asked = x.asked - size; taken = x.taken - 8 * get_or x.classes.sizes c 0 })
-        (l.released_is ∙ ap (λ (x : Heap). record x { proxies = without_place x.proxies q }) l.found)
+  pub is : i ≡ r filling
+  is = left.number ∙ ap (λ (x : Heap). get_or x.words left.from 0 % 2 ^ 32) counted ∙ number_shown filling
 
-    -- the released number is the next one
-    pub free_is : {free : List ℕ} → free ≡ g.proxies.free → free ≡ q ∷ h.proxies.free
-    free_is e = e ∙ ap (λ (x : Heap). x.proxies.free) counted_is
+  pub whole : n ≡ record (taken_out h q size c) {
+    maps = n.maps;
+    lists = n.lists;
+    pool = n.pool;
+    proxies = with_place (without_place h.proxies q) (r filling) a;
+    words = n.words;
+    frames = n.frames;
+  }
+  whole =
+      let after : Heap → ℕ → Heap = λ x j. record x {
+        maps = n.maps;
+        lists = n.lists;
+        pool = n.pool;
+        proxies = with_place x.proxies j a;
+        words = n.words;
+        frames = n.frames;
+      } in
+      left.rest ∙ ap (λ x. after x i) counted ∙ ap (after (taken_out h q size c)) is
 
-    pub live_there : IsSome (get g.proxies.places i)
-    live_there = ap (λ (x : Heap). is_some (get x.proxies.places i)) counted_is ∙ ap (λ j. is_some (get (remove h.proxies.places q) j)) l.is
-        ∙ ap is_some live_still
+  pub moved_is : MovesSlot h n left.from a (get_or h.classes.sizes c 0)
+  moved_is =
+      let m = subst (λ (x : Heap). MovesSlot x n left.from a (get_or x.classes.sizes c 0)) counted left.moves in
+      record { long = m.long; words = m.words; frames = m.frames }
 
-    pub source_there : b + w ≤ length g.words
-    source_there = (let long = ap (λ (x : Heap). length x.words) counted_is in let s = source_in in let z = l.size_w in omega arith)
-
-    pub target_there : a + w ≤ length g.words
-    target_there = (let long = ap (λ (x : Heap). length x.words) counted_is in let s = it_inside k o in let z = l.size_w in omega arith)
-
-    pub apart_there : (b + w ≤ a) ⊎ (a + w ≤ b)
-    apart_there = subst (λ w. (b + w ≤ a) ⊎ (a + w ≤ b)) (sym l.size_w) slots_apart
-
-    pub whole_there : IsWhole h.kind w
-    whole_there = subst (IsWhole h.kind) (sym l.size_w) whole_words
-
-    pub whole_is : {n : Heap} → n ≡ record g { proxies = with_place g.proxies i a; words = n.words; frames = n.frames }
-        → n ≡ record h {
-          maps = t.maps;
-          lists = t.lists;
-          pool = t.pool;
-          proxies = with_place (without_place h.proxies q) r a;
-          words = n.words;
-          frames = n.frames;
-          live = set h.live c (get_or h.live c 0 - 1);
-          asked = h.asked - size;
-          taken = h.taken - 8 * words;
-        }
-    whole_is {n} en = en
-        ∙ ap (λ (x : Heap). record x { proxies = with_place x.proxies i a; words = n.words; frames = n.frames }) counted_is
-        ∙ ap (λ j. record h {
-          maps = t.maps;
-          lists = t.lists;
-          pool = t.pool;
-          proxies = with_place (without_place h.proxies q) j a;
-          words = n.words;
-          frames = n.frames;
-          live = set h.live c (get_or h.live c 0 - 1);
-          asked = h.asked - size;
-          taken = h.taken - 8 * words;
-        }) l.is
-
-    pub moved_is : {n : Heap} → MovesSlot g n b a w → MovesSlot h n b a words
-    moved_is {n} m = subst (MovesSlot h n b a) l.size_w (record {
-      long = m.long ∙ ap (λ (x : Heap). length x.words) counted_is;
-      words = subst (λ ws. MovesWords ws n.words (record { from = b; count = w }) a) (ap (λ (x : Heap). x.words) counted_is) m.words;
-      frames = m.frames ∙ ap (λ (x : Heap). exchanged x.frames (b / 4) (a / 4) (w / 4)) counted_is;
-    })
+  -- the released number is the next one
+  pub free_is : n.proxies.free ≡ q ∷ h.proxies.free
+  free_is = left.free ∙ ap (λ (x : Heap). x.proxies.free) counted

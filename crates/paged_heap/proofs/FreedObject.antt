@@ -19,7 +19,7 @@ use Rattle.cf_lemmas.proofs.Tests.{eq_yes}
 use Rattle.size_classes.specs.Table.{ClassTable}
 use Rattle.class_lists.specs.PageLists.{pages_in}
 use Rattle.class_lists.specs.declared.Which.TheVariants.{NotFull}
-use Rattle.proxy_table.specs.Proxies.{AreBelowLimit}
+use Rattle.proxy_table.specs.Proxies.{AreBelowLimit, without_place}
 use Rattle.page_slots.specs.Release.{MovesObject}
 use Rattle.page_slots.specs.Tables.{IsUsed, page_at, slot_at, slots_on}
 use Rattle.page_slots.specs.Occupying.{Occupies, FitPages, class_table}
@@ -35,6 +35,15 @@ use Rattle.paged_heap.proofs.ByKind.{moves_in, slot_in_is, tiling_stays}
 use Rattle.paged_heap.proofs.LayoutFacts.{as_many, bound_is, few_classes, paged_kind, paging_ok, sizes_are, table_is}
 use Rattle.paged_heap.proofs.Preserved.{Becomes, becomes_kept, becomes_state, has_place, held_is, stored, with_parts}
 use Rattle.paged_heap.proofs.ReadLemmas.{slot_there}
+
+-- the heap h after the number q is released, and its object of class c with `size` bytes is taken out of the counts
+abbrev pub taken_out : Heap → ℕ → ℕ → ℕ → Heap
+taken_out h q size c = record h {
+  proxies = without_place h.proxies q;
+  live = set h.live c (get_or h.live c 0 - 1);
+  asked = h.asked - size;
+  taken = h.taken - 8 * get_or h.classes.sizes c 0;
+}
 
 module _ {h : Heap} (k : IsValid h) {q a size c : ℕ} (o : IsObjectAt h q a size c) where
   abbrev pub it : Placed

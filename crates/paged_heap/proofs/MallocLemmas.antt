@@ -25,10 +25,9 @@ use Rattle.page_slots.proofs.CallerLemmas.{refused_lacks_room, taken_is_free}
 use Rattle.cf_model.specs.Rules.{IsPaged}
 use Rattle.cf_model.specs.State.{HeapState}
 use Rattle.cf_model.specs.Steps.{ChangesCost, IsMallocStep, IsRefusedBy, LacksProxy, LacksSpace}
-use Rattle.cf_model.proofs.CallerLemmas.{given_is_not_refused, one_cause}
 use Rattle.paged_heap.specs.Heap.{Heap}
 use Rattle.paged_heap.specs.Layout.{IsValid, held_in, paging_at, state_of, tables_in}
-use Rattle.paged_heap.specs.Room.{HasSlot, without_handle}
+use Rattle.paged_heap.specs.Room.{HasSlot}
 use Rattle.paged_heap.proofs.FigureLemmas.{not_full_is}
 use Rattle.paged_heap.proofs.ByKind.{lacks_in, lacks_of, placed_same}
 use Rattle.paged_heap.proofs.LayoutFacts.{held_len, paged_kind, paging_ok, sizes_are, table_is}
@@ -167,14 +166,3 @@ malloc_with_cost o p bytes (Ok q) h cost g = record {
   whole = ap (λ (t : HeapState). record t { cost = cost }) g.whole;
 }
 malloc_with_cost o p bytes (Err e) h cost (cause, same) = (cause, ap (λ (t : HeapState). record t { cost = cost }) same)
-
--- every malloc returns `Ok` if no refusal has a cause; below, it returns the refusal that has one
-pub all_given : (s : HeapState) (bytes : ℕ) → ((e : Refusal) → IsRefusedBy s bytes e → ⊥) → (answer : Result Handle Refusal) (new : HeapState)
-    → IsMallocStep s bytes answer new → Ok tt ≡ without_handle answer
-all_given s bytes none (Ok q) new step = refl
-all_given s bytes none (Err e) new (cause, same) = absurd (none e cause)
-
-pub all_refused : (s : HeapState) (bytes : ℕ) (e : Refusal) → IsRefusedBy s bytes e → (answer : Result Handle Refusal) (new : HeapState)
-    → IsMallocStep s bytes answer new → Err e ≡ without_handle answer
-all_refused s bytes e cause (Ok q) new given = absurd (given_is_not_refused s new (record { number = q.0; length = bytes }) given e cause)
-all_refused s bytes e cause (Err f) new (other, same) = ap Err (one_cause s bytes e f cause other)

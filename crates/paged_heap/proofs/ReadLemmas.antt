@@ -11,7 +11,7 @@ use Rattle.page_model.specs.Bytes.{byte_of, bytes_at}
 use Rattle.page_model.specs.Image.{slot_for}
 use Rattle.page_model.specs.Paging.{class_for}
 use Rattle.page_model.proofs.CallerLemmas.{byte_is, places-held_at, object_inside, class_holds, slot_fits}
-use Rattle.word_bytes.specs.Overwriting.{byte_from}
+use Rattle.region.specs.Overwriting.{byte_from}
 use Rattle.cf_model.specs.Answers.{place_of}
 use Rattle.cf_model.specs.Steps.{PassesEnd, ReadsBytes}
 use Rattle.paged_heap.specs.Heap.{Heap}
@@ -66,9 +66,6 @@ module _ (h : Heap) (k : IsValid h) (q at count a : ℕ) (l : HoldsBytesAt h (re
 
   pub lies_place : get h.proxies.places q ≡ Some a
   lies_place = place_shown h q ∙ ap (option_map (λ (x : Placed). x.place)) l.found
-
-  pub count_few : count ≤ 131072
-  count_few = (let f = bytes_few h k q a lies_place in let w = l.within in omega arith)
 
   pub words_in : 1 ≤ count → a + 1 + at / 8 + (at % 8 + count + 7) / 8 ≤ length h.words
   words_in some =

@@ -1,6 +1,6 @@
--- For `resize_class_alone`, a resize to another class that moves no other object: the object's old slot becomes free as the order requires, and the heap keeps
+-- For `change_class`, a resize to another class that moves no other object: the object's old slot becomes free as the order requires, and the heap keeps
 -- its invariant.
-use Rattle.std.proofs.Common.{◌≡◌, ℕ, length, None, sym, ◌∙◌, ap, subst}
+use Rattle.std.proofs.Common.{◌≡◌, ℕ, length, get_or, None, sym, ◌∙◌, ap, subst}
 use Rattle.std.specs.FinMap.{insert, remove}
 use Rattle.cf_lemmas.proofs.Maps.{get_inserted, get_remove_other, get_removed}
 use Rattle.cf_lemmas.proofs.MapValues.{map_values-insert}
@@ -22,7 +22,7 @@ use Rattle.page_slots.proofs.CallerLemmas.{renumbered_occupied, vacated_occupied
 use Rattle.paged_heap.specs.Heap.{Heap}
 use Rattle.paged_heap.specs.declared.resize_class.Change.{Change}
 use Rattle.paged_heap.specs.ResizeClass.{EntersAt, IsChange, old_words}
-use Rattle.paged_heap.specs.Free.{MustMoveInto}
+use Rattle.paged_heap.specs.Free.{LeavesAlone, MustMoveInto}
 use Rattle.paged_heap.specs.Layout.{IsFramed, IsValid, held_in, paging_at, state_of, tables_in}
 use Rattle.cf_model.specs.Steps.{frames_left}
 use Rattle.paged_heap.proofs.ByKind.{frames_stay}
@@ -33,41 +33,33 @@ use Rattle.paged_heap.proofs.ResizeClass.{Keeps, after, after_is, both, both_occ
 use Rattle.paged_heap.proofs.ResizeClass.{freed_same, must_before, new, new_free, object, order_between, rewritten, spare, spare_is_other, then_cleared, unused}
 
 module _ {h : Heap} (k : IsValid h) {x : Change} (is : IsChange h x) {b : ℕ} {n : Heap} (en : EntersAt h x b n) (stays : MustMoveInto h x.place x.class → ⊥)
-    (e m : Heap)
-    (wiped : e ≡ record n { words = e.words }) (gone : Clears n.words e.words (record { from = x.place; count = old_words h x }))
-    (long : length e.words ≡ length n.words) (framed : IsFramed h.kind m)
-    (freed' : Vacates (tables_in e) x.class (page_at e.classes x.place) (slot_at e.classes x.class x.place) (tables_in m))
-    (tables' : AreTables e.classes (tables_in m))
-    (dropped' : m ≡ record e { maps = m.maps; lists = m.lists; pool = m.pool }) where
-  freed : Vacates (tables_in n) x.class (page_at n.classes x.place) (slot_at n.classes x.class x.place) (tables_in m)
-  freed = subst (λ (o : Heap). Vacates (tables_in o) x.class (page_at o.classes x.place) (slot_at o.classes x.class x.place) (tables_in m)) wiped freed'
+    {m : Heap} (left : LeavesAlone n x.place x.class m) (tables : AreTables n.classes (tables_in m)) (framed : IsFramed h.kind m) where
+  long : length m.words ≡ length h.words
+  long = left.long ∙ entered_long k is en
 
-  tables : AreTables n.classes (tables_in m)
-  tables = subst (λ (o : Heap). AreTables o.classes (tables_in m)) wiped tables'
-
-  dropped : m ≡ record n { maps = m.maps; lists = m.lists; pool = m.pool; words = e.words }
-  dropped = dropped' ∙ ap (λ (o : Heap). record o { maps = m.maps; lists = m.lists; pool = m.pool }) wiped
+  gone : Clears n.words m.words (record { from = x.place; count = old_words h x })
+  gone = subst (λ (t : ClassTable). Clears n.words m.words (record { from = x.place; count = get_or t.sizes x.class 0 })) en.classes left.words
 
   pub never : MustMove (paging_at h) (both k is en) (object k is en) → ⊥
   never must = stays (moving k is.object (must_before k is en must))
 
   pub keeps : Keeps k is en None never m
   keeps = record {
-    kind = ap (λ (o : Heap). o.kind) dropped;
-    settings = ap (λ (o : Heap). o.settings) dropped;
-    classes = ap (λ (o : Heap). o.classes) dropped;
-    bounds = ap (λ (o : Heap). o.bounds) dropped;
-    live = ap (λ (o : Heap). o.live) dropped;
-    asked = ap (λ (o : Heap). o.asked) dropped;
-    taken = ap (λ (o : Heap). o.taken) dropped;
-    limit = ap (λ (o : Heap). o.proxies.limit) dropped;
+    kind = ap (λ (o : Heap). o.kind) left.rest;
+    settings = ap (λ (o : Heap). o.settings) left.rest;
+    classes = ap (λ (o : Heap). o.classes) left.rest;
+    bounds = ap (λ (o : Heap). o.bounds) left.rest;
+    live = ap (λ (o : Heap). o.live) left.rest;
+    asked = ap (λ (o : Heap). o.asked) left.rest;
+    taken = ap (λ (o : Heap). o.taken) left.rest;
+    limit = ap (λ (o : Heap). o.proxies.limit) left.rest;
   }
 
   kept_tables : AreTables (class_table (paging_at h)) (tables_in m)
   kept_tables = subst (λ t. AreTables t (tables_in m)) (en.classes ∙ sym (table_is h k)) tables
 
   vacates : Vacates (tables_in n) x.class (page_at h.classes x.place) (slot_at h.classes x.class x.place) (tables_in m)
-  vacates = subst (λ (t : ClassTable). Vacates (tables_in n) x.class (page_at t x.place) (slot_at t x.class x.place) (tables_in m)) en.classes freed
+  vacates = subst (λ (t : ClassTable). Vacates (tables_in n) x.class (page_at t x.place) (slot_at t x.class x.place) (tables_in m)) en.classes left.freed
 
   less : Occupies (paging_at h) (remove (both k is en) x.handle.0) (tables_in m)
   less = vacated_occupied (paging_ok h k) (both_serve k is en).part (both_occupied k is en) kept_tables (both_sound k is en) x.handle.0
@@ -81,12 +73,12 @@ module _ {h : Heap} (k : IsValid h) {x : Change} (is : IsChange h x) {b : ℕ} {
       (get_remove_other (remove (both k is en) x.handle.0) (spare k is en) x.handle.0 (λ e. spare_is_other k is en (sym e))
       ∙ get_removed (both k is en) x.handle.0)
 
-  image : IsSlotImage (paging_at h) (after k is en None never) e.words
-  image = subst (λ g. IsSlotImage (paging_at h) g e.words) (sym (after_is k is en None never))
-      (image_after_change (paging_at h) (paging_ok h k) (held_in h) k.sound h.words (middle k is en) e.words k.image k.words_long
-      (long ∙ entered_long k is en ∙ k.words_long)
+  image : IsSlotImage (paging_at h) (after k is en None never) m.words
+  image = subst (λ g. IsSlotImage (paging_at h) g m.words) (sym (after_is k is en None never))
+      (image_after_change (paging_at h) (paging_ok h k) (held_in h) k.sound h.words (middle k is en) m.words k.image k.words_long
+      (long ∙ k.words_long)
       x.handle.0 (object k is en) (found k is en) b ((new k is en).bytes) (new_free k is en) (spare k is en) (unused k is en)
-      (rewritten k is en) (then_cleared k is en e.words gone))
+      (rewritten k is en) (then_cleared k is en m.words gone))
 
   after_places : places (after k is en None never) ≡ insert h.proxies.places x.handle.0 b
   after_places =
@@ -110,18 +102,18 @@ module _ {h : Heap} (k : IsValid h) {x : Change} (is : IsChange h x) {b : ℕ} {
       (sym (as_many h k)) freed_order
 
   pub free_same : m.proxies.free ≡ h.proxies.free
-  free_same = ap (λ (o : Heap). o.proxies.free) dropped ∙ en.free
+  free_same = ap (λ (o : Heap). o.proxies.free) left.rest ∙ en.free
 
   pub frames_are : m.frames ≡ frames_left h.kind (state_of h) (record { held = after k is en None never; moved = None })
-  frames_are = ap (λ (o : Heap). o.frames) dropped ∙ en.frames ∙ sym (frames_stay h.kind (paged_kind h k) (state_of h) (after k is en None never))
+  frames_are = ap (λ (o : Heap). o.frames) left.rest ∙ en.frames ∙ sym (frames_stay h.kind (paged_kind h k) (state_of h) (after k is en None never))
 
   pub changed_alone : Becomes h m (after k is en None never)
   changed_alone = changes k is en None never m keeps
       framed
-      (ap (λ (o : Heap). o.proxies.places) dropped ∙ ap (λ (o : Proxies). o.places) en.proxies ∙ sym after_places)
-      (ap (λ (o : Heap). length o.words) dropped ∙ long ∙ entered_long k is en)
-      (subst (λ ws. IsSlotImage (paging_at h) (after k is en None never) ws) (sym (ap (λ (o : Heap). o.words) dropped)) image)
+      (ap (λ (o : Heap). o.proxies.places) left.rest ∙ ap (λ (o : Proxies). o.places) en.proxies ∙ sym after_places)
+      long
+      image
       (vacated_serve (paging_ok h k) (both_serve k is en).part (both_occupied k is en) kept_tables (both_sound k is en) x.handle.0 (found_still k is en) vacates
       (it_class k is.object) (page_same k is.object) (slot_same k is.object) (both_serve k is en).whole)
       occupied
-      (subst AreBelowLimit (sym (ap (λ (o : Heap). o.proxies) dropped)) en.handles)
+      (subst AreBelowLimit (sym (ap (λ (o : Heap). o.proxies) left.rest)) en.handles)

@@ -1,4 +1,4 @@
--- For `resize_class_and_fill`, a resize to another class that moves another object (the filler) to the old slot: the filler is the next one of the order, and
+-- For `change_class`, a resize to another class that moves another object (the filler) to the old slot: the filler is the next one of the order, and
 -- the heap keeps its invariant.
 use Rattle.std.proofs.Common.{◌≡◌, ◌≢◌, ℕ, ◌+◌, ◌/◌, ◌%◌, ◌^◌, ◌<◌, ◌≤◌, List, length, get_or, Some, None, arith, sym, ◌∙◌, ap, subst, inl, inr}
 use Rattle.std.specs.Prelude.{◌⊎◌, IsSome, is_some}
@@ -21,6 +21,7 @@ use Rattle.cf_model.specs.Steps.{frames_left}
 use Rattle.virtual_words.specs.Words.{IsWhole}
 use Rattle.proxy_table.specs.Proxies.{AreBelowLimit, Proxies, with_place}
 use Rattle.page_slots.specs.Release.{FillsFrom}
+use Rattle.size_classes.specs.Table.{ClassTable}
 use Rattle.page_slots.specs.Tables.{AreTables, Tables}
 use Rattle.page_slots.specs.Occupying.{Occupies, FitPages, class_table}
 use Rattle.page_slots.specs.Orders.{order_of}
@@ -31,14 +32,14 @@ use Rattle.class_lists.specs.declared.Which.TheVariants.{NotFull}
 use Rattle.paged_heap.specs.Heap.{Heap}
 use Rattle.paged_heap.specs.declared.resize_class.Change.{Change}
 use Rattle.paged_heap.specs.ResizeClass.{EntersAt, IsChange, old_words}
-use Rattle.paged_heap.specs.Free.{MustMoveInto, MovesSlot}
+use Rattle.paged_heap.specs.Free.{LeavesFilled, MovesSlot, MustMoveInto}
 use Rattle.paged_heap.specs.Layout.{IsFramed, IsValid, held_in, paging_at, state_of, tables_in}
 use Rattle.paged_heap.proofs.ByKind.{frames_change}
 use Rattle.paged_heap.proofs.WholeBlocks.{whole_slot}
 use Rattle.paged_heap.proofs.LayoutFacts.{as_many, number_small, paging_ok, place_known, table_is}
 use Rattle.paged_heap.proofs.Preserved.{Becomes, places_are}
 use Rattle.paged_heap.proofs.ResizeCopy.{untouched}
-use Rattle.paged_heap.proofs.FreedObject.{it_class, it_inside, it_slot, must}
+use Rattle.paged_heap.proofs.FreedObject.{it_class, it_slot, must}
 use Rattle.paged_heap.proofs.ResizeClass.{Keeps, after, after_is, both, both_occupied, both_sound, both_serve, changes, entered_long, found, found_still, left}
 use Rattle.paged_heap.proofs.ResizeClass.{middle, moves_before, must_still, new, new_free, object, place_free, rewritten, spare, spare_is_other, then_moved}
 use Rattle.paged_heap.proofs.ResizeClass.{freed_same, next_same, order_between, unused}
@@ -75,10 +76,6 @@ pub record Refills (h : Heap) (x : Change) (b : ℕ) (n : Heap) (f : ℕ) (t : T
   pub moves : MustMoveInto h x.place x.class
   pub filled : FillsFrom n.classes (tables_in n) x.class f t
   pub tables : AreTables n.classes t
-
-pub refills_of : {h : Heap} {x : Change} {b : ℕ} {n : Heap} {f : ℕ} {t : Tables} → IsValid h → IsChange h x → EntersAt h x b n → MustMoveInto h x.place x.class
-    → FillsFrom n.classes (tables_in n) x.class f t → AreTables n.classes t → Refills h x b n f t
-refills_of valid change enters moves filled tables = record { valid = valid; change = change; enters = enters; moves = moves; filled = filled; tables = tables }
 
 module _ {h : Heap} {x : Change} {b : ℕ} {n : Heap} {f : ℕ} {t : Tables} (fs : Refills h x b n f t) where
   abbrev k : IsValid h
@@ -168,9 +165,6 @@ module _ {h : Heap} {x : Change} {b : ℕ} {n : Heap} {f : ℕ} {t : Tables} (fs
       let e = same_slot in let p = stood_at in let long = k.words_long in let long' = entered_long k is en in
       omega arith)
 
-  pub target_in : x.place + words ≤ length n.words
-  target_in = (let i = it_inside k is.object in let long = entered_long k is en in omega arith)
-
   pub place_in : f < length n.words
   place_in = (
       let s = source_in in
@@ -235,15 +229,9 @@ module _ {h : Heap} {x : Change} {b : ℕ} {n : Heap} {f : ℕ} {t : Tables} (fs
         let e : get (held_in h) r ≡ Some stood = stood_there in
         subst (λ g. IsSlotImage (paging_at h) g last_words) (sym (after_is k is en (Some r) mover)) (rw e i)
 
-  -- the slots are those of whole blocks
-  pub whole_target : IsWhole h.kind x.place
-  whole_target = (whole_slot h k x.handle.0 (object k is en) (found k is en)).0
-
+  -- the filler's slot is that of whole blocks
   pub whole_source : IsWhole h.kind f
   whole_source = subst (IsWhole h.kind) stood_at (whole_slot h k r stood stood_there).0
-
-  pub whole_words : IsWhole h.kind words
-  whole_words = subst (IsWhole h.kind) (sym same_slot) (whole_slot h k r stood stood_there).1
 
   after_places : places (after k is en (Some r) mover) ≡ insert (insert h.proxies.places x.handle.0 b) r x.place
   after_places =
@@ -273,56 +261,11 @@ module _ {h : Heap} {x : Change} {b : ℕ} {n : Heap} {f : ℕ} {t : Tables} (fs
   occupied = renumbered_occupied refilled (spare k is en) new_stays x.handle.0
       (get_remove_other (left k is en (Some r) mover) (spare k is en) x.handle.0 (λ e. spare_is_other k is en (sym e)) ∙ old_gone)
 
-  -- the filler moves, from the heap u to m: w is the words of its slot, and i is its number
-  pub record Lands (u m : Heap) (w i : ℕ) : Type 0 where
-    pub size_w : w ≡ words
-    pub shown : i ≡ r
-    pub same : tables_in u ≡ t
-    pub found : u ≡ record n { maps = u.maps; lists = u.lists; pool = u.pool }
-    pub moved : m ≡ record u { proxies = with_place u.proxies i x.place; words = m.words; frames = m.frames }
-    pub free : m.proxies.free ≡ u.proxies.free
-    pub shift : MovesSlot u m f x.place w
-    pub framed : IsFramed h.kind m
-    pub handles : AreBelowLimit m.proxies
-
-  -- the number that is read from the filler's header is the filler's
-  pub shown_by : {u : Heap} {i word : ℕ} → u ≡ record n { maps = u.maps; lists = u.lists; pool = u.pool } → word ≡ get_or u.words f 0 → i ≡ word % 2 ^ 32 → i ≡ r
-  shown_by found read number = number ∙ ap (λ w. w % 2 ^ 32) read ∙ ap (λ (o : Heap). get_or o.words f 0 % 2 ^ 32) found ∙ number_shown
-
-  pub live_there : {u : Heap} {i : ℕ} → u ≡ record n { maps = u.maps; lists = u.lists; pool = u.pool } → i ≡ r → IsSome (get u.proxies.places i)
-  live_there {u} {i} found shown =
-      subst (λ i. IsSome (get u.proxies.places i)) (sym shown) (subst (λ (o : Heap). IsSome (get o.proxies.places r)) (sym found) live_still)
-
-  pub lands_of : {u m : Heap} {w i : ℕ} → w ≡ words → i ≡ r → tables_in u ≡ t → u ≡ record n { maps = u.maps; lists = u.lists; pool = u.pool }
-      → m ≡ record u { proxies = with_place u.proxies i x.place; words = m.words; frames = m.frames } → m.proxies.free ≡ u.proxies.free
-      → MovesSlot u m f x.place w
-      → IsFramed h.kind m → AreBelowLimit m.proxies → Lands u m w i
-  lands_of size_w shown same found moved free shift framed handles =
-      record { size_w = size_w; shown = shown; same = same; found = found; moved = moved; free = free; shift = shift; framed = framed; handles = handles }
-
-  module _ {u m : Heap} {w i : ℕ} (l : Lands u m w i) where
-    whole : m ≡ record n { maps = u.maps; lists = u.lists; pool = u.pool; proxies = with_place n.proxies r x.place; words = m.words; frames = m.frames }
-    whole = l.moved
-        ∙ ap (λ (o : Heap). record o { proxies = with_place o.proxies i x.place; words = m.words; frames = m.frames }) l.found
-        ∙ ap (λ j. record n {
-          maps = u.maps;
-          lists = u.lists;
-          pool = u.pool;
-          proxies = with_place n.proxies j x.place;
-          words = m.words;
-          frames = m.frames;
-        }) l.shown
-
-    shift : MovesSlot n m f x.place words
-    shift = subst (MovesSlot n m f x.place) l.size_w (record {
-      long = l.shift.long ∙ ap (λ (o : Heap). length o.words) l.found;
-      words = subst (λ ws. MovesWords ws m.words (record { from = f; count = w }) x.place) (ap (λ (o : Heap). o.words) l.found) l.shift.words;
-      frames = l.shift.frames ∙ ap (λ (o : Heap). exchanged o.frames (f / 4) (x.place / 4) (w / 4)) l.found;
-    })
-
-    on : tables_in m ≡ t
-    on = ap tables_in whole ∙ l.same
-
+  -- the heap m after the move, by its fields: those of n but for the tables, the words and the filler's address
+  module _ {m : Heap}
+      (whole : m ≡ record n { maps = m.maps; lists = m.lists; pool = m.pool; proxies = with_place n.proxies r x.place; words = m.words; frames = m.frames })
+      (free : m.proxies.free ≡ n.proxies.free) (shift : MovesSlot n m f x.place words) (framed : IsFramed h.kind m) (on : tables_in m ≡ t)
+      (handles : AreBelowLimit m.proxies) where
     pub keeps : Keeps k is en (Some r) mover m
     keeps = record {
       kind = ap (λ (o : Heap). o.kind) whole;
@@ -358,7 +301,7 @@ module _ {h : Heap} {x : Change} {b : ℕ} {n : Heap} {f : ℕ} {t : Tables} (fs
         (sym (as_many h k)) slot
 
     pub free_same : m.proxies.free ≡ h.proxies.free
-    free_same = l.free ∙ ap (λ (o : Heap). o.proxies.free) l.found ∙ en.free
+    free_same = free ∙ en.free
 
     -- the frames are those that the model has
     pub frames_are : m.frames ≡ frames_left h.kind (state_of h) (record { held = after k is en (Some r) mover; moved = Some r })
@@ -376,7 +319,7 @@ module _ {h : Heap} {x : Change} {b : ℕ} {n : Heap} {f : ℕ} {t : Tables} (fs
 
     pub changed_filled : Becomes h m (after k is en (Some r) mover)
     changed_filled = changes k is en (Some r) mover m keeps
-        l.framed
+        framed
         (ap (λ (o : Heap). o.proxies.places) whole ∙ ap (λ (p : Proxies). insert p.places r x.place) en.proxies ∙ sym after_places)
         (shift.long ∙ entered_long k is en)
         (image m.words shift.long shift.words)
@@ -384,4 +327,33 @@ module _ {h : Heap} {x : Change} {b : ℕ} {n : Heap} {f : ℕ} {t : Tables} (fs
         (filled_serve (paging_ok h k) (both_serve k is en).part (both_occupied k is en) kept_tables x.handle.0 (found_still k is en) fills
         (both_serve k is en).whole))
         (subst (Occupies (paging_at h) (after k is en (Some r) mover)) (sym on) occupied)
-        l.handles
+        handles
+
+-- The heap m after `leave_slot`, which begins at the heap n. Object i moves.
+module _ {h : Heap} (k : IsValid h) {x : Change} (is : IsChange h x) {b : ℕ} {n : Heap} (en : EntersAt h x b n) (due : MustMoveInto h x.place x.class)
+    {m : Heap} {i : ℕ} (left : LeavesFilled n x.place x.class i m) (tables : AreTables n.classes (tables_in m)) where
+  abbrev pub refills : Refills h x b n left.from (tables_in m)
+  refills = record { valid = k; change = is; enters = en; moves = due; filled = left.filled; tables = tables }
+
+  pub number_is : i ≡ r refills
+  number_is = left.number ∙ number_shown refills
+
+  pub whole_is : m ≡ record n {
+    maps = m.maps;
+    lists = m.lists;
+    pool = m.pool;
+    proxies = with_place n.proxies (r refills) x.place;
+    words = m.words;
+    frames = m.frames;
+  }
+  whole_is = left.rest ∙ ap (λ j. record n {
+    maps = m.maps;
+    lists = m.lists;
+    pool = m.pool;
+    proxies = with_place n.proxies j x.place;
+    words = m.words;
+    frames = m.frames;
+  }) number_is
+
+  pub shift_is : MovesSlot n m left.from x.place (old_words h x)
+  shift_is = subst (λ (t : ClassTable). MovesSlot n m left.from x.place (get_or t.sizes x.class 0)) en.classes left.moves

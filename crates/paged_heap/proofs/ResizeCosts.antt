@@ -1,6 +1,7 @@
 -- For the clauses `cost` of a resize: the steps of its parts, in the same slot and to another class, add up to its exact cost, which the order determines.
 use Rattle.std.proofs.Common.{◌≡◌, ℕ, ◌+◌, ◌*◌, ◌^◌, ◌<◌, List, true, false, length, Option, None, Some, Result, Ok, Err, arith, sym, ◌∙◌, ap, subst}
-use Rattle.std.specs.Prelude.{IfErr, if◌then◌else◌, nat_eq, slice_get}
+use Rattle.std.specs.Prelude.{IfErr, IsSome, if◌then◌else◌, nat_eq, slice_get}
+use Rattle.std.proofs.lemmas.Bool.{false≢true}
 use Rattle.cf_base.specs.declared.answers.Handle.{Handle}
 use Rattle.cf_base.specs.declared.answers.Resized.{Resized}
 use Rattle.cf_base.specs.declared.answers.ResizeFault.{ResizeFault}
@@ -13,27 +14,24 @@ use Rattle.class_lists.specs.PageLists.{pages_in}
 use Rattle.class_lists.specs.declared.Which.TheVariants.{NotFull}
 use Rattle.page_model.specs.Arrangement.{class_at}
 use Rattle.page_model.specs.Held.{Placed}
-use Rattle.page_model.specs.Image.{slot_for}
 use Rattle.page_model.specs.Order as Order
 use Rattle.page_model.specs.Order.{word_steps}
 use Rattle.page_model.specs.Paging.{class_for}
 use Rattle.page_model.proofs.CallerLemmas.{class_fits, slot_fits}
-use Rattle.page_slots.specs.Release.{FillsFrom, steps_to_drop, steps_to_fill}
 use Rattle.page_slots.specs.Tables.{IsOf, Tables, page_at}
 use Rattle.page_slots.specs.Take.{TakesAt, steps_to_take}
 use Rattle.step_ledger.proofs.CallerLemmas.{rose_both, rose_by}
 use Rattle.step_ledger.specs.Counting.{RoseBy}
-use Rattle.virtual_words.specs.Words.{IsWhole, copy_steps, run_steps, slot_steps, wipe_steps}
-use Rattle.virtual_words.proofs.CallerLemmas.{whole_run}
+use Rattle.virtual_words.specs.Words.{IsWhole, copy_steps}
 use Rattle.cf_model.specs.ExactCosts.{carrying_cost, leaving_cost, resize_cost, resized_cost, tail_steps}
-use Rattle.paged_heap.specs.Free.{IsObjectAt}
+use Rattle.paged_heap.specs.Free.{IsObjectAt, Leaves, leaving_steps}
 use Rattle.paged_heap.specs.Heap.{Heap}
 use Rattle.paged_heap.specs.Layout.{IsValid, held_in, order_in, paging_at, state_of, tables_in}
-use Rattle.paged_heap.specs.ResizeClass.{EntersAt, IsChange, changing_cost, entering_cost, kept_words, old_words}
+use Rattle.paged_heap.specs.ResizeClass.{EntersAt, IsChange, changing_cost, entering_cost, kept_words}
 use Rattle.paged_heap.specs.declared.resize_class.Change.{Change}
-use Rattle.paged_heap.proofs.CostLemmas.{drops_by, fills_by, takes_by}
+use Rattle.paged_heap.proofs.CostLemmas.{leaving_is, takes_by}
 use Rattle.paged_heap.proofs.CountLimits.{page_small}
-use Rattle.paged_heap.proofs.FreedObject.{it, it_class, it_found, it_slot, it_used}
+use Rattle.paged_heap.proofs.FreedObject.{it, it_class, it_found, it_used}
 use Rattle.paged_heap.proofs.LayoutFacts.{as_many, paging_ok, tables_ok}
 use Rattle.paged_heap.proofs.StepLemmas.{copy_along, tail_along}
 use Rattle.paged_heap.proofs.TakeKeeps.{drop_keeps, fill_keeps, lists_keep}
@@ -61,33 +59,22 @@ module _ {h : Heap} (k : IsValid h) {x : Change} (is : IsChange h x) where
     used_of : IsOf (tables_in h) x.class (page_at h.classes x.place)
     used_of = (it_used k is.object).of
 
-    -- the steps if then the old slot is cleared and becomes free
-    pub left_alone : (words : ℕ) → words ≡ old_words h x → (s t u v d : ℕ) → d ≡ steps_to_drop (tables_in n) (page_at n.classes x.place)
-        → RoseBy s t (entering_cost h x) → RoseBy t u (run_steps h.kind x.place words) → RoseBy u v d
-        → RoseBy s v (entering_cost h x + leaving_cost (state_of h) (order_in h) (it k is.object) None)
-    left_alone words same s t u v d drop r1 r2 r3 =
-        let w = whole_slot h k x.handle.0 (it k is.object) (it_found k is.object) in
-        let wiped : run_steps h.kind x.place words ≡ wipe_steps h.kind (slot_for (paging_at h) (length (it k is.object).bytes)) =
-        ap (run_steps h.kind x.place) (same ∙ it_slot k is.object)
-        ∙ whole_run h.kind x.place (slot_for (paging_at h) (length (it k is.object).bytes)) w.0 w.1 in
-        let on : steps_to_drop (tables_in n) (page_at n.classes x.place) ≡ steps_to_drop (tables_in n) (page_at h.classes x.place) =
-        ap (λ t. steps_to_drop (tables_in n) (page_at t x.place)) en.classes in
-        let keeps = drop_keeps h.classes (tables_in h) (tables_in n) (tables_ok h k) en.tables x.to b in_to en.taken x.class differ (page_at h.classes x.place) used_of in
-        let e = drops_by k is.object in
-        rose_by s v _ _ (omega arith) (rose_both s u v _ _ (rose_both s t u _ _ r1 r2) r3)
-
-    -- the steps if instead another object moves to the old slot
-    pub left_filled : (words : ℕ) → words ≡ old_words h x → (y : Handle) (a : ℕ) (new : Tables) → FillsFrom n.classes (tables_in n) x.class a new
-        → (s t u v w : ℕ) → RoseBy s t (entering_cost h x) → RoseBy t u (steps_to_fill (tables_in n) x.class) → RoseBy u v (word_steps h.kind)
-        → RoseBy v w (slot_steps h.kind words + 1) → RoseBy s w (entering_cost h x + leaving_cost (state_of h) (order_in h) (it k is.object) (Some y))
-    left_filled words same y a new f s t u v w r1 r2 r3 r4 =
-        let moved : slot_steps h.kind words ≡ slot_steps h.kind (slot_for (paging_at h) (length (it k is.object).bytes)) =
-        ap (slot_steps h.kind) (same ∙ it_slot k is.object) in
-        let list = lists_keep h.classes (tables_in h) (tables_in n) (tables_ok h k) en.tables x.to b in_to en.taken x.class differ NotFull in
-        let front : slice_get (pages_in h.lists x.class NotFull) 0 ≡ Some f.page = ap (λ (pages : List ℕ). slice_get pages 0) (sym list) ∙ f.front in
-        let keeps = fill_keeps h.classes (tables_in h) (tables_in n) (tables_ok h k) en.tables x.to b in_to en.taken x.class differ in
-        let e = fills_by k is.object f.page front in
-        rose_by s w _ _ (omega arith) (rose_both s v w _ _ (rose_both s u v _ _ (rose_both s t u _ _ r1 r2) r3) r4)
+    -- the steps if then the old slot is left (`leave_slot`)
+    pub left_sum : (m : Heap) (r : Option Handle) → Leaves n x.place x.class r m → (s t u : ℕ) → RoseBy s t (entering_cost h x)
+        → RoseBy t u (leaving_steps n x.place x.class r) → RoseBy s u (entering_cost h x + leaving_cost (state_of h) (order_in h) (it k is.object) r)
+    left_sum m r left s t u r1 r2 =
+        let drop = drop_keeps h.classes (tables_in h) (tables_in n) (tables_ok h k) en.tables x.to b in_to en.taken x.class differ (page_at h.classes x.place) used_of in
+        let fill = fill_keeps h.classes (tables_in h) (tables_in n) (tables_ok h k) en.tables x.to b in_to en.taken x.class differ in
+        let same = leaving_is k is.object n en.kind en.classes drop fill r (front r left) in
+        rose_by s u _ _ (ap (λ n. entering_cost h x + n) same) (rose_both s t u _ _ r1 r2)
+      where
+        front : (r : Option Handle) → Leaves n x.place x.class r m → IsSome r → (page : ℕ) × (slice_get (pages_in h.lists x.class NotFull) 0 ≡ Some page)
+        front None left none = absurd (false≢true none)
+        front (Some y) left some = (
+          left.filled.page,
+          ap (λ (pages : List ℕ). slice_get pages 0)
+              (sym (lists_keep h.classes (tables_in h) (tables_in n) (tables_ok h k) en.tables x.to b in_to en.taken x.class differ NotFull)) ∙ left.filled.front,
+        )
 
   -- the steps of a resize to another class
   pub change_sum : (r : Result Resized ResizeFault) → IfErr r (λ e. e ≡ resize.Space) → (s t u v w z : ℕ) → RoseBy s t 1 → RoseBy t u 1

@@ -75,9 +75,6 @@ module _ {h : Heap} (k : IsValid h) {x : Change} (is : IsChange h x) where
     pub target : b + 1 + (x.bytes + 7) / 8 ≤ length h.words
     target = (let i = new_inside in let r = new_holds in omega arith)
 
-    pub apart_there : IsDisjoint x.place (old_words h x) b (1 + (x.bytes + 7) / 8)
-    apart_there = (let r = new_holds in elim slots_apart [ inl l ↦ inr (omega arith) | inr l ↦ inl (omega arith) ])
-
 -- if no slot was taken, the whole heap is unchanged
 pub unchanged : (h : Heap) (x : Change) (n : Heap) → FindsNoRoom h x n → n ≡ h
 unchanged h x n none = none.rest ∙ ap (λ (t : Tables). record h { maps = t.maps; lists = t.lists; pool = t.pool }) none.tables

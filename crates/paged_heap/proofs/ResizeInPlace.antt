@@ -16,11 +16,11 @@ use Rattle.page_model.specs.Paging.{class_for, classes, slot_words}
 use Rattle.page_model.specs.Order.{ResizeFollows}
 use Rattle.page_model.specs.Steps.{CallResult, resized}
 use Rattle.page_model.proofs.CallerLemmas.{bytes_at-AreBytes, length-resized, image_after_write, resized_are_bytes, class_holds}
-use Rattle.word_bytes.proofs.CallerLemmas.{overwritten_before, overwritten_inside}
+use Rattle.region.proofs.CallerLemmas.{overwritten_before, overwritten_inside}
 use Rattle.cf_model.specs.Steps.{ResizesObject, frames_left, number_of}
 use Rattle.paged_heap.specs.Heap.{Heap}
 use Rattle.paged_heap.specs.Layout.{IsValid, held_in, order_in, paging_at, state_of}
-use Rattle.word_bytes.specs.Overwriting.{Overwrites, words_with}
+use Rattle.region.specs.Overwriting.{Overwrites, words_with}
 use Rattle.paged_heap.specs.ZeroTail.{Cuts}
 use Rattle.paged_heap.specs.Free.{IsObjectAt}
 use Rattle.paged_heap.proofs.ByKind.{frames_stay}

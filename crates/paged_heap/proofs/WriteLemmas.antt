@@ -19,8 +19,8 @@ use Rattle.page_model.proofs.CallerLemmas.{bytes_at-AreBytes}
 use Rattle.page_model.proofs.CallerLemmas.{byte_of_object, image_after_bytes, length-written, object_word_small, storable_added, word_by_bytes}
 use Rattle.page_model.proofs.CallerLemmas.{written_are_bytes}
 use Rattle.page_model.proofs.CallerLemmas.{written_before, written_behind, written_inside, written_nothing}
-use Rattle.word_bytes.specs.Cells.{overwritten}
-use Rattle.word_bytes.proofs.CallerLemmas.{overwritten_before, overwritten_behind, overwritten_inside}
+use Rattle.region.specs.Cells.{overwritten}
+use Rattle.region.proofs.CallerLemmas.{overwritten_before, overwritten_behind, overwritten_inside}
 use Rattle.page_slots.specs.Occupying.{Occupies, FitPages}
 use Rattle.page_slots.proofs.CallerLemmas.{rewritten_occupied}
 use Rattle.proxy_table.specs.Proxies.{AreBelowLimit}
@@ -28,7 +28,7 @@ use Rattle.cf_model.specs.Steps.{WritesBytes}
 use Rattle.paged_heap.specs.Heap.{Heap}
 use Rattle.paged_heap.specs.Layout.{IsValid, held_in, paging_at, state_of, tables_in}
 use Rattle.paged_heap.specs.Access.{HoldsBytesAt}
-use Rattle.word_bytes.specs.Overwriting.{Overwrites}
+use Rattle.region.specs.Overwriting.{Overwrites}
 use Rattle.paged_heap.proofs.ByKind.{framed_kept, outside_in}
 use Rattle.paged_heap.proofs.LayoutFacts.{paged_kind, paging_ok}
 use Rattle.paged_heap.proofs.Preserved.{Becomes, becomes_kept, becomes_state, places_are, rest_from, stored}
@@ -113,9 +113,6 @@ module _ (h n : Heap) (k : IsValid h) (q a : ℕ) (some : get (held_in h) q ≡ 
         let now = ap (λ (x : Heap). x.taken) rest in
         omega arith);
   }
-
-  pub changed_kept : IsValid n
-  changed_kept = becomes_kept h n k changed changes
 
 -- `bytes` are written into object q from byte `at` on
 module _ (h n : Heap) (k : IsValid h) (q at a : ℕ) (bytes : List ℕ) (l : HoldsBytesAt h (record { number = q; from = at }) (length bytes) a)

@@ -1,6 +1,6 @@
 -- For `resize_class`: the parts of a resize to a length of another class, and their steps. In these definitions x describes the resize. No public clause cites
 -- this module.
-use Rattle.std.specs.Prelude.{◌≡◌, ◌≢◌, ℕ, ◌+◌, ◌-◌, ◌*◌, ◌/◌, ◌≤◌, ◌<◌, min, max, length, List, Option, Some, None, Result, Ok, Err, slice_index, slice_set}
+use Rattle.std.specs.Prelude.{◌≡◌, ◌≢◌, ℕ, ◌+◌, ◌-◌, ◌*◌, ◌/◌, ◌≤◌, ◌<◌, min, length, List, Option, Some, None, Result, Ok, Err, slice_index, slice_set}
 use Rattle.cf_base.specs.Classes.{need}
 use Rattle.cf_base.specs.declared.answers.Resized.{Resized}
 use Rattle.cf_base.specs.declared.answers.ResizeFault.{ResizeFault}
@@ -89,8 +89,3 @@ entering_cost h x = steps_to_take (paging_at h) (held_in h) (order_in h) x.to + 
 abbrev pub changing_cost : Heap → Change → Result Resized ResizeFault → ℕ
 changing_cost h x (Ok done) = entering_cost h x + leaving_cost (state_of h) (order_in h) (placed_at h x.place) done.moved
 changing_cost h x (Err e) = 0
-
--- a bound of the steps of a change of class of either kind, by the words of the larger slot
-abbrev pub changing_bound : Result Resized ResizeFault → ℕ
-changing_bound (Ok done) = 120 + 3 * max done.old_slot_words done.slot_words
-changing_bound (Err e) = 80

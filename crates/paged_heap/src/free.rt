@@ -1,26 +1,27 @@
 //! `free` of an open heap: it clears the freed object's slot, or moves another object into that slot.
-ghost use Rattle.std.specs.Prelude.{◌≡◌, ◌≢◌, ◌+◌, ◌-◌, ◌*◌, ◌/◌, ◌^◌, ◌<◌, ◌≤◌, None, Some, IfOk, IsSome, length, slice_index, slice_set};
+ghost use Rattle.std.specs.Prelude.{◌≡◌, ◌+◌, ◌-◌, ◌*◌, ◌/◌, ◌^◌, ◌<◌, ◌≤◌, ◌↔◌, IfOk, IsSome, IsTrue, is_some, length, slice_index, slice_set};
 ghost use Rattle.std.specs.FinMap as map;
 ghost use Rattle.step_ledger.specs.Counting.{RoseAtMost, RoseBy};
-ghost use Rattle.page_model.specs.Image.{Clears, IsDisjoint};
+ghost use Rattle.page_model.specs.Image.{IsDisjoint};
 ghost use Rattle.page_model.specs.Order.{word_steps};
 ghost use Rattle.cf_model.specs.Costs.{free_bound};
 ghost use Rattle.cf_model.specs.Steps.{FreesObject, IsFreeStep};
-ghost use Rattle.proxy_table.specs.Proxies.{AreBelowLimit, with_place, without_place};
-ghost use Rattle.virtual_words.specs.Words.{FitTable, IsWhole, run_bound, run_steps, slot_steps};
+ghost use Rattle.page_slots.specs.Tables.{AreTables};
+ghost use Rattle.proxy_table.specs.Proxies.{AreBelowLimit, with_place};
+ghost use Rattle.virtual_words.specs.Words.{FitTable, IsWhole, slot_steps};
 ghost use Rattle.paged_heap.specs.Costs.{free_steps};
 ghost use Rattle.cf_model.specs.ExactCosts.{free_cost, leaving_cost};
 ghost use Rattle.cf_model.specs.Ordered.{IsOrderedFree};
 ghost use Rattle.paged_heap.specs.Choices.{FreeChooses};
-ghost use Rattle.paged_heap.specs.Free.{IsObjectAt, MustMoveInto, MovesSlot, placed_at};
+ghost use Rattle.paged_heap.specs.Free.{IsObjectAt, Leaves, MayLeave, MustMoveInto, MovesSlot, leaving_steps, placed_at};
 ghost use Rattle.paged_heap.specs.Heap.{seen};
-ghost use Rattle.paged_heap.specs.Layout.{Holds, order_in, state_at};
+ghost use Rattle.paged_heap.specs.Layout.{Holds, order_in, state_at, tables_in};
 
 use crate::open_heap::OpenHeap;
 use cf_base::{Freed, Handle, NotLive};
+use region::Header;
 use step_ledger::Steps;
 use virtual_words::Mapping;
-use word_bytes::Header;
 
 impl OpenHeap {
     /// Frees an object; fails if the handle is not live, and then changes only `cost`. A full page of
@@ -50,7 +51,6 @@ impl OpenHeap {
         requires { Holds A.kind self.old }
         ensures step { IsFreeStep (state_at A.kind self.old) h.0 result (state_at A.kind self.new) }
         ensures kept { Holds A.kind self.new }
-        ensures bound { RoseAtMost steps.old steps.new (free_bound result) }
         ensures steps { RoseAtMost steps.old steps.new (free_steps A.kind result) }
         ensures choice { IfOk result (λ freed. FreeChooses (seen A.kind self.old) h.0 freed (seen A.kind self.new)) }
         ensures cost { RoseBy steps.old steps.new (free_cost (state_at A.kind self.old) (order_in (seen A.kind self.old)) h.0 result) }
@@ -63,101 +63,75 @@ impl OpenHeap {
             unreachable!();
         };
         let bound = self.bounds[c as usize];
-        if self.tables.must_move(&self.lists, c, place, bound, steps) {
-            Ok(self.free_and_fill::<A>(h, place, length, c, steps))
-        } else {
-            Ok(self.free_alone::<A>(h, place, length, c, steps))
-        }
+        let moves = self.tables.must_move(&self.lists, c, place, bound, steps);
+        Ok(self.free_object::<A>(h, place, length, c, moves, steps))
     }
 
-    /// Frees the object h of class c, which has `length` bytes and the address `place`, and moves
-    /// no other object.
-    fn free_alone<A: Mapping>(
+    /// Frees the object h of class c, which has `length` bytes and the address `place`. If `moves`,
+    /// another object of the class must move to its slot.
+    fn free_object<A: Mapping>(
         &mut self,
         h: Handle,
         place: u32,
         length: u32,
         c: u32,
+        moves: bool,
         steps: &mut Steps,
     ) -> Freed
         requires kept { Holds A.kind self.old }
         requires object { IsObjectAt (seen A.kind self.old) h.0 place length c }
-        requires stays { MustMoveInto (seen A.kind self.old) place c → ⊥ }
+        requires due { IsTrue moves ↔ MustMoveInto (seen A.kind self.old) place c }
         ensures step { FreesObject (state_at A.kind self.old) h.0 result (state_at A.kind self.new) }
         ensures kept { Holds A.kind self.new }
         ensures choice { FreeChooses (seen A.kind self.old) h.0 result (seen A.kind self.new) }
-        ensures bound { RoseAtMost steps.old steps.new (80 + 2 * result.slot_words) }
         ensures steps { RoseAtMost steps.old steps.new (15 + word_steps A.kind + slot_steps A.kind result.slot_words) }
         ensures cost { RoseBy steps.old steps.new
             (2 + leaving_cost (state_at A.kind self.old) (order_in (seen A.kind self.old)) (placed_at (seen A.kind self.old) place) result.moved) }
     {
         let slot_words = self.tables.classes.slot_words(c);
-        self.erase::<A>(h, place, slot_words, steps);
-        self.count_out(c, length);
-        self.tables.drop_slot(&mut self.lists, c, place, steps);
-        Freed {
-            slot_words,
-            moved: None,
-        }
-    }
-
-    /// Frees the object h of class c, which has `length` bytes and the address `place`, and moves
-    /// another object of the class to its slot.
-    fn free_and_fill<A: Mapping>(
-        &mut self,
-        h: Handle,
-        place: u32,
-        length: u32,
-        c: u32,
-        steps: &mut Steps,
-    ) -> Freed
-        requires kept { Holds A.kind self.old }
-        requires object { IsObjectAt (seen A.kind self.old) h.0 place length c }
-        requires moves { MustMoveInto (seen A.kind self.old) place c }
-        ensures step { FreesObject (state_at A.kind self.old) h.0 result (state_at A.kind self.new) }
-        ensures kept { Holds A.kind self.new }
-        ensures choice { FreeChooses (seen A.kind self.old) h.0 result (seen A.kind self.new) }
-        ensures bound { RoseAtMost steps.old steps.new (80 + 2 * result.slot_words) }
-        ensures steps { RoseAtMost steps.old steps.new (15 + word_steps A.kind + slot_steps A.kind result.slot_words) }
-        ensures cost { RoseBy steps.old steps.new
-            (2 + leaving_cost (state_at A.kind self.old) (order_in (seen A.kind self.old)) (placed_at (seen A.kind self.old) place) result.moved) }
-    {
-        let slot_words = self.tables.classes.slot_words(c);
-        let from = self.tables.fill_slot(&mut self.lists, c, steps);
-        let other = Header::unpack(A::read(&self.region, &self.blocks, from, steps)).handle;
         self.proxies.release(h, steps);
         self.count_out(c, length);
-        self.move_to::<A>(other, from, place, slot_words, steps);
-        Freed {
-            slot_words,
-            moved: Some(other),
-        }
+        let moved = self.leave_slot::<A>(c, place, moves, steps);
+        Freed { slot_words, moved }
     }
 
-    /// Releases the number h, and clears the `slot_words` words of its object's slot at `place`.
-    /// The slot stays used in the tables.
-    fn erase<A: Mapping>(&mut self, h: Handle, place: u32, slot_words: u32, steps: &mut Steps)
+    /// Leaves the used slot of class c at the address `place`, whose object is freed or has moved
+    /// away. If `moves`, the object of the class that the tables choose moves there, and its own slot
+    /// becomes free; returns its handle. Else the slot is cleared and becomes free.
+    #[inline(always)]
+    pub(crate) fn leave_slot<A: Mapping>(
+        &mut self,
+        c: u32,
+        place: u32,
+        moves: bool,
+        steps: &mut Steps,
+    ) -> Option<Handle>
         requires laid { FitTable A.kind self.old.blocks self.old.region }
-        requires live { IsSome (map.get self.old.proxies.places h.0) }
-        requires within { place + slot_words ≤ length self.old.region }
-        ensures rest { seen A.kind self.new ≡ record (seen A.kind self.old) {
-          proxies = without_place self.old.proxies h.0;
-          words = (seen A.kind self.new).words;
-        } }
-        ensures words { Clears (seen A.kind self.old).words (seen A.kind self.new).words (record { from = place; count = slot_words }) }
-        ensures len { length self.new.region ≡ length self.old.region }
+        requires may { MayLeave (seen A.kind self.old) place c moves }
+        ensures moved { is_some result ≡ moves }
+        ensures left { Leaves (seen A.kind self.old) place c result (seen A.kind self.new) }
+        ensures tables { AreTables self.old.tables.classes (tables_in (seen A.kind self.new)) }
         ensures laid { FitTable A.kind self.new.blocks self.new.region }
         ensures handles { AreBelowLimit self.new.proxies }
-        ensures bound { RoseAtMost steps.old steps.new (2 + run_bound slot_words) }
-        ensures steps { RoseBy steps.old steps.new (2 + run_steps A.kind place slot_words) }
+        ensures most { RoseAtMost steps.old steps.new (13 + word_steps A.kind + slot_steps A.kind (slice_index self.old.tables.classes.sizes c)) }
+        ensures steps { RoseBy steps.old steps.new (leaving_steps (seen A.kind self.old) place c result) }
     {
-        self.proxies.release(h, steps);
-        A::clear(&mut self.region, &self.blocks, place, slot_words, steps);
+        let slot_words = self.tables.classes.slot_words(c);
+        if moves {
+            let from = self.tables.fill_slot(&mut self.lists, c, steps);
+            let other = Header::unpack(A::read(&self.region, &self.blocks, from, steps)).handle;
+            self.move_to::<A>(other, from, place, slot_words, steps);
+            Some(other)
+        } else {
+            A::clear(&mut self.region, &self.blocks, place, slot_words, steps);
+            self.tables.drop_slot(&mut self.lists, c, place, steps);
+            None
+        }
     }
 
     /// Moves the object h from the slot at `from` to the slot at `to`, both of `slot_words` words,
     /// and changes its address in its proxy. The words of its old slot become zeros.
-    pub(crate) fn move_to<A: Mapping>(
+    fn move_to<A: Mapping>(
         &mut self,
         h: Handle,
         from: u32,
@@ -182,7 +156,6 @@ impl OpenHeap {
         ensures moves { MovesSlot (seen A.kind self.old) (seen A.kind self.new) from to slot_words }
         ensures laid { FitTable A.kind self.new.blocks self.new.region }
         ensures handles { AreBelowLimit self.new.proxies }
-        ensures bound { RoseAtMost steps.old steps.new (1 + run_bound slot_words) }
         ensures steps { RoseBy steps.old steps.new (slot_steps A.kind slot_words + 1) }
     {
         A::move_slot(

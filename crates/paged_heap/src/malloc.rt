@@ -1,15 +1,13 @@
 //! `malloc` of an open heap, and `has_room`, which returns beforehand whether a malloc would be
 //! refused.
-ghost use Rattle.std.specs.Prelude.{◌≡◌, ◌≢◌, ◌+◌, ◌*◌, ◌^◌, ◌<◌, ◌≤◌, ◌∷◌, IfErr, IfOk, IsFalse, IsTrue, None, Result, Some, length, slice_index, slice_set};
+ghost use Rattle.std.specs.Prelude.{◌≡◌, ◌≢◌, ◌+◌, ◌*◌, ◌^◌, ◌<◌, ◌≤◌, ◌∷◌, IfErr, IfOk, IsFalse, IsTrue, None, Some, length, slice_index, slice_set};
 ghost use Rattle.std.specs.FinMap as map;
 ghost use Rattle.step_ledger.specs.Counting.{RoseAtMost, RoseBy};
 ghost use Rattle.class_lists.specs.PageLists.{pages_in};
 ghost use Rattle.cf_base.specs.Classes.{class_of};
-ghost use Rattle.cf_base.specs.declared.answers.Handle.{Handle};
 ghost use Rattle.cf_base.specs.declared.answers.Refusal.{Refusal};
 ghost use Rattle.page_model.specs.Image.{header_word};
 ghost use Rattle.page_model.specs.Order.{word_steps};
-ghost use Rattle.cf_model.specs.State.{HeapState};
 ghost use Rattle.cf_model.specs.Steps.{IsMallocStep, IsRefusedBy};
 ghost use Rattle.proxy_table.specs.Proxies.{AreBelowLimit, with_place};
 ghost use Rattle.virtual_words.specs.Words.{FitTable};
@@ -19,14 +17,14 @@ ghost use Rattle.cf_model.specs.Ordered.{IsOrderedMalloc};
 ghost use Rattle.paged_heap.specs.Choices.{MallocChooses};
 ghost use Rattle.paged_heap.specs.Heap.{seen};
 ghost use Rattle.paged_heap.specs.Layout.{Holds, order_in, state_at};
-ghost use Rattle.paged_heap.specs.Room.{HasSlot, without_handle};
+ghost use Rattle.paged_heap.specs.Room.{HasSlot};
 
 use crate::open_heap::OpenHeap;
 use cf_base::{Handle, Refusal};
 use class_lists::Which;
+use region::Header;
 use step_ledger::Steps;
 use virtual_words::Mapping;
-use word_bytes::Header;
 
 impl OpenHeap {
     /// Makes an object of `bytes` bytes, all zero, under the number and in the slot of its class
@@ -55,7 +53,6 @@ impl OpenHeap {
         requires { Holds A.kind self.old }
         ensures step { IsMallocStep (state_at A.kind self.old) bytes result (state_at A.kind self.new) }
         ensures kept { Holds A.kind self.new }
-        ensures bound { RoseAtMost steps.old steps.new 18 }
         ensures steps { RoseAtMost steps.old steps.new (malloc_steps A.kind) }
         ensures choice { MallocChooses (seen A.kind self.old) bytes result (seen A.kind self.new) }
         ensures cost { RoseBy steps.old steps.new (malloc_cost (state_at A.kind self.old) (order_in (seen A.kind self.old)) bytes result) }
@@ -75,8 +72,6 @@ impl OpenHeap {
         requires { Holds A.kind self.now }
         ensures ok { IfOk result (λ u. (e : Refusal) → ¬ IsRefusedBy (state_at A.kind self.now) bytes e) }
         ensures err { IfErr result (λ e. IsRefusedBy (state_at A.kind self.now) bytes e) }
-        ensures malloc { (answer : Result Handle Refusal) (new : HeapState) → IsMallocStep (state_at A.kind self.now) bytes answer new
-            → result ≡ without_handle answer }
         ensures steps { RoseBy steps.old steps.new 1 }
     {
         match self.class_with_room::<A>(bytes, steps) {
@@ -133,7 +128,6 @@ impl OpenHeap {
         } }
         ensures laid { FitTable A.kind self.new.blocks self.new.region }
         ensures handles { AreBelowLimit self.new.proxies }
-        ensures bound { RoseAtMost steps.old steps.new 4 }
         ensures steps { RoseBy steps.old steps.new (2 + word_steps A.kind) }
     {
         let Some(handle) = self.proxies.bind(place, steps) else {

@@ -1,12 +1,12 @@
 //! `resize` of an open heap, and the resize of an object that stays in its slot.
-ghost use Rattle.std.specs.Prelude.{◌≡◌, ◌+◌, ◌-◌, ◌*◌, ◌/◌, ◌^◌, ◌<◌, ◌≤◌, IfOk, length, slice_index};
+ghost use Rattle.std.specs.Prelude.{◌≡◌, ◌+◌, ◌-◌, ◌/◌, ◌^◌, ◌<◌, ◌≤◌, IfOk, length, slice_index};
 ghost use Rattle.step_ledger.specs.Counting.{RoseAtMost, RoseBy};
 ghost use Rattle.page_model.specs.Order.{word_steps};
 ghost use Rattle.page_model.specs.Paging.{class_for};
 ghost use Rattle.cf_base.specs.Classes.{need};
 ghost use Rattle.cf_model.specs.Costs.{resize_bound};
 ghost use Rattle.cf_model.specs.Steps.{IsResizeStep, ResizesObject};
-ghost use Rattle.virtual_words.specs.Words.{FitTable, run_bound};
+ghost use Rattle.virtual_words.specs.Words.{FitTable};
 ghost use Rattle.paged_heap.specs.Costs.{resize_steps};
 ghost use Rattle.paged_heap.specs.ZeroTail.{Cuts};
 ghost use Rattle.cf_model.specs.ExactCosts.{resize_cost, tail_steps};
@@ -19,9 +19,9 @@ ghost use Rattle.paged_heap.specs.Layout.{Holds, order_in, paging_at, state_at};
 use crate::open_heap::OpenHeap;
 use crate::resize_class::Change;
 use cf_base::{Handle, ResizeFault, Resized};
+use region::Header;
 use step_ledger::Steps;
 use virtual_words::Mapping;
-use word_bytes::Header;
 
 impl OpenHeap {
     /// Changes an object's length to `bytes` bytes; added bytes are zeros. If its class changes, the
@@ -61,7 +61,6 @@ impl OpenHeap {
         requires { Holds A.kind self.old }
         ensures step { IsResizeStep (state_at A.kind self.old) (record { number = h.0; length = bytes }) result (state_at A.kind self.new) }
         ensures kept { Holds A.kind self.new }
-        ensures bound { RoseAtMost steps.old steps.new (resize_bound result) }
         ensures steps { RoseAtMost steps.old steps.new (resize_steps A.kind bytes result) }
         ensures choice { IfOk result (λ done. ResizeChooses (seen A.kind self.old) (record { number = h.0; length = bytes }) done (seen A.kind self.new)) }
         ensures cost { RoseBy steps.old steps.new
@@ -111,7 +110,6 @@ impl OpenHeap {
         ensures choice { ResizeChooses (seen A.kind self.old) (record { number = h.0; length = bytes }) result (seen A.kind self.new) }
         ensures slot { result.slot_words ≡ slice_index self.old.tables.classes.sizes c }
         ensures old_slot { result.old_slot_words ≡ result.slot_words }
-        ensures bound { RoseAtMost steps.old steps.new (10 + 2 * result.slot_words) }
         ensures steps { RoseBy steps.old steps.new (tail_steps A.kind place bytes length + word_steps A.kind) }
     {
         let slot_words = self.tables.classes.slot_words(c);
@@ -147,7 +145,6 @@ impl OpenHeap {
         ensures laid { FitTable A.kind self.new.blocks self.new.region }
         ensures cut { keep < bytes → Cuts (seen A.kind self.old).words (seen A.kind self.new).words place keep bytes }
         ensures kept { bytes ≤ keep → self.new ≡ self.old }
-        ensures bound { RoseAtMost steps.old steps.new (run_bound ((bytes + 7) / 8 - keep / 8) + 4) }
         ensures steps { RoseBy steps.old steps.new (tail_steps A.kind place keep bytes) }
     {
         if keep < bytes {

@@ -1,14 +1,14 @@
 //! The resize of an object to a length of another class: it is copied to a slot of that class, and
 //! its old slot is cleared, or another object moves into it.
-ghost use Rattle.std.specs.Prelude.{◌≡◌, ◌+◌, ◌-◌, ◌*◌, ◌/◌, ◌^◌, ◌<◌, ◌≤◌, IfErr, IfOk, IsNone, IsSome, length};
+ghost use Rattle.std.specs.Prelude.{◌≡◌, ◌+◌, ◌-◌, ◌*◌, ◌/◌, ◌^◌, ◌<◌, ◌≤◌, ◌↔◌, IfErr, IfOk, IsNone, IsSome, IsTrue, length};
 ghost use Rattle.std.specs.FinMap as map;
 ghost use Rattle.step_ledger.specs.Counting.{RoseAtMost, RoseBy};
-ghost use Rattle.page_model.specs.Image.{Clears, IsDisjoint};
+ghost use Rattle.page_model.specs.Image.{IsDisjoint};
 ghost use Rattle.page_model.specs.Order.{word_steps};
 ghost use Rattle.cf_model.specs.Steps.{IsResizeStep};
 ghost use Rattle.proxy_table.specs.Proxies.{AreBelowLimit, with_place};
-ghost use Rattle.virtual_words.specs.Words.{AreInStep, FitTable, copy_steps, run_bound, run_steps};
-ghost use Rattle.paged_heap.specs.ResizeClass.{CopiesToSlot, EntersClass, IsChange, changing_bound, changing_cost, changing_steps, entering_cost, kept_words};
+ghost use Rattle.virtual_words.specs.Words.{AreInStep, FitTable, copy_steps};
+ghost use Rattle.paged_heap.specs.ResizeClass.{CopiesToSlot, EntersClass, IsChange, changing_cost, changing_steps, entering_cost, kept_words};
 ghost use Rattle.paged_heap.specs.Choices.{ResizeChooses};
 ghost use Rattle.paged_heap.specs.Free.{MustMoveInto};
 ghost use Rattle.paged_heap.specs.Heap.{seen};
@@ -17,9 +17,9 @@ ghost use Rattle.cf_model.specs.ExactCosts.{tail_steps};
 
 use crate::open_heap::OpenHeap;
 use cf_base::{Handle, ResizeFault, Resized};
+use region::Header;
 use step_ledger::Steps;
 use virtual_words::Mapping;
-use word_bytes::Header;
 
 /// A resize of the object `handle` to a length of another class. Its slot begins at word `place`.
 /// It has `length` bytes now, of class `class`, and gets `bytes` bytes, of class `to`.
@@ -57,36 +57,31 @@ impl OpenHeap {
         ensures kept { Holds A.kind self.new }
         ensures cause { IfErr result (λ e. e ≡ ResizeFault.Space) }
         ensures choice { IfOk result (λ done. ResizeChooses (seen A.kind self.old) (record { number = x.handle.0; length = x.bytes }) done (seen A.kind self.new)) }
-        ensures bound { RoseAtMost steps.old steps.new (1 + changing_bound result) }
         ensures steps { RoseAtMost steps.old steps.new (1 + changing_steps A.kind (seen A.kind self.old) x result) }
         ensures cost { RoseBy steps.old steps.new (1 + changing_cost (seen A.kind self.old) x result) }
     {
         let bound = self.bounds[x.class as usize];
-        if self
+        let moves = self
             .tables
-            .must_move(&self.lists, x.class, x.place, bound, steps)
-        {
-            self.resize_class_and_fill::<A>(x, steps)
-        } else {
-            self.resize_class_alone::<A>(x, steps)
-        }
+            .must_move(&self.lists, x.class, x.place, bound, steps);
+        self.change_class::<A>(x, moves, steps)
     }
 
-    /// Does the resize x, if no other object must move to the old slot: it is cleared and becomes
-    /// free. Fails as `resize_to_class` does.
-    fn resize_class_alone<A: Mapping>(
+    /// Does the resize x. If `moves`, another object of the old class must move to the old slot. Fails
+    /// as `resize_to_class` does.
+    fn change_class<A: Mapping>(
         &mut self,
         x: Change,
+        moves: bool,
         steps: &mut Steps,
     ) -> Result<Resized, ResizeFault>
         requires kept { Holds A.kind self.old }
         requires change { IsChange (seen A.kind self.old) x }
-        requires stays { MustMoveInto (seen A.kind self.old) x.place x.class → ⊥ }
+        requires due { IsTrue moves ↔ MustMoveInto (seen A.kind self.old) x.place x.class }
         ensures step { IsResizeStep (state_at A.kind self.old) (record { number = x.handle.0; length = x.bytes }) result (state_at A.kind self.new) }
         ensures kept { Holds A.kind self.new }
         ensures cause { IfErr result (λ e. e ≡ ResizeFault.Space) }
         ensures choice { IfOk result (λ done. ResizeChooses (seen A.kind self.old) (record { number = x.handle.0; length = x.bytes }) done (seen A.kind self.new)) }
-        ensures bound { RoseAtMost steps.old steps.new (changing_bound result) }
         ensures steps { RoseAtMost steps.old steps.new (changing_steps A.kind (seen A.kind self.old) x result) }
         ensures cost { RoseBy steps.old steps.new (changing_cost (seen A.kind self.old) x result) }
     {
@@ -95,46 +90,11 @@ impl OpenHeap {
         let Some(_to) = self.enter_class::<A>(x, steps) else {
             return Err(ResizeFault::Space);
         };
-        self.wipe::<A>(x.place, old_slot_words, steps);
-        self.tables
-            .drop_slot(&mut self.lists, x.class, x.place, steps);
+        let moved = self.leave_slot::<A>(x.class, x.place, moves, steps);
         Ok(Resized {
             old_slot_words,
             slot_words,
-            moved: None,
-        })
-    }
-
-    /// Does the resize x, if another object of the old class must move to the old slot: that
-    /// object's own slot becomes free. Fails as `resize_to_class` does.
-    fn resize_class_and_fill<A: Mapping>(
-        &mut self,
-        x: Change,
-        steps: &mut Steps,
-    ) -> Result<Resized, ResizeFault>
-        requires kept { Holds A.kind self.old }
-        requires change { IsChange (seen A.kind self.old) x }
-        requires moves { MustMoveInto (seen A.kind self.old) x.place x.class }
-        ensures step { IsResizeStep (state_at A.kind self.old) (record { number = x.handle.0; length = x.bytes }) result (state_at A.kind self.new) }
-        ensures kept { Holds A.kind self.new }
-        ensures cause { IfErr result (λ e. e ≡ ResizeFault.Space) }
-        ensures choice { IfOk result (λ done. ResizeChooses (seen A.kind self.old) (record { number = x.handle.0; length = x.bytes }) done (seen A.kind self.new)) }
-        ensures bound { RoseAtMost steps.old steps.new (changing_bound result) }
-        ensures steps { RoseAtMost steps.old steps.new (changing_steps A.kind (seen A.kind self.old) x result) }
-        ensures cost { RoseBy steps.old steps.new (changing_cost (seen A.kind self.old) x result) }
-    {
-        let old_slot_words = self.tables.classes.slot_words(x.class);
-        let slot_words = self.tables.classes.slot_words(x.to);
-        let Some(_to) = self.enter_class::<A>(x, steps) else {
-            return Err(ResizeFault::Space);
-        };
-        let from = self.tables.fill_slot(&mut self.lists, x.class, steps);
-        let other = Header::unpack(A::read(&self.region, &self.blocks, from, steps)).handle;
-        self.move_to::<A>(other, from, x.place, old_slot_words, steps);
-        Ok(Resized {
-            old_slot_words,
-            slot_words,
-            moved: Some(other),
+            moved,
         })
     }
 
@@ -147,7 +107,6 @@ impl OpenHeap {
         ensures entered { EntersClass (seen A.kind self.old) x result (seen A.kind self.new) }
         ensures laid { FitTable A.kind self.new.blocks self.new.region }
         ensures refused { IsNone result → steps.new ≡ steps.old }
-        ensures bound { RoseAtMost steps.old steps.new (40 + run_bound (kept_words x)) }
         ensures steps { RoseAtMost steps.old steps.new (14 + 2 * word_steps A.kind + copy_steps A.kind 1 (kept_words x)) }
         ensures cost { IsSome result → RoseBy steps.old steps.new (entering_cost (seen A.kind self.old) x) }
     {
@@ -182,7 +141,6 @@ impl OpenHeap {
         ensures words { CopiesToSlot (seen A.kind self.old).words (seen A.kind self.new).words x to }
         ensures laid { FitTable A.kind self.new.blocks self.new.region }
         ensures handles { AreBelowLimit self.new.proxies }
-        ensures bound { RoseAtMost steps.old steps.new (14 + run_bound (kept_words x)) }
         ensures steps { RoseBy steps.old steps.new
             (copy_steps A.kind (x.place + 1) (kept_words x) + tail_steps A.kind to x.bytes (8 * kept_words x) + word_steps A.kind + 1) }
     {
@@ -202,19 +160,5 @@ impl OpenHeap {
         };
         A::write(&mut self.region, &self.blocks, to, header.pack(), steps);
         self.proxies.rebind(x.handle, to, steps);
-    }
-
-    /// Clears the `slot_words` words of the slot at the address `place`, and changes nothing else.
-    fn wipe<A: Mapping>(&mut self, place: u32, slot_words: u32, steps: &mut Steps)
-        requires laid { FitTable A.kind self.old.blocks self.old.region }
-        requires within { place + slot_words ≤ length self.old.region }
-        ensures rest { seen A.kind self.new ≡ record (seen A.kind self.old) { words = (seen A.kind self.new).words } }
-        ensures words { Clears (seen A.kind self.old).words (seen A.kind self.new).words (record { from = place; count = slot_words }) }
-        ensures len { length self.new.region ≡ length self.old.region }
-        ensures laid { FitTable A.kind self.new.blocks self.new.region }
-        ensures bound { RoseAtMost steps.old steps.new (run_bound slot_words) }
-        ensures steps { RoseBy steps.old steps.new (run_steps A.kind place slot_words) }
-    {
-        A::clear(&mut self.region, &self.blocks, place, slot_words, steps);
     }
 }

@@ -1,16 +1,9 @@
-//! The list of the test modules. Each tests one part of heaps or sessions (a table, pool, list, bitmap,
-//! ledger, or words), the reference implementation, or one thing that a part does.
+//! Tests of arguments, of sources, sinks and lines (`devices`), of scripts, of settings and size classes (`tables`),
+//! of what heaps and sessions are made of (`parts`), of quotas (`admitted`), and of generated commands.
 mod admitted;
-mod arrangements;
-mod bytes_in_words;
-mod free_lists;
-mod free_pages;
+mod arguments;
+mod devices;
 mod generated;
-mod ledgers;
-mod page_lists;
-mod proxies;
-mod region_words;
-mod requests;
-mod session_ids;
-mod slot_maps;
-mod virtual_blocks;
+mod parts;
+mod scripts;
+mod tables;

@@ -10,10 +10,9 @@ ghost use Rattle.cf_lemmas.specs.Maps.{vacant};
 ghost use Rattle.proxy_table.specs.Layout.{IsFalling};
 
 use cf_base::{Handle, OutOfMemory};
-use counted_cells::Cells;
 use std::alloc::{AllocError, Global};
 use std::marker::Model;
-use step_ledger::Steps;
+use step_ledger::{Cells, Steps};
 
 /// A finite map from numbers below a limit to addresses in words. A number is live if it has an
 /// address, else free. `bind` uses the free number that was released last; in a new table it uses

@@ -1,7 +1,7 @@
 //! A test that names each field of `ProxyTable` with its type, so that no field is added unseen.
 use super::ProxyTable;
-use counted_cells::Cells;
 use std::test::Fail;
+use step_ledger::Cells;
 
 /// Names each field with its type, so that no field is added unseen: the addresses and the stack of
 /// free numbers are in counted cells, the other field is a number.

@@ -25,9 +25,9 @@ use Rattle.quota_model.proofs.CallerLemmas.{image_of_write, live_same, needed_sa
 use Rattle.quota_model.specs.Parts.{key_of, objects_of_task}
 use Rattle.quota_model.proofs.CallerLemmas.{found_whole}
 use Rattle.cf_model.specs.Steps.{Position}
-use Rattle.word_bytes.specs.Cells.{overwritten}
-use Rattle.word_bytes.specs.Overwriting.{Overwrites, byte_from}
-use Rattle.word_bytes.proofs.CallerLemmas.{overwritten_before, overwritten_behind, overwritten_inside}
+use Rattle.region.specs.Cells.{overwritten}
+use Rattle.region.specs.Overwriting.{Overwrites, byte_from}
+use Rattle.region.proofs.CallerLemmas.{overwritten_before, overwritten_behind, overwritten_inside}
 use Rattle.quota_heap.specs.Calls.{IsFound, IsFoundIn, IsMissing, HoldsBytesAt}
 use Rattle.quota_heap.specs.Layout.{IsTask, IsTaskIn, IsValid, held_in, held_of, paging_at, places_of, quotas_of, state_of, tables_of}
 use Rattle.quota_heap.specs.State.{held_by}

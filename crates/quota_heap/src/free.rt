@@ -9,8 +9,8 @@ ghost use Rattle.quota_heap.specs.Layout.{ArePages, IsTask};
 use crate::shared_pages::{Found, SharedPages, shift, wipe};
 use crate::task::Task;
 use cf_base::{Freed, Handle};
+use region::Header;
 use step_ledger::Steps;
-use word_bytes::Header;
 
 impl SharedPages {
     /// Frees object `h` of `task`, task number `t`; `x` is the object's address, length and class. If its

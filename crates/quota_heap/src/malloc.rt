@@ -12,8 +12,8 @@ ghost use Rattle.quota_heap.specs.Layout.{ArePages, IsTask, paging_at};
 use crate::shared_pages::SharedPages;
 use crate::task::Task;
 use cf_base::Handle;
+use region::Header;
 use step_ledger::Steps;
-use word_bytes::Header;
 
 impl SharedPages {
     /// Makes an object of `bytes` zeros, of class `c`, for task `t`, and returns its handle. The task must

@@ -22,9 +22,9 @@ use crate::task::{Task, first_tasks};
 use cf_base::{AccessFault, Figures, Freed, Handle, NotLive, OutOfMemory, Refusal, Settings};
 use class_lists::Which;
 use quota_model::QuotaFault;
+use region::{read_run, words_with, write_run};
 use std::alloc::Global;
 use step_ledger::Steps;
-use word_bytes::{read_run, words_with, write_run};
 
 /// The pages that the tasks share, the sixteen tasks, and in `granted` the sum of their quotas in pages.
 /// In each call `t` is the number of the calling task, from 0 to 15.

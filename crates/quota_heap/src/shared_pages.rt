@@ -12,10 +12,9 @@ ghost use Rattle.quota_heap.specs.Layout.{AreFirstPages, ArePages, IsTask};
 use crate::task::Task;
 use cf_base::{AccessFault, Handle, Layout, OutOfMemory, Settings};
 use page_slots::PageTables;
-use region::Region;
+use region::{Header, Region};
 use std::alloc::Global;
 use step_ledger::Steps;
-use word_bytes::Header;
 
 /// The settings, the words of the region, and in `tables` the size classes, the used slots of each page, and
 /// the pool. Pages that no task uses are in the pool.

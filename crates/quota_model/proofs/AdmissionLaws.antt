@@ -10,14 +10,14 @@ use Rattle.std.specs.FinMap.{empty, get-empty, len-empty}
 use Rattle.cf_lemmas.proofs.Values.{no_values}
 use Rattle.page_model.specs.Paging.{Paging, class_for}
 use Rattle.quota_model.specs.Admission.{CanBeAsked, IsAdmission, IsEnough, Share, count_of_class, first_large, first_refused_for_space}
-use Rattle.quota_model.specs.Admission.{in_order, live_of, mallocs, pages_of}
+use Rattle.quota_model.specs.Admission.{in_order, live_of, mallocs, pages_needed_by}
 use Rattle.quota_model.specs.Refusals.{task_paging}
 use Rattle.quota_model.specs.declared.answers.Admission.{Admission}
 use Rattle.quota_model.specs.declared.answers.Admission.TheVariants.{Yes, No, Size, Proxies}
 use Rattle.quota_model.specs.declared.answers.Need.{Need}
 use Rattle.quota_model.proofs.Ceilings.{count-cons, pages_grow, pages_of_none}
 use Rattle.quota_model.proofs.Declared.{all_fit, declared_is, length-in_order}
-use Rattle.quota_model.proofs.Enough.{is_enough}
+use Rattle.quota_model.proofs.EnoughPages.{is_enough}
 use Rattle.quota_model.proofs.InOrder.{Agrees, IsInOrderAt, are_within, runs_short, shown}
 
 count_takes : (f : ℕ → Bool) (ns : List ℕ) (i j : ℕ) → i ≤ j → count_by f (take i ns) ≤ count_by f (take j ns)
@@ -31,11 +31,11 @@ count_takes f (n ∷ ns) (suc i) (suc j) le = (
     omega arith)
 
 -- longer prefixes need no fewer pages
-pub takes_grow : (p : Paging) (ns : List ℕ) (i j : ℕ) → i ≤ j → pages_of p (take i ns) ≤ pages_of p (take j ns)
+pub takes_grow : (p : Paging) (ns : List ℕ) (i j : ℕ) → i ≤ j → pages_needed_by p (take i ns) ≤ pages_needed_by p (take j ns)
 takes_grow p ns i j le = pages_grow p (count_of_class p (take i ns)) (count_of_class p (take j ns)) (λ c. count_takes (λ n. nat_eq (class_for p n) c) ns i j le)
 
-pub takes_below : (p : Paging) (ns : List ℕ) (i : ℕ) → i ≤ length ns → pages_of p (take i ns) ≤ pages_of p ns
-takes_below p ns i le = subst (λ xs. pages_of p (take i ns) ≤ pages_of p xs) (take-length ns) (takes_grow p ns i (length ns) le)
+pub takes_below : (p : Paging) (ns : List ℕ) (i : ℕ) → i ≤ length ns → pages_needed_by p (take i ns) ≤ pages_needed_by p ns
+takes_below p ns i le = subst (λ xs. pages_needed_by p (take i ns) ≤ pages_needed_by p xs) (take-length ns) (takes_grow p ns i (length ns) le)
 
 nothing_agrees : Agrees (empty {R = nat_cmp}) 0 []
 nothing_agrees = record {
@@ -52,11 +52,11 @@ module _ (t : Share) (needs : List Need) (asked : CanBeAsked t.profile needs) wh
       let none = pages_of_none (task_paging t.profile) in
       shown t (in_order needs) empty 0 [] (all_fit t.profile needs asked.none_large) (omega arith) nothing_agrees (omega arith)
 
-  pub enough_iff : IsEnough t needs ↔ (pages_of (task_paging t.profile) (in_order needs) ≤ t.quota)
+  pub enough_iff : IsEnough t needs ↔ (pages_needed_by (task_paging t.profile) (in_order needs) ≤ t.quota)
   enough_iff = (λ enough. go enough (first_refused_for_space t empty 0 (in_order needs)) refl whole_shown, λ le. is_enough t needs le)
     where
       go : IsEnough t needs → (x : Option ℕ) → first_refused_for_space t empty 0 (in_order needs) ≡ x → IsInOrderAt (task_paging t.profile) t.quota [] (in_order needs) 0 x
-          → pages_of (task_paging t.profile) (in_order needs) ≤ t.quota
+          → pages_needed_by (task_paging t.profile) (in_order needs) ≤ t.quota
       go enough None e x = x
       go enough (Some nth) e x =
           let count = length-in_order needs in
@@ -67,17 +67,17 @@ module _ (t : Share) (needs : List Need) (asked : CanBeAsked t.profile needs) wh
           omega arith)) in
           absurd (enough (mallocs 0 (in_order needs)) within (runs_short t (in_order needs) empty 0 nth e))
 
-  none_from : (x : Option ℕ) → IsInOrderAt (task_paging t.profile) t.quota [] (in_order needs) 0 x → pages_of (task_paging t.profile) (in_order needs) ≤ t.quota
+  none_from : (x : Option ℕ) → IsInOrderAt (task_paging t.profile) t.quota [] (in_order needs) 0 x → pages_needed_by (task_paging t.profile) (in_order needs) ≤ t.quota
       → x ≡ None
   none_from None shown le = refl
   none_from (Some nth) shown le =
       let f = shown.2 in
       let w = f.within in
-      let past : t.quota < pages_of (task_paging t.profile) (take (suc shown.0) (in_order needs)) = f.past in
+      let past : t.quota < pages_needed_by (task_paging t.profile) (take (suc shown.0) (in_order needs)) = f.past in
       let below = takes_below (task_paging t.profile) (in_order needs) (suc shown.0) (omega arith) in
       absurd (omega arith)
 
-  pub none_iff : (first_refused_for_space t empty 0 (in_order needs) ≡ None) ↔ (pages_of (task_paging t.profile) (in_order needs) ≤ t.quota)
+  pub none_iff : (first_refused_for_space t empty 0 (in_order needs) ≡ None) ↔ (pages_needed_by (task_paging t.profile) (in_order needs) ≤ t.quota)
   none_iff = (
     λ e. subst (λ (x : Option ℕ). IsInOrderAt (task_paging t.profile) t.quota [] (in_order needs) 0 x) e whole_shown,
     none_from (first_refused_for_space t empty 0 (in_order needs)) whole_shown,
@@ -85,8 +85,8 @@ module _ (t : Share) (needs : List Need) (asked : CanBeAsked t.profile needs) wh
 
   -- malloc number `nth`, counted from 1, is the first with which the mallocs so far need more pages than the quota has
   abbrev pub IsFirst : ℕ → Type 0
-  IsFirst nth = (1 ≤ nth) × (nth ≤ length (in_order needs)) × (pages_of (task_paging t.profile) (take (nth - 1) (in_order needs)) ≤ t.quota)
-      × (t.quota < pages_of (task_paging t.profile) (take nth (in_order needs)))
+  IsFirst nth = (1 ≤ nth) × (nth ≤ length (in_order needs)) × (pages_needed_by (task_paging t.profile) (take (nth - 1) (in_order needs)) ≤ t.quota)
+      × (t.quota < pages_needed_by (task_paging t.profile) (take nth (in_order needs)))
 
   first_from : (nth : ℕ) → IsInOrderAt (task_paging t.profile) t.quota [] (in_order needs) 0 (Some nth) → IsFirst nth
   first_from nth shown =
@@ -97,15 +97,15 @@ module _ (t : Share) (needs : List Need) (asked : CanBeAsked t.profile needs) wh
       let e' : nth ≡ suc shown.0 = omega arith in (
         omega arith,
         omega arith,
-        subst (λ x. pages_of (task_paging t.profile) (take x (in_order needs)) ≤ t.quota) (sym e) f.enough,
-        subst (λ x. t.quota < pages_of (task_paging t.profile) (take x (in_order needs))) (sym e') f.past,
+        subst (λ x. pages_needed_by (task_paging t.profile) (take x (in_order needs)) ≤ t.quota) (sym e) f.enough,
+        subst (λ x. t.quota < pages_needed_by (task_paging t.profile) (take x (in_order needs))) (sym e') f.past,
       )
 
   some_from : (x : Option ℕ) → IsInOrderAt (task_paging t.profile) t.quota [] (in_order needs) 0 x → (nth : ℕ) → IsFirst nth → x ≡ Some nth
   some_from None shown nth first =
       let past = first.3 in
       let below = takes_below (task_paging t.profile) (in_order needs) nth first.1 in
-      absurd (let le : pages_of (task_paging t.profile) (in_order needs) ≤ t.quota = shown in omega arith)
+      absurd (let le : pages_needed_by (task_paging t.profile) (in_order needs) ≤ t.quota = shown in omega arith)
   some_from (Some other) shown nth first =
       let f = first_from other shown in
       elim (cases_lt nth other) [

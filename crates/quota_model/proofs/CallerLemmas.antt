@@ -2,7 +2,7 @@
 -- after a call, and the region's words after it.
 pub use Rattle.quota_model.proofs.Ceilings.{count-append, count-cons, pages_grow, pages_same, pages_of_none, pages_few}
 pub use Rattle.quota_model.proofs.Declared.{all_fail, length-in_order}
-pub use Rattle.quota_model.proofs.Enough.{granted_within, live_of-inserted}
+pub use Rattle.quota_model.proofs.EnoughPages.{granted_within, live_of-inserted}
 pub use Rattle.quota_model.proofs.AdmissionLaws.{enough_iff, none_iff, one_answer, some_iff}
 pub use Rattle.quota_model.proofs.TaskParts.{get_part, get_part_past, found_small, found_whole, found_part, part_inserted, part_removed, part_other_inserted}
 pub use Rattle.quota_model.proofs.TaskParts.{part_other_removed}

@@ -12,7 +12,7 @@ use Rattle.page_model.specs.Counts.{ceil_div}
 use Rattle.page_model.specs.Paging.{Paging, class_for, classes, slots_of}
 pub use Rattle.page_model.proofs.CallerLemmas.{pages_grow, pages_same}
 use Rattle.page_model.proofs.CallerLemmas.{sum_plus, sum_same, sum_zeros}
-use Rattle.quota_model.specs.Admission.{count_of_class, pages_of}
+use Rattle.quota_model.specs.Admission.{count_of_class, pages_needed_by}
 
 ceil_nothing : (m : ℕ) → ceil_div 0 m ≡ 0
 ceil_nothing zero = div-zero (0 + (0 - 1))
@@ -23,7 +23,7 @@ ceil_few n zero = (let none = div-zero (n + (0 - 1)) in omega arith)
 ceil_few n (suc m) = (let lt : ceil_div n (suc m) < n + 1 = (div-lt_iff_lt-mul {k = suc m} {x = n + (suc m - 1)} {y = n + 1} (omega arith)).1 (omega arith) in omega arith)
 
 -- no objects need no pages
-pub pages_of_none : (p : Paging) → pages_of p [] ≡ 0
+pub pages_of_none : (p : Paging) → pages_needed_by p [] ≡ 0
 pages_of_none p = sum_zeros (λ c. ceil_div 0 (slots_of p c)) (range_with_len 0 (classes p)) (λ c. ceil_nothing (slots_of p c))
 
 module _ {X : Type 0} (f : X → Bool) where
@@ -32,11 +32,6 @@ module _ {X : Type 0} (f : X → Bool) where
 
   pub count-append : (xs ys : List X) → count_by f (xs ++ ys) ≡ count_by f xs + count_by f ys
   count-append xs ys = sum_by-append (λ y. cond (f y) 1 0) xs ys
-
--- more mallocs need no fewer pages
-pub pages_of_more : (p : Paging) (ns more : List ℕ) → pages_of p ns ≤ pages_of p (ns ++ more)
-pages_of_more p ns more = pages_grow p (count_of_class p ns) (count_of_class p (ns ++ more))
-    (λ c. (let e = count-append (λ n. nat_eq (class_for p n) c) ns more in omega arith))
 
 -- a number x below the range from a on doesn't occur in it; below, each number occurs in a range once at most
 missed : (x a n : ℕ) → x < a → count_by (λ c. nat_eq x c) (range_with_len a n) ≡ 0
@@ -75,7 +70,7 @@ counts_few p n (m ∷ ms) =
     omega arith
 
 -- mallocs need at most a page each
-pub pages_few : (p : Paging) (ns : List ℕ) → pages_of p ns ≤ length ns
+pub pages_few : (p : Paging) (ns : List ℕ) → pages_needed_by p ns ≤ length ns
 pages_few p ns =
     let each = sum_grows (λ c. ceil_div (count_of_class p ns c) (slots_of p c)) (count_of_class p ns) (range_with_len 0 (classes p))
     (λ c. ceil_few (count_of_class p ns c) (slots_of p c)) in

@@ -16,30 +16,30 @@ use Rattle.cf_lemmas.proofs.Tests.{eq_no, eq_yes, lt_no, lt_yes}
 use Rattle.page_model.specs.Arrangement.{live, pages_needed_with}
 use Rattle.page_model.specs.Held.{Objects}
 use Rattle.page_model.specs.Paging.{Paging, class_for}
-use Rattle.quota_model.specs.Admission.{AreWithin, MeetsRefusalForSpace, Share, count_of_class, declared, first_refused_for_space, granted, is_short, live_of, mallocs}
-use Rattle.quota_model.specs.Admission.{pages_of}
+use Rattle.quota_model.specs.Admission.{CallsAreWithin, MeetsRefusalForSpace, Share, count_of_class, declared, first_refused_for_space, granted, is_short, live_of, mallocs}
+use Rattle.quota_model.specs.Admission.{pages_needed_by}
 use Rattle.quota_model.specs.Refusals.{malloc_refusal, task_paging}
 use Rattle.quota_model.specs.declared.answers.Need.{Need}
 use Rattle.quota_model.proofs.Ceilings.{count-append, count-cons, pages_same}
 use Rattle.quota_model.proofs.Contained.{times}
 use Rattle.quota_model.proofs.Declared.{AllFit}
-use Rattle.quota_model.proofs.Enough.{live_of-inserted}
+use Rattle.quota_model.proofs.EnoughPages.{live_of-inserted}
 
 -- if objects of the lengths in `pre` and then in `rest` are made, length i of `rest` is the first with which they need more pages than the quota has
 pub record FirstPast (p : Paging) (quota : ℕ) (pre rest : List ℕ) (i : ℕ) : Type 0 where
   pub within : i < length rest
-  pub enough : pages_of p (pre ++ take i rest) ≤ quota
-  pub past : quota < pages_of p (pre ++ take (suc i) rest)
+  pub enough : pages_needed_by p (pre ++ take i rest) ≤ quota
+  pub past : quota < pages_needed_by p (pre ++ take (suc i) rest)
 
 -- what a result of `first_refused_for_space` means: None if `pre` and `rest` are within the quota; else the number of the first length of `rest` past the
 -- quota, counted from k + 1 on
 abbrev pub IsInOrderAt : Paging → ℕ → List ℕ → List ℕ → ℕ → Option ℕ → Type 0
-IsInOrderAt p quota pre rest k None = pages_of p (pre ++ rest) ≤ quota
+IsInOrderAt p quota pre rest k None = pages_needed_by p (pre ++ rest) ≤ quota
 IsInOrderAt p quota pre rest k (Some nth) = (i : ℕ) × (nth ≡ k + suc i) × FirstPast p quota pre rest i
 
 lifted : (p : Paging) (quota : ℕ) (pre : List ℕ) (n : ℕ) (ns : List ℕ) (k : ℕ) (x : Option ℕ) → IsInOrderAt p quota (pre ++ n ∷ []) ns (k + 1) x
     → IsInOrderAt p quota pre (n ∷ ns) k x
-lifted p quota pre n ns k None shown = subst (λ xs. pages_of p xs ≤ quota) (append_assoc pre (n ∷ []) ns) shown
+lifted p quota pre n ns k None shown = subst (λ xs. pages_needed_by p xs ≤ quota) (append_assoc pre (n ∷ []) ns) shown
 lifted p quota pre n ns k (Some nth) shown =
     let i : ℕ = shown.0 in
     let is = shown.1 in
@@ -49,8 +49,8 @@ lifted p quota pre n ns k (Some nth) shown =
       omega arith,
       record {
         within = omega arith;
-        enough = subst (λ xs. pages_of p xs ≤ quota) (append_assoc pre (n ∷ []) (take shown.0 ns)) f.enough;
-        past = subst (λ xs. quota < pages_of p xs) (append_assoc pre (n ∷ []) (take (suc shown.0) ns)) f.past;
+        enough = subst (λ xs. pages_needed_by p xs ≤ quota) (append_assoc pre (n ∷ []) (take shown.0 ns)) f.enough;
+        past = subst (λ xs. quota < pages_needed_by p xs) (append_assoc pre (n ∷ []) (take (suc shown.0) ns)) f.past;
       },
     )
 
@@ -78,7 +78,7 @@ agrees_more o k pre n a =
 
 module _ (t : Share) where
   needed_is : (o : Objects) (k : ℕ) (pre : List ℕ) (n : ℕ) → Agrees o k pre
-      → pages_needed_with (task_paging t.profile) o n ≡ pages_of (task_paging t.profile) (pre ++ n ∷ [])
+      → pages_needed_with (task_paging t.profile) o n ≡ pages_needed_by (task_paging t.profile) (pre ++ n ∷ [])
   unfolding pages_needed_with live
   needed_is o k pre n a =
       pages_same (task_paging t.profile) (λ c. live (task_paging t.profile) o c + one (nat_eq (class_for (task_paging t.profile) n) c))
@@ -92,7 +92,7 @@ module _ (t : Share) where
       omega arith))
 
   refusal_is : (o : Objects) (k : ℕ) (pre : List ℕ) (n : ℕ) → Agrees o k pre → need n ≤ t.profile.page_words → k < t.profile.proxies
-      → malloc_refusal t.profile t.quota o n ≡ cond (nat_lt t.quota (pages_of (task_paging t.profile) (pre ++ n ∷ []))) (Some refusal.Space) None
+      → malloc_refusal t.profile t.quota o n ≡ cond (nat_lt t.quota (pages_needed_by (task_paging t.profile) (pre ++ n ∷ []))) (Some refusal.Space) None
   refusal_is o k pre n a fits few =
       let x = lt_no t.profile.page_words (need n) fits in
       let few' : len o ≢ t.profile.proxies = (let c = a.count in omega arith) in
@@ -101,11 +101,11 @@ module _ (t : Share) where
       rw (x, y, z)
 
   pub shown : (rest : List ℕ) (o : Objects) (k : ℕ) (pre : List ℕ) → AllFit t.profile.page_words rest → k + length rest ≤ t.profile.proxies → Agrees o k pre
-      → pages_of (task_paging t.profile) pre ≤ t.quota → IsInOrderAt (task_paging t.profile) t.quota pre rest k (first_refused_for_space t o k rest)
-  shown [] o k pre fit few a le = subst (λ xs. pages_of (task_paging t.profile) xs ≤ t.quota) (sym (append-nil pre)) le
+      → pages_needed_by (task_paging t.profile) pre ≤ t.quota → IsInOrderAt (task_paging t.profile) t.quota pre rest k (first_refused_for_space t o k rest)
+  shown [] o k pre fit few a le = subst (λ xs. pages_needed_by (task_paging t.profile) xs ≤ t.quota) (sym (append-nil pre)) le
   shown (n ∷ ns) o k pre fit few a le =
       let r = refusal_is o k pre n a fit.0 (omega arith) in
-      elim (cases_lt t.quota (pages_of (task_paging t.profile) (pre ++ n ∷ []))) [
+      elim (cases_lt t.quota (pages_needed_by (task_paging t.profile) (pre ++ n ∷ []))) [
         | inl more ↦ (
             let e : malloc_refusal t.profile t.quota o n ≡ Some refusal.Space = r ∙ ap (λ b. cond b (Some refusal.Space) None) (lt_yes _ _ more) in
             subst (λ (x : Option Refusal). IsInOrderAt (task_paging t.profile) t.quota pre (n ∷ ns) k
@@ -114,7 +114,7 @@ module _ (t : Share) where
               omega arith,
               record {
                 within = omega arith;
-                enough = subst (λ xs. pages_of (task_paging t.profile) xs ≤ t.quota) (sym (append-nil pre)) le;
+                enough = subst (λ xs. pages_needed_by (task_paging t.profile) xs ≤ t.quota) (sym (append-nil pre)) le;
                 past = more;
               },
             ))
@@ -128,7 +128,7 @@ module _ (t : Share) where
 
   -- mallocs of the lengths in `rest` are within the needs
   pub are_within : (needs : List Need) (rest : List ℕ) (o : Objects) (k : ℕ) → ((h : ℕ) → k ≤ h → get o h ≡ None) → k + length rest ≤ t.profile.proxies
-      → ((m : ℕ) → live_of o m + times m rest ≤ declared needs m) → AreWithin t needs o (mallocs k rest)
+      → ((m : ℕ) → live_of o m + times m rest ≤ declared needs m) → CallsAreWithin t needs o (mallocs k rest)
   are_within needs [] o k fresh few le = tt
   are_within needs (n ∷ ns) o k fresh few le =
       let none = fresh k (omega arith) in
@@ -136,7 +136,7 @@ module _ (t : Share) where
       let here = count-cons (λ m. nat_eq m n) n ns in
       let yes : one (nat_eq n n) ≡ 1 = (let y : nat_eq n n ≡ true = eq_yes n n refl in rw y) in (
         (none, omega arith, omega arith),
-        elim (malloc_refusal t.profile t.quota o n) as (λ (r : Option Refusal). AreWithin t needs (granted r o k n) (mallocs (k + 1) ns)) [
+        elim (malloc_refusal t.profile t.quota o n) as (λ (r : Option Refusal). CallsAreWithin t needs (granted r o k n) (mallocs (k + 1) ns)) [
           | Some e ↦ are_within needs ns o (k + 1) (λ h l. fresh h (omega arith)) (omega arith)
               (λ m. (let a = le m in let b = count-cons (λ q. nat_eq q m) n ns in omega arith))
           | None ↦ are_within needs ns (insert o k (replicate n 0)) (k + 1)

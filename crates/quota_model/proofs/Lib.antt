@@ -1,7 +1,7 @@
 pub mod Ceilings
 pub mod Contained
 pub mod Declared
-pub mod Enough
+pub mod EnoughPages
 pub mod InOrder
 pub mod AdmissionLaws
 pub mod TaskParts
@@ -14,3 +14,7 @@ pub mod WholeSound
 pub mod Written
 pub mod TaskImages
 pub mod CallerLemmas
+pub mod SizeList
+pub mod Classes
+pub mod Entries
+pub mod Counted

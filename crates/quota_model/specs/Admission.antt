@@ -32,9 +32,9 @@ granted (Some e) o h n = o
 granted None o h n = insert o h (replicate n 0)
 
 -- the objects o of a task after a call; a malloc that the task's quota or the settings refuse changes nothing
-abbrev pub after : Share → Objects → Call → Objects
-after t o (asks h n) = granted (malloc_refusal t.profile t.quota o n) o h n
-after t o (frees h) = remove o h
+abbrev pub objects_left : Share → Objects → Call → Objects
+objects_left t o (asks h n) = granted (malloc_refusal t.profile t.quota o n) o h n
+objects_left t o (frees h) = remove o h
 
 -- the call is a malloc that is refused for space (`Space`)
 abbrev pub IsRefusedForSpace : Share → Objects → Call → Type 0
@@ -44,7 +44,7 @@ IsRefusedForSpace t o (frees h) = ⊥
 -- if the calls are made one after the other, beginning with the objects o, one of them is a malloc that is refused for space
 abbrev pub MeetsRefusalForSpace : Share → Objects → List Call → Type 0
 MeetsRefusalForSpace t o [] = ⊥
-MeetsRefusalForSpace t o (call ∷ rest) = IsRefusedForSpace t o call ⊎ MeetsRefusalForSpace t (after t o call) rest
+MeetsRefusalForSpace t o (call ∷ rest) = IsRefusedForSpace t o call ⊎ MeetsRefusalForSpace t (objects_left t o call) rest
 
 -- how many objects of n bytes the entries declare: the counts of all entries for this length, added up
 abbrev pub declared : List Need → ℕ → ℕ
@@ -61,13 +61,13 @@ IsWithin t needs o (asks h n) = (get o h ≡ None) × (h < t.profile.proxies) ×
 IsWithin t needs o (frees h) = IsSome (get o h)
 
 -- each of the calls, made one after the other, beginning with the objects o, is within what is declared
-abbrev pub AreWithin : Share → List Need → Objects → List Call → Type 0
-AreWithin t needs o [] = ⊤
-AreWithin t needs o (call ∷ rest) = IsWithin t needs o call × AreWithin t needs (after t o call) rest
+abbrev pub CallsAreWithin : Share → List Need → Objects → List Call → Type 0
+CallsAreWithin t needs o [] = ⊤
+CallsAreWithin t needs o (call ∷ rest) = IsWithin t needs o call × CallsAreWithin t needs (objects_left t o call) rest
 
 -- The quota is enough for the declared objects: no list of calls within what is declared, begun without objects, has a malloc that is refused for space.
 abbrev pub IsEnough : Share → List Need → Type 0
-IsEnough t needs = (calls : List Call) → AreWithin t needs empty calls → ¬ MeetsRefusalForSpace t empty calls
+IsEnough t needs = (calls : List Call) → CallsAreWithin t needs empty calls → ¬ MeetsRefusalForSpace t empty calls
 
 -- the lengths of all declared objects, in bytes: entry by entry, each length as often as its count
 abbrev pub in_order : List Need → List ℕ
@@ -99,8 +99,8 @@ abbrev pub count_of_class : Paging → List ℕ → ℕ → ℕ
 count_of_class p ns c = count_by (λ n. nat_eq (class_for p n) c) ns
 
 -- the pages that objects of these lengths need: for each class the number of objects is divided by the slots of a page and rounded up, and these are summed
-abbrev pub pages_of : Paging → List ℕ → ℕ
-pages_of p ns = pages_for p (count_of_class p ns)
+abbrev pub pages_needed_by : Paging → List ℕ → ℕ
+pages_needed_by p ns = pages_for p (count_of_class p ns)
 
 -- the index, from 0 on, of the first entry whose objects are larger than a page, if there is one
 abbrev pub first_large : Profile → List Need → Option ℕ

@@ -3,3 +3,4 @@ pub mod Admission
 pub mod Parts
 pub mod Shared
 pub mod Joined
+pub mod Layout

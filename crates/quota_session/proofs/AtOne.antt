@@ -1,7 +1,6 @@
 -- For `OwnTask`: the cause of a refused malloc of a task, and its `walk` report, follow from the settings, the task's quota and its objects by id, without
 -- handles and addresses.
-use Rattle.std.proofs.Common.{◌≡◌, ℕ, ◌-◌, ◌<◌, List, cond, Some, None}
-use Rattle.std.proofs.Common.{map, arith, sym, ◌∙◌, ap, refl}
+use Rattle.std.proofs.Common.{◌≡◌, ℕ, ◌-◌, ◌<◌, List, cond, Some, None, map, arith, sym, ◌∙◌, ap, refl}
 use Rattle.std.specs.Prelude.{◌++◌, nat_eq, nat_lt, not}
 use Rattle.cf_base.specs.Classes.{need}
 use Rattle.cf_base.specs.Settings.{Profile}
@@ -14,13 +13,13 @@ use Rattle.page_model.specs.Held.{Held, Objects, objects}
 use Rattle.page_model.specs.Paging.{IsPaging, Paging, class_for, classes}
 use Rattle.page_model.proofs.CallerLemmas.{used_at_one}
 use Rattle.quota_heap.specs.State.{KeepsTasks, QuotaState, held_by, objects_by, quota_of}
-use Rattle.quota_laws.specs.Tasks.{Tasks, own_heap}
+use Rattle.quota_session.specs.Tasks.{Tasks, own_heap}
 use Rattle.quota_model.specs.Refusals.{malloc_refusal, task_paging}
 use Rattle.quota_model.proofs.CallerLemmas.{tasks_at_one, tasks_paged}
 use Rattle.run_model.specs.Reports.{class_line, total_line}
-use Rattle.transcript_laws.specs.AtOne.{classes_in_use, figures_at_one, totals_at_one, walk_at_one}
-use Rattle.transcript_laws.specs.ById.{paging_by_id}
-use Rattle.transcript_laws.proofs.CallerLemmas.{figures_alike, figures_are, live_alike, needed_alike, needed_with_alike, said_alike}
+use Rattle.script_laws.specs.AtOne.{classes_in_use, figures_at_one, totals_at_one, walk_at_one}
+use Rattle.script_laws.specs.ById.{paging_by_id}
+use Rattle.script_laws.proofs.CallerLemmas.{figures_alike, figures_are, live_alike, needed_alike, needed_with_alike, said_alike}
 use Rattle.frag_report.specs.Classes.{totals_with}
 use Rattle.quota_session.specs.TaskRun.{class_lines, task_classes, task_report, task_totals}
 

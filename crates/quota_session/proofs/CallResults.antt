@@ -40,7 +40,7 @@ use Rattle.quota_model.specs.Refusals.{malloc_refusal, task_paging}
 use Rattle.quota_model.specs.Shared.{AreQuotas, IsShared, PlacesForTask, RemovesForTask}
 use Rattle.quota_model.proofs.CallerLemmas.{free_quotas, free_shared, found_small, found_whole, quotas_stay, stays_shared}
 use Rattle.quota_model.proofs.CallerLemmas.{tasks_at_one, tasks_paged}
-use Rattle.run_laws.proofs.CallerLemmas.{is_rewritten, length-rewritten, rewritten}
+use Rattle.script_laws.proofs.CallerLemmas.{is_rewritten, length-rewritten, rewritten}
 
 -- a malloc that isn't refused has none of the three causes
 no_cause : (a b c : Bool) → cond a (Some refusal.Size) (cond b (Some refusal.Proxy) (cond c (Some refusal.Space) None)) ≡ None

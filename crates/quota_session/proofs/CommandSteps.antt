@@ -16,7 +16,7 @@ use Rattle.page_model.specs.Held.{Placed}
 use Rattle.page_model.specs.Image.{slot_for}
 use Rattle.page_model.proofs.CallerLemmas.{image_empty}
 use Rattle.quota_heap.specs.State.{KeepsTasks, QuotaState, empty_state, held_by, objects_by, quota_of}
-use Rattle.quota_laws.specs.Tasks.{quota_text, quotas_after}
+use Rattle.quota_session.specs.Tasks.{quota_text, quotas_after}
 use Rattle.quota_model.specs.Admission.{CanBeAsked, IsAdmission, Share, declared_in_all, first_large, first_refused_for_space, in_order}
 use Rattle.quota_model.specs.Refusals.{task_paging}
 use Rattle.quota_model.specs.declared.answers.Admission.{Admission}
@@ -24,20 +24,20 @@ use Rattle.quota_model.specs.declared.answers.Admission.TheVariants.{Yes, No, Si
 use Rattle.quota_model.specs.declared.answers.Need.{Need}
 use Rattle.quota_model.specs.declared.answers.QuotaFault.{QuotaFault}
 use Rattle.quota_model.proofs.CallerLemmas.{enough_iff, first_quotas, first_shared, granted_quotas, none_iff}
-use Rattle.run_laws.specs.ValidItems.{IsValidCommand}
-use Rattle.run_laws.proofs.CallerLemmas.{CanGoOn}
+use Rattle.script_laws.specs.ValidItems.{IsValidCommand}
+use Rattle.script_laws.proofs.CallerLemmas.{CanGoOn}
 use Rattle.run_model.specs.Replies.{malloc_text, write_text}
-use Rattle.run_model.specs.Steps.{ids_given}
+use Rattle.run_model.specs.Steps.{ids_given, Stays}
 use Rattle.script_reader.specs.declared.command.Command.{Command}
 use Rattle.script_reader.specs.declared.command.Command.TheVariants as command
 use Rattle.id_table.proofs.CallerLemmas.{clash}
-use Rattle.quota_session.specs.Playing.{BeginsAtOne, BeginsQuotas}
-use Rattle.quota_session.specs.QuotaRun.{IsGoingQuotas, QuotaRun, QuotaStep, StepsPresent, admission_text, first_session, need_text, needs_of}
-use Rattle.quota_session.specs.QuotaRun.{present_run, quota_fault}
-use Rattle.quota_session.specs.QuotaRun.{with_ids, with_need, with_present}
-use Rattle.quota_session.specs.TaskRun.{FreesIdOfTask, MallocsForTask, StaysTask, TaskRun, TaskStep, WritesIdOfTask, task_run, task_shown}
+use Rattle.quota_session.specs.Playing.{BeginsTasks, BeginsQuotas}
+use Rattle.quota_session.specs.QuotaRun.{IsGoingQuotas, QuotaRun, QuotaStep, StepsPresent, first_session, needs_of}
+use Rattle.quota_session.specs.Transcript.{admission_text, need_text}
+use Rattle.quota_session.specs.QuotaRun.{present_run, quota_fault, with_ids, with_need, with_present}
+use Rattle.quota_session.specs.TaskRun.{FreesIdOfTask, MallocsForTask, TaskRun, TaskStep, WritesIdOfTask, task_run, task_shown}
 use Rattle.quota_session.proofs.CallResults.{PageLaw, free_there, malloc_there, write_there}
-use Rattle.quota_session.proofs.RunInvariant.{still_going}
+use Rattle.quota_session.proofs.RunInvariant.{below, still_going}
 use Rattle.quota_session.proofs.OpenLemmas.{begins_going}
 use Rattle.quota_session.proofs.TaskKept.{bytes_by}
 
@@ -52,7 +52,7 @@ record HasAnswer (old : TaskRun) (R : Reply → TaskRun → Type 0) : Type 0 whe
 module _ (law : PageLaw) (old : TaskRun) (rules : KeepsTasks old.heap) (lt : old.task < 16) (named : (id h : ℕ) → get old.ids id ≡ Some h
     → (x : Placed) × (get (held_by old.heap old.task) h ≡ Some x)) where
   malloc_at : (o : Option ℕ) (id n : ℕ) → HasAnswer old (λ reply new. MatchOption o (MallocsForTask old id n reply new)
-      (λ h. StaysTask old (codes "live") reply new))
+      (λ h. Stays old (codes "live") reply new))
   malloc_at (Some h) id n = record { reply = said (codes "live"); ids = old.ids; heap = old.heap; done = (refl, refl) }
   malloc_at None id n =
       let m = malloc_there law old.heap rules old.task lt n in
@@ -64,7 +64,7 @@ module _ (law : PageLaw) (old : TaskRun) (rules : KeepsTasks old.heap) (lt : old
       }
 
   free_at : (o : Option ℕ) (id : ℕ) → get old.ids id ≡ o
-      → HasAnswer old (λ reply new. MatchOption o (StaysTask old (codes "unknown") reply new) (λ h. FreesIdOfTask old id h reply new))
+      → HasAnswer old (λ reply new. MatchOption o (Stays old (codes "unknown") reply new) (λ h. FreesIdOfTask old id h reply new))
   free_at None id is = record { reply = said (codes "unknown"); ids = old.ids; heap = old.heap; done = (refl, refl) }
   free_at (Some h) id is =
       let x = named id h is in
@@ -77,7 +77,7 @@ module _ (law : PageLaw) (old : TaskRun) (rules : KeepsTasks old.heap) (lt : old
       }
 
   write_at : (o : Option ℕ) (id at : ℕ) (bytes : List ℕ) → get old.ids id ≡ o
-      → HasAnswer old (λ reply new. MatchOption o (StaysTask old (codes "unknown") reply new)
+      → HasAnswer old (λ reply new. MatchOption o (Stays old (codes "unknown") reply new)
       (λ h. WritesIdOfTask old (record { number = h; from = at }) bytes reply new))
   write_at None id at bytes is = record { reply = said (codes "unknown"); ids = old.ids; heap = old.heap; done = (refl, refl) }
   write_at (Some h) id at bytes is =
@@ -140,9 +140,6 @@ module _ (law : PageLaw) (old : QuotaRun) (going : IsGoingQuotas old) where
     slots = (going.rules).slots;
   }
 
-  below : (task : ℕ) → task ≤ 15 → task < 16
-  below task le = omega arith
-
   present_there : (c : Command) → (reply : Reply) × (new : QuotaRun) × StepsPresent old c reply new
   present_there c =
       let a = task_there law before going.rules (going.sixteen).present object c in
@@ -190,7 +187,7 @@ begin_exists p can =
     )
 
 -- a run over tasks can be continued after each command
-pub tasks_go_on : PageLaw → CanGoOn BeginsAtOne QuotaStep
+pub tasks_go_on : PageLaw → CanGoOn BeginsTasks QuotaStep
 tasks_go_on law = record {
   is_going = IsGoingQuotas;
   begins_going = λ p reply s b. begins_going p s b.0;

@@ -1,3 +1,9 @@
+pub mod Alone
+pub mod Isolated
+pub mod IsolatedCalls
+pub mod Admitted
+pub mod Worked
+pub mod OwnHeap
 pub mod TaskKept
 pub mod RunInvariant
 pub mod OpenLemmas

@@ -16,21 +16,22 @@ use Rattle.page_model.specs.Bytes.{written}
 use Rattle.page_model.specs.Held.{Objects, Placed}
 use Rattle.quota_heap.specs.State.{KeepsTasks, held_by, objects_by, quota_of}
 use Rattle.quota_heap.specs.Steps.{IsMallocStep, IsWriteStep}
-use Rattle.quota_laws.specs.Tasks.{Tasks, own_heap, task_leaves, task_reply}
+use Rattle.quota_session.specs.Tasks.{Tasks, own_heap, task_leaves, task_reply}
 use Rattle.quota_model.specs.Refusals.{malloc_refusal}
-use Rattle.quota_laws.proofs.CallerLemmas.{same_refusal}
+use Rattle.quota_session.proofs.Alone.{same_refusal}
 use Rattle.run_model.specs.Replies.{malloc_text, read_text, write_text}
-use Rattle.run_model.specs.Steps.{ids_given}
+use Rattle.run_model.specs.Steps.{ids_given, Stays}
 use Rattle.script_reader.specs.declared.command.Command.{Command}
 use Rattle.script_reader.specs.declared.command.Command.TheVariants as command
 use Rattle.id_table.specs.Ties.{AreTiedTo}
 use Rattle.id_table.proofs.CallerLemmas.{clash}
-use Rattle.transcript_laws.specs.ById.{ById}
-use Rattle.transcript_laws.specs.Histories.{objects_by_id}
-use Rattle.transcript_laws.specs.Replies.{free_said, malloc_fault, malloc_leaves, malloc_said, ok_or, put_unless, read_said, write_fault}
-use Rattle.transcript_laws.specs.Replies.{write_leaves, write_said}
-use Rattle.transcript_laws.proofs.CallerLemmas.{by_id_changed, by_id_counts, by_id_given, by_id_gone, gone_by_id, live_by_id}
-use Rattle.quota_session.specs.TaskRun.{FreesIdOfTask, MallocsForTask, StaysTask, TaskRun, TaskStep, WritesIdOfTask, task_object}
+use Rattle.script_laws.specs.ById.{ById}
+use Rattle.run_model.specs.ById.{objects_by_id}
+use Rattle.script_laws.specs.IdBytes.{read_shown}
+use Rattle.script_laws.specs.RepliesById.{free_said, malloc_fault, malloc_leaves, malloc_said, ok_or, put_unless, write_fault}
+use Rattle.script_laws.specs.RepliesById.{write_leaves, write_said}
+use Rattle.run_model.proofs.CallerLemmas.{by_id_changed, by_id_counts, by_id_given, by_id_gone, gone_by_id, live_by_id}
+use Rattle.quota_session.specs.TaskRun.{FreesIdOfTask, MallocsForTask, TaskRun, TaskStep, WritesIdOfTask, task_object}
 use Rattle.quota_session.proofs.AtOne.{refusal_alike, walk_is}
 use Rattle.quota_session.proofs.TaskKept.{bytes_by, freed_objects, given_objects, given_unused, written_found, written_objects}
 
@@ -42,7 +43,7 @@ write_past : (v : List ℕ) (at count : ℕ) → length v < at + count → write
 write_past v at count past = (let e = le_no (at + count) (length v) past in rw e)
 
 -- the reply to a read depends on the bytes of the object alone
-same_bytes : (o : Option Placed) (at count : ℕ) → read_text o at count ≡ read_said (option_map (λ (x : Placed). x.bytes) o) at count
+same_bytes : (o : Option Placed) (at count : ℕ) → read_text o at count ≡ read_shown (option_map (λ (x : Placed). x.bytes) o) at count
 same_bytes None at count = refl
 same_bytes (Some x) at count = refl
 
@@ -146,22 +147,22 @@ module _ (old new : TaskRun) (rules : KeepsTasks old.heap) (tied : AreTiedTo old
           ((λ i. objects_by_id (w.ids i) (objects_by (same i) old.task)) ∙ sym own)
 
   -- the reply to a read through an id depends on the object that the task has by this id
-  read_is : (id at count : ℕ) → said (read_text (task_object old id) at count) ≡ said (read_said (get (all old.task) id) at count)
+  read_is : (id at count : ℕ) → said (read_text (task_object old id) at count) ≡ said (read_shown (get (all old.task) id) at count)
   read_is id at count = go (get old.ids id) refl
     where
       go : (o : Option ℕ) → get old.ids id ≡ o → said (read_text (elim o [ None ↦ None | Some n ↦ get (held_by old.heap old.task) n ]) at count)
-          ≡ said (read_said (get (all old.task) id) at count)
-      go None none = ap (λ o. said (read_said o at count)) (sym (gone id none))
+          ≡ said (read_shown (get (all old.task) id) at count)
+      go None none = ap (λ o. said (read_shown o at count)) (sym (gone id none))
       go (Some n) named =
           let x = tied.named id n named in
           ap said (same_bytes (get (held_by old.heap old.task) n) at count)
-          ∙ ap (λ o. said (read_said o at count)) (sym (bytes_by old.heap old.task n (get (held_by old.heap old.task) n) refl) ∙ x.1
+          ∙ ap (λ o. said (read_shown o at count)) (sym (bytes_by old.heap old.task n (get (held_by old.heap old.task) n) refl) ∙ x.1
           ∙ sym (live id n x.0 named x.1))
 
   pub shown : (c : Command) → TaskStep old c reply new → IsOwnReply c
   shown (command.Malloc id n) step = go (get old.ids id) refl step
     where
-      go : (o : Option ℕ) → get old.ids id ≡ o → MatchOption o (MallocsForTask old id n reply new) (λ k. StaysTask old (codes "live") reply new)
+      go : (o : Option ℕ) → get old.ids id ≡ o → MatchOption o (MallocsForTask old id n reply new) (λ k. Stays old (codes "live") reply new)
           → IsOwnReply (command.Malloc id n)
       go None free s = mallocs id n free s
       go (Some k) named s =
@@ -171,14 +172,14 @@ module _ (old new : TaskRun) (rules : KeepsTasks old.heap) (tied : AreTiedTo old
           (ap (λ o. malloc_leaves o h (record { number = id; length = n })) (sym some))
   shown (command.Free id) step = go (get old.ids id) refl step
     where
-      go : (o : Option ℕ) → get old.ids id ≡ o → MatchOption o (StaysTask old (codes "unknown") reply new) (λ k. FreesIdOfTask old id k reply new)
+      go : (o : Option ℕ) → get old.ids id ≡ o → MatchOption o (Stays old (codes "unknown") reply new) (λ k. FreesIdOfTask old id k reply new)
           → IsOwnReply (command.Free id)
       go None free s = stays (command.Free id) s.1 (s.0 ∙ ap (λ o. said (free_said o)) (sym (gone id free)))
           (sym (remove_missing (all old.task) id (gone id free)))
       go (Some k) named f = frees id k named f
   shown (command.Write id at bytes) step = go (get old.ids id) refl step
     where
-      go : (o : Option ℕ) → get old.ids id ≡ o → MatchOption o (StaysTask old (codes "unknown") reply new)
+      go : (o : Option ℕ) → get old.ids id ≡ o → MatchOption o (Stays old (codes "unknown") reply new)
           (λ k. WritesIdOfTask old (record { number = k; from = at }) bytes reply new)
           → IsOwnReply (command.Write id at bytes)
       go None free s = stays (command.Write id at bytes) s.1 (s.0 ∙ ap (λ o. said (write_said o at (length bytes))) (sym (gone id free)))

@@ -33,7 +33,7 @@ use Rattle.script_loop.specs.Applying.{Applies}
 use Rattle.id_table.specs.Ties.{AreTiedTo}
 use Rattle.id_table.proofs.CallerLemmas.{clash}
 use Rattle.script_loop.proofs.CallerLemmas.{reported}
-use Rattle.transcript_laws.proofs.CallerLemmas.{by_id_counts}
+use Rattle.run_model.proofs.CallerLemmas.{by_id_counts}
 use Rattle.frag_report.specs.Classes.{totals_with}
 use Rattle.quota_session.specs.Layout.{IsOfTask}
 use Rattle.quota_session.specs.Playing.{quota_tasks}

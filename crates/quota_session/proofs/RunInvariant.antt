@@ -1,7 +1,6 @@
 -- For clause `going` of `answer_ref` and the law `each_command_has_its_turn`: after each command the heap of tasks keeps its rules, and each task's ids name
 -- its objects (`IsGoingQuotas`).
-use Rattle.std.proofs.Common.{◌≡◌, ◌≢◌, ℕ, ◌<◌, ◌≤◌, List, [], ◌∷◌, ◌++◌, Some, cond, length, arith, sym}
-use Rattle.std.proofs.Common.{◌∙◌, ap, subst, inl, inr}
+use Rattle.std.proofs.Common.{◌≡◌, ◌≢◌, ℕ, ◌<◌, ◌≤◌, List, [], ◌∷◌, ◌++◌, Some, cond, length, arith, sym, ◌∙◌, ap, subst, inl, inr}
 use Rattle.std.specs.Prelude.{IsTrue, Option, Result, Ok, Err}
 use Rattle.std.specs.FinMap.{empty}
 use Rattle.std.proofs.lemmas.Bool.{cases_eq, cases_lt}
@@ -23,8 +22,8 @@ use Rattle.script_loop.specs.Applying.{Applies}
 use Rattle.id_table.specs.Ties.{AreTiedTo}
 use Rattle.quota_session.specs.Playing.{quota_tasks}
 use Rattle.quota_session.specs.QuotaRun.{AreTasksTied, HasSixteen, IsGoingQuotas, QuotaRun, QuotaStep, SetsQuota, StepsPresent, TaskSession, ids_of}
-use Rattle.quota_session.specs.QuotaRun.{needs_of, one_more}
-use Rattle.quota_session.specs.QuotaRun.{present_run, quota_run, with_ids, with_need}
+use Rattle.quota_session.specs.QuotaRun.{needs_of, present_run, quota_run, with_ids, with_need}
+use Rattle.quota_session.specs.Transcript.{one_need_more}
 use Rattle.quota_session.specs.TaskRun.{TaskRun, TaskStep, task_run}
 use Rattle.quota_session.proofs.TaskKept.{IsKept, task_kept}
 
@@ -39,14 +38,14 @@ with_ids_sixteen : (s : TaskSession) (ids : Ids) → HasSixteen s → HasSixteen
 with_ids_sixteen s ids has = record { ids = length-set s.ids s.present ids ∙ has.ids; needs = has.needs; few = has.few; present = has.present }
 
 -- no task has more than 64 entries
-few_more : (needs : List Need) (entry : Need) → length needs ≤ 64 → length (one_more needs entry) ≤ 64
+few_more : (needs : List Need) (entry : Need) → length needs ≤ 64 → length (one_need_more needs entry) ≤ 64
 few_more needs entry few = elim (cases_lt (length needs) 64) [
   | inl lt ↦ (
-      let e : one_more needs entry ≡ needs ++ entry ∷ [] = ap (λ b. cond b (needs ++ entry ∷ []) needs) (lt_yes (length needs) 64 lt) in
+      let e : one_need_more needs entry ≡ needs ++ entry ∷ [] = ap (λ b. cond b (needs ++ entry ∷ []) needs) (lt_yes (length needs) 64 lt) in
       let l = ap length e ∙ length-append needs (entry ∷ []) in
       omega arith)
   | inr le ↦ (
-      let e : one_more needs entry ≡ needs = ap (λ b. cond b (needs ++ entry ∷ []) needs) (lt_no (length needs) 64 le) in
+      let e : one_need_more needs entry ≡ needs = ap (λ b. cond b (needs ++ entry ∷ []) needs) (lt_no (length needs) 64 le) in
       let l = ap length e in
       omega arith)
 ]
@@ -58,13 +57,13 @@ with_need_sixteen s task entry lt has = record {
   few = λ u. elim (cases_eq u task) [
     | inl is ↦ (
         let many = has.needs in
-        let e : needs_of (with_need s task entry) u ≡ one_more (needs_of s task) entry =
-        ap (needs_of (with_need s task entry)) is ∙ get_or-set_same s.needs task (one_more (needs_of s task) entry) [] (omega arith) in
+        let e : needs_of (with_need s task entry) u ≡ one_need_more (needs_of s task) entry =
+        ap (needs_of (with_need s task entry)) is ∙ get_or-set_same s.needs task (one_need_more (needs_of s task) entry) [] (omega arith) in
         let few = few_more (needs_of s task) entry (has.few task) in
         let l = ap length e in
         omega arith)
     | inr ne ↦ (
-        let e : needs_of (with_need s task entry) u ≡ needs_of s u = get_or-set_other s.needs task u (one_more (needs_of s task) entry) [] ne in
+        let e : needs_of (with_need s task entry) u ≡ needs_of s u = get_or-set_other s.needs task u (one_need_more (needs_of s task) entry) [] ne in
         let few = has.few u in
         let l = ap length e in
         omega arith)
@@ -73,7 +72,7 @@ with_need_sixteen s task entry lt has = record {
 }
 
 -- the number of a task, at most 15, is below 16
-below : (task : ℕ) → task ≤ 15 → task < 16
+pub below : (task : ℕ) → task ≤ 15 → task < 16
 below task le = omega arith
 
 module _ (old : QuotaRun) (going : IsGoingQuotas old) where

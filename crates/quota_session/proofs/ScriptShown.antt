@@ -1,7 +1,6 @@
 -- For the laws of `laws.rt`: the replies of a run over tasks are those of the transcript, a function of the lines alone; so two runs that are alike for a task
 -- give it the same replies.
-use Rattle.std.proofs.Common.{◌≡◌, ℕ, ◌<◌, ◌≤◌, List, [], ◌∷◌, Some, None, true, false, cond, get_or, length, take, arith, sym, ◌∙◌, ap, refl}
-use Rattle.std.proofs.Common.{subst, inl, inr}
+use Rattle.std.proofs.Common.{◌≡◌, ℕ, ◌<◌, ◌≤◌, List, [], ◌∷◌, Some, None, true, false, cond, get_or, length, take, arith, sym, ◌∙◌, ap, refl, subst, inl, inr}
 use Rattle.std.specs.Prelude.{⊤, Option, nat_eq, nat_le, nat_lt, option_map, slice_set, sum}
 use Rattle.std.proofs.lemmas.Bool.{cases_eq}
 use Rattle.std.proofs.lemmas.List.{get_or-set_same, get_or-set_other}
@@ -12,16 +11,16 @@ use Rattle.cf_lemmas.proofs.Renaming.{CountAlike}
 use Rattle.cf_lemmas.proofs.Tests.{eq_no, eq_yes}
 use Rattle.id_table.specs.Ids.{Ids}
 use Rattle.quota_heap.specs.State.{empty_state, objects_by}
-use Rattle.quota_laws.proofs.CallerLemmas.{admission_is}
-use Rattle.quota_laws.specs.Tasks.{Tasks, after_item, calls, is_for_task, no_tasks, quota_text, quotas_after, set_refusal, sets, task_leaves, task_reply}
-use Rattle.quota_laws.specs.Transcript.{MeetsTasks, TaskState, admission_text, command_reply, first_state, needs_after, one_more, reply_in, state_after, state_in}
-use Rattle.quota_laws.specs.Transcript.{task_replies}
+use Rattle.quota_session.proofs.Admitted.{admission_is}
+use Rattle.quota_session.specs.Tasks.{Tasks, after_item, calls, is_for_task, no_tasks, quota_text, quotas_after, set_refusal, sets, task_leaves, task_reply}
+use Rattle.quota_session.specs.Transcript.{MeetsTasks, TaskState, admission_text, command_reply, first_state, needs_after, one_need_more, reply_to_item, state_after, state_after_item}
+use Rattle.quota_session.specs.Transcript.{task_replies, after_if, item_of, present_after}
 use Rattle.quota_model.specs.Refusals.{task_paging}
 use Rattle.quota_model.specs.declared.answers.Need.{Need}
 use Rattle.quota_model.specs.declared.answers.QuotaFault.{QuotaFault}
 use Rattle.quota_model.specs.declared.answers.QuotaFault.TheVariants.{Sum, Used}
-use Rattle.run_laws.specs.ValidItems.{AreValidItems, IsValidCommand, IsValidItem}
-use Rattle.run_laws.proofs.CallerLemmas.{all_items_valid}
+use Rattle.script_laws.specs.ValidItems.{AreValidItems, IsValidCommand, IsValidItem}
+use Rattle.script_laws.proofs.CallerLemmas.{all_items_valid, needed_alike}
 use Rattle.run_model.specs.Plays.{PlayStep}
 use Rattle.script_loop.specs.ScriptOutcome.{MOST_BYTES, items_within}
 use Rattle.script_loop.specs.Semantics.{RunBy}
@@ -29,14 +28,14 @@ use Rattle.id_table.specs.Ties.{AreTiedTo}
 use Rattle.script_reader.specs.Items.{Item, asks, bad, starts}
 use Rattle.script_reader.specs.declared.command.Command.{Command}
 use Rattle.script_reader.specs.declared.command.Command.TheVariants as command
-use Rattle.transcript_laws.specs.Histories.{objects_by_id}
-use Rattle.transcript_laws.proofs.CallerLemmas.{by_id_counts, needed_alike, none_by_id}
-use Rattle.quota_session.specs.Alone.{AreAlikeFor, after_if, item_of, present_after, tasks_of}
-use Rattle.quota_session.specs.Playing.{BeginsAtOne, BeginsQuotas, RunsQuotas, quota_tasks}
+use Rattle.run_model.specs.ById.{objects_by_id}
+use Rattle.run_model.proofs.CallerLemmas.{by_id_counts, none_by_id}
+use Rattle.quota_session.specs.Alone.{AreAlikeFor, tasks_of}
+use Rattle.quota_session.specs.Playing.{BeginsTasks, BeginsQuotas, RunsQuotas, quota_tasks}
 use Rattle.quota_session.specs.QuotaRun.{IsGoingQuotas, QuotaRun, QuotaStep, SetsQuota, StepsPresent, TaskSession, ids_of, needs_of, present_run}
 use Rattle.quota_session.specs.QuotaRun.{quota_fault, with_ids}
 use Rattle.quota_session.specs.TaskRun.{TaskRun, task_run}
-use Rattle.quota_session.proofs.RunInvariant.{ids_here, ids_there, present_kept, still_going}
+use Rattle.quota_session.proofs.RunInvariant.{below, ids_here, ids_there, present_kept, still_going}
 use Rattle.quota_session.proofs.OpenLemmas.{all_same, begins_going}
 use Rattle.quota_session.proofs.OwnTask.{IsOwnReply, shown}
 
@@ -100,9 +99,6 @@ module _ (old : QuotaRun) (going : IsGoingQuotas old) where
   quota_after task pages reply new lt s = ap tasks_of s.whole
       ∙ ap (λ (f : Option QuotaFault). record t { quotas = quotas_after f old.heap.quotas task pages }) (fault_same task pages lt)
 
-  below : (task : ℕ) → task ≤ 15 → task < 16
-  below task le = omega arith
-
   -- the tasks after a command are those of the transcript; below, so is the present task
   pub tasks_after : (c : Command) (reply : Reply) (new : QuotaRun) → IsValidCommand c → QuotaStep old c reply new → tasks_of new ≡ after_if t (item_of now c)
   tasks_after (command.Task task) reply new can step = ap tasks_of step.1
@@ -165,10 +161,10 @@ module _ (old : QuotaRun) (going : IsGoingQuotas old) where
     | inl is ↦ (
         let many = (going.sixteen).needs in
         let low : task ≤ 15 = can.formed in
-        rw is (get_or-set_same old.session.needs task (one_more (needs_of old.session task) entry) [] (omega arith)
-        ∙ sym (ap (λ b. cond b (one_more (needs_of old.session task) entry) (needs_of old.session task)) (eq_yes task task refl))))
-    | inr ne ↦ get_or-set_other old.session.needs task u (one_more (needs_of old.session task) entry) [] ne
-        ∙ sym (ap (λ b. cond b (one_more (needs_of old.session u) entry) (needs_of old.session u)) (eq_no u task ne))
+        rw is (get_or-set_same old.session.needs task (one_need_more (needs_of old.session task) entry) [] (omega arith)
+        ∙ sym (ap (λ b. cond b (one_need_more (needs_of old.session task) entry) (needs_of old.session task)) (eq_yes task task refl))))
+    | inr ne ↦ get_or-set_other old.session.needs task u (one_need_more (needs_of old.session task) entry) [] ne
+        ∙ sym (ap (λ b. cond b (one_need_more (needs_of old.session u) entry) (needs_of old.session u)) (eq_no u task ne))
   ]
     where
       entry : Need
@@ -187,7 +183,7 @@ module _ (old : QuotaRun) (going : IsGoingQuotas old) where
   command_shown : (c : Command) (reply : Reply) (new : QuotaRun) → IsValidCommand c → QuotaStep old c reply new → reply ≡ command_reply (state_of old) c
   command_shown (command.Task task) reply new can step = step.0
   command_shown (command.Quota task pages) reply new can step = step.reply_is
-      ∙ ap (λ f. said (quota_text f)) (fault_same old going task pages (below old going task can.formed))
+      ∙ ap (λ f. said (quota_text f)) (fault_same old going task pages (below task can.formed))
   command_shown (command.Need task bytes count) reply new can step = step.0
   command_shown (command.Admit task) reply new can step = (step.0).reply_is
       ∙ ap (λ a. said (admission_text a)) (admission_is _ (needs_of old.session task) (step.0).answer (step.0).meets)
@@ -200,12 +196,12 @@ GoesOn (Some s) = IsGoingQuotas s
 
 -- the reply to an item and the state after it are those of the transcript, and the run goes on
 record IsShownItem (old : Option QuotaRun) (item : Item) (reply : Reply) (new : Option QuotaRun) : Type 0 where
-  reply_is : reply ≡ reply_in (option_map state_of old) item
-  state : option_map state_of new ≡ state_in (option_map state_of old) item
+  reply_is : reply ≡ reply_to_item (option_map state_of old) item
+  state : option_map state_of new ≡ state_after_item (option_map state_of old) item
   going : GoesOn new
 
 item_shown : (old : Option QuotaRun) (item : Item) (reply : Reply) (new : Option QuotaRun) → GoesOn old → IsValidItem item
-    → PlayStep BeginsAtOne QuotaStep old item reply new → IsShownItem old item reply new
+    → PlayStep BeginsTasks QuotaStep old item reply new → IsShownItem old item reply new
 item_shown old (starts p) reply new going can step = record {
   reply_is = step.1.1;
   state = ap (option_map state_of) step.2 ∙ ap (λ t. Some t) (begun_shown p step.0 step.1.0);

@@ -17,15 +17,14 @@ use Rattle.page_model.specs.Paging.{class_for}
 use Rattle.page_model.proofs.CallerLemmas.{length-written}
 use Rattle.quota_heap.specs.State.{KeepsTasks, QuotaState, held_by, objects_by}
 use Rattle.quota_heap.specs.Steps.{FreesOfTask, AddsObjectOfTask, IsMallocStep, IsWriteStep, WritesForTask}
-use Rattle.quota_model.proofs.CallerLemmas.{objects_rewritten, others_rewritten}
+use Rattle.quota_model.proofs.CallerLemmas.{objects_rewritten, others_rewritten, others_kept, others_stay, own_freed, own_objects}
 use Rattle.quota_model.specs.Refusals.{task_paging}
-use Rattle.quota_model.proofs.CallerLemmas.{others_kept, others_stay, own_freed, own_objects}
-use Rattle.run_model.specs.Steps.{ids_given}
+use Rattle.run_model.specs.Steps.{ids_given, Stays}
 use Rattle.script_reader.specs.declared.command.Command.{Command}
 use Rattle.script_reader.specs.declared.command.Command.TheVariants as command
 use Rattle.id_table.specs.Ties.{AreTiedTo}
 use Rattle.id_table.proofs.CallerLemmas.{tied_less, tied_more, tied_same}
-use Rattle.quota_session.specs.TaskRun.{FreesIdOfTask, MallocsForTask, StaysTask, TaskRun, TaskStep, WritesIdOfTask}
+use Rattle.quota_session.specs.TaskRun.{FreesIdOfTask, MallocsForTask, TaskRun, TaskStep, WritesIdOfTask}
 
 -- the heap keeps its settings and quotas, and a call of one task leaves the objects of the others
 pub record KeepsRest (task : ℕ) (old new : QuotaState) : Type 0 where
@@ -153,19 +152,19 @@ module _ (old new : TaskRun) (rules : KeepsTasks old.heap) (tied : AreTiedTo old
   pub task_kept : (c : Command) → TaskStep old c reply new → IsKept old new
   task_kept (command.Malloc id bytes) step = go (get old.ids id) refl step
     where
-      go : (o : Option ℕ) → get old.ids id ≡ o → MatchOption o (MallocsForTask old id bytes reply new) (λ h. StaysTask old (codes "live") reply new)
+      go : (o : Option ℕ) → get old.ids id ≡ o → MatchOption o (MallocsForTask old id bytes reply new) (λ h. Stays old (codes "live") reply new)
           → IsKept old new
       go None free m = mallocs id bytes free m
       go (Some h) live s = same s.1
   task_kept (command.Free id) step = go (get old.ids id) refl step
     where
-      go : (o : Option ℕ) → get old.ids id ≡ o → MatchOption o (StaysTask old (codes "unknown") reply new) (λ h. FreesIdOfTask old id h reply new)
+      go : (o : Option ℕ) → get old.ids id ≡ o → MatchOption o (Stays old (codes "unknown") reply new) (λ h. FreesIdOfTask old id h reply new)
           → IsKept old new
       go None free s = same s.1
       go (Some h) live f = frees id h live f
   task_kept (command.Write id at bytes) step = go (get old.ids id) step
     where
-      go : (o : Option ℕ) → MatchOption o (StaysTask old (codes "unknown") reply new)
+      go : (o : Option ℕ) → MatchOption o (Stays old (codes "unknown") reply new)
           (λ h. WritesIdOfTask old (record { number = h; from = at }) bytes reply new)
           → IsKept old new
       go None s = same s.1

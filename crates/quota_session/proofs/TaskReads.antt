@@ -13,16 +13,16 @@ use Rattle.cf_lemmas.proofs.Tests.{eq_no, eq_yes}
 use Rattle.cf_lemmas.proofs.Maps.{remove_missing}
 use Rattle.page_model.specs.Bytes.{written}
 use Rattle.page_model.specs.Held.{Objects}
-use Rattle.quota_laws.specs.Tasks.{Tasks, own_heap, task_leaves, task_reply}
-use Rattle.quota_laws.specs.Transcript.{MeetsTasks, TaskState, command_reply, present_after, reply_in, state_after, state_in, task_replies}
-use Rattle.run_laws.proofs.CallerLemmas.{changed_is}
-use Rattle.run_laws.specs.IdBytes.{changed, done_by, is_ok, read_shown}
+use Rattle.quota_session.specs.Tasks.{Tasks, own_heap, task_leaves, task_reply}
+use Rattle.quota_session.specs.Transcript.{MeetsTasks, TaskState, command_reply, present_after, reply_to_item, state_after, state_after_item, task_replies}
+use Rattle.script_laws.proofs.CallerLemmas.{changed_is}
+use Rattle.script_laws.specs.IdBytes.{changed, bytes_after, is_ok, read_shown}
 use Rattle.run_model.specs.Replies.{malloc_text, write_text}
 use Rattle.script_reader.specs.Items.{Item, asks, bad, starts}
 use Rattle.script_reader.specs.declared.command.Command.{Command}
 use Rattle.script_reader.specs.declared.command.Command.TheVariants as command
-use Rattle.transcript_laws.specs.Replies.{free_said, malloc_fault, malloc_leaves, malloc_said, ok_or, put_unless, read_said, write_fault}
-use Rattle.transcript_laws.specs.Replies.{write_leaves, write_said}
+use Rattle.script_laws.specs.RepliesById.{free_said, malloc_fault, malloc_leaves, malloc_said, ok_or, put_unless, write_fault}
+use Rattle.script_laws.specs.RepliesById.{write_leaves, write_said}
 use Rattle.quota_session.specs.TaskBytes.{AreReadsOfTasks, IsReadOfTasks, TaskBytes, task_bytes_after, bytes_with}
 
 either : {X : Type 0} (b : Bool) (x : X) → x ≡ cond b x x
@@ -34,7 +34,7 @@ module _ (t : Tasks) (now : ℕ) where
   abbrev all : Objects
   all = t.objects now
 
-  leaves_shown : (c : Command) → task_leaves t now c ≡ cond (is_ok (task_reply t now c)) (done_by c all) all
+  leaves_shown : (c : Command) → task_leaves t now c ≡ cond (is_ok (task_reply t now c)) (bytes_after c all) all
   leaves_shown (command.Malloc id n) = by_object (get all id)
     where
       by_fault : (f : Option Refusal)
@@ -70,7 +70,7 @@ module _ (t : Tasks) (now : ℕ) where
   leaves_shown c = refl
 
 -- the reply to a read depends on the bytes of the object alone
-read_is : (o : Option (List ℕ)) (at count : ℕ) → read_said o at count ≡ read_shown o at count
+read_is : (o : Option (List ℕ)) (at count : ℕ) → read_shown o at count ≡ read_shown o at count
 read_is None at count = refl
 read_is (Some v) at count = refl
 
@@ -86,12 +86,12 @@ module _ (s : TaskState) where
   now = s.present
 
   -- after a call of the present task, its objects by id are those that follow from the reply, and those of every other task u stay
-  call_shown : (c : Command) (u : ℕ) → cond (nat_eq u now && is_ok (task_reply t now c)) (done_by c (t.objects u)) (t.objects u)
+  call_shown : (c : Command) (u : ℕ) → cond (nat_eq u now && is_ok (task_reply t now c)) (bytes_after c (t.objects u)) (t.objects u)
       ≡ cond (nat_eq u now) (task_leaves t now c) (t.objects u)
   call_shown c u = elim (cases_eq u now) [
     | inl at ↦ (
         let yes = eq_yes u now at in
-        rw yes (ap (λ v. cond (is_ok (task_reply t now c)) (done_by c (t.objects v)) (t.objects v)) at ∙ sym (leaves_shown t now c)))
+        rw yes (ap (λ v. cond (is_ok (task_reply t now c)) (bytes_after c (t.objects v)) (t.objects v)) at ∙ sym (leaves_shown t now c)))
     | inr ne ↦ (let no' = eq_no u now ne in rw no' refl)
   ]
 
@@ -102,13 +102,13 @@ module _ (s : TaskState) where
   after_shown (command.Admit task) u = sym (either (nat_eq u now && is_ok (command_reply s (command.Admit task))) (t.objects u))
   after_shown c u = call_shown c u
 
-item_shown : (s : Option TaskState) (item : Item) → task_bytes_after (option_map bytes_of s) item (reply_in s item) ≡ option_map bytes_of (state_in s item)
+item_shown : (s : Option TaskState) (item : Item) → task_bytes_after (option_map bytes_of s) item (reply_to_item s item) ≡ option_map bytes_of (state_after_item s item)
 item_shown s (starts p) = refl
 item_shown None (asks c) = refl
 item_shown (Some s) (asks c) = λ i. Some (record { present = present_after s.present c; bytes = λ u. after_shown s c u i })
 item_shown s (bad n) = refl
 
-item_reads : (s : Option TaskState) (item : Item) → IsReadOfTasks (option_map bytes_of s) item (reply_in s item)
+item_reads : (s : Option TaskState) (item : Item) → IsReadOfTasks (option_map bytes_of s) item (reply_to_item s item)
 item_reads None item = tt
 item_reads (Some s) (asks (command.Read id at count)) = ap said (read_is (get (s.tasks.objects s.present) id) at count)
 item_reads (Some s) item = tt
@@ -117,7 +117,7 @@ replies_read : (s : Option TaskState) (items : List Item) → AreReadsOfTasks (o
 replies_read s [] = tt
 replies_read s (item ∷ rest) = (
   item_reads s item,
-  subst (λ shown. AreReadsOfTasks shown rest (task_replies (state_in s item) rest)) (sym (item_shown s item)) (replies_read (state_in s item) rest),
+  subst (λ shown. AreReadsOfTasks shown rest (task_replies (state_after_item s item) rest)) (sym (item_shown s item)) (replies_read (state_after_item s item) rest),
 )
 
 pub reads_are_shown : (items : List Item) (replies : List Reply) → MeetsTasks items replies → AreReadsOfTasks None items replies

@@ -1,10 +1,8 @@
--- What the replies to a task depend on: the settings, its quota, and its objects by id instead of by handle; and when two runs are alike for a task. `pub use`
--- passes on three definitions of the transcript.
+-- What the replies to a task depend on: the settings, its quota, and its objects by id instead of by handle; and when two runs are alike for a task.
 use Rattle.std.specs.Prelude.{◌≡◌, ℕ}
 use Rattle.quota_heap.specs.State.{objects_by, quota_of}
-use Rattle.quota_laws.specs.Tasks.{Tasks}
-pub use Rattle.quota_laws.specs.Transcript.{after_if, item_of, present_after}
-use Rattle.transcript_laws.specs.Histories.{objects_by_id}
+use Rattle.quota_session.specs.Tasks.{Tasks}
+use Rattle.run_model.specs.ById.{objects_by_id}
 use Rattle.quota_session.specs.QuotaRun.{QuotaRun, ids_of}
 
 -- the settings of a run, and for each task its quota and its objects by id: without handles and addresses

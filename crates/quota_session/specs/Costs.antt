@@ -34,5 +34,5 @@ task_steps s (Read id from count) = id_access_steps s.ids id from count
 task_steps s command = 0
 
 -- the most steps of any command of a run: `m`, `f`, `w` and `r` are those of the present task
-abbrev pub most_steps : QuotaRun → Command → ℕ
-most_steps s command = task_steps (present_run s.session s.heap) command
+abbrev pub most_tasks_steps : QuotaRun → Command → ℕ
+most_tasks_steps s command = task_steps (present_run s.session s.heap) command

@@ -5,13 +5,13 @@ use Rattle.quota_session.specs.QuotaRun.{TaskSession}
 use Rattle.quota_session.specs.declared.records.Records.{Records}
 
 -- the session that these stored records represent
-abbrev pub session_of : Records → TaskSession
-session_of r = record { ids = r.ids.items; needs = r.needs.items; present = r.present }
+abbrev pub tasks_session : Records → TaskSession
+tasks_session r = record { ids = r.ids.items; needs = r.needs.items; present = r.present }
 
 -- the command's reply is one line: true of every command but `walk`
-abbrev pub IsOneLine : Command → Type 0
-IsOneLine Walk = ⊥
-IsOneLine command = Unit {0}
+abbrev pub IsNoWalk : Command → Type 0
+IsNoWalk Walk = ⊥
+IsNoWalk command = Unit {0}
 
 -- the command is for the present task, names no task itself, and has a reply of one line
 abbrev pub IsOfTask : Command → Type 0

@@ -1,3 +1,8 @@
+pub mod Tasks
+pub mod Runs
+pub mod Transcript
+pub mod Own
+pub mod Admitted
 pub mod TaskRun
 pub mod QuotaRun
 pub mod Playing

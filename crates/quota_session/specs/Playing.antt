@@ -17,12 +17,12 @@ pub record BeginsQuotas (p : Profile) (new : QuotaRun) : Type 0 where
   pub rules : KeepsTasks new.heap
 
 -- the run begins as in `BeginsQuotas`, and the reply to the `heap` line is `ok`
-abbrev pub BeginsAtOne : Profile → Reply → QuotaRun → Type 0
-BeginsAtOne p reply new = BeginsQuotas p new × (reply ≡ said (codes "ok"))
+abbrev pub BeginsTasks : Profile → Reply → QuotaRun → Type 0
+BeginsTasks p reply new = BeginsQuotas p new × (reply ≡ said (codes "ok"))
 
 -- A run from a state (None before the `heap` line): the items may have these replies, one each, and lead to the new state.
 abbrev pub RunsQuotas : Option QuotaRun → List Item → List Reply → Option QuotaRun → Type 0
-RunsQuotas = PlayRun BeginsAtOne QuotaStep
+RunsQuotas = PlayRun BeginsTasks QuotaStep
 
 -- an allocation failed at the `heap` line: the heap is closed, and the settings and the session are unchanged
 pub record LacksQuotas (old new : QuotaRun) : Type 0 where
@@ -36,7 +36,7 @@ quota_tasks = record {
   plan = λ s. tt;
   is_fresh = λ s. s.session ≡ first_session;
   is_going = IsGoingQuotas;
-  begins = λ plan. BeginsAtOne;
+  begins = λ plan. BeginsTasks;
   turns = QuotaStep;
   turns_in_part = TurnsInPart QuotaStep;
   lacks = LacksQuotas;

@@ -1,15 +1,13 @@
--- A session over a heap that sixteen tasks share: its state, and for each command the reply and the state after it. `pub use` passes on the replies to `need`
--- and `admit`, and how `need` adds an entry.
-use Rattle.std.specs.Prelude.{◌≡◌, ℕ, ◌<◌, ◌≤◌, IsTrue, List, [], Option, Some, codes, length, replicate, refl}
-use Rattle.std.specs.Prelude.{slice_index_or, slice_set}
+-- A session over a heap that sixteen tasks share: its state, and for each command the reply and the state after it.
+use Rattle.std.specs.Prelude.{◌≡◌, ℕ, ◌<◌, ◌≤◌, IsTrue, List, [], Option, Some, codes, length, replicate, refl, slice_index_or, slice_set}
 use Rattle.std.specs.Coded.{Coded, code_by, coded×, coded_ℕ, coded_list}
 use Rattle.std.specs.FinMap.{empty}
 use Rattle.cf_base.specs.Settings.{Profile}
 use Rattle.cf_io.specs.Texts.{Reply, said}
 use Rattle.id_table.specs.Ids.{Ids, ids_code}
 use Rattle.quota_heap.specs.State.{KeepsTasks, QuotaState, objects_by, quota_of}
-use Rattle.quota_laws.specs.Tasks.{quota_text, quotas_after}
-pub use Rattle.quota_laws.specs.Transcript.{admission_text, need_text, one_more}
+use Rattle.quota_session.specs.Tasks.{quota_text, quotas_after}
+use Rattle.quota_session.specs.Transcript.{admission_text, need_text, one_need_more}
 use Rattle.quota_model.specs.Admission.{IsAdmission}
 use Rattle.quota_model.specs.Refusals.{quota_refusal}
 use Rattle.quota_model.specs.contracts.Need as need
@@ -49,8 +47,8 @@ pub record HasSixteen (s : TaskSession) : Type 0 where
   pub present : s.present < 16
 
 -- the encoding of the session as nested pairs and lists, which the trait `Model` requires
-abbrev pub session_code : Coded TaskSession
-session_code = code_by (List Ids × (List (List Need) × ℕ)) (coded× (coded_list ids_code) (coded× (coded_list (coded_list need.the_row.coded)) coded_ℕ))
+abbrev pub tasks_code : Coded TaskSession
+tasks_code = code_by (List Ids × (List (List Need) × ℕ)) (coded× (coded_list ids_code) (coded× (coded_list (coded_list need.the_row.coded)) coded_ℕ))
     (λ s. (s.ids, (s.needs, s.present))) (λ q. record { ids = q.0; needs = q.1.0; present = q.1.1 }) (λ _. refl)
 
 -- the ids of each task name exactly its objects, each object by one id
@@ -106,7 +104,7 @@ pub record SetsQuota (old : QuotaRun) (task pages : ℕ) (reply : Reply) (new : 
 
 -- the session s after `need` for the task: the task has declared this entry too, if it had fewer than 64
 abbrev pub with_need : TaskSession → ℕ → Need → TaskSession
-with_need s task entry = record s { needs = slice_set s.needs task (one_more (needs_of s task) entry) }
+with_need s task entry = record s { needs = slice_set s.needs task (one_need_more (needs_of s task) entry) }
 
 -- `admit`: the reply shows whether the task's quota and the proxies are enough for the needs that it declared (`IsAdmission`)
 pub record Admits (s : QuotaRun) (task : ℕ) (reply : Reply) : Type 0 where

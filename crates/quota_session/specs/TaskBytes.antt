@@ -1,22 +1,23 @@
 -- The bytes last written through each task's ids, computed from the lines of a script and their replies alone; and that each read prints them.
 use Rattle.std.specs.Prelude.{⊤, ℕ, ◌&&◌, List, [], ◌∷◌, Option, Some, None, if◌then◌else◌, nat_eq}
 use Rattle.std.specs.FinMap.{empty}
+use Rattle.page_model.specs.Held.{Objects}
 use Rattle.cf_io.specs.Texts.{Reply}
-use Rattle.run_laws.specs.IdBytes.{IsReadOf, IdBytes, done_by, is_ok}
+use Rattle.script_laws.specs.IdBytes.{IsReadOf, bytes_after, is_ok}
 use Rattle.script_reader.specs.Items.{Item, asks, bad, starts}
 use Rattle.script_reader.specs.declared.command.Command.{Command}
-use Rattle.quota_session.specs.Alone.{present_after}
+use Rattle.quota_session.specs.Transcript.{present_after}
 
 -- the present task, and for each task the bytes of each id
 pub record TaskBytes : Type 0 where
   pub present : ℕ
-  pub bytes : ℕ → IdBytes
+  pub bytes : ℕ → Objects
 
 -- the record m after a command and its reply: `t` makes another task present; a command with the reply `ok` changes the bytes of the present task alone
 abbrev pub bytes_with : TaskBytes → Command → Reply → TaskBytes
 bytes_with m command reply = record {
   present = present_after m.present command;
-  bytes = λ task. if nat_eq task m.present && is_ok reply then done_by command (m.bytes task) else m.bytes task;
+  bytes = λ task. if nat_eq task m.present && is_ok reply then bytes_after command (m.bytes task) else m.bytes task;
 }
 
 -- the bytes of each task's ids after an item and its reply, if they were `shown` before it; None before the `heap` line

@@ -20,7 +20,7 @@ use Rattle.quota_heap.specs.Steps.{FreesOfTask, IsMallocStep, IsWriteStep}
 use Rattle.quota_model.specs.Refusals.{task_paging}
 use Rattle.run_model.specs.Replies.{malloc_text, read_text, write_text}
 use Rattle.run_model.specs.Reports.{class_line, total_line}
-use Rattle.run_model.specs.Steps.{ids_given}
+use Rattle.run_model.specs.Steps.{Stays, ids_given}
 use Rattle.script_reader.specs.declared.command.Command.{Command}
 use Rattle.script_reader.specs.declared.command.Command.TheVariants.{Malloc, Free, Write, Read, Walk}
 
@@ -55,10 +55,6 @@ task_totals s task = record (totals_of (task_paging s.profile) (held_by s task))
 -- walk: a line for each class of the task with live objects, and then the line of the totals
 abbrev pub task_report : QuotaState → ℕ → Reply
 task_report s task = class_lines s task (task_classes s task) ++ said (total_line (task_totals s task))
-
--- the command changes nothing, and its reply is this text
-abbrev pub StaysTask : TaskRun → List ℕ → Reply → TaskRun → Type 0
-StaysTask old text reply new = (reply ≡ said text) × (new ≡ old)
 
 -- a malloc for an id that isn't live: the heap adds an object and the id names it, or the heap refuses; the reply shows which
 pub record MallocsForTask (old : TaskRun) (id bytes : ℕ) (reply : Reply) (new : TaskRun) : Type 0 where
@@ -95,8 +91,8 @@ task_shown s command = said (codes "none")
 
 -- One command of a task: the task before it, its reply, and the task after it.
 abbrev pub TaskStep : TaskRun → Command → Reply → TaskRun → Type 0
-TaskStep old (Malloc id bytes) reply new = MatchOption (get old.ids id) (MallocsForTask old id bytes reply new) (λ h. StaysTask old (codes "live") reply new)
-TaskStep old (Free id) reply new = MatchOption (get old.ids id) (StaysTask old (codes "unknown") reply new) (λ h. FreesIdOfTask old id h reply new)
+TaskStep old (Malloc id bytes) reply new = MatchOption (get old.ids id) (MallocsForTask old id bytes reply new) (λ h. Stays old (codes "live") reply new)
+TaskStep old (Free id) reply new = MatchOption (get old.ids id) (Stays old (codes "unknown") reply new) (λ h. FreesIdOfTask old id h reply new)
 TaskStep old (Write id at bytes) reply new =
-    MatchOption (get old.ids id) (StaysTask old (codes "unknown") reply new) (λ h. WritesIdOfTask old (record { number = h; from = at }) bytes reply new)
+    MatchOption (get old.ids id) (Stays old (codes "unknown") reply new) (λ h. WritesIdOfTask old (record { number = h; from = at }) bytes reply new)
 TaskStep old command reply new = (reply ≡ task_shown old command) × (new ≡ old)

@@ -2,9 +2,9 @@
 //! of one length in bytes; `admit` tests whether the task's quota is enough for them.
 ghost use Rattle.std.specs.Prelude.{◌≡◌, ◌<◌, ◌≤◌, [], IsTrue, length, nat_lt};
 ghost use Rattle.quota_model.specs.declared.answers.Need.{Need as ANeed};
-ghost use Rattle.quota_session.specs.QuotaRun.{one_more};
+ghost use Rattle.quota_session.specs.Transcript.{one_need_more};
 
-use admission::Need;
+use quota_model::Need;
 use std::marker::Model;
 
 /// The most entries that a task can declare.
@@ -54,7 +54,7 @@ impl Needs {
     /// Adds an entry at the end and returns true; if there are 64, changes nothing and returns false.
     pub(crate) fn push(&mut self, entry: Need) -> bool
         ensures room { result ≡ nat_lt (length self.old) 64 }
-        ensures value { self.new ≡ one_more self.old entry }
+        ensures value { self.new ≡ one_need_more self.old entry }
     {
         if self.count == MOST_ENTRIES {
             return false;

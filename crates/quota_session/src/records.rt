@@ -2,7 +2,7 @@
 //! for which commands that name no task act.
 ghost use Rattle.std.specs.Prelude.{◌≡◌, IfOk, [], replicate};
 ghost use Rattle.std.specs.FinMap as map;
-ghost use Rattle.quota_session.specs.Layout.{session_of};
+ghost use Rattle.quota_session.specs.Layout.{tasks_session};
 ghost use Rattle.quota_session.specs.QuotaRun.{first_session};
 
 use crate::needs::Needs;
@@ -26,7 +26,7 @@ impl Records {
     /// Records in which no id is live, no need is declared, and task 0 is present. Allocates all memory of a
     /// session, and fails with `OutOfMemory` if an allocation fails.
     pub(crate) fn new(alloc: Global) -> Result<Records, OutOfMemory>
-        ensures { IfOk result (λ r. session_of r ≡ first_session) }
+        ensures { IfOk result (λ r. tasks_session r ≡ first_session) }
     {
         let ids = first_ids(alloc)?;
         let needs = first_needs(alloc)?;

@@ -12,8 +12,8 @@ ghost use Rattle.script_reader.specs.Commands.{IsWellFormed};
 ghost use Rattle.script_reader.specs.Owned.{owned_command};
 ghost use Rattle.script_loop.specs.Applying.{Applies, BuildsReply};
 ghost use Rattle.id_table.specs.Ties.{AreTiedTo};
-ghost use Rattle.quota_session.specs.Costs.{most_steps, task_steps};
-ghost use Rattle.quota_session.specs.Layout.{IsOfTask, IsOneLine, session_of};
+ghost use Rattle.quota_session.specs.Costs.{most_tasks_steps, task_steps};
+ghost use Rattle.quota_session.specs.Layout.{IsOfTask, IsNoWalk, tasks_session};
 ghost use Rattle.quota_session.specs.Playing.{quota_tasks};
 ghost use Rattle.quota_session.specs.QuotaRun.{AreTasksTied, HasSixteen, IsGoingQuotas, QuotaStep, first_session, present_run, quota_moment, quota_run};
 ghost use Rattle.quota_session.specs.TaskRun.{TaskStep, task_run};
@@ -22,19 +22,16 @@ use crate::changes::{free, malloc, read, write};
 use crate::records::Records;
 use crate::reports::walk;
 use crate::tasks::{declare, push_admission, set_quota};
-use admission::{Need, admit};
-use cf_base::{Failed, OutOfMemory, Settings};
+use cf_base::{CHUNK, Failed, OutOfMemory, Settings};
 use cf_io::{Line, Sink, put_line};
 use cf_session::{Outcome, Short, ended, push_short};
 use id_table::IdTable;
 use quota_heap::QuotaHeap;
+use quota_model::{Need, admit};
 use script_reader::{Command, CommandRef};
 use std::alloc::Global;
 use std::marker::Model;
 use step_ledger::{Meter, Steps};
-
-/// The most bytes that one `r` reads.
-const MOST_READ: usize = 4_096;
 
 /// For each of sixteen tasks its ids and its declared needs; and which task is present.
 #[derive(Drop)]
@@ -43,20 +40,20 @@ pub struct QuotaSession {
     /// The line in which a reply is built.
     line: Line,
     /// The buffer for the bytes of a read.
-    buffer: [u8; MOST_READ],
+    buffer: [u8; CHUNK],
 }
 
 impl Model for QuotaSession {
-    ghost use Rattle.quota_session.specs.Layout.{session_of};
-    ghost use Rattle.quota_session.specs.QuotaRun.{HasSixteen, TaskSession, session_code};
+    ghost use Rattle.quota_session.specs.Layout.{tasks_session};
+    ghost use Rattle.quota_session.specs.QuotaRun.{HasSixteen, TaskSession, tasks_code};
 
     ghost Value = { TaskSession };
 
-    ghost coded = { session_code };
+    ghost coded = { tasks_code };
 
-    ghost view = { λ s. session_of s.records };
+    ghost view = { λ s. tasks_session s.records };
 
-    ghost invariant = { λ s. HasSixteen (session_of s.records) };
+    ghost invariant = { λ s. HasSixteen (tasks_session s.records) };
 }
 
 impl QuotaSession {
@@ -68,7 +65,7 @@ impl QuotaSession {
         Ok(QuotaSession {
             records: Records::new(alloc)?,
             line: Line::new(),
-            buffer: [0; MOST_READ],
+            buffer: [0; CHUNK],
         })
     }
 
@@ -91,7 +88,7 @@ impl QuotaSession {
             (quota_moment (Some (profile_of s.now)) self.new heap.new (K.written out.new)) }
         ensures going { IsGoingQuotas (quota_run (Some (profile_of s.now)) self.new heap.new) }
         // The ledger counts from 0 in each command.
-        ensures steps { meter.new ≤ most_steps (quota_run (Some (profile_of s.now)) self.old heap.old) c.now }
+        ensures steps { meter.new ≤ most_tasks_steps (quota_run (Some (profile_of s.now)) self.old heap.old) c.now }
         ensures grows { K.faults out.old ≤ K.faults out.new }
         ensures same { OnOk result (K.faults out.new ≡ K.faults out.old) }
         ensures failed { OnErr result (FailsLast (K.faults out.old) (K.faults out.new) (K.last_failed out.new)) }
@@ -115,7 +112,7 @@ impl QuotaSession {
         ensures step { Applies quota_tasks (quota_moment (Some (profile_of s.now)) self.old heap.old (K.written out.old))
             (owned_command c.entry) result (quota_moment (Some (profile_of s.now)) self.new heap.new (K.written out.new)) }
         ensures going { IsGoingQuotas (quota_run (Some (profile_of s.now)) self.new heap.new) }
-        ensures steps { meter.new ≤ most_steps (quota_run (Some (profile_of s.now)) self.old heap.old) (owned_command c.entry) }
+        ensures steps { meter.new ≤ most_tasks_steps (quota_run (Some (profile_of s.now)) self.old heap.old) (owned_command c.entry) }
         ensures grows { K.faults out.old ≤ K.faults out.new }
         ensures same { OnOk result (K.faults out.new ≡ K.faults out.old) }
         ensures failed { OnErr result (FailsLast (K.faults out.old) (K.faults out.new) (K.last_failed out.new)) }
@@ -125,7 +122,7 @@ impl QuotaSession {
     }
 
     /// The same as `apply_ref`, but on a ledger that the caller keeps: the call doesn't reset it, and
-    /// raises it by at most `most_steps` of the command.
+    /// raises it by at most `most_tasks_steps` of the command.
     pub fn answer_ref<K: Sink>(
         &mut self,
         heap: &mut QuotaHeap,
@@ -143,7 +140,7 @@ impl QuotaSession {
             (owned_command c.entry) result (quota_moment (Some (profile_of s.now)) self.new heap.new (K.written out.new)) }
         ensures going { IsGoingQuotas (quota_run (Some (profile_of s.now)) self.new heap.new) }
         ensures steps { RoseAtMost steps.old steps.new
-            (most_steps (quota_run (Some (profile_of s.now)) self.old heap.old) (owned_command c.entry)) }
+            (most_tasks_steps (quota_run (Some (profile_of s.now)) self.old heap.old) (owned_command c.entry)) }
         ensures grows { K.faults out.old ≤ K.faults out.new }
         ensures same { OnOk result (K.faults out.new ≡ K.faults out.old) }
         ensures failed { OnErr result (FailsLast (K.faults out.old) (K.faults out.new) (K.last_failed out.new)) }
@@ -177,14 +174,14 @@ fn answer<K: Sink>(
     out: &mut K,
     steps: &mut Steps,
 ) -> Result<Outcome, Failed>
-    requires going { IsGoingQuotas (quota_run (Some (profile_of s.now)) (session_of records.old) heap.old) }
+    requires going { IsGoingQuotas (quota_run (Some (profile_of s.now)) (tasks_session records.old) heap.old) }
     requires formed { IsWellFormed (owned_command c) }
     requires buffer { length buffer.old ≡ 4096 }
     requires count { steps.old ≤ 2 ^ 63 }
-    ensures step { Applies quota_tasks (quota_moment (Some (profile_of s.now)) (session_of records.old) heap.old (K.written out.old))
-        (owned_command c.entry) result (quota_moment (Some (profile_of s.now)) (session_of records.new) heap.new (K.written out.new)) }
+    ensures step { Applies quota_tasks (quota_moment (Some (profile_of s.now)) (tasks_session records.old) heap.old (K.written out.old))
+        (owned_command c.entry) result (quota_moment (Some (profile_of s.now)) (tasks_session records.new) heap.new (K.written out.new)) }
     ensures steps { RoseAtMost steps.old steps.new
-        (most_steps (quota_run (Some (profile_of s.now)) (session_of records.old) heap.old) (owned_command c.entry)) }
+        (most_tasks_steps (quota_run (Some (profile_of s.now)) (tasks_session records.old) heap.old) (owned_command c.entry)) }
     ensures grows { K.faults out.old ≤ K.faults out.new }
     ensures same { OnOk result (K.faults out.new ≡ K.faults out.old) }
     ensures failed { OnErr result (FailsLast (K.faults out.old) (K.faults out.new) (K.last_failed out.new)) }
@@ -213,16 +210,16 @@ fn build_reply(
     line: &mut Line,
     steps: &mut Steps,
 ) -> Outcome
-    requires going { IsGoingQuotas (quota_run (Some (profile_of s.now)) (session_of records.old) heap.old) }
+    requires going { IsGoingQuotas (quota_run (Some (profile_of s.now)) (tasks_session records.old) heap.old) }
     requires formed { IsWellFormed (owned_command c) }
-    requires one { IsOneLine (owned_command c) }
+    requires one { IsNoWalk (owned_command c) }
     requires buffer { length buffer.old ≡ 4096 }
     requires count { steps.old ≤ 2 ^ 63 }
-    ensures speaks { BuildsReply QuotaStep (quota_run (Some (profile_of s.now)) (session_of records.old) heap.old) (owned_command c.entry)
-        (quota_run (Some (profile_of s.now)) (session_of records.new) heap.new) line.new }
+    ensures speaks { BuildsReply QuotaStep (quota_run (Some (profile_of s.now)) (tasks_session records.old) heap.old) (owned_command c.entry)
+        (quota_run (Some (profile_of s.now)) (tasks_session records.new) heap.new) line.new }
     ensures outcome { result ≡ outcome_in line.new }
     ensures steps { RoseAtMost steps.old steps.new
-        (most_steps (quota_run (Some (profile_of s.now)) (session_of records.old) heap.old) (owned_command c.entry)) }
+        (most_tasks_steps (quota_run (Some (profile_of s.now)) (tasks_session records.old) heap.old) (owned_command c.entry)) }
 {
     line.clear();
     match c {
@@ -254,18 +251,18 @@ fn build_reply_present(
     steps: &mut Steps,
 ) -> Outcome
     requires opened { IsTrue heap.old.is_open }
-    requires sixteen { HasSixteen (session_of records.old) }
-    requires tied { AreTasksTied (session_of records.old) heap.old }
+    requires sixteen { HasSixteen (tasks_session records.old) }
+    requires tied { AreTasksTied (tasks_session records.old) heap.old }
     requires formed { IsWellFormed (owned_command c) }
     requires own { IsOfTask (owned_command c) }
     requires buffer { length buffer.old ≡ 4096 }
     requires count { steps.old ≤ 2 ^ 63 }
     requires empty { line.old ≡ [] }
-    ensures step { (settings : Option Profile) → QuotaStep (quota_run settings (session_of records.old) heap.old)
-        (owned_command c.entry) (said line.new) (quota_run settings (session_of records.new) heap.new) }
+    ensures step { (settings : Option Profile) → QuotaStep (quota_run settings (tasks_session records.old) heap.old)
+        (owned_command c.entry) (said line.new) (quota_run settings (tasks_session records.new) heap.new) }
     ensures room { length line.new < line_capacity }
     ensures outcome { result ≡ outcome_in line.new }
-    ensures steps { RoseAtMost steps.old steps.new (task_steps (present_run (session_of records.old) heap.old) (owned_command c.entry)) }
+    ensures steps { RoseAtMost steps.old steps.new (task_steps (present_run (tasks_session records.old) heap.old) (owned_command c.entry)) }
 {
     let task = records.present;
     let ids = &mut records.ids[task as usize];

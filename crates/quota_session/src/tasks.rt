@@ -5,15 +5,16 @@ ghost use Rattle.cf_io.specs.Lines.{line_capacity};
 ghost use Rattle.cf_session.specs.Apply.{outcome_in};
 ghost use Rattle.cf_session.specs.Short.{short_text};
 ghost use Rattle.quota_heap.specs.State.{KeepsTasks};
-ghost use Rattle.quota_laws.specs.Tasks.{quota_text, quotas_after};
-ghost use Rattle.quota_session.specs.Layout.{session_of};
-ghost use Rattle.quota_session.specs.QuotaRun.{HasSixteen, admission_text, need_text, needs_of, quota_fault, with_need};
+ghost use Rattle.quota_session.specs.Tasks.{quota_text, quotas_after};
+ghost use Rattle.quota_session.specs.Layout.{tasks_session};
+ghost use Rattle.quota_session.specs.QuotaRun.{HasSixteen, needs_of, quota_fault, with_need};
+ghost use Rattle.quota_session.specs.Transcript.{admission_text, need_text};
 
 use crate::records::Records;
-use admission::{Admission, Need};
 use cf_io::{Line, push_field, push_text};
 use cf_session::{Outcome, Short};
 use quota_heap::{QuotaFault, QuotaHeap};
+use quota_model::{Admission, Need};
 
 /// `quota`: sets the quota of a task to `pages` pages. The heap refuses, and nothing changes, if the quotas
 /// would sum to more pages than the region has, else if the task uses more than `pages` pages; the reply shows
@@ -36,9 +37,9 @@ pub(crate) fn set_quota(heap: &mut QuotaHeap, task: u32, pages: u32) -> Short
 /// nothing changes.
 pub(crate) fn declare(records: &mut Records, task: u32, entry: Need) -> Short
     requires sixteen { task < 16 }
-    requires kept { HasSixteen (session_of records.old) }
-    ensures session { session_of records.new ≡ with_need (session_of records.old) task entry }
-    ensures text { short_text result ≡ need_text (needs_of (session_of records.old) task) }
+    requires kept { HasSixteen (tasks_session records.old) }
+    ensures session { tasks_session records.new ≡ with_need (tasks_session records.old) task entry }
+    ensures text { short_text result ≡ need_text (needs_of (tasks_session records.old) task) }
 {
     let needs = &mut records.needs[task as usize];
     if needs.push(entry) {

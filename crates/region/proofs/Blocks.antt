@@ -2,7 +2,7 @@
 use Rattle.std.proofs.Common.{◌≡◌, ◌≢◌, ℕ, ◌+◌, ◌*◌, ◌/◌, ◌<◌, ◌≤◌, ◌⊎◌, inl, inr, List, length, slice_index, arith, ap, ◌∙◌}
 use Rattle.std.proofs.lemmas.Bool.{cases_eq, cases_lt}
 use Rattle.region.specs.Words.{AreDistinct, AreOther, ClearsBlocks, MovesBlocks, cleared, moved}
-use Rattle.region.proofs.CallerLemmas.{cleared_others, cleared_within, moved_arrived, moved_left, moved_others}
+use Rattle.region.proofs.WordsAfter.{cleared_others, cleared_within, moved_arrived, moved_left, moved_others}
 
 -- clearing or moving none of the blocks changes nothing
 pub clears_none : (u blocks : List ℕ) → ClearsBlocks u u blocks 0

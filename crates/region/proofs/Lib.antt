@@ -4,3 +4,7 @@ pub mod LayoutFacts
 pub mod AllocateResult
 pub mod Blocks
 pub mod Crosses
+pub mod WordsAfter
+pub mod Overwriting
+pub mod WordRanges
+pub mod RunLemmas

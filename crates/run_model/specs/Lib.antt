@@ -2,6 +2,7 @@ pub mod Texts
 pub mod Reports
 pub mod Sessions
 pub mod Replies
+pub mod ById
 pub mod Steps
 pub mod Bounds
 pub mod Plays

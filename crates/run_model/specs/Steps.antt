@@ -12,7 +12,8 @@ use Rattle.cf_base.specs.declared.answers.Resized.{Resized}
 use Rattle.cf_base.specs.declared.answers.ResizeFault.{ResizeFault}
 use Rattle.page_model.specs.Steps.{Request}
 use Rattle.cf_model.specs.Answers.{with_bound, class_with}
-use Rattle.cf_model.specs.Costs.{resize_bound}
+use Rattle.cf_model.specs.Costs.{block_free_bound, free_bound, resize_bound}
+use Rattle.cf_model.specs.declared.manager.TheConstants.{MALLOC_BOUND}
 use Rattle.cf_model.specs.Ordered.{IsOrderedFree, IsOrderedMalloc, IsOrderedResize}
 use Rattle.cf_model.specs.Rules.{KeepsRules}
 use Rattle.cf_model.specs.State.{HeapState}
@@ -23,12 +24,12 @@ use Rattle.run_model.specs.Replies.{malloc_text, resize_text, shown, write_text}
 use Rattle.run_model.specs.Sessions.{CostsAtMost, CostsByKind, Ids, RunState, SessionState, counted}
 use Rattle.run_model.specs.Texts.{Reply, said}
 
--- the command changes nothing, and its reply is the one line `text`
-abbrev pub Stays : RunState → List ℕ → Reply → RunState → Type 0
+-- the command changes nothing of the state, of whatever type S it is, and its reply is the one line `text`
+abbrev pub Stays : {S : Type 0} → S → List ℕ → Reply → S → Type 0
 Stays old text reply new = (reply ≡ said text) × (new ≡ old)
 
--- the ids after a malloc for `id` with this result: `id` names the new handle, or the malloc was refused and no id changes
-abbrev pub ids_given : Ids → ℕ → Result Handle Refusal → Ids
+-- the ids after a malloc for `id` with this result: `id` names the new handle, or the malloc was refused, for whatever cause, and no id changes
+abbrev pub ids_given : {E : Type 0} → Ids → ℕ → Result Handle E → Ids
 ids_given ids id (Ok h) = insert ids id h.0
 ids_given ids id (Err e) = ids
 
@@ -38,8 +39,8 @@ pub record Mallocs (old : RunState) (asked : Request) (reply : Reply) (new : Run
   pub step : IsMallocStep old.heap asked.length answer new.heap
   pub ordered : IsOrderedMalloc old.heap asked.length answer new.heap
   pub rules : KeepsRules new.heap
-  pub cost : CostsByKind new.heap.kind new.heap.cost 64 25
-  pub session : new.session ≡ record old.session { ids = ids_given old.session.ids asked.number answer; bound = 64 }
+  pub cost : CostsByKind new.heap.kind new.heap.cost MALLOC_BOUND 25
+  pub session : new.session ≡ record old.session { ids = ids_given old.session.ids asked.number answer; bound = MALLOC_BOUND }
   pub reply_is : reply ≡ said (malloc_text answer)
 
 -- an id, and the number of its handle
@@ -53,8 +54,8 @@ pub record Frees (old : RunState) (named : Named) (reply : Reply) (new : RunStat
   pub step : FreesObject old.heap named.number freed new.heap
   pub ordered : IsOrderedFree old.heap named.number (Ok freed) new.heap
   pub rules : KeepsRules new.heap
-  pub cost : CostsByKind new.heap.kind new.heap.cost (96 + 2 * freed.slot_words) (41 + freed.slot_words)
-  pub session : new.session ≡ counted (record old.session { ids = remove old.session.ids named.id; bound = 96 + 2 * freed.slot_words }) freed.moved
+  pub cost : CostsByKind new.heap.kind new.heap.cost (free_bound (Ok freed)) (block_free_bound (Ok freed))
+  pub session : new.session ≡ counted (record old.session { ids = remove old.session.ids named.id; bound = free_bound (Ok freed) }) freed.moved
       freed.slot_words
   pub reply_is : reply ≡ said (codes "ok")
 

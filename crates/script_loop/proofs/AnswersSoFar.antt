@@ -23,7 +23,7 @@ use Rattle.script_loop.specs.ScriptOutcome.{has_bad}
 use Rattle.script_loop.specs.Semantics.{IsOpened, IsOpenedInPart, PartBy, RunBy, Semantics, StepBy}
 use Rattle.script_loop.specs.declared.answering.ChunkOutcome.{ChunkOutcome}
 use Rattle.script_loop.specs.declared.answering.ChunkOutcome.TheVariants.{GoesOn, Stopped, Cut, LacksMemory}
-use Rattle.script_loop.proofs.Feeding.{appended_after}
+use Rattle.cf_io.proofs.CallerLemmas.{appended_after}
 use Rattle.script_loop.proofs.Stages.{going_after, never_opening, run_before, run_after}
 
 pub bad_then : (xs ys : List Item) → has_bad xs ≡ false → has_bad (xs ++ ys) ≡ has_bad ys

@@ -7,20 +7,20 @@ use Rattle.cf_base.specs.declared.status.Status.TheVariants.{Done, Words, BadScr
 use Rattle.cf_io.specs.Feeds.{appended}
 use Rattle.script_reader.specs.Items.{Item}
 use Rattle.script_reader.specs.declared.command.Command.{Command}
-use Rattle.run_laws.proofs.CallerLemmas.{all_items_valid, kind_goes_on, reads_are_shown}
-use Rattle.run_laws.specs.ValidItems.{IsValidCommand}
+use Rattle.script_laws.proofs.CallerLemmas.{all_items_valid, kind_goes_on, reads_are_shown, one_shown}
+use Rattle.script_laws.specs.ValidItems.{IsValidCommand}
 use Rattle.run_model.specs.Runs.{IsCommandStep}
 use Rattle.run_model.specs.Sessions.{RunState}
 use Rattle.run_model.specs.Texts.{Reply, led, text_of}
 use Rattle.std.specs.Prelude.{nat_le, take}
 use Rattle.script_loop.proofs.Prefix.{part_is_prefix}
 use Rattle.script_loop.specs.Consequences.{AnswersAll, ArePlain, IsPrefixOfRun, PrintsReads, PrintsTranscript}
-use Rattle.script_loop.specs.OneManager.{TurnInPart, one_manager}
+use Rattle.script_loop.specs.Applying.{TurnsInPart}
+use Rattle.script_loop.specs.OneManager.{one_manager}
 use Rattle.script_loop.specs.Semantics.{Semantics}
 use Rattle.script_loop.specs.ScriptOutcome.{Effects, IsStatusRow, MOST_BYTES, MeetsOutcome, Wrote, WroteInPart, has_bad, items_within}
 use Rattle.script_loop.proofs.Rows.{observed_row}
-use Rattle.headline_laws.proofs.CallerLemmas.{one_shown}
-use Rattle.transcript_laws.specs.Transcripts.{transcript}
+use Rattle.script_laws.specs.Transcripts.{transcript}
 
 -- if all items were answered, a run over all of them led to the end
 module _ {S P : Type 0} (m : Semantics S P) (from to : S) where
@@ -49,7 +49,7 @@ prints_reads from to wanted call w = record { replies = w.replies; reads = reads
 -- ---- the output of one manager, and a prefix of it
 
 cut_whole : (kind : Kind) (old : RunState) (c : Command) (out : List ℕ) (new : RunState) → (kind_goes_on kind).is_going old → IsValidCommand c
-    → TurnInPart old c out new
+    → TurnsInPart IsCommandStep old c out new
     → (reply : Reply) × (mid : RunState) × (lost : List ℕ) × IsCommandStep old c reply mid × (led [] reply ≡ out ++ lost)
 cut_whole kind old c out new on can part = (part.reply, new, part.lost, part.turn, part.cut)
 

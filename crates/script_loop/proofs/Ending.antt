@@ -18,7 +18,7 @@ use Rattle.script_loop.specs.AnswersSoFar.{Answered, CutOff, IsWaiting, LackedMe
 use Rattle.script_loop.specs.Progress.{Playing, progress, run_of}
 use Rattle.script_loop.specs.ScriptOutcome.{Effects, RanOutOfMemory, MOST_BYTES, MOST_CHUNK, TakesAtMostAChunk, Wrote, WroteInPart, has_bad, items_within}
 use Rattle.script_loop.specs.Semantics.{RunBy, Semantics}
-use Rattle.script_loop.proofs.Feeding.{appended_none}
+use Rattle.cf_io.proofs.CallerLemmas.{appended_none}
 use Rattle.script_loop.proofs.AnswersSoFar.{bad_then, nothing_left}
 use Rattle.script_loop.proofs.Stages.{stands}
 

@@ -1,5 +1,4 @@
 pub mod Ending
-pub mod Feeding
 pub mod AnswersSoFar
 pub mod Stages
 pub mod Consequences

@@ -16,7 +16,7 @@ use Rattle.script_loop.specs.LoopTurn.{AnswersChunk, AwaitsChunk, BetweenTurns, 
 use Rattle.script_loop.specs.declared.running.Script.{Script}
 use Rattle.script_loop.proofs.Ending.{bad_end_items, bad_items, bads, bads_then, cut_at_end, cut_items, ending, full_items, longer, quiet_items, silent_at_end}
 use Rattle.script_loop.proofs.Ending.{silent_before, starting, takes_a_chunk, wants_at_end, wants_memory, whole_items, wrote, wrote_in_part, wrote_then}
-use Rattle.script_loop.proofs.Feeding.{appended_after, appended_none, given_more, given_none, nothing_follows, preceded_after, preceded_none}
+use Rattle.cf_io.proofs.CallerLemmas.{appended_after, appended_none, given_more, given_none, nothing_follows, preceded_after, preceded_none}
 use Rattle.script_loop.proofs.AnswersSoFar.{answered_none, answered_then, both_done, cut_then}
 
 -- ---- the chunk that a call of the source returned: the first n bytes of `buf`, the first k of them within the limit

@@ -7,7 +7,7 @@ use Rattle.cf_model.specs.Rules.{KeepsRules}
 use Rattle.cf_model.specs.State.{HeapState}
 use Rattle.cf_model.specs.Steps.{IsEmptyHeap}
 use Rattle.cf_session.specs.Apply.{run_at}
-use Rattle.headline_laws.proofs.CallerLemmas.{step_keeps}
+use Rattle.script_laws.proofs.CallerLemmas.{step_keeps}
 use Rattle.run_model.proofs.CallerLemmas.{begins_going, step_same}
 use Rattle.run_model.specs.Sessions.{IsGoing, RunState, SessionState, fresh_session}
 use Rattle.run_model.specs.Steps.{Step}

@@ -4,8 +4,8 @@ use Rattle.std.proofs.Common.{◌≡◌, ◌++◌, ◌∙◌, ℕ, List, [], ◌
 use Rattle.script_reader.specs.Items.{Item, asks, bad, starts}
 use Rattle.script_reader.specs.declared.command.Command.{Command}
 use Rattle.std.specs.Prelude.{length, nat_le, take}
-use Rattle.run_laws.proofs.CallerLemmas.{CanGoOn, IsOn, all_items_valid, run_on, run_there, valid_before, sayable_behind, step_on}
-use Rattle.run_laws.specs.ValidItems.{AreValidItems, IsValidCommand, IsValidItem}
+use Rattle.script_laws.proofs.CallerLemmas.{CanGoOn, IsOn, all_items_valid, run_on, run_there, valid_before, sayable_behind, step_on}
+use Rattle.script_laws.specs.ValidItems.{AreValidItems, IsValidCommand, IsValidItem}
 use Rattle.run_model.proofs.CallerLemmas.{run_joined, text_joined}
 use Rattle.run_model.specs.Texts.{Reply, bad_line, led, said, text_of}
 use Rattle.script_loop.specs.Consequences.{IsPrefixBy}

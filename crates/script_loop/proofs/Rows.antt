@@ -6,14 +6,11 @@ use Rattle.std.proofs.lemmas.List.{take_all}
 use Rattle.std.specs.Prelude.{nat_le}
 use Rattle.cf_base.specs.declared.status.Status.{Status}
 use Rattle.cf_base.specs.declared.status.Status.TheVariants.{Done}
-use Rattle.cf_io.specs.Feeds.{preceded}
+use Rattle.cf_io.specs.Feeds.{MayFollow, preceded}
+use Rattle.cf_io.proofs.CallerLemmas.{nothing_may_follow}
 use Rattle.script_reader.specs.Items.{Item, items}
-use Rattle.script_loop.specs.ScriptOutcome.{Effects, IsStatusRow, MOST_BYTES, MayFollow, MeetsOutcome, Wrote, items_within}
+use Rattle.script_loop.specs.ScriptOutcome.{Effects, IsStatusRow, MOST_BYTES, MeetsOutcome, Wrote, items_within}
 use Rattle.script_loop.specs.Semantics.{Semantics}
-
-pub nothing_may_follow : (ended : Bool) → MayFollow None ended []
-nothing_may_follow true = refl
-nothing_may_follow false = tt
 
 -- a script within the limit is read whole
 pub within_all : (all : List ℕ) → length all ≤ MOST_BYTES → items_within all ≡ items all true

@@ -7,13 +7,13 @@ use Rattle.cf_base.specs.declared.status.Status.TheVariants.{Done, BadScript, To
 use Rattle.cf_io.specs.Feeds.{appended}
 use Rattle.cf_model.specs.Rules.{IsPaged}
 use Rattle.script_reader.specs.Items.{Item}
-use Rattle.run_laws.specs.IdBytes.{AreReadsOf}
+use Rattle.script_laws.specs.IdBytes.{AreReadsOf}
 use Rattle.run_model.specs.Runs.{Run}
 use Rattle.run_model.specs.Sessions.{RunState}
 use Rattle.run_model.specs.Texts.{Reply, text_of}
 use Rattle.script_loop.specs.ScriptOutcome.{Effects, items_within}
 use Rattle.script_loop.specs.Semantics.{RunBy, Semantics}
-use Rattle.transcript_laws.specs.Transcripts.{ArePlaceless, StaysAtOne, transcript}
+use Rattle.script_laws.specs.Transcripts.{ArePlaceless, StaysAtOne, transcript}
 
 -- the statuses after which every item within the limit of 268,435,455 bytes was answered
 abbrev pub AnswersAll : Status → Type 0

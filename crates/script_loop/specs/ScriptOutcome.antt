@@ -4,7 +4,7 @@ use Rattle.std.specs.Prelude.{◌≡◌, ◌≢◌, ◌<◌, ◌≤◌, ◌+◌,
 use Rattle.std.specs.List.{list_any}
 use Rattle.cf_base.specs.declared.status.Status.{Status}
 use Rattle.cf_base.specs.declared.status.Status.TheVariants.{Done, Words, BadScript, ReadFault, WriteFault, OutOfMemory, TooLong, BadImage}
-use Rattle.cf_io.specs.Feeds.{FailsLast, HasGiven, appended, last_count, preceded}
+use Rattle.cf_io.specs.Feeds.{FailsLast, HasGiven, MayFollow, appended, last_count, preceded}
 use Rattle.script_reader.specs.Items.{AreFirstOf, Item, asks, bad, items, starts}
 use Rattle.run_model.specs.Texts.{Reply, text_of}
 use Rattle.script_loop.specs.Semantics.{PartBy, RunBy, Semantics}
@@ -131,12 +131,6 @@ IsStatusRow m WriteFault from all left call to = (w : WroteInPart m from (items_
 IsStatusRow m OutOfMemory from all left call to = RanOutOfMemory m from call to
 IsStatusRow m Words from all left call to = ⊥
 IsStatusRow m BadImage from all left call to = ⊥
-
--- `more` are bytes that the source may still have: exactly `left`, if it is observable; else no bytes if it has ended, and any bytes if it has not
-abbrev pub MayFollow : Option (List ℕ) → Bool → List ℕ → Type 0
-MayFollow (Some left) ended more = more ≡ left
-MayFollow None true more = more ≡ []
-MayFollow None false more = ⊤
 
 -- The outcome of a script over every source, observable or not. The call took the bytes `taken` (and met the end if `ended`). Whatever bytes `more` may follow
 -- them, `IsStatusRow` holds for a source that had `taken` and then `more`. `from` and `to` are the states of the run before and after the call.

@@ -1,7 +1,7 @@
 //! Theorems on every script that ran on one manager (`run_script`), from its outcome alone: what its reads print,
 //! what a failed sink got, when the output is the transcript, and that chunks don't matter.
 ghost use Rattle.std.specs.Prelude.{◌≡◌, ◌++◌, ℕ, List, [], None, Some};
-ghost use Rattle.run_laws.specs.IdBytes.{AreReadsOf};
+ghost use Rattle.script_laws.specs.IdBytes.{AreReadsOf};
 ghost use Rattle.run_model.specs.Sessions.{RunState};
 ghost use Rattle.run_model.specs.Texts.{text_of};
 ghost use Rattle.script_reader.specs.Items.{Item};

@@ -8,15 +8,12 @@ ghost use Rattle.script_loop.specs.LoopTurn.{AwaitsChunk, TakesTurn, between, le
 
 use crate::answering::{ChunkOutcome, answer_chunk, answer_pending_items};
 use crate::mode_handler::ModeHandler;
-use cf_base::Status;
+use cf_base::{CHUNK, Status};
 use cf_io::{Sink, Source};
 use script_reader::{PayloadBuffer, Reader};
 
 /// The most bytes of a script.
 pub const LIMIT: usize = 268_435_455;
-
-/// The most bytes of a chunk.
-const CHUNK: usize = 4_096;
 
 /// How a turn of the loop ends.
 #[derive(Clone, Copy, Debug, PartialEq, Eq)]
@@ -63,7 +60,7 @@ impl Script {
     ) -> TurnEnd
         requires { AwaitsChunk A.semantics (between self.old (A.state mode_handler.old heap.old) (K.written sink.old) (S.rest source.old) (S.given source.old)) }
         ensures once { S.calls source.new ≡ one_more (S.calls source.old) }
-        ensures few { S.given source.new ≤ S.given source.old + 4096 }
+        ensures few { S.given source.new ≤ S.given source.old + CHUNK }
         ensures turn { TakesTurn A.semantics
             (between self.old (A.state mode_handler.old heap.old) (K.written sink.old) (S.rest source.old) (S.given source.old)) result
             (between self.new (A.state mode_handler.new heap.new) (K.written sink.new) (S.rest source.new) (S.given source.new)) }

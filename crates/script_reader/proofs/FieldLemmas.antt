@@ -1,21 +1,19 @@
--- For `four_tokens` and `take_hex`, which read fields of a line: four tokens are one and three more, and the bytes that the crate `hex` decodes are those
+-- For `settings` and `take_hex`, which read fields of a line: four numbers are read one by one, and the bytes that the crate `hex` decodes are those
 -- that a token's digits spell.
-use Rattle.std.proofs.Common.{◌≡◌, ◌∙◌, ◌≤◌, ◌/◌, ◌++◌, ℕ, List, [], ◌∷◌, Some, Result, Ok, Err, MatchResult, option_map, length, take, drop, refl, sym, ap}
+use Rattle.std.proofs.Common.{◌≡◌, ◌∙◌, ◌≤◌, ◌/◌, ◌++◌, ℕ, List, Option, Some, Result, Ok, Err, MatchResult, length, take, drop, refl, sym, ap, arith}
 use Rattle.std.proofs.lemmas.Bool.{eq-eqb, le-leb}
 use Rattle.std.proofs.lemmas.List.{take_at}
 use Rattle.hex.specs.Hex.{decode_of, decode_sized}
 use Rattle.hex.specs.declared.error.FromHexError.{FromHexError}
-use Rattle.script_reader.specs.Commands.{bytes_in, four_of, three_of}
+use Rattle.cf_io.specs.Numbers.{number_in}
+use Rattle.script_reader.specs.Commands.{bytes_in, four_of, ◌>>=◌}
+use Rattle.script_reader.specs.Fields.{first_by, two_by}
 
-four_more : (a : List ℕ) (ts : List (List ℕ)) → four_of (a ∷ ts) ≡ option_map (λ p. (a, p.0, p.1, p.2)) (three_of ts)
-four_more a [] = refl
-four_more a (x ∷ []) = refl
-four_more a (x ∷ y ∷ []) = refl
-four_more a (x ∷ y ∷ z ∷ []) = refl
-four_more a (x ∷ y ∷ z ∷ w ∷ r) = refl
-
-pub four_from_three : (a b c d : List ℕ) (ts : List (List ℕ)) → three_of ts ≡ Some (b, c, d) → four_of (a ∷ ts) ≡ Some (a, b, c, d)
-four_from_three a b c d ts h = four_more a ts ∙ ap (option_map (λ p. (a, p.0, p.1, p.2))) h
+-- the value of f at the four numbers that the tokens spell, from how they are read one by one
+pub at_numbers : {A : Type 0} (f : ℕ → ℕ → ℕ → ℕ → Option A) (ts r s : List (List ℕ)) (a b c d : ℕ) → Some (a, r) ≡ first_by number_in ts
+    → Some (b, s) ≡ first_by number_in r → Some (c, d) ≡ two_by number_in number_in s
+    → (four_of ts >>= λ p. number_in p.0 >>= λ k. number_in p.1 >>= λ l. number_in p.2 >>= λ m. number_in p.3 >>= λ n. f k l m n) ≡ f a b c d
+at_numbers f ts r s a b c d first second last = grind (arith, first, second, last)
 
 pub sized_is_whole : (text : List ℕ) (n : ℕ) → n ≡ length text / 2 → decode_sized text n ≡ decode_of text
 sized_is_whole text n half = rw (eq-eqb (length text / 2) n (sym half)) refl

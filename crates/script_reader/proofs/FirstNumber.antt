@@ -118,18 +118,6 @@ module _ (s : List ℕ) (begun : gaps_in s ≡ 0) where
         ]
   ]
 
--- if n is the number of digits that s begins with, `leading_number` returns the number that they spell, or none
-module _ (s : List ℕ) (n : ℕ) (first : n ≡ digits_first s) where
-  pub none_first : None ≡ number_in (take n s) → ◌≡◌ {A = Option (ℕ × ℕ)} None (leading_number s)
-  none_first none =
-      let e : number_in (take (digits_first s) s) ≡ None = ap (λ k. number_in (take k s)) (sym first) ∙ sym none in
-      rw e refl
-
-  pub number_first : (v : ℕ) → Some v ≡ number_in (take n s) → ◌≡◌ {A = Option (ℕ × ℕ)} (Some (v, n)) (leading_number s)
-  number_first v is =
-      let e : number_in (take (digits_first s) s) ≡ Some v = ap (λ k. number_in (take k s)) (sym first) ∙ sym is in
-      rw e (ap (λ (k : ℕ). Some (v, k)) first)
-
 -- the text s after the gaps that a text t begins with
 module _ (t s : List ℕ) (g : ℕ) (is : s ≡ take (length t - g) (drop g t)) (count : g ≡ gaps_in t) where
   pub begins : gaps_in s ≡ 0

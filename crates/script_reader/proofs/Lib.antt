@@ -2,7 +2,6 @@ pub mod AnswerLemmas
 pub mod CallerLemmas
 pub mod ExactAnswers
 pub mod FieldLemmas
-pub mod FirstDigits
 pub mod FirstLine
 pub mod FirstNumber
 pub mod ItemLemmas

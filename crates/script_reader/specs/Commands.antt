@@ -7,6 +7,7 @@ use Rattle.std.specs.Prelude.{codes}
 use Rattle.hex.specs.Hex.{decode_of}
 use Rattle.cf_base.specs.Limits.{is_within}
 use Rattle.cf_base.specs.Settings.{Profile, profile_from, setting_fault}
+use Rattle.cf_base.specs.declared.numbers.TheConstants.{CHUNK}
 use Rattle.cf_base.specs.declared.settings.SettingFault.{SettingFault}
 use Rattle.cf_io.specs.Numbers.{number_in}
 use Rattle.script_reader.specs.declared.command.Command.{Command}
@@ -56,7 +57,7 @@ id_in text = number_from 0 65535 text
 
 -- the number of bytes for a read that a token spells, at most 4,096
 abbrev pub length_in : List ℕ → Option ℕ
-length_in text = number_from 0 4096 text
+length_in text = number_from 0 CHUNK text
 
 -- the bound of a class that a token spells, from 1 to 64
 abbrev pub bound_in : List ℕ → Option ℕ
@@ -245,8 +246,8 @@ settings_in args = do
 
 -- The fields of the command are in the ranges of the grammar. Only the fields whose types allow more are listed.
 abbrev pub IsWellFormed : Command → Type 0
-IsWellFormed (Write id at bytes) = (1 ≤ length bytes) × (length bytes ≤ 4096)
-IsWellFormed (Read id at len) = len ≤ 4096
+IsWellFormed (Write id at bytes) = (1 ≤ length bytes) × (length bytes ≤ CHUNK)
+IsWellFormed (Read id at len) = len ≤ CHUNK
 IsWellFormed (Bound slot_words k) = (1 ≤ k) × (k ≤ 64)
 IsWellFormed (Task task) = task ≤ 15
 IsWellFormed (Quota task pages) = task ≤ 15

@@ -10,6 +10,7 @@ ghost use Rattle.script_reader.specs.Fields.{first_by, one_by, two_by};
 ghost use Rattle.script_reader.specs.Lines.{tokens};
 
 use crate::tokens::{is_done, split_token, take_number};
+use cf_base::CHUNK;
 
 /// The first token as a number, and the text after the token. `None` if it isn't a number from `low` to `high`.
 #[inline(always)]
@@ -35,14 +36,6 @@ fn take_id(text: &[u8]) -> Option<(u16, &[u8])>
     Some((n as u16, rest))
 }
 
-/// The first token as a task, and the text after the token. `None` if it isn't a number from 0 to 15.
-fn take_task(text: &[u8]) -> Option<(u32, &[u8])>
-    ensures value { option_map (λ p. (p.0, tokens p.1.now)) result ≡ first_by grammar.task_in (tokens text.now) }
-    ensures within { IfSome result (λ p. p.0 ≤ 15) }
-{
-    take_from(0, 15, text)
-}
-
 /// The only token, as a number. `None` if the text hasn't exactly one token, or it isn't a number from
 /// `low` to `high`.
 #[inline(always)]
@@ -54,60 +47,12 @@ fn one_from(low: u32, high: u32, args: &[u8]) -> Option<u32>
     if is_done(rest) { Some(n) } else { None }
 }
 
-/// The only token, as the number of bytes that a read prints. `None` if the text hasn't exactly one token,
-/// or it isn't a number from 0 to 4,096.
-#[inline(always)]
-fn one_length(args: &[u8]) -> Option<u16>
-    ensures value { result ≡ one_by grammar.length_in (tokens args.now) }
-    ensures within { IfSome result (λ n. n ≤ 4096) }
-{
-    let n = one_from(0, 4_096, args)?;
-    Some(n as u16)
-}
-
-/// The only token, as the bound k of a class. `None` if the text hasn't exactly one token, or it isn't a
-/// number from 1 to 64.
-fn one_bound(args: &[u8]) -> Option<u32>
-    ensures value { result ≡ one_by grammar.bound_in (tokens args.now) }
-    ensures within { IfSome result (λ k. (1 ≤ k) × (k ≤ 64)) }
-{
-    one_from(1, 64, args)
-}
-
 /// The only token of the text. `None` if the text hasn't exactly one.
 fn one_token(text: &[u8]) -> Option<&[u8]>
     ensures { grammar.one_of (tokens text.now) ≡ option_map (λ a. a.now) result }
 {
     let (first, rest) = split_token(text)?;
     if is_done(rest) { Some(first) } else { None }
-}
-
-/// The two tokens of the text. `None` if the text hasn't exactly two.
-fn two_tokens(text: &[u8]) -> Option<(&[u8], &[u8])>
-    ensures { grammar.two_of (tokens text.now) ≡ option_map (λ p. (p.0.now, p.1.now)) result }
-{
-    let (first, rest) = split_token(text)?;
-    let second = one_token(rest)?;
-    Some((first, second))
-}
-
-/// The three tokens of the text. `None` if the text hasn't exactly three.
-fn three_tokens(text: &[u8]) -> Option<(&[u8], &[u8], &[u8])>
-    ensures { grammar.three_of (tokens text.now) ≡ option_map (λ p. (p.0.now, p.1.now, p.2.now)) result }
-{
-    let (first, rest) = split_token(text)?;
-    let (second, third) = two_tokens(rest)?;
-    Some((first, second, third))
-}
-
-/// The four tokens of the text. `None` if the text hasn't exactly four.
-pub fn four_tokens(text: &[u8]) -> Option<(&[u8], &[u8], &[u8], &[u8])>
-    ensures { grammar.four_of (tokens text.now)
-        ≡ option_map (λ p. (p.0.now, p.1.now, p.2.now, p.3.now)) result }
-{
-    let (first, rest) = split_token(text)?;
-    let (second, third, fourth) = three_tokens(rest)?;
-    Some((first, second, third, fourth))
 }
 
 /// The only token, as an id from 0 to 65,535. `None` if the text is anything else.
@@ -153,7 +98,7 @@ pub fn number_and_bound(args: &[u8]) -> Option<(u32, u32)>
     ensures within { IfSome result (λ p. (1 ≤ p.1) × (p.1 ≤ 64)) }
 {
     let (n, rest) = take_number(args)?;
-    let k = one_bound(rest)?;
+    let k = one_from(1, 64, rest)?;
     Some((n, k))
 }
 
@@ -163,13 +108,13 @@ pub fn task_and_number(args: &[u8]) -> Option<(u32, u32)>
     ensures value { result ≡ grammar.task_and_number (tokens args.now) }
     ensures within { IfSome result (λ p. p.0 ≤ 15) }
 {
-    let (task, rest) = take_task(args)?;
+    let (task, rest) = take_from(0, 15, args)?;
     let n = one_number(rest)?;
     Some((task, n))
 }
 
 /// The two tokens of the text, as numbers of 32 bits. `None` if the text is anything else.
-fn two_numbers(args: &[u8]) -> Option<(u32, u32)>
+pub fn two_numbers(args: &[u8]) -> Option<(u32, u32)>
     ensures { result ≡ two_by number_in number_in (tokens args.now) }
 {
     let (m, rest) = take_number(args)?;
@@ -183,7 +128,7 @@ pub fn task_and_numbers(args: &[u8]) -> Option<(u32, u32, u32)>
     ensures value { result ≡ grammar.task_and_numbers (tokens args.now) }
     ensures within { IfSome result (λ p. p.0 ≤ 15) }
 {
-    let (task, rest) = take_task(args)?;
+    let (task, rest) = take_from(0, 15, args)?;
     let (m, n) = two_numbers(rest)?;
     Some((task, m, n))
 }
@@ -193,11 +138,11 @@ pub fn task_and_numbers(args: &[u8]) -> Option<(u32, u32, u32)>
 #[inline(always)]
 fn number_and_length(args: &[u8]) -> Option<(u32, u16)>
     ensures value { result ≡ two_by number_in grammar.length_in (tokens args.now) }
-    ensures within { IfSome result (λ p. p.1 ≤ 4096) }
+    ensures within { IfSome result (λ p. p.1 ≤ CHUNK) }
 {
     let (n, rest) = take_number(args)?;
-    let len = one_length(rest)?;
-    Some((n, len))
+    let len = one_from(0, CHUNK as u32, rest)?;
+    Some((n, len as u16))
 }
 
 /// The three tokens of the text, as an id, a number of 32 bits, and the number of bytes that a read prints,
@@ -205,7 +150,7 @@ fn number_and_length(args: &[u8]) -> Option<(u32, u16)>
 #[inline(always)]
 pub fn id_number_and_length(args: &[u8]) -> Option<(u16, u32, u16)>
     ensures value { result ≡ grammar.id_number_and_length (tokens args.now) }
-    ensures within { IfSome result (λ p. p.2 ≤ 4096) }
+    ensures within { IfSome result (λ p. p.2 ≤ CHUNK) }
 {
     let (id, rest) = take_id(args)?;
     let (n, len) = number_and_length(rest)?;

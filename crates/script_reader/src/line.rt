@@ -14,14 +14,13 @@ ghost use Rattle.script_reader.specs.Owned.{owned_next};
 
 use crate::command_ref::CommandRef;
 use crate::fields::{
-    four_tokens, id_and_number, id_number_and_length, id_number_and_text, number_and_bound, one_id,
-    one_number, one_task, task_and_number, task_and_numbers,
+    id_and_number, id_number_and_length, id_number_and_text, number_and_bound, one_id, one_number,
+    one_task, task_and_number, task_and_numbers, two_numbers,
 };
 use crate::next_ref::NextRef;
 use crate::payload_buffer::PayloadBuffer;
-use crate::tokens::{first_other, is_done, split_token, without_return};
+use crate::tokens::{first_other, is_done, split_token, take_number, without_return};
 use cf_base::Settings;
-use cf_io::number_of;
 
 /// The most bytes of a line, its line feed not counted.
 pub const LONGEST: usize = 8_999;
@@ -295,11 +294,9 @@ fn word_command(word: &[u8], args: &[u8], next: &mut NextRef) -> bool
 fn settings(args: &[u8]) -> Option<Settings>
     ensures { option_map (λ s. profile_of s) result ≡ grammar.settings_in (tokens args.now) }
 {
-    let (pages, page_bytes, k, proxies) = four_tokens(args)?;
-    let pages = number_of(pages)?;
-    let page_bytes = number_of(page_bytes)?;
-    let k = number_of(k)?;
-    let proxies = number_of(proxies)?;
+    let (pages, rest) = take_number(args)?;
+    let (page_bytes, rest) = take_number(rest)?;
+    let (k, proxies) = two_numbers(rest)?;
     match Settings::check(pages, page_bytes, k, proxies) {
         Ok(settings) => Some(settings),
         Err(_) => None,

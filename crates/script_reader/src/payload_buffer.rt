@@ -3,27 +3,26 @@ ghost use Rattle.std.specs.Prelude.{◌≡◌, ◌≤◌, IsTrue, length};
 ghost use Rattle.script_reader.specs.Commands.{bytes_in};
 ghost use Rattle.script_reader.specs.Answered.{some_if};
 
+use cf_base::CHUNK;
 use std::marker::Model;
-
-/// The most bytes of a write.
-const MOST: usize = 4_096;
 
 /// A buffer for the bytes of one write, at most 4,096. Its owner makes it once, and a reader fills it again
 /// for each write. The first `len` of its cells are the bytes. A `Payload` instead belongs to one write.
 #[derive(Drop)]
 pub struct PayloadBuffer {
-    cells: [u8; MOST],
+    cells: [u8; CHUNK],
     len: usize,
 }
 
 impl Model for PayloadBuffer {
     ghost use Rattle.std.specs.Prelude.{ℕ, List, ◌≤◌, take};
+    ghost use Rattle.cf_base.specs.declared.numbers.TheConstants.{CHUNK};
 
     ghost Value = { List ℕ };
 
     ghost view = { λ r. take r.len r.cells };
 
-    ghost invariant = { λ r. r.len ≤ 4096 };
+    ghost invariant = { λ r. r.len ≤ CHUNK };
 }
 
 impl PayloadBuffer {
@@ -32,7 +31,7 @@ impl PayloadBuffer {
         ensures { length result ≡ 0 }
     {
         PayloadBuffer {
-            cells: [0; MOST],
+            cells: [0; CHUNK],
             len: 0,
         }
     }
@@ -52,9 +51,9 @@ impl PayloadBuffer {
     pub(crate) fn take_hex(&mut self, text: &[u8]) -> bool
         ensures value { some_if result self.new ≡ bytes_in text.now }
         ensures some { IsTrue result → 1 ≤ length self.new }
-        ensures fits { IsTrue result → length self.new ≤ 4096 }
+        ensures fits { IsTrue result → length self.new ≤ CHUNK }
     {
-        if text.len() < 2 || text.len() > 2 * MOST {
+        if text.len() < 2 || text.len() > 2 * CHUNK {
             return false;
         }
         let n = text.len() / 2;

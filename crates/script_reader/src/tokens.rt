@@ -1,14 +1,13 @@
 //! Splits a line into tokens, the runs of bytes between spaces and tabs, and reads a token as a number. A
 //! space or a tab is called a gap.
-ghost use Rattle.std.specs.Prelude.{◌≡◌, ◌≤◌, ◌==◌, ◌%◌, ◌^◌, length, take, position, not, option_map, true, false, MatchOption, IfSome, [], ◌∷◌};
-ghost use Rattle.std.specs.List.{list_all, position_or_len};
-ghost use Rattle.std.specs.Str.Parse.{digits_value};
-ghost use Rattle.cf_io.specs.Numbers.{digits_first, is_digit, number_in};
+ghost use Rattle.std.specs.Prelude.{◌≡◌, ◌≤◌, ◌==◌, length, position, not, option_map, true, false, MatchOption, IfSome, [], ◌∷◌};
+ghost use Rattle.std.specs.List.{position_or_len};
+ghost use Rattle.cf_io.specs.Numbers.{number_in};
 ghost use Rattle.script_reader.specs.Commands.{none_of};
 ghost use Rattle.script_reader.specs.Fields.{first_by};
 ghost use Rattle.script_reader.specs.Lines.{without_return as no_return, is_gap as gap, is_parted as parted, tokens};
 
-use cf_io::number_of;
+use cf_io::leading_number;
 use memchr::{memchr_iter, memchr2};
 
 /// The least length in bytes of a text in which `memchr2`, which tests many bytes at once, finds the first gap.
@@ -123,46 +122,9 @@ pub fn take_number(text: &[u8]) -> Option<(u32, &[u8])>
     ensures { option_map (λ p. (p.0, tokens p.1.now)) result ≡ first_by number_in (tokens text.now) }
 {
     let text = &text[gaps(text)..];
-    let (value, digits) = leading_digits(text);
-    let n = spelled_number(text, digits, value)?;
+    let (n, digits) = leading_number(text)?;
     let rest = past_token(&text[digits..])?;
     Some((n, rest))
-}
-
-/// The number that the decimal digits at the start of a text spell, modulo `2^32`, and how many digits those
-/// are.
-#[inline(always)]
-fn leading_digits(text: &[u8]) -> (u32, usize)
-    ensures value { result.0 ≡ digits_value 10 (take result.1 text.now) % 2 ^ 32 }
-    ensures digits { list_all is_digit (take result.1 text.now) ≡ true }
-    ensures count { result.1 ≡ digits_first text.now }
-    ensures within { result.1 ≤ length text.now }
-{
-    let mut value = 0u32;
-    let mut at = 0;
-    'digits: while at < text.len() && text[at].is_ascii_digit() {
-        let digit = (text[at] - b'0') as u32;
-        value = value.wrapping_mul(10).wrapping_add(digit);
-        at += 1;
-    }
-    (value, at)
-}
-
-/// The number that the first `digits` bytes of a text spell, all of them digits. `value` is that number modulo
-/// `2^32`, which the caller has computed. `None` if there is no digit, or the number has more than 32 bits.
-#[inline(always)]
-fn spelled_number(text: &[u8], digits: usize, value: u32) -> Option<u32>
-    requires count { digits ≤ length text.now }
-    requires digits { list_all is_digit (take digits text.now) ≡ true }
-    requires value { value ≡ digits_value 10 (take digits text.now) % 2 ^ 32 }
-    ensures { result ≡ number_in (take digits text.now) }
-{
-    // At most nine digits spell a number below `2^32`.
-    if 0 < digits && digits < 10 {
-        Some(value)
-    } else {
-        number_of(&text[..digits])
-    }
 }
 
 /// `text` follows the first bytes of a token. If `text` is empty or begins with a gap, the token ends before it:

@@ -7,10 +7,9 @@ ghost use Rattle.size_classes.specs.Table.{table_of};
 
 use crate::needs::classes_by_need;
 use cf_base::{Layout, OutOfMemory, need_of, slot_sizes};
-use counted_cells::Cells;
 use std::alloc::Global;
 use std::marker::Model;
-use step_ledger::Steps;
+use step_ledger::{Cells, Steps};
 
 /// The size classes of pages: the words of a slot of each class, in rising order, by the rule of
 /// Compact-fit (2008). A class is an index into this list.

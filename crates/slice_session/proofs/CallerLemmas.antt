@@ -1,5 +1,4 @@
--- The lemmas that other crates' proofs may cite: a run over a sliced heap begins and stays in progress, a call changes the objects as the model says, and a run
--- of the mode handler is one of its session.
-pub use Rattle.slice_session.proofs.RunInvariant.{done_on_map, on_map, still_going}
-pub use Rattle.slice_session.proofs.OpenLemmas.{begins_going}
-pub use Rattle.slice_session.proofs.Plays.{play_seen}
+-- What other crates' proofs may cite, re-exported: in mode `slice` the replies meet the claim, and two runs of one script have the same output. Declares
+-- nothing.
+pub use Rattle.slice_session.proofs.Claims.{sliced_headline_met}
+pub use Rattle.slice_session.proofs.OneOutput.{one_play}

@@ -1,7 +1,8 @@
 -- For the law `replies_show_their_causes`: if the reply to a malloc or free on a sliced heap names a cause of refusal, the cause holds, for a malloc also
+use Rattle.slice_session.proofs.Steps.{refused}
 -- conversely; `busy` means that a job is pending.
-use Rattle.std.proofs.Common.{◌≡◌, ◌≢◌, ℕ, List, [], ◌∷◌, Some, None, get_or, refl, sym, ◌∙◌, ap, subst}
-use Rattle.std.specs.Prelude.{Option, Result, Ok, Err, codes, nat_eq, if◌then◌else◌}
+use Rattle.std.proofs.Common.{◌≡◌, ◌≢◌, ℕ, List, [], ◌∷◌, Some, None, get_or, refl, sym, ◌∙◌, ap, subst, ap₂}
+use Rattle.std.specs.Prelude.{Option, Result, Ok, Err, codes, nat_eq, if◌then◌else◌, Bool}
 use Rattle.std.specs.Option.{MatchOption}
 use Rattle.std.specs.FinMap.{get}
 use Rattle.cf_base.specs.declared.answers.Handle.{Handle}
@@ -9,23 +10,18 @@ use Rattle.cf_io.specs.Texts.{Reply, said}
 use Rattle.script_reader.specs.declared.command.Command.TheVariants as command
 use Rattle.page_model.specs.Order.{Order}
 use Rattle.slice_model.specs.Runs.{HeapWithWords, Malloc, Free}
-use Rattle.slice_model.specs.State.{Idle, Sliced}
-use Rattle.slice_model.specs.Steps.{IsFaultOf, IsRefusedBy}
+use Rattle.slice_model.specs.State.{Idle, Sliced, IsKept, IsPlan, Plan}
+use Rattle.slice_model.specs.Steps.{IsFaultOf, IsRefusedBy, LacksSlot}
 use Rattle.slice_model.specs.declared.answers.SliceFault.{SliceFault}
 use Rattle.slice_model.specs.declared.answers.SliceFault.TheVariants as fault
 use Rattle.slice_model.specs.declared.answers.SliceRefusal.{SliceRefusal}
 use Rattle.slice_model.specs.declared.answers.SliceRefusal.TheVariants as refusal
 use Rattle.slice_model.proofs.CallerLemmas.{given_or_refused, one_cause}
-use Rattle.sliced_heap.specs.Shown.{SlicedState, plan_in, working_in}
-use Rattle.slice_session.specs.SliceRun.{Does, FreesSliced, IsGoingSliced, MallocsSliced, SliceRun, SliceStep, StaysSliced}
-use Rattle.slice_session.specs.SliceRun.{ids_with, ids_without, slice_free_text, slice_malloc_text}
+use Rattle.sliced_heap.specs.Shown.{SlicedState, plan_in, working_in, StaysOpen}
+use Rattle.slice_session.specs.SliceRun.{Does, FreesSliced, IsGoingSliced, MallocsSliced, SliceRun, SliceStep}
+use Rattle.run_model.specs.Steps.{Stays, ids_given}
+use Rattle.slice_session.specs.SliceRun.{ids_without, slice_free_text, slice_malloc_text, slice_run}
 use Rattle.cf_base.specs.Settings.{Profile}
-use Rattle.std.specs.Prelude.{Bool}
-use Rattle.std.proofs.Common.{ap₂}
-use Rattle.slice_model.specs.State.{IsKept, IsPlan, Plan}
-use Rattle.slice_model.specs.Steps.{LacksSlot}
-use Rattle.sliced_heap.specs.Shown.{StaysOpen}
-use Rattle.slice_session.specs.SliceRun.{slice_run}
 
 -- a heap from its fields
 abbrev heap_by : Bool → Profile → ℕ → HeapWithWords → Order → SlicedState
@@ -50,11 +46,7 @@ abbrev first : {T : Type 0} → (List ℕ → Option T) → Reply → Option T
 first f [] = None
 first f (text ∷ rest) = f text
 
-abbrev refusal_of : Result Handle SliceRefusal → Option SliceRefusal
-refusal_of (Ok h) = None
-refusal_of (Err e) = Some e
-
-refusal_shown : (a : Result Handle SliceRefusal) → refusal_in (slice_malloc_text a) ≡ refusal_of a
+refusal_shown : (a : Result Handle SliceRefusal) → refusal_in (slice_malloc_text a) ≡ refused a
 refusal_shown (Ok h) = refl
 refusal_shown (Err refusal.Size) = refl
 refusal_shown (Err refusal.Proxy) = refl
@@ -64,7 +56,7 @@ refusal_shown (Err refusal.Busy) = refl
 same_refusal : (a : Result Handle SliceRefusal) (e : SliceRefusal) → said (slice_malloc_text (Err e)) ≡ said (slice_malloc_text a) → a ≡ Err e
 same_refusal a e is = go a (sym (refusal_shown (Err e)) ∙ ap (first refusal_in) is ∙ refusal_shown a)
   where
-    go : (a : Result Handle SliceRefusal) → Some e ≡ refusal_of a → a ≡ Err e
+    go : (a : Result Handle SliceRefusal) → Some e ≡ refused a → a ≡ Err e
     go (Ok h) is = absurd (let z : Some e ≡ None = is in cc)
     go (Err f) is = (let z : Some e ≡ Some f = is in cc)
 
@@ -81,7 +73,7 @@ module _ (old new : SliceRun) (id : ℕ) where
   mallocs_at : (n : ℕ) (reply : Reply) → get old.ids id ≡ None → SliceStep old (command.Malloc id n) reply new → MallocsSliced old id n reply new
   mallocs_at n reply none step = go (get old.ids id) none step
     where
-      go : (o : Option ℕ) → o ≡ None → MatchOption o (MallocsSliced old id n reply new) (λ h. StaysSliced old (codes "live") reply new)
+      go : (o : Option ℕ) → o ≡ None → MatchOption o (MallocsSliced old id n reply new) (λ h. Stays old (codes "live") reply new)
           → MallocsSliced old id n reply new
       go None is m = m
       go (Some h) is s = absurd (let z : Some h ≡ None = is in cc)
@@ -89,7 +81,7 @@ module _ (old new : SliceRun) (id : ℕ) where
   frees_at : (h : ℕ) (reply : Reply) → get old.ids id ≡ Some h → SliceStep old (command.Free id) reply new → FreesSliced old id h reply new
   frees_at h reply live step = go (get old.ids id) live step
     where
-      go : (o : Option ℕ) → o ≡ Some h → MatchOption o (StaysSliced old (codes "unknown") reply new) (λ q. FreesSliced old id q reply new)
+      go : (o : Option ℕ) → o ≡ Some h → MatchOption o (Stays old (codes "unknown") reply new) (λ q. FreesSliced old id q reply new)
           → FreesSliced old id h reply new
       go None is s = absurd (let z : ◌≡◌ {A = Option ℕ} None (Some h) = is in cc)
       go (Some q) is f = (let e : q ≡ h = (let z : Some q ≡ Some h = is in cc) in subst (λ k. FreesSliced old id k reply new) e f)
@@ -100,7 +92,7 @@ module _ (old new : SliceRun) (id : ℕ) where
       let m = mallocs_at n _ none step in
       let is : m.answer ≡ Err e = same_refusal m.answer e m.reply_is in
       let d = subst (λ (a : Result Handle SliceRefusal). Does old.heap (Malloc n a) new.heap) is m.does in
-      let ids : new.ids ≡ old.ids = m.ids ∙ ap (ids_with old.ids id) is in
+      let ids : new.ids ≡ old.ids = m.ids ∙ ap (ids_given old.ids id) is in
       (d.happens.0, ap₂ slice_run ids (heap_same old.heap new.heap d.stays d.happens.1 d.ordered.1))
 
   pub free_cause : (h : ℕ) (e : SliceFault) → get old.ids id ≡ Some h → SliceStep old (command.Free id) (said (slice_free_text (Some e))) new
@@ -131,7 +123,7 @@ module _ (old new : SliceRun) (id : ℕ) where
   busy_malloc_cause law n going step = go (get old.ids id) refl step
     where
       go : (o : Option ℕ) → get old.ids id ≡ o
-          → MatchOption o (MallocsSliced old id n (said (codes "busy")) new) (λ h. StaysSliced old (codes "live") (said (codes "busy")) new)
+          → MatchOption o (MallocsSliced old id n (said (codes "busy")) new) (λ h. Stays old (codes "live") (said (codes "busy")) new)
           → old.heap.job ≢ Idle
       go None none m = law (plan_in old.heap) (working_in old.heap).state n going.rules.plan going.rules.consistent.kept
           (malloc_cause n refusal.Busy none step).0
@@ -141,7 +133,7 @@ module _ (old new : SliceRun) (id : ℕ) where
   busy_free_cause step = go (get old.ids id) refl step
     where
       go : (o : Option ℕ) → get old.ids id ≡ o
-          → MatchOption o (StaysSliced old (codes "unknown") (said (codes "busy")) new) (λ h. FreesSliced old id h (said (codes "busy")) new)
+          → MatchOption o (Stays old (codes "unknown") (said (codes "busy")) new) (λ h. FreesSliced old id h (said (codes "busy")) new)
           → old.heap.job ≢ Idle
       go None none s = absurd (let z : Some fault.Busy ≡ Some fault.Unknown = ap (first fault_in) s.0 in cc)
       go (Some h) live f = (free_cause h fault.Busy live step).0.pending

@@ -7,15 +7,16 @@ use Rattle.std.specs.FinMap.{empty, get}
 use Rattle.cf_base.specs.Settings.{Profile}
 use Rattle.cf_io.specs.Texts.{Reply, said, with_number}
 use Rattle.cf_model.specs.Rules.{AreInRange}
-use Rattle.run_laws.proofs.CallerLemmas.{CanGoOn}
-use Rattle.run_laws.specs.ValidItems.{IsValidCommand}
+use Rattle.script_laws.proofs.CallerLemmas.{CanGoOn}
+use Rattle.script_laws.specs.ValidItems.{IsValidCommand}
 use Rattle.script_reader.specs.declared.command.Command.{Command}
 use Rattle.script_reader.specs.declared.command.Command.TheVariants as command
 use Rattle.slice_model.specs.State.{left_of}
 use Rattle.sliced_heap.specs.Shown.{plan_in, working_in}
 use Rattle.slice_session.specs.Playing.{BeginsSliced, BeginsSlices, IsQuantum, first_heap}
-use Rattle.slice_session.specs.SliceRun.{FreesSliced, IsGoingSliced, MallocsSliced, SliceRun, SliceStep, StaysSliced, WritesSliced}
-use Rattle.slice_session.specs.SliceRun.{ids_with, ids_without, slice_free_text, slice_malloc_text, sliced_shown, slice_write_text}
+use Rattle.slice_session.specs.SliceRun.{FreesSliced, IsGoingSliced, MallocsSliced, SliceRun, SliceStep, WritesSliced}
+use Rattle.run_model.specs.Steps.{Stays, ids_given}
+use Rattle.slice_session.specs.SliceRun.{ids_without, slice_free_text, slice_malloc_text, sliced_shown, slice_write_text}
 use Rattle.slice_session.proofs.CallResults.{free_there, malloc_there, step_there, write_there}
 use Rattle.slice_session.proofs.RunInvariant.{still_going}
 use Rattle.slice_session.proofs.OpenLemmas.{EmptyLaw, begins_going, first_rules}
@@ -28,17 +29,17 @@ record HasAnswer (R : Reply → SliceRun → Type 0) : Type 0 where
 
 module _ (old : SliceRun) (going : IsGoingSliced old) where
   malloc_at : (o : Option ℕ) (id n : ℕ) → HasAnswer (λ reply new. MatchOption o (MallocsSliced old id n reply new)
-      (λ h. StaysSliced old (codes "live") reply new))
+      (λ h. Stays old (codes "live") reply new))
   malloc_at (Some h) id n = record { reply = said (codes "live"); new = old; done = (refl, refl) }
   malloc_at None id n =
       let m = malloc_there old.heap going.rules n in
       record {
         reply = said (slice_malloc_text m.0);
-        new = record { ids = ids_with old.ids id m.0; heap = m.1 };
+        new = record { ids = ids_given old.ids id m.0; heap = m.1 };
         done = record { answer = m.0; does = m.2; ids = refl; reply_is = refl };
       }
 
-  free_at : (o : Option ℕ) (id : ℕ) → HasAnswer (λ reply new. MatchOption o (StaysSliced old (codes "unknown") reply new)
+  free_at : (o : Option ℕ) (id : ℕ) → HasAnswer (λ reply new. MatchOption o (Stays old (codes "unknown") reply new)
       (λ h. FreesSliced old id h reply new))
   free_at None id = record { reply = said (codes "unknown"); new = old; done = (refl, refl) }
   free_at (Some h) id =
@@ -50,7 +51,7 @@ module _ (old : SliceRun) (going : IsGoingSliced old) where
       }
 
   write_at : (o : Option ℕ) (id from : ℕ) (bytes : List ℕ) → IsValidCommand (command.Write id from bytes)
-      → HasAnswer (λ reply new. MatchOption o (StaysSliced old (codes "unknown") reply new) (λ h. WritesSliced old h from bytes reply new))
+      → HasAnswer (λ reply new. MatchOption o (Stays old (codes "unknown") reply new) (λ h. WritesSliced old h from bytes reply new))
   write_at None id from bytes can = record { reply = said (codes "unknown"); new = old; done = (refl, refl) }
   write_at (Some h) id from bytes can =
       let w = write_there old.heap going.rules h from bytes can.bytes in

@@ -7,4 +7,13 @@ pub mod CommandSteps
 pub mod ReadBack
 pub mod Causes
 pub mod Plays
+pub mod Filled
+pub mod Slicing
+pub mod Steps
+pub mod Claims
+pub mod OneTranscript
+pub mod OneOutput
+pub mod Worked
+pub mod ShownLaws
+pub mod Ending
 pub mod CallerLemmas

@@ -1,8 +1,8 @@
 -- In a run over a sliced heap, reads return the bytes that follow from the lines and their replies: for the law `reads_give_what_was_written`.
 use Rattle.std.proofs.Common.{ℕ, List, Option, None}
 use Rattle.cf_io.specs.Texts.{Reply}
-use Rattle.run_laws.specs.IdBytes.{AreReadsOf}
-use Rattle.run_laws.proofs.CallerLemmas.{NamesObjects, any_reads_are_shown}
+use Rattle.script_laws.specs.IdBytes.{AreReadsOf}
+use Rattle.script_laws.proofs.CallerLemmas.{NamesObjects, any_reads_are_shown}
 use Rattle.script_reader.specs.Items.{Item}
 use Rattle.slice_session.specs.Playing.{BeginsSlices, RunsSliced}
 use Rattle.slice_session.specs.SliceRun.{IsGoingSliced, SliceRun, SliceStep}

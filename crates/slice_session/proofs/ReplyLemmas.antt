@@ -17,7 +17,7 @@ use Rattle.cf_session.proofs.CallerLemmas.{read_past, read_within}
 use Rattle.cf_session.specs.declared.outcome.Outcome.{Outcome}
 use Rattle.id_table.specs.Ids.{Ids}
 use Rattle.page_model.specs.Held.{Held, Placed, objects}
-use Rattle.run_model.proofs.CallerLemmas.{held_of_bytes}
+use Rattle.page_model.proofs.CallerLemmas.{held_of_bytes}
 use Rattle.run_model.specs.Replies.{read_text, write_text}
 use Rattle.script_loop.specs.Semantics.{snapshot}
 use Rattle.script_reader.specs.declared.command.Command.{Command}
@@ -28,7 +28,8 @@ use Rattle.slice_model.specs.State.{left_of}
 use Rattle.slice_model.proofs.CallerLemmas.{call_on_map}
 use Rattle.sliced_heap.specs.Shown.{KeepsRules, SlicedState, plan_in, working_in}
 use Rattle.slice_session.specs.Playing.{sliced}
-use Rattle.slice_session.specs.SliceRun.{Does, IsGoingSliced, MallocsSliced, SliceRun, SliceStep, StaysSliced, slice_run, slice_write_text, sliced_object_of}
+use Rattle.slice_session.specs.SliceRun.{Does, IsGoingSliced, MallocsSliced, SliceRun, SliceStep, slice_run, slice_write_text, sliced_object_of}
+use Rattle.run_model.specs.Steps.{Stays}
 use Rattle.slice_session.proofs.RunInvariant.{still_going}
 
 abbrev Written : Type 0
@@ -49,7 +50,7 @@ no_handle (Some h) live is none = absurd (false≢true (sym none))
 pub malloc_step : (old new : SliceRun) (id n : ℕ) (reply : Reply) → get old.ids id ≡ None → MallocsSliced old id n reply new
     → SliceStep old (command.Malloc id n) reply new
 malloc_step old new id n reply none m =
-    subst (λ o. MatchOption o (MallocsSliced old id n reply new) (λ h. StaysSliced old (codes "live") reply new)) (sym none) m
+    subst (λ o. MatchOption o (MallocsSliced old id n reply new) (λ h. Stays old (codes "live") reply new)) (sym none) m
 
 -- the text of the reply to `s`
 pub speaks_left : (ids : Ids) (old new : SlicedState) (line : List ℕ) → Does old Step new

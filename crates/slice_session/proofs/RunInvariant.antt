@@ -12,8 +12,8 @@ use Rattle.cf_io.specs.Texts.{Reply, said}
 use Rattle.cf_lemmas.proofs.MapValues.{get-map_values}
 use Rattle.id_table.specs.Ids.{Ids}
 use Rattle.page_model.specs.Held.{Placed, objects}
-use Rattle.run_laws.specs.IdBytes.{is_ok, read_shown}
-use Rattle.run_laws.proofs.CallerLemmas.{Named, NamedTurn, bytes_of, read_same, refuses, same_named, still_tied, through}
+use Rattle.script_laws.specs.IdBytes.{is_ok, read_shown}
+use Rattle.script_laws.proofs.CallerLemmas.{Named, NamedTurn, bytes_named, read_same, refuses, same_named, still_tied, through}
 use Rattle.script_reader.specs.declared.command.Command.{Command}
 use Rattle.script_reader.specs.declared.command.Command.TheVariants as command
 use Rattle.id_table.specs.Ties.{AreTiedTo}
@@ -27,8 +27,9 @@ use Rattle.slice_model.specs.Ordered.{IsOrderBeside}
 use Rattle.slice_model.proofs.CallerLemmas.{call_on_map, order_kept}
 use Rattle.sliced_heap.specs.Shown.{KeepsRules, SlicedState, plan_in, working_in}
 use Rattle.sliced_heap.proofs.CallerLemmas.{plan_stays}
-use Rattle.slice_session.specs.SliceRun.{Does, IsGoingSliced, SliceRun, SliceStep, ids_with, ids_without, live_in, slice_run, sliced_object_of}
-use Rattle.slice_session.specs.SliceRun.{FreesSliced, MallocsSliced, StaysSliced, WritesSliced, slice_free_text, slice_malloc_text, slice_write_text}
+use Rattle.slice_session.specs.SliceRun.{Does, IsGoingSliced, SliceRun, SliceStep, ids_without, live_in, slice_run, sliced_object_of}
+use Rattle.run_model.specs.Steps.{ids_given, Stays}
+use Rattle.slice_session.specs.SliceRun.{FreesSliced, MallocsSliced, WritesSliced, slice_free_text, slice_malloc_text, slice_write_text}
 
 -- how many words the region of these settings has
 abbrev region_of : Profile → ℕ
@@ -69,7 +70,7 @@ on_map old new going event d = (done_on_map old.heap new.heap going.rules event 
 
 module _ (old new : SliceRun) (going : IsGoingSliced old) (reply : Reply) where
   malloc_turn : (id n : ℕ) (answer : Result Handle SliceRefusal) → get old.ids id ≡ None → HappensOnMap (live_in old) (Malloc n answer) (live_in new)
-      → new.ids ≡ ids_with old.ids id answer → reply ≡ said (slice_malloc_text answer) → NamedTurn (named old) (command.Malloc id n) reply (named new)
+      → new.ids ≡ ids_given old.ids id answer → reply ≡ said (slice_malloc_text answer) → NamedTurn (named old) (command.Malloc id n) reply (named new)
   malloc_turn id n (Ok h) free (unused, on) e is =
       inl (record { handle = h.0; shown = ap is_ok is; free = free; unused = unused; ids = e; objects = on })
   malloc_turn id n (Err refusal.Size) free on e is = inr (refuses (codes "refused size") refl is (record { ids = e; objects = on }))
@@ -91,26 +92,26 @@ module _ (old new : SliceRun) (going : IsGoingSliced old) (reply : Reply) where
   write_turn id h from bytes (Some access.Unknown) live (_, on) e is = inr (refuses (codes "unknown") refl is (record { ids = e; objects = on }))
   write_turn id h from bytes (Some access.Range) live (_, on) e is = inr (refuses (codes "range") refl is (record { ids = e; objects = on }))
 
-  malloc_at : (o : Option ℕ) (id n : ℕ) → get old.ids id ≡ o → MatchOption o (MallocsSliced old id n reply new) (λ h. StaysSliced old (codes "live") reply new)
+  malloc_at : (o : Option ℕ) (id n : ℕ) → get old.ids id ≡ o → MatchOption o (MallocsSliced old id n reply new) (λ h. Stays old (codes "live") reply new)
       → NamedTurn (named old) (command.Malloc id n) reply (named new)
   malloc_at (Some h) id n is (shown, rest) = inr (refuses (codes "live") refl shown (same_named named rest))
   malloc_at None id n is m = malloc_turn id n m.answer is (on_map old new going (Malloc n m.answer) m.does) m.ids m.reply_is
 
   free_at : (o : Option ℕ) (id : ℕ) → get old.ids id ≡ o
-      → MatchOption o (StaysSliced old (codes "unknown") reply new) (λ h. FreesSliced old id h reply new)
+      → MatchOption o (Stays old (codes "unknown") reply new) (λ h. FreesSliced old id h reply new)
       → NamedTurn (named old) (command.Free id) reply (named new)
   free_at None id is (shown, rest) = inr (refuses (codes "unknown") refl shown (same_named named rest))
   free_at (Some h) id is f = free_turn id h f.answer is (on_map old new going (Free h f.answer) f.does) f.ids f.reply_is
 
   write_at : (o : Option ℕ) (id from : ℕ) (bytes : List ℕ) → get old.ids id ≡ o
-      → MatchOption o (StaysSliced old (codes "unknown") reply new) (λ h. WritesSliced old h from bytes reply new)
+      → MatchOption o (Stays old (codes "unknown") reply new) (λ h. WritesSliced old h from bytes reply new)
       → NamedTurn (named old) (command.Write id from bytes) reply (named new)
   write_at None id from bytes is (shown, rest) = inr (refuses (codes "unknown") refl shown (same_named named rest))
   write_at (Some h) id from bytes is w = write_turn id h from bytes w.answer is
       (on_map old new going (Write (record { number = h; from = from }) bytes w.answer) w.does) w.ids w.reply_is
 
   -- the bytes of an id are those of its object
-  bytes_same : (id : ℕ) → option_map (λ (x : Placed). x.bytes) (sliced_object_of old id) ≡ bytes_of (named old) id
+  bytes_same : (id : ℕ) → option_map (λ (x : Placed). x.bytes) (sliced_object_of old id) ≡ bytes_named (named old) id
   bytes_same id = go (get old.ids id)
     where
       go : (o : Option ℕ) → option_map (λ (x : Placed). x.bytes) (elim o [ None ↦ None | Some h ↦ get old.heap.held h ]) ≡ through (live_in old) o
@@ -140,19 +141,19 @@ module _ (old new : SliceRun) (going : IsGoingSliced old) (reply : Reply) where
   open_kept : (c : Command) → SliceStep old c reply new → IsTrue new.heap.is_open × KeepsRules new.heap
   open_kept (command.Malloc id n) step = go (get old.ids id) step
     where
-      go : (o : Option ℕ) → MatchOption o (MallocsSliced old id n reply new) (λ h. StaysSliced old (codes "live") reply new)
+      go : (o : Option ℕ) → MatchOption o (MallocsSliced old id n reply new) (λ h. Stays old (codes "live") reply new)
           → IsTrue new.heap.is_open × KeepsRules new.heap
       go None m = open_after (Malloc n m.answer) m.does
       go (Some h) s = open_still s.1
   open_kept (command.Free id) step = go (get old.ids id) step
     where
-      go : (o : Option ℕ) → MatchOption o (StaysSliced old (codes "unknown") reply new) (λ h. FreesSliced old id h reply new)
+      go : (o : Option ℕ) → MatchOption o (Stays old (codes "unknown") reply new) (λ h. FreesSliced old id h reply new)
           → IsTrue new.heap.is_open × KeepsRules new.heap
       go None s = open_still s.1
       go (Some h) f = open_after (Free h f.answer) f.does
   open_kept (command.Write id from bytes) step = go (get old.ids id) step
     where
-      go : (o : Option ℕ) → MatchOption o (StaysSliced old (codes "unknown") reply new) (λ h. WritesSliced old h from bytes reply new)
+      go : (o : Option ℕ) → MatchOption o (Stays old (codes "unknown") reply new) (λ h. WritesSliced old h from bytes reply new)
           → IsTrue new.heap.is_open × KeepsRules new.heap
       go None s = open_still s.1
       go (Some h) w = open_after (Write (record { number = h; from = from }) bytes w.answer) w.does

@@ -1,2 +1,5 @@
 pub mod SliceRun
 pub mod Playing
+pub mod ShownSlices
+pub mod SliceHeadline
+pub mod Small

@@ -1,7 +1,7 @@
 -- A session over a sliced heap: its state, and for each command the reply, the state after it, and the most steps.
 use Rattle.std.specs.Prelude.{◌≡◌, ℕ, ◌+◌, IsTrue, List, Option, Some, None, Result, Ok, Err, codes, length, slice_get}
 use Rattle.std.specs.Option.{MatchOption}
-use Rattle.std.specs.FinMap.{get, insert, remove}
+use Rattle.std.specs.FinMap.{get, remove}
 use Rattle.cf_base.specs.declared.answers.AccessFault.{AccessFault}
 use Rattle.cf_base.specs.declared.answers.Handle.{Handle}
 use Rattle.cf_base.specs.declared.answers.Refusal.TheVariants as shown
@@ -10,6 +10,7 @@ use Rattle.cf_model.specs.Costs.{words_touched}
 use Rattle.id_table.specs.Ids.{Ids}
 use Rattle.page_model.specs.Held.{Objects, Placed, objects}
 use Rattle.run_model.specs.Replies.{malloc_text, peek_text, read_text, write_text}
+use Rattle.run_model.specs.Steps.{Stays, ids_given}
 use Rattle.script_reader.specs.declared.command.Command.{Command}
 use Rattle.script_reader.specs.declared.command.Command.TheVariants as command
 use Rattle.id_table.specs.Ties.{AreTiedTo}
@@ -64,11 +65,6 @@ abbrev pub slice_write_text : Option AccessFault → List ℕ
 slice_write_text None = write_text (Ok tt)
 slice_write_text (Some e) = write_text (Err e)
 
--- the ids after a malloc for an id: the id names the new handle, or the heap refused and the ids are unchanged
-abbrev pub ids_with : Ids → ℕ → Result Handle SliceRefusal → Ids
-ids_with ids id (Ok h) = insert ids id h.0
-ids_with ids id (Err e) = ids
-
 -- the ids after a free of an id: the id is no longer live, or the heap refused and the ids are unchanged
 abbrev pub ids_without : Ids → ℕ → Option SliceFault → Ids
 ids_without ids id None = remove ids id
@@ -81,15 +77,11 @@ pub record Does (old : SlicedState) (event : Event) (new : SlicedState) : Type 0
   pub ordered : HappensInOrder (plan_in old) (working_in old) event (working_in new) old.order new.order
   pub stays : StaysOpen old new
 
--- the command changes nothing, and its reply is this text
-abbrev pub StaysSliced : SliceRun → List ℕ → Reply → SliceRun → Type 0
-StaysSliced old text reply new = (reply ≡ said text) × (new ≡ old)
-
 -- a malloc for an id that isn't live: the heap adds an object and the id names it, or the heap refuses; the reply shows which
 pub record MallocsSliced (old : SliceRun) (id bytes : ℕ) (reply : Reply) (new : SliceRun) : Type 0 where
   pub answer : Result Handle SliceRefusal
   pub does : Does old.heap (Malloc bytes answer) new.heap
-  pub ids : new.ids ≡ ids_with old.ids id answer
+  pub ids : new.ids ≡ ids_given old.ids id answer
   pub reply_is : reply ≡ said (slice_malloc_text answer)
 
 -- a free of a live id, which names h: the heap frees the object h and does the first slice of a job, or refuses; the reply shows which
@@ -121,11 +113,11 @@ sliced_shown s other = said (codes "none")
 -- One command: the run before it, its reply, and the run after it.
 abbrev pub SliceStep : SliceRun → Command → Reply → SliceRun → Type 0
 SliceStep old (command.Malloc id bytes) reply new =
-    MatchOption (get old.ids id) (MallocsSliced old id bytes reply new) (λ h. StaysSliced old (codes "live") reply new)
-SliceStep old (command.Free id) reply new = MatchOption (get old.ids id) (StaysSliced old (codes "unknown") reply new) (λ h. FreesSliced old id h reply new)
+    MatchOption (get old.ids id) (MallocsSliced old id bytes reply new) (λ h. Stays old (codes "live") reply new)
+SliceStep old (command.Free id) reply new = MatchOption (get old.ids id) (Stays old (codes "unknown") reply new) (λ h. FreesSliced old id h reply new)
 SliceStep old command.Slice reply new = StepsSliced old reply new
 SliceStep old (command.Write id from bytes) reply new =
-    MatchOption (get old.ids id) (StaysSliced old (codes "unknown") reply new) (λ h. WritesSliced old h from bytes reply new)
+    MatchOption (get old.ids id) (Stays old (codes "unknown") reply new) (λ h. WritesSliced old h from bytes reply new)
 SliceStep old other reply new = (reply ≡ sliced_shown old other) × (new ≡ old)
 
 -- The most steps of a command, with slices of at most `quantum` words. Only the heap's call takes steps.

@@ -15,7 +15,7 @@ ghost use Rattle.slice_session.specs.SliceRun.{IsGoingSliced, SliceStep, most_st
 ghost use Rattle.slice_session.specs.Playing.{sliced};
 
 use crate::commands::{free, malloc, peek, read, step, write};
-use cf_base::{Failed, OutOfMemory};
+use cf_base::{CHUNK, Failed, OutOfMemory};
 use cf_io::{Line, Sink, put_line};
 use cf_session::{Outcome, Short, ended, push_short};
 use id_table::IdTable;
@@ -25,9 +25,6 @@ use std::alloc::Global;
 use std::marker::Model;
 use step_ledger::{Meter, Steps};
 
-/// The most bytes that one `r` reads.
-const MOST_READ: usize = 4_096;
-
 /// The ids of a script with the handles that they name in one sliced heap, and the buffers for replies.
 #[derive(Drop)]
 pub struct SliceSession {
@@ -35,7 +32,7 @@ pub struct SliceSession {
     /// The line in which a reply is built.
     line: Line,
     /// The buffer for the bytes of a read.
-    buffer: [u8; MOST_READ],
+    buffer: [u8; CHUNK],
 }
 
 impl Model for SliceSession {
@@ -57,7 +54,7 @@ impl SliceSession {
         Ok(SliceSession {
             ids: IdTable::new(alloc)?,
             line: Line::new(),
-            buffer: [0; MOST_READ],
+            buffer: [0; CHUNK],
         })
     }
 

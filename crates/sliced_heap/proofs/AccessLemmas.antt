@@ -22,10 +22,11 @@ use Rattle.slice_model.specs.State.{Job, Sliced, job_slot, occupied, Idle, Clear
 use Rattle.slice_model.specs.Runs.{IsOutOfReach, Reads, Writes}
 use Rattle.slice_model.specs.Words.{RewritesObject}
 use Rattle.slice_model.proofs.CallerLemmas.{beside, inserted_beside, job_within, kept_apart, kept_write, mover_class, own_words_at, words_written}
-use Rattle.slice_words.specs.Halves.{AreApart, byte_in_halves, halves_of, place_of_word}
-use Rattle.slice_words.specs.Writes.{WritesBytes}
-use Rattle.slice_words.specs.declared.halves.Halves.{Halves}
-use Rattle.slice_words.proofs.CallerLemmas.{byte_by_halves, object_rewritten, word_by_halves, word_high, word_low}
+use Rattle.sliced_heap.specs.Halves.{HalvesAreApart, byte_in_halves, halves_of, place_of_word}
+use Rattle.sliced_heap.specs.Writes.{WritesByPlaces}
+use Rattle.sliced_heap.specs.declared.halves.Halves.{Halves}
+use Rattle.sliced_heap.proofs.ObjectBytes.{byte_by_halves, object_rewritten, word_by_halves}
+use Rattle.sliced_heap.proofs.TwoParts.{word_high, word_low}
 use Rattle.sliced_heap.specs.Heap.{Heap}
 use Rattle.sliced_heap.specs.Layout.{IsValid, paging_at, plan_of, state_of, tables_in, working_of}
 use Rattle.sliced_heap.specs.Access.{HoldsBytesAt}
@@ -33,7 +34,7 @@ use Rattle.sliced_heap.proofs.Facts.{has_place, held_bytes, no_place, plan_ok, p
 use Rattle.sliced_heap.proofs.Headers.{bytes_few, head_length, holds, inside, number_low}
 use Rattle.sliced_heap.proofs.Counts.{needed_same}
 use Rattle.sliced_heap.proofs.HeldFromWords.{place_there}
-use Rattle.sliced_heap.proofs.Preserved.{Becomes, becomes_plan, becomes_state, becomes_valid}
+use Rattle.sliced_heap.proofs.Preserved.{Becomes, becomes_state, becomes_valid}
 
 -- both halves of an object lie in the region, also if one is in the job's slot
 halves_within : (p : Paging) (count : ℕ) (j : Job) (q : ℕ) (x : Placed) → x.place + slot_for p (length x.bytes) ≤ count
@@ -68,7 +69,7 @@ module _ (h : Heap) (k : IsValid h) (q : ℕ) (x : Placed) (there : get (state_o
       omega arith))
 
   -- no word of the first half has the address of one of the second
-  pub apart : (n : ℕ) → n ≤ slot_for (paging_at h) (length x.bytes) → AreApart (halves_of h.job q x.place) n
+  pub apart : (n : ℕ) → n ≤ slot_for (paging_at h) (length x.bytes) → HalvesAreApart (halves_of h.job q x.place) n
   apart n le i j lt ge less same =
       let a = word_low s i lt in
       let b = word_high s j ge in
@@ -98,7 +99,7 @@ module _ (h : Heap) (k : IsValid h) (q : ℕ) (x : Placed) (there : get (state_o
   -- bytes that are written over those of the object
   module _ (at : ℕ) (bytes : List ℕ) (are : AreBytes bytes) (fits : at + length bytes ≤ length x.bytes) (n : Heap)
       (rest : n ≡ record h { words = n.words }) (long : length n.words ≡ length h.words)
-      (w : WritesBytes h.words n.words (place_of_word (halves_of h.job q x.place)) at bytes) where
+      (w : WritesByPlaces h.words n.words (place_of_word (halves_of h.job q x.place)) at bytes) where
     abbrev z : Placed
     z = record { place = x.place; bytes = written x.bytes at bytes }
 
@@ -156,9 +157,6 @@ module _ (h : Heap) (k : IsValid h) (q : ℕ) (x : Placed) (there : get (state_o
 
     pub written_valid : IsValid n
     written_valid = becomes_valid h n k t becomes
-
-    pub written_plan : plan_of n ≡ plan_of h
-    written_plan = becomes_plan h n k t becomes
 
     pub writes : Writes (working_of h) (record { number = q; from = at }) bytes (working_of n)
     writes = record {
@@ -221,8 +219,8 @@ module _ (h : Heap) (k : IsValid h) (q at count : ℕ) (s : Halves) (l : HoldsBy
   part_from = (let w = (within h k q l.object l.found).1 in let r = room.0 in
       let e : s.from ≡ (halves_of h.job q l.object.place).from = ap (λ (y : Halves). y.from) l.halves in omega arith)
 
-  pub part_apart : AreApart s (1 + (at + count + 7) / 8)
-  part_apart = subst (λ y. AreApart y (1 + (at + count + 7) / 8)) (sym l.halves) (apart h k q l.object l.found (1 + (at + count + 7) / 8) room.0)
+  pub part_apart : HalvesAreApart s (1 + (at + count + 7) / 8)
+  part_apart = subst (λ y. HalvesAreApart y (1 + (at + count + 7) / 8)) (sym l.halves) (apart h k q l.object l.found (1 + (at + count + 7) / 8) room.0)
 
   pub part_read : (out : List ℕ) → length out ≡ count → ((i : ℕ) → i < length out → get_or out i 0 ≡ byte_in_halves s h.words (at + i))
       → Reads (working_of h) (record { number = q; from = at }) count out
@@ -231,9 +229,9 @@ module _ (h : Heap) (k : IsValid h) (q at count : ℕ) (s : Halves) (l : HoldsBy
 
 module _ (h : Heap) (k : IsValid h) (q at : ℕ) (s : Halves) (bytes : List ℕ) (are : AreBytes bytes)
     (l : HoldsBytesAt h (record { number = q; from = at }) (length bytes) s) (n : Heap)
-    (rest : n ≡ record h { words = n.words }) (long : length n.words ≡ length h.words) (w : WritesBytes h.words n.words (place_of_word s) at bytes) where
-  written_there : WritesBytes h.words n.words (place_of_word (halves_of h.job q l.object.place)) at bytes
-  written_there = subst (λ y. WritesBytes h.words n.words (place_of_word y) at bytes) l.halves w
+    (rest : n ≡ record h { words = n.words }) (long : length n.words ≡ length h.words) (w : WritesByPlaces h.words n.words (place_of_word s) at bytes) where
+  written_there : WritesByPlaces h.words n.words (place_of_word (halves_of h.job q l.object.place)) at bytes
+  written_there = subst (λ y. WritesByPlaces h.words n.words (place_of_word y) at bytes) l.halves w
 
   pub part_valid : IsValid n
   part_valid = written_valid h k q l.object l.found at bytes are l.within n rest long written_there

@@ -25,7 +25,7 @@ use Rattle.sliced_heap.specs.Steps.{IsFilled}
 use Rattle.sliced_heap.proofs.Facts.{held_bytes, paging_ok, places_are, plan_ok, table_is}
 use Rattle.sliced_heap.proofs.FillLemmas.{all_are, at_last, class_in, kept_clear, last_done, none_there, occupied_clear, sound_clear}
 use Rattle.sliced_heap.proofs.FillLemmas.{stand_class, stand_there, two, words_clear}
-use Rattle.sliced_heap.proofs.Preserved.{Becomes, becomes_plan, becomes_state, becomes_valid}
+use Rattle.sliced_heap.proofs.Preserved.{Becomes, becomes_state, becomes_valid}
 use Rattle.cf_lemmas.proofs.Maps.{remove_fresh}
 
 -- if `fill` chose an object to move to the slot, the end of the job is followed by the next job, as the model says
@@ -126,9 +126,6 @@ module _ (h : Heap) (k : IsValid h) (g : JobSlot) (at : h.job ≡ Clear g) where
 
     pub idle_valid : IsValid n
     idle_valid = becomes_valid h n k s becomes
-
-    pub idle_plan : plan_of n ≡ plan_of h
-    idle_plan = becomes_plan h n k s becomes
 
     -- the order changes as it does when the slot becomes free
     freed : order_in n ≡ slot_freed (paging_at h) (insert m h.settings.proxies (placeholder (paging_at h) g)) (order_in h) g.class

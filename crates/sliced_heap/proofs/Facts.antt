@@ -1,6 +1,6 @@
 -- For all other files here: what follows from the invariant of an open sliced heap (`IsValid`) for its pages and classes, its tables, and the addresses and
 -- bytes of its objects.
-use Rattle.std.proofs.Common.{◌≡◌, ℕ, ◌^◌, ◌<◌, ◌≤◌, length, Some, None, arith, refl, sym, ◌∙◌, ap, subst}
+use Rattle.std.proofs.Common.{◌≡◌, ℕ, ◌≤◌, length, Some, None, arith, refl, sym, ◌∙◌, ap, subst}
 use Rattle.std.specs.Prelude.{option_map}
 use Rattle.std.specs.FinMap.{get, len}
 use Rattle.cf_base.specs.declared.kind.Layout.TheVariants.{Words}
@@ -45,9 +45,6 @@ module _ (h : Heap) (k : IsValid h) where
 
   pub table_ok : IsClassTable h.classes.page_words h.classes.sizes
   table_ok = subst (λ (t : ClassTable). IsClassTable t.page_words t.sizes) table_is k.serve.part.tables.table
-
-  pub region_small : length h.words < 2 ^ 32
-  region_small = (let long = k.words_long in let small = h.settings.small_region in omega arith)
 
   -- the objects' addresses are those of the proxies; a number without one has no object
   pub places_are : h.proxies.places ≡ places (state_of h).held

@@ -65,13 +65,3 @@ class_is h k bytes c e =
           let is : class_for (paging_at h) bytes ≡ c = cc in
           (fits, is, subst (λ c. c < classes (paging_at h)) is lt))
     ]
-
--- if the class table has no class for `bytes` bytes, an object of this length is larger than a page
-pub no_class : (h : Heap) → IsValid h → (bytes : ℕ) → None ≡ class_of h.classes.sizes bytes → h.settings.page_words < need bytes
-no_class h k bytes e = elim (cases_lt h.settings.page_words (need bytes)) [
-  | inl more ↦ more
-  | inr fits ↦ absurd (
-      let lt = class_fits (paging_at h) (paging_ok h k) bytes fits in
-      let z : None ≡ Some (class_for (paging_at h) bytes) = e ∙ ap (λ (t : ClassTable). class_of t.sizes bytes) k.table
-      ∙ class_known (paging_at h) (paging_ok h k) bytes lt in cc)
-]

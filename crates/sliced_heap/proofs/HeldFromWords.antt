@@ -18,8 +18,8 @@ use Rattle.slice_model.specs.State.{Plan, IsPlan, Job, IsKept, Idle, Clear, Move
 use Rattle.slice_model.specs.Words.{HasWords}
 use Rattle.slice_model.proofs.CallerLemmas.{job_within, kept_apart, object_slot, object_within, words_ended}
 use Rattle.slice_model.proofs.CallerLemmas as model
-use Rattle.slice_words.proofs.CallerLemmas.{part_apart}
-use Rattle.word_bytes.proofs.CallerLemmas.{cleared_clears, moved_moves}
+use Rattle.sliced_heap.proofs.Moves.{part_apart}
+use Rattle.region.proofs.CallerLemmas.{cleared_clears, moved_moves}
 use Rattle.sliced_heap.specs.Layout.{words_after_job, words_after_move}
 
 -- the address that the map of addresses has for an object is the object's

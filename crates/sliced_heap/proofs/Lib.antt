@@ -18,3 +18,7 @@ pub mod OpenLemmas
 pub mod OrderFacts
 pub mod Rules
 pub mod CallerLemmas
+pub mod Moves
+pub mod OnePart
+pub mod TwoParts
+pub mod ObjectBytes

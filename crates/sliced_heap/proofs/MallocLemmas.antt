@@ -35,7 +35,7 @@ use Rattle.sliced_heap.specs.Layout.{IsValid, opens, order_in, paging_at, plan_o
 use Rattle.sliced_heap.proofs.Counts.{needed_added, needed_more}
 use Rattle.sliced_heap.proofs.Facts.{few_classes, held_bytes, held_len, no_place, paging_ok, places_are, plan_ok, table_is}
 use Rattle.sliced_heap.proofs.Headers.{class_is}
-use Rattle.sliced_heap.proofs.Preserved.{Becomes, becomes_plan, becomes_state, becomes_valid}
+use Rattle.sliced_heap.proofs.Preserved.{Becomes, becomes_state, becomes_valid}
 
 -- setting one word of the region changes no other word
 pub one_word : (words : List ℕ) (a v : ℕ) → a < length words → Rewrites words (set words a v) (record { from = a; count = 1 }) (λ _. v)
@@ -214,9 +214,6 @@ module _ (h : Heap) (k : IsValid h) (bytes c : ℕ) (found : Some c ≡ class_of
 
           pub given_valid : IsValid n
           given_valid = becomes_valid h n k s becomes
-
-          pub given_plan : plan_of n ≡ plan_of h
-          given_plan = becomes_plan h n k s becomes
 
           state_now : state_of n ≡ s
           state_now = becomes_state h n k s becomes

@@ -1,5 +1,5 @@
 -- For `is_open` and the clauses `rules`: a heap that is open and valid keeps the rules that callers see (`KeepsRules`).
-use Rattle.std.proofs.Common.{◌≡◌, ℕ, List, Option, Some, None, refl, sym, ◌∙◌, ap, subst}
+use Rattle.std.proofs.Common.{◌≡◌, ℕ, List, Option, Some, None, refl, sym, ◌∙◌, subst}
 use Rattle.std.specs.Prelude.{IsTrue, is_some, option_map}
 use Rattle.std.proofs.lemmas.Bool.{false≢true}
 use Rattle.std.specs.FinMap.{get}
@@ -8,7 +8,7 @@ use Rattle.page_model.specs.Bytes.{AreBytes}
 use Rattle.page_model.specs.Held.{Held, Placed, objects}
 use Rattle.sliced_heap.specs.Heap.{seen}
 use Rattle.sliced_heap.specs.Layout.{IsValid, state_of}
-use Rattle.sliced_heap.specs.Shown.{IsValidIn, KeepsRules, SlicedState, shown}
+use Rattle.sliced_heap.specs.Shown.{IsValidIn, KeepsRules, shown}
 use Rattle.sliced_heap.specs.declared.open_heap.OpenHeap.{OpenHeap}
 use Rattle.sliced_heap.proofs.Facts.{held_bytes, plan_ok}
 use Rattle.sliced_heap.proofs.OrderFacts.{order_ok}
@@ -27,11 +27,6 @@ keeps h k = record {
   region = k.words_long;
   order = order_ok (seen h) k;
 }
-
--- the same for the value s that contracts show of the heap
-pub keeps_of : (o : Option OpenHeap) → IsValidIn o → (s : SlicedState) → shown o ≡ s → IsTrue s.is_open → KeepsRules s
-keeps_of None k s is open_now = absurd (false≢true (ap (λ (t : SlicedState). t.is_open) is ∙ open_now))
-keeps_of (Some h) k s is open_now = subst KeepsRules is (keeps h k)
 
 pub keeps_open : (o : Option OpenHeap) → IsValidIn o → IsTrue (is_some o) → KeepsRules (shown o)
 keeps_open None k open_now = absurd (false≢true open_now)

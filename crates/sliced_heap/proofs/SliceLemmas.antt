@@ -20,7 +20,7 @@ use Rattle.sliced_heap.specs.Heap.{Heap}
 use Rattle.sliced_heap.specs.Layout.{IsValid, order_in, paging_at, plan_of, state_of, tables_in, working_of}
 use Rattle.sliced_heap.proofs.Facts.{held_bytes, places_are, plan_ok}
 use Rattle.sliced_heap.proofs.HeldFromWords.{AreEnded}
-use Rattle.sliced_heap.proofs.Preserved.{Becomes, becomes_plan, becomes_state, becomes_valid}
+use Rattle.sliced_heap.proofs.Preserved.{Becomes, becomes_state, becomes_valid}
 
 -- if the job of heap h is j, the state of h has the job j
 pub state_at : (h : Heap) (j : Job) → h.job ≡ j → state_of h ≡ record { held = (state_of h).held; job = j }
@@ -81,9 +81,6 @@ module _ (h n : Heap) (k : IsValid h) (same : KeepsTables h n) (j : Job) (is : n
   pub job_state : state_of n ≡ record { held = (state_of h).held; job = j }
   job_state = becomes_state h n k s becomes
 
-  pub job_plan : plan_of n ≡ plan_of h
-  job_plan = becomes_plan h n k s becomes
-
 -- a slice leads from heap h, whose job is j with slot g, to heap n
 module _ (h n : Heap) (k : IsValid h) (same : KeepsTables h n) (j : Job) (at : h.job ≡ j) (g : JobSlot) (slot : job_slot j ≡ Some g) where
   abbrev m : Held
@@ -122,9 +119,6 @@ module _ (h n : Heap) (k : IsValid h) (same : KeepsTables h n) (j : Job) (at : h
 
       pub on_valid : IsValid n
       on_valid = job_valid h n k same (advanced j (done_after (plan_of h) g)) is kept_on words_on same_slot
-
-      pub on_plan : plan_of n ≡ plan_of h
-      on_plan = job_plan h n k same (advanced j (done_after (plan_of h) g)) is kept_on words_on same_slot
 
       pub on_slices : Slices (plan_of h) (working_of h) (working_of n)
       on_slices = slices_at (plan_of h) (working_of h) j at (working_of n)
@@ -175,9 +169,6 @@ module _ (h n : Heap) (k : IsValid h) (same : KeepsTables h n) (j : Job) (at : h
 
     pub vacant_state : state_of n ≡ record { held = (state_of h).held; job = Clear (record g { done = 0 }) }
     vacant_state = job_state h n k same (Clear (record g { done = 0 })) is kept_vacant words_vacant same_slot_vacant
-
-    pub vacant_plan : plan_of n ≡ plan_of h
-    vacant_plan = job_plan h n k same (Clear (record g { done = 0 })) is kept_vacant words_vacant same_slot_vacant
 
 -- how the end of a job changes the order does not depend on `done`
 same_end : (plan : Plan) (m : Held) (g : JobSlot) (was now : Order) (j : Job) → EndFollows plan m (record g { done = 0 }) j was now

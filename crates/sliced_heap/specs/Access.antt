@@ -6,8 +6,8 @@ use Rattle.cf_base.specs.declared.answers.AccessFault.{AccessFault}
 use Rattle.cf_base.specs.declared.answers.AccessFault.TheVariants as access
 use Rattle.page_model.specs.Held.{Placed, objects}
 use Rattle.slice_model.specs.Runs.{Position, IsOutOfReach}
-use Rattle.slice_words.specs.Halves.{halves_of}
-use Rattle.slice_words.specs.declared.halves.Halves.{Halves}
+use Rattle.sliced_heap.specs.Halves.{halves_of}
+use Rattle.sliced_heap.specs.declared.halves.Halves.{Halves}
 use Rattle.sliced_heap.specs.Heap.{Heap}
 use Rattle.sliced_heap.specs.Layout.{state_of}
 

@@ -4,3 +4,5 @@ pub mod Heap
 pub mod Layout
 pub mod Steps
 pub mod Access
+pub mod Halves
+pub mod Writes

@@ -3,17 +3,17 @@
 ghost use Rattle.std.specs.Prelude.{◌≡◌, ◌+◌, ◌≤◌, if◌then◌else◌, is_some, length, slice_get, IsErr};
 ghost use Rattle.step_ledger.specs.Counting.{RoseAtMost, RoseBy};
 ghost use Rattle.slice_model.specs.Runs.{Happens, Read, Write};
-ghost use Rattle.slice_words.specs.Halves.{halves_of};
+ghost use Rattle.sliced_heap.specs.Halves.{halves_of};
 ghost use Rattle.sliced_heap.specs.Access.{IsFound, access_fault, bytes_or_fault, find_steps};
 ghost use Rattle.sliced_heap.specs.Costs.{access_steps};
 ghost use Rattle.sliced_heap.specs.Heap.{job_of, seen};
 ghost use Rattle.sliced_heap.specs.Layout.{IsValid, order_in, plan_of, working_of};
 
+use crate::halves::{Halves, read_halves, read_word, write_halves};
 use crate::open_heap::{OpenHeap, Pending};
 use cf_base::{AccessFault, Handle};
-use slice_words::{Halves, read_halves, read_word, write_halves};
+use region::Header;
 use step_ledger::Steps;
-use word_bytes::Header;
 
 impl OpenHeap {
     /// Returns the word of the region with the number `word`, or `None` past the region's end.

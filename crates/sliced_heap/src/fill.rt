@@ -16,9 +16,9 @@ ghost use Rattle.sliced_heap.specs.Layout.{IsValid};
 ghost use Rattle.sliced_heap.specs.Steps.{FillsSlot, IsCheapToFree, StartsMove};
 
 use crate::open_heap::{OpenHeap, Pending};
+use region::Header;
 use slice_model::JobSlot;
 use step_ledger::Steps;
-use word_bytes::Header;
 
 impl OpenHeap {
     /// Fills slot `k`, the slot of the pending job, if freeing it would give its class two partly full

@@ -14,9 +14,9 @@ ghost use Rattle.sliced_heap.specs.Steps.{StartsClearing, fault_in};
 
 use crate::open_heap::{OpenHeap, Pending};
 use cf_base::Handle;
+use region::Header;
 use slice_model::{JobSlot, SliceFault};
 use step_ledger::Steps;
-use word_bytes::Header;
 
 impl OpenHeap {
     /// Frees the object of handle `h`, and does the first slice of the job that this leaves. Fails, with

@@ -1,14 +1,18 @@
 //! The sliced heap: a moving heap with bound 1 whose free leaves its long work, clearing a slot or moving an
-//! object, as a job. A slice does at most a quantum of words; objects in motion can be used.
+//! object, as a job. A slice does at most a quantum of words. Objects in motion can be used: such an
+//! object has two halves, one at its new address, one in its old slot.
 #![tactic(auto)]
 
 mod access;
 mod end;
 mod fill;
 mod free;
+mod halves;
 mod heap;
+mod jobs;
 mod malloc;
 mod open_heap;
+mod parts;
 mod slice;
 
 pub use heap::SlicedHeap;

@@ -14,9 +14,9 @@ ghost use Rattle.sliced_heap.specs.Layout.{IsValid, opens, order_in, plan_of, wo
 
 use crate::open_heap::OpenHeap;
 use cf_base::Handle;
+use region::Header;
 use slice_model::SliceRefusal;
 use step_ledger::Steps;
-use word_bytes::Header;
 
 impl OpenHeap {
     /// Makes an object of `bytes` bytes, all zero, and returns its handle. Refused, with nothing changed,

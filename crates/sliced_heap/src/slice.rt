@@ -10,10 +10,10 @@ ghost use Rattle.sliced_heap.specs.Heap.{job_of, seen};
 ghost use Rattle.sliced_heap.specs.Layout.{IsValid, order_in, plan_of, state_of, working_of};
 ghost use Rattle.sliced_heap.specs.Steps.{job_most, part_most};
 
+use crate::jobs::{clear_next, move_next, words_of_slice};
 use crate::open_heap::{OpenHeap, Pending};
 use cf_base::Handle;
 use slice_model::JobSlot;
-use slice_words::{clear_next, move_next, words_of_slice};
 use step_ledger::Steps;
 
 impl OpenHeap {

@@ -4,9 +4,8 @@ ghost use Rattle.std.specs.List.{position, count_by};
 ghost use Rattle.step_ledger.specs.Counting.{RoseBy};
 
 use crate::bits;
-use counted_cells::{CellArray, WordCell, with_bit};
 use std::marker::Model;
-use step_ledger::Steps;
+use step_ledger::{CellArray, Steps, WordCell, with_bit};
 
 /// The map of the used slots of a page. Contracts see a list with a truth value for each slot: true
 /// if it is used.

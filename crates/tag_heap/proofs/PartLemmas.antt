@@ -9,7 +9,7 @@ use Rattle.cf_base.specs.declared.kind.Kind.{Kind}
 use Rattle.page_model.specs.Held.{Placed}
 use Rattle.page_model.specs.Bytes.{byte_of, bytes_at}
 use Rattle.block_model.specs.Tiling.{size_at}
-use Rattle.word_bytes.specs.Overwriting.{byte_from, words_with}
+use Rattle.region.specs.Overwriting.{byte_from, words_with}
 use Rattle.cf_model.specs.Steps.{ReadsBytes}
 use Rattle.tag_heap.specs.Access.{HoldsBytesAt}
 use Rattle.tag_heap.specs.Heap.{Heap, IsValid, held_in, state_of}

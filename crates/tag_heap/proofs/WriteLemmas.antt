@@ -1,6 +1,6 @@
 -- For `write`: after bytes are written into the block of an object, the object has these bytes, nothing else changes, and a heap with blocks satisfies its
 -- invariant.
-use Rattle.std.proofs.Common.{◌≡◌, ◌≢◌, ℕ, suc, ◌+◌, ◌-◌, ◌/◌, ◌%◌, ◌^◌, ◌<◌, ◌≤◌, List, [], length, get_or, Some, arith, refl, sym, ◌∙◌, ap, subst, inl, inr}
+use Rattle.std.proofs.Common.{◌≡◌, ◌≢◌, ℕ, suc, ◌+◌, ◌-◌, ◌/◌, ◌%◌, ◌^◌, ◌<◌, ◌≤◌, List, [], length, get_or, Some, ◌∷◌, arith, refl, sym, ◌∙◌, ap, subst, inl, inr}
 use Rattle.std.specs.Prelude.{option_map}
 use Rattle.std.proofs.lemmas.Bool.{cases_lt}
 use Rattle.std.proofs.lemmas.Option.{same_Some as some_placed}
@@ -9,18 +9,18 @@ use Rattle.cf_lemmas.proofs.Maps.{get_inserted, get_insert_other, get_removed, s
 use Rattle.cf_lemmas.proofs.MapValues.{get-map_values, map_values-insert}
 use Rattle.cf_lemmas.proofs.Sums.{insert_again}
 use Rattle.cf_base.specs.declared.kind.Kind.{Kind}
-use Rattle.page_model.specs.Held.{Held, Placed, objects, places}
+use Rattle.page_model.specs.Held.{Held, Placed, objects}
 use Rattle.page_model.specs.Bytes.{AreBytes, byte_of, bytes_at, written}
 use Rattle.page_model.specs.Figures.{asked_bytes}
 use Rattle.page_model.specs.Image.{IsOutside, header_word, object_word}
-use Rattle.page_model.proofs.CallerLemmas.{asked_added, asked_taken, byte_of_object, length-written, object_word_small, rewritten_places}
-use Rattle.page_model.proofs.CallerLemmas.{written_are_bytes, written_before, written_behind, written_inside}
+use Rattle.page_model.proofs.CallerLemmas.{asked_added, asked_taken, byte_of_object, inserted_there, length-written, object_word_small, rewritten_places}
+use Rattle.page_model.proofs.CallerLemmas.{written_are_bytes, written_before, written_behind, written_inside, written_nothing}
 use Rattle.block_model.specs.FreeOrder.{AreListsOf}
 use Rattle.block_model.specs.Tiling.{size_at, size_of, used_words}
 use Rattle.block_model.specs.Words.{AreTilingWords}
-use Rattle.word_bytes.specs.Cells.{overwritten}
-use Rattle.word_bytes.specs.Overwriting.{Overwrites, words_with}
-use Rattle.word_bytes.proofs.CallerLemmas.{overwritten_before, overwritten_behind, overwritten_inside}
+use Rattle.region.specs.Cells.{overwritten}
+use Rattle.region.specs.Overwriting.{Overwrites, words_with}
+use Rattle.region.proofs.CallerLemmas.{overwritten_before, overwritten_behind, overwritten_inside}
 use Rattle.tag_blocks.specs.Blocks.{Tagged, AreTags, IsUsedAt, listed}
 use Rattle.tag_blocks.proofs.CallerLemmas.{bytes_words, content_byte}
 use Rattle.cf_model.specs.Families.{IsTiled, free_lists_of, list_count_of}
@@ -196,3 +196,21 @@ module _ {k : Kind} (h : Heap) (v : IsValid k h) (q at a : ℕ) (part : List ℕ
           order = Some (record { pool = []; not_full = ls; spare = h.proxies.free });
         }) same_lists;
   }
+
+-- to write no bytes changes nothing
+pub wrote_nothing : (k : Kind) → IsTiled k → (h : Heap) (q at a : ℕ) (part : List ℕ) → length part ≡ 0
+    → HoldsBytesAt h (record { number = q; from = at }) (length part) a → WritesBytes (state_of k h) (record { number = q; from = at }) part (state_of k h)
+wrote_nothing k is h q at a [] none l = record {
+  object = was;
+  found = l.found;
+  within = l.within;
+  outside = of_tiled (λ j. StaysOutside j (state_of k h) was (state_of k h)) (λ w out. refl) (λ w out. refl) k is;
+  whole =
+      let fits = l.within in
+      ap (λ m. record (state_of k h) { held = m }) (sym (ap (λ bytes. insert (held_in h) q (record was { bytes = bytes }))
+      (written_nothing was.bytes at (omega arith)) ∙ inserted_there (held_in h) q was l.found));
+}
+  where
+    was : Placed
+    was = record { place = a; bytes = bytes_at h.tagged.words (a + 1) }
+wrote_nothing k is h q at a (x ∷ xs) none l = absurd (omega arith)

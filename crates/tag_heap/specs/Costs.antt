@@ -1,5 +1,5 @@
--- How many steps the calls of a heap with blocks take: exactly for `has_room`, `length`, the figures, reads and writes; at most for a malloc.
-use Rattle.std.specs.Prelude.{ℕ, ◌+◌, ◌%◌, Option, Some, None, Result, Ok, Err}
+-- How many steps the calls of a heap with blocks take: exactly for `has_room`, the figures, reads and writes; at most for a malloc.
+use Rattle.std.specs.Prelude.{ℕ, ◌+◌, ◌*◌, Option, Some, None, Result, Ok, Err}
 use Rattle.cf_base.specs.declared.answers.AccessFault.{AccessFault}
 use Rattle.cf_base.specs.declared.answers.AccessFault.TheVariants as access
 use Rattle.cf_base.specs.declared.answers.Handle.{Handle}
@@ -9,11 +9,11 @@ use Rattle.page_model.specs.Order.{Order}
 use Rattle.block_model.specs.Costs.{find_steps, largest_steps}
 use Rattle.block_model.specs.FreeOrder.{next_block}
 use Rattle.block_model.specs.Tiling.{block_need}
-pub use Rattle.cf_model.specs.Costs.{block_free_bound as free_steps}
+use Rattle.cf_model.specs.Bounds.{Bounds}
+use Rattle.cf_model.specs.Costs.{block_free_bound, words_touched}
 use Rattle.cf_model.specs.ExactCosts.{block_malloc_cost}
 use Rattle.cf_model.specs.Families.{free_lists_of, list_count_of}
 use Rattle.cf_model.specs.State.{HeapState}
-use Rattle.word_bytes.specs.Overwriting.{words_with}
 
 -- the most steps of a malloc that is refused for this cause
 abbrev pub refused_steps : Refusal → ℕ
@@ -45,11 +45,6 @@ abbrev pub totals_steps : Option Order → ℕ
 totals_steps None = 0
 totals_steps (Some order) = largest_steps order.not_full
 
--- the exact steps of `length`, by its result: reading the proxy, and if the object is live its header
-abbrev pub length_steps : Option ℕ → ℕ
-length_steps None = 1
-length_steps (Some bytes) = 2
-
 -- the most steps of a malloc, by its result
 abbrev pub malloc_steps : Result Handle Refusal → ℕ
 malloc_steps (Ok handle) = 25
@@ -67,5 +62,19 @@ found_steps (Err e) = fault_steps e
 
 -- the exact steps of a read or a write of `count` bytes from byte `from` on: those of `find`, and one for each word that holds one of the bytes
 abbrev pub access_steps : ℕ → ℕ → Result Unit AccessFault → ℕ
-access_steps from count (Ok done) = 2 + words_with (from % 8) count
+access_steps from count (Ok done) = 2 + words_touched from count
 access_steps from count (Err e) = fault_steps e
+
+-- the most steps of each call of a kind with blocks; a resize is always refused, after at most 1 step, and the totals take at most 3 steps and 2 for each
+-- free block
+abbrev pub block_bounds : Bounds
+block_bounds = record {
+  malloc = malloc_steps;
+  free = block_free_bound;
+  resize = λ n answer. 1;
+  access = access_steps;
+  room = room_steps;
+  room_exact = λ s bytes answer. has_room_steps s s.order bytes answer;
+  totals = λ totals. 3 + 2 * totals.free;
+  totals_exact = λ s. totals_steps s.order;
+}

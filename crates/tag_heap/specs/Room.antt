@@ -1,30 +1,19 @@
--- For `has_room` and `length`: what a malloc would return now, and how long an object is.
-use Rattle.std.specs.Prelude.{◌≡◌, ◌≢◌, ℕ, ◌+◌, ◌≤◌, length, Option, Some, Result, Ok, Err, option_map}
-use Rattle.std.specs.FinMap.{get, len}
+-- For `has_room`: the block that a malloc would take now, or why it would be refused.
+use Rattle.std.specs.Prelude.{◌≡◌, ◌≢◌, ℕ, ◌+◌, ◌≤◌, Some, Result, Ok, Err}
+use Rattle.std.specs.FinMap.{len}
 use Rattle.cf_base.specs.Classes.{need}
 use Rattle.cf_base.specs.declared.answers.Refusal.{Refusal}
 use Rattle.cf_base.specs.declared.kind.Kind.{Kind}
-use Rattle.page_model.specs.Held.{Placed}
 use Rattle.block_model.specs.Buckets.{FreeLists}
 use Rattle.block_model.specs.FreeOrder.{next_block}
 use Rattle.tag_blocks.specs.Blocks.{FindsBlock}
-use Rattle.cf_model.specs.State.{HeapState}
 use Rattle.cf_model.specs.Steps.{IsRefusedBy}
 use Rattle.tag_heap.specs.Heap.{Heap, state_of}
-
--- what `has_room` returns in the state s: `Ok` if a malloc of `bytes` bytes has no cause to be refused, else `Err` with its cause
-abbrev pub IsHasRoomAnswer : HeapState → ℕ → Result Unit Refusal → Type 0
-IsHasRoomAnswer s bytes (Ok done) = (e : Refusal) → ¬ IsRefusedBy s bytes e
-IsHasRoomAnswer s bytes (Err e) = IsRefusedBy s bytes e
 
 -- a result without its address, to compare it with what `has_room` returns
 abbrev pub done_by : Result ℕ Refusal → Result Unit Refusal
 done_by (Ok place) = Ok tt
 done_by (Err e) = Err e
-
--- the number of bytes of object h; none if it is not live
-abbrev pub length_of : HeapState → ℕ → Option ℕ
-length_of s h = option_map (λ (x : Placed). length x.bytes) (get s.held h)
 
 -- An object of `bytes` bytes fits a page, a proxy is free, and `place` is the address of the free block that a malloc of the object takes: the next block of
 -- the free lists for the words that it needs.

@@ -1,21 +1,22 @@
 //! The calls of an open heap with blocks that look an object up by its handle: its address, its length,
 //! reads and writes of its bytes, and why a resize is refused. Also `peek`, which reads any word of the
 //! region.
-ghost use Rattle.std.specs.Prelude.{◌≡◌, ℕ, if◌then◌else◌, is_some, length, slice_get};
+ghost use Rattle.std.specs.Prelude.{◌≡◌, ℕ, length, slice_get};
 ghost use Rattle.step_ledger.specs.Counting.{RoseBy};
 ghost use Rattle.cf_model.specs.Answers.{place_of};
+ghost use Rattle.cf_model.specs.Costs.{length_steps, peek_steps};
+ghost use Rattle.cf_model.specs.Room.{length_of};
 ghost use Rattle.cf_model.specs.Rules.{KeepsRules};
-ghost use Rattle.cf_model.specs.Steps.{IsReadAnswer, IsResizeFault, IsWriteStep, StaysOpen};
+ghost use Rattle.cf_model.specs.Steps.{IsReadAnswer, IsResizeFault, IsWriteStep};
 ghost use Rattle.tag_heap.specs.Access.{IsFound};
-ghost use Rattle.tag_heap.specs.Costs.{access_steps, found_steps, length_steps};
+ghost use Rattle.tag_heap.specs.Costs.{access_steps, found_steps};
 ghost use Rattle.tag_heap.specs.Heap.{state_of};
-ghost use Rattle.tag_heap.specs.Room.{length_of};
 
 use crate::fit_policy::FitPolicy;
 use crate::open_heap::OpenHeap;
 use cf_base::{AccessFault, Handle, ResizeFault};
+use region::Header;
 use step_ledger::Steps;
-use word_bytes::Header;
 
 impl<B: FitPolicy> OpenHeap<B> {
     /// The address of the object, the first word of its block; none if the handle isn't live. Costs
@@ -31,7 +32,7 @@ impl<B: FitPolicy> OpenHeap<B> {
     pub(crate) fn peek(&self, word: u32, steps: &mut Steps) -> Option<u64>
         ensures value { result ≡ slice_get (state_of B.kind self.now).words word }
         ensures rules { KeepsRules (state_of B.kind self.now) }
-        ensures steps { RoseBy steps.old steps.new (if is_some result then 1 else 0) }
+        ensures steps { RoseBy steps.old steps.new (peek_steps B.kind result) }
     {
         if word < self.settings.pages * self.settings.page_words {
             Some(self.blocks.peek(word, steps))
@@ -54,7 +55,12 @@ impl<B: FitPolicy> OpenHeap<B> {
         ensures steps { RoseBy steps.old steps.new (access_steps at (length out.old) result) }
     {
         let blocks = &self.blocks;
-        let place = self.find(h, at, out.len(), steps)?;
+        let len = out.len();
+        let place = self.find(h, at, len, steps)?;
+        // A read of no bytes touches no word after the tag.
+        if len == 0 {
+            return Ok(());
+        }
         blocks.read_bytes(place, at as usize, out, steps);
         Ok(())
     }
@@ -67,12 +73,15 @@ impl<B: FitPolicy> OpenHeap<B> {
         bytes: &[u8],
         steps: &mut Steps,
     ) -> Result<(), AccessFault>
-        ensures same { StaysOpen (state_of B.kind self.old) (state_of B.kind self.new) }
         ensures step { IsWriteStep (state_of B.kind self.old) (record { number = h.0; from = at }) bytes.now result (state_of B.kind self.new) }
         ensures rules { KeepsRules (state_of B.kind self.new) }
         ensures steps { RoseBy steps.old steps.new (access_steps at (length bytes.now) result) }
     {
-        let place = self.find(h, at, bytes.len(), steps)?;
+        let len = bytes.len();
+        let place = self.find(h, at, len, steps)?;
+        if len == 0 {
+            return Ok(());
+        }
         self.blocks.write_bytes(place, at as usize, bytes, steps);
         Ok(())
     }
@@ -98,7 +107,7 @@ impl<B: FitPolicy> OpenHeap<B> {
     /// isn't.
     pub(crate) fn length(&self, h: Handle, steps: &mut Steps) -> Option<u32>
         ensures value { result ≡ length_of (state_of B.kind self.now) h.0 }
-        ensures steps { RoseBy steps.old steps.new (length_steps result) }
+        ensures steps { RoseBy steps.old steps.new (length_steps B.kind result) }
     {
         match self.proxies.lookup(h, steps) {
             Some(place) => Some(Header::unpack(self.blocks.tag_of(place, steps)).length),

@@ -6,15 +6,15 @@ ghost use Rattle.cf_model.specs.Costs.{block_free_bound};
 ghost use Rattle.cf_model.specs.ExactCosts.{block_free_cost};
 ghost use Rattle.cf_model.specs.Ordered.{IsOrderedFree};
 ghost use Rattle.cf_model.specs.Rules.{KeepsRules};
-ghost use Rattle.cf_model.specs.Steps.{IsFreeStep, StaysOpen};
+ghost use Rattle.cf_model.specs.Steps.{IsFreeStep};
 ghost use Rattle.tag_heap.specs.Choices.{FreeChooses};
 ghost use Rattle.tag_heap.specs.Heap.{state_of};
 
 use crate::fit_policy::FitPolicy;
 use crate::open_heap::OpenHeap;
 use cf_base::{Freed, Handle, NotLive};
+use region::Header;
 use step_ledger::Steps;
-use word_bytes::Header;
 
 impl<B: FitPolicy> OpenHeap<B> {
     /// Removes an object, and releases its block, which is merged with free neighbours. The free
@@ -23,12 +23,9 @@ impl<B: FitPolicy> OpenHeap<B> {
     /// of this call.
     pub(crate) fn free(&mut self, h: Handle, steps: &mut Steps) -> Result<Freed, NotLive>
         requires { steps.old ≤ 2 ^ 63 }
-        ensures same { StaysOpen (state_of B.kind self.old) (state_of B.kind self.new) }
         ensures step { IsFreeStep (state_of B.kind self.old) h.0 result (state_of B.kind self.new) }
         ensures rules { KeepsRules (state_of B.kind self.new) }
         ensures ordered { IsOrderedFree (state_of B.kind self.old) h.0 result (state_of B.kind self.new) }
-        ensures rises { steps.old ≤ steps.new }
-        ensures exact { RoseBy steps.old steps.new (block_free_cost (state_of B.kind self.old) h.0 result (state_of B.kind self.new)) }
         ensures bound { RoseAtMost steps.old steps.new (block_free_bound result) }
         ensures cost { steps.new ≡ steps.old + self.new.cost }
     {
@@ -40,12 +37,10 @@ impl<B: FitPolicy> OpenHeap<B> {
 
     /// Frees an object as `free` does; fails if the handle isn't live. Leaves `cost` unchanged.
     fn free_inner(&mut self, h: Handle, steps: &mut Steps) -> Result<Freed, NotLive>
-        ensures same { StaysOpen (state_of B.kind self.old) (state_of B.kind self.new) }
         ensures step { IsFreeStep (state_of B.kind self.old) h.0 result (state_of B.kind self.new) }
         ensures rules { KeepsRules (state_of B.kind self.new) }
         ensures choice { FreeChooses B.kind self.old h.0 result self.new }
-        ensures rises { steps.old ≤ steps.new }
-        ensures exact { RoseBy steps.old steps.new (block_free_cost (state_of B.kind self.old) h.0 result (state_of B.kind self.new)) }
+        ensures steps { RoseBy steps.old steps.new (block_free_cost (state_of B.kind self.old) h.0 result (state_of B.kind self.new)) }
         ensures bound { RoseAtMost steps.old steps.new (block_free_bound result) }
     {
         let Some(place) = self.proxies.lookup(h, steps) else {

@@ -3,18 +3,19 @@ ghost use Rattle.std.specs.Prelude.{◌≡◌, ◌+◌, ◌^◌, ◌≤◌};
 ghost use Rattle.step_ledger.specs.Counting.{RoseAtMost, RoseBy};
 ghost use Rattle.cf_model.specs.ExactCosts.{block_malloc_cost};
 ghost use Rattle.cf_model.specs.Ordered.{IsOrderedMalloc};
+ghost use Rattle.cf_model.specs.Room.{IsHasRoomAnswer};
 ghost use Rattle.cf_model.specs.Rules.{KeepsRules};
-ghost use Rattle.cf_model.specs.Steps.{IsMallocStep, StaysOpen};
+ghost use Rattle.cf_model.specs.Steps.{IsMallocStep};
 ghost use Rattle.tag_heap.specs.Choices.{MallocChooses};
 ghost use Rattle.tag_heap.specs.Costs.{malloc_steps, room_steps, search_steps};
 ghost use Rattle.tag_heap.specs.Heap.{state_of};
-ghost use Rattle.tag_heap.specs.Room.{IsBlockFor, IsHasRoomAnswer, done_by};
+ghost use Rattle.tag_heap.specs.Room.{IsBlockFor, done_by};
 
 use crate::fit_policy::FitPolicy;
 use crate::open_heap::OpenHeap;
 use cf_base::{Handle, Refusal, need_of};
+use region::Header;
 use step_ledger::Steps;
-use word_bytes::Header;
 
 impl<B: FitPolicy> OpenHeap<B> {
     /// Adds an object of `bytes` bytes, all zero, under the first free number and in the block that
@@ -23,12 +24,9 @@ impl<B: FitPolicy> OpenHeap<B> {
     /// changes. Sets `cost` to the steps of this call.
     pub(crate) fn malloc(&mut self, bytes: u32, steps: &mut Steps) -> Result<Handle, Refusal>
         requires { steps.old ≤ 2 ^ 63 }
-        ensures same { StaysOpen (state_of B.kind self.old) (state_of B.kind self.new) }
         ensures step { IsMallocStep (state_of B.kind self.old) bytes result (state_of B.kind self.new) }
         ensures rules { KeepsRules (state_of B.kind self.new) }
         ensures ordered { IsOrderedMalloc (state_of B.kind self.old) bytes result (state_of B.kind self.new) }
-        ensures rises { steps.old ≤ steps.new }
-        ensures exact { RoseBy steps.old steps.new (block_malloc_cost (state_of B.kind self.old) bytes result (state_of B.kind self.new)) }
         ensures bound { RoseAtMost steps.old steps.new (malloc_steps result) }
         ensures cost { steps.new ≡ steps.old + self.new.cost }
     {
@@ -41,12 +39,10 @@ impl<B: FitPolicy> OpenHeap<B> {
     /// Adds an object as `malloc` does, or refuses it for the same causes. Leaves `cost` unchanged.
     /// The block is carved once the object has a number, since the block's tag holds it.
     fn malloc_inner(&mut self, bytes: u32, steps: &mut Steps) -> Result<Handle, Refusal>
-        ensures same { StaysOpen (state_of B.kind self.old) (state_of B.kind self.new) }
         ensures step { IsMallocStep (state_of B.kind self.old) bytes result (state_of B.kind self.new) }
         ensures rules { KeepsRules (state_of B.kind self.new) }
         ensures choice { MallocChooses B.kind self.old bytes result self.new }
-        ensures rises { steps.old ≤ steps.new }
-        ensures exact { RoseBy steps.old steps.new (block_malloc_cost (state_of B.kind self.old) bytes result (state_of B.kind self.new)) }
+        ensures steps { RoseBy steps.old steps.new (block_malloc_cost (state_of B.kind self.old) bytes result (state_of B.kind self.new)) }
         ensures bound { RoseAtMost steps.old steps.new (malloc_steps result) }
     {
         let place = self.room(bytes, steps)?;

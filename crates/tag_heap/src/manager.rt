@@ -1,16 +1,8 @@
 //! `TagHeap`: the trait `Manager` over an open heap with blocks, or none while it is closed.
-ghost use Rattle.std.specs.Prelude.{◌≡◌, ◌+◌, ◌*◌, ◌^◌, ◌≤◌, IsTrue, if◌then◌else◌, is_some, length, slice_get};
-ghost use Rattle.step_ledger.specs.Counting.{RoseAtMost, RoseBy};
-ghost use Rattle.cf_model.specs.Answers.{block_in, place_of, totals_in, usage_in};
-ghost use Rattle.cf_model.specs.Costs.{TakesAtMost, RoseByCost, access_bound, block_free_bound, free_bound, resize_bound};
-ghost use Rattle.cf_model.specs.ExactCosts.{block_free_cost, block_malloc_cost};
-ghost use Rattle.cf_model.specs.Ordered.{IsOrderedFree, IsOrderedMalloc, IsOrderedResize};
-ghost use Rattle.cf_model.specs.Rules.{KeepsRules};
+ghost use Rattle.std.specs.Prelude.{◌≡◌, IsTrue, Some};
 ghost use Rattle.cf_model.specs.State.{closed_state};
-ghost use Rattle.cf_model.specs.Steps.{BlocksStayIn, IsFreeStep, IsMallocStep, IsReadAnswer, IsResizeStep, IsWriteStep, StaysOpen};
-ghost use Rattle.tag_heap.specs.Costs.{access_steps, has_room_steps, length_steps, malloc_steps, room_steps, totals_steps};
+ghost use Rattle.tag_heap.specs.Costs.{block_bounds};
 ghost use Rattle.tag_heap.specs.Heap.{state_of};
-ghost use Rattle.tag_heap.specs.Room.{IsHasRoomAnswer, length_of};
 
 use crate::fit_policy::FitPolicy;
 use crate::open_heap::OpenHeap;
@@ -18,7 +10,7 @@ use cf_base::{
     AccessFault, Figures, Freed, Handle, Kind, NotLive, OutOfMemory, Refusal, ResizeFault, Resized,
     Settings, Totals,
 };
-use cf_model::{Manager, Usage};
+use cf_model::{Manager, StepBounds, Usage};
 use std::alloc::Global;
 use std::marker::Model;
 use step_ledger::Steps;
@@ -54,28 +46,6 @@ impl<B: FitPolicy> TagHeap<B> {
         TagHeap { alloc, inner: None }
     }
 
-    /// Returns what a malloc of `bytes` bytes would return now, without the handle: `Ok`, or its
-    /// refusal. Changes nothing, and costs at most four steps.
-    pub fn has_room(&self, bytes: u32, steps: &mut Steps) -> Result<(), Refusal>
-        requires open { IsTrue self.now.is_open }
-        ensures answer { IsHasRoomAnswer self.now bytes result }
-        ensures steps { RoseBy steps.old steps.new (has_room_steps self.now self.now.order bytes result) }
-        ensures bound { RoseAtMost steps.old steps.new (room_steps result) }
-    {
-        self.open().room(bytes, steps)?;
-        Ok(())
-    }
-
-    /// The number of bytes of an object; none if the handle isn't live. Costs two steps, or one if the
-    /// handle isn't live.
-    pub fn length(&self, h: Handle, steps: &mut Steps) -> Option<u32>
-        requires open { IsTrue self.now.is_open }
-        ensures value { result ≡ length_of self.now h.0 }
-        ensures steps { RoseBy steps.old steps.new (length_steps result) }
-    {
-        self.open().length(h, steps)
-    }
-
     /// Borrows the open heap, for calls that change nothing.
     fn open(&self) -> &OpenHeap<B>
         requires { IsTrue self.now.is_open }
@@ -86,6 +56,11 @@ impl<B: FitPolicy> TagHeap<B> {
             None => unreachable!(),
         }
     }
+}
+
+// The exact steps of the kinds with blocks.
+impl<B: FitPolicy> StepBounds for TagHeap<B> {
+    ghost most = { Some block_bounds };
 }
 
 // Most calls are passed on to the open heap. Their contracts require an open heap, so it is never
@@ -112,20 +87,8 @@ impl<B: FitPolicy> Manager for TagHeap<B> {
         Ok(())
     }
 
-    // Adds an object of zeros, or is refused, as the trait says. Costs at most 25 steps, and
-    // exactly `block_malloc_cost`.
-    fn malloc(&mut self, bytes: u32, steps: &mut Steps) -> Result<Handle, Refusal>
-        requires open { IsTrue self.old.is_open }
-        requires room { steps.old ≤ 2 ^ 63 }
-        ensures same { StaysOpen self.old self.new }
-        ensures step { IsMallocStep self.old bytes result self.new }
-        ensures rules { KeepsRules self.new }
-        ensures ordered { IsOrderedMalloc self.old bytes result self.new }
-        ensures bound { TakesAtMost self.old.kind steps.old steps.new 64 25 }
-        ensures cost { steps.new ≡ steps.old + self.new.cost }
-        ensures steps { RoseAtMost steps.old steps.new (malloc_steps result) }
-        ensures exact { RoseBy steps.old steps.new (block_malloc_cost self.old bytes result self.new) }
-    {
+    // Adds an object of zeros, or is refused, as the trait says. Costs at most 25 steps.
+    fn malloc(&mut self, bytes: u32, steps: &mut Steps) -> Result<Handle, Refusal> {
         match &mut self.inner {
             Some(open) => open.malloc(bytes, steps),
             None => unreachable!(),
@@ -133,20 +96,8 @@ impl<B: FitPolicy> Manager for TagHeap<B> {
     }
 
     // Removes an object, as the trait says. Costs at most 41 steps and one for each word of its
-    // block, 1 if refused, and exactly `block_free_cost`.
-    fn free(&mut self, h: Handle, steps: &mut Steps) -> Result<Freed, NotLive>
-        requires open { IsTrue self.old.is_open }
-        requires room { steps.old ≤ 2 ^ 63 }
-        ensures same { StaysOpen self.old self.new }
-        ensures step { IsFreeStep self.old h.0 result self.new }
-        ensures rules { KeepsRules self.new }
-        ensures ordered { IsOrderedFree self.old h.0 result self.new }
-        ensures bound { TakesAtMost self.old.kind steps.old steps.new (free_bound result) (block_free_bound result) }
-        ensures cost { steps.new ≡ steps.old + self.new.cost }
-        ensures blocks { BlocksStayIn self.old.kind self.old h.0 self.new }
-        ensures steps { RoseAtMost steps.old steps.new (block_free_bound result) }
-        ensures exact { RoseBy steps.old steps.new (block_free_cost self.old h.0 result self.new) }
-    {
+    // block, 1 if refused.
+    fn free(&mut self, h: Handle, steps: &mut Steps) -> Result<Freed, NotLive> {
         match &mut self.inner {
             Some(open) => open.free(h, steps),
             None => unreachable!(),
@@ -160,15 +111,7 @@ impl<B: FitPolicy> Manager for TagHeap<B> {
         at: u32,
         bytes: &[u8],
         steps: &mut Steps,
-    ) -> Result<(), AccessFault>
-        requires open { IsTrue self.old.is_open }
-        requires room { steps.old ≤ 2 ^ 63 }
-        ensures same { StaysOpen self.old self.new }
-        ensures step { IsWriteStep self.old (record { number = h.0; from = at }) bytes.now result self.new }
-        ensures rules { KeepsRules self.new }
-        ensures bound { RoseAtMost steps.old steps.new (access_bound at (length bytes.now)) }
-        ensures steps { RoseBy steps.old steps.new (access_steps at (length bytes.now) result) }
-    {
+    ) -> Result<(), AccessFault> {
         match &mut self.inner {
             Some(open) => open.write(h, at, bytes, steps),
             None => unreachable!(),
@@ -176,14 +119,13 @@ impl<B: FitPolicy> Manager for TagHeap<B> {
     }
 
     // Reads bytes of an object, as the trait says. Costs exactly `access_steps` steps.
-    fn read(&self, h: Handle, at: u32, out: &mut [u8], steps: &mut Steps) -> Result<(), AccessFault>
-        requires open { IsTrue self.now.is_open }
-        requires room { steps.old ≤ 2 ^ 63 }
-        ensures answer { IsReadAnswer self.now (record { number = h.0; from = at }) out.old result out.new }
-        ensures rules { KeepsRules self.now }
-        ensures bound { RoseAtMost steps.old steps.new (access_bound at (length out.old)) }
-        ensures steps { RoseBy steps.old steps.new (access_steps at (length out.old) result) }
-    {
+    fn read(
+        &self,
+        h: Handle,
+        at: u32,
+        out: &mut [u8],
+        steps: &mut Steps,
+    ) -> Result<(), AccessFault> {
         match &self.inner {
             Some(open) => open.read(h, at, out, steps),
             None => unreachable!(),
@@ -191,18 +133,12 @@ impl<B: FitPolicy> Manager for TagHeap<B> {
     }
 
     // Refuses every resize, since heaps with blocks have none. Costs one step.
-    fn resize(&mut self, h: Handle, _bytes: u32, steps: &mut Steps) -> Result<Resized, ResizeFault>
-        requires open { IsTrue self.old.is_open }
-        requires room { steps.old ≤ 2 ^ 63 }
-        ensures same { StaysOpen self.old self.new }
-        ensures step { IsResizeStep self.old (record { number = h.0; length = _bytes }) result self.new }
-        ensures rules { KeepsRules self.new }
-        ensures ordered { IsOrderedResize self.old (record { number = h.0; length = _bytes }) result self.new }
-        ensures bound { TakesAtMost self.old.kind steps.old steps.new (resize_bound result) 1 }
-        ensures cost { RoseByCost self.old.kind steps.old steps.new self.new.cost }
-        ensures blocks { BlocksStayIn self.old.kind self.old h.0 self.new }
-        ensures steps { RoseBy steps.old steps.new 1 }
-    {
+    fn resize(
+        &mut self,
+        h: Handle,
+        _bytes: u32,
+        steps: &mut Steps,
+    ) -> Result<Resized, ResizeFault> {
         match &self.inner {
             Some(open) => Err(open.resize_fault(h, steps)),
             None => unreachable!(),
@@ -217,23 +153,12 @@ impl<B: FitPolicy> Manager for TagHeap<B> {
     }
 
     // Returns the address of the object; none if the handle isn't live. Costs one step.
-    fn place(&self, h: Handle, steps: &mut Steps) -> Option<u32>
-        requires { IsTrue self.now.is_open }
-        ensures value { result ≡ place_of self.now h.0 }
-        ensures rises { steps.old ≤ steps.new }
-        ensures steps { RoseBy steps.old steps.new 1 }
-    {
+    fn place(&self, h: Handle, steps: &mut Steps) -> Option<u32> {
         self.open().place(h, steps)
     }
 
     // Returns a word of the region, for one step; none past its end, for no step.
-    fn peek(&self, word: u32, steps: &mut Steps) -> Option<u64>
-        requires { IsTrue self.now.is_open }
-        ensures value { result ≡ slice_get self.now.words word }
-        ensures rules { KeepsRules self.now }
-        ensures rises { steps.old ≤ steps.new }
-        ensures steps { RoseBy steps.old steps.new (if is_some result then 1 else 0) }
-    {
+    fn peek(&self, word: u32, steps: &mut Steps) -> Option<u64> {
         match &self.inner {
             Some(open) => open.peek(word, steps),
             None => unreachable!(),
@@ -241,12 +166,7 @@ impl<B: FitPolicy> Manager for TagHeap<B> {
     }
 
     // Returns none, for no step: this kind has no block table.
-    fn block(&self, _h: Handle, _i: u32, _steps: &mut Steps) -> Option<u32>
-        requires { IsTrue self.now.is_open }
-        ensures value { result ≡ block_in self.now.kind self.now _h.0 _i }
-        ensures rises { _steps.old ≤ _steps.new }
-        ensures steps { _steps.new ≡ _steps.old }
-    {
+    fn block(&self, _h: Handle, _i: u32, _steps: &mut Steps) -> Option<u32> {
         // For its contract: a heap with blocks has no block table.
         let _open = self.open();
         None
@@ -267,23 +187,25 @@ impl<B: FitPolicy> Manager for TagHeap<B> {
     }
 
     // Returns the figures of the whole heap. Costs at most three steps and two for each free block.
-    fn totals(&self, steps: &mut Steps) -> Totals
-        requires { IsTrue self.now.is_open }
-        ensures value { result ≡ totals_in self.now.kind self.now }
-        ensures rises { steps.old ≤ steps.new }
-        ensures steps { RoseBy steps.old steps.new (totals_steps self.now.order) }
-        ensures bound { RoseAtMost steps.old steps.new (3 + 2 * result.free) }
-    {
+    fn totals(&self, steps: &mut Steps) -> Totals {
         self.open().totals(steps)
     }
 
+    // Returns the number of bytes of an object; none if the handle isn't live. Costs two steps, or one if
+    // the handle isn't live.
+    fn length(&self, h: Handle, steps: &mut Steps) -> Option<u32> {
+        self.open().length(h, steps)
+    }
+
+    // Returns what a malloc of `bytes` bytes would return now, without the handle. Costs at most four
+    // steps.
+    fn has_room(&self, bytes: u32, steps: &mut Steps) -> Result<(), Refusal> {
+        self.open().room(bytes, steps)?;
+        Ok(())
+    }
+
     // Returns the bytes asked, taken and held, by counts that the heap keeps. Costs no step.
-    fn usage(&self, _steps: &mut Steps) -> Usage
-        requires { IsTrue self.now.is_open }
-        ensures value { result ≡ usage_in self.now.kind self.now }
-        ensures rises { _steps.old ≤ _steps.new }
-        ensures steps { _steps.new ≡ _steps.old }
-    {
+    fn usage(&self) -> Usage {
         self.open().usage()
     }
 

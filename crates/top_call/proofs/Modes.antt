@@ -9,26 +9,26 @@ use Rattle.cf_io.specs.Feeds.{FailsLast}
 use Rattle.cf_model.specs.State.{HeapState, closed_state}
 use Rattle.cf_session.specs.Apply.{run_at}
 use Rattle.run_model.specs.Sessions.{fresh_session}
-use Rattle.image_laws.proofs.CallerLemmas.{load_met, save_met}
-use Rattle.image_laws.specs.Claims.{LoadsAs, Prints, SavesAs}
+use Rattle.image_run.proofs.CallerLemmas.{load_met, save_met}
+use Rattle.image_run.specs.Claims.{LoadsAs, Prints, SavesAs}
 use Rattle.command_line.proofs.CallerLemmas.{one_choice}
 use Rattle.command_line.specs.Choices.{Chooses}
 use Rattle.command_line.specs.declared.choice.Choice.{Choice}
 use Rattle.command_line.specs.declared.choice.Mode.{Mode}
 use Rattle.command_line.specs.declared.choice.Mode.TheVariants.{Run, Compare, Bench, Large, Save, Load, Slice, Quota}
-use Rattle.large_objects.specs.Playing.{large_heap}
+use Rattle.large_session.specs.Playing.{large_heap}
 use Rattle.image_run.specs.Saves.{unseen}
 use Rattle.script_loop.specs.OneManager.{one_manager}
-use Rattle.side_by_side.specs.FirstOfKind.{chosen_manager}
-use Rattle.side_by_side.specs.SideBySide.{fresh_side_by_side, many_managers}
-use Rattle.large_laws.proofs.CallerLemmas.{large_met}
-use Rattle.large_laws.specs.LargeHeadline.{MeetsLarge}
+use Rattle.manager_modes.specs.FirstOfKind.{chosen_manager}
+use Rattle.manager_modes.specs.SideBySide.{fresh_side_by_side, many_managers}
+use Rattle.large_session.proofs.CallerLemmas.{large_met}
+use Rattle.large_session.specs.LargeHeadline.{MeetsLarge}
 use Rattle.script_loop.specs.Consequences.{AnswersAll}
 use Rattle.script_loop.specs.ScriptOutcome.{Effects, items_within}
 use Rattle.slice_session.specs.Playing.{SlicePlay, slices}
-use Rattle.slice_laws.proofs.CallerLemmas.{sliced_headline_met}
-use Rattle.slice_laws.specs.SliceHeadline.{MeetsSliced}
-use Rattle.quota_laws.specs.Transcript.{MeetsTasks}
+use Rattle.slice_session.proofs.CallerLemmas.{sliced_headline_met}
+use Rattle.slice_session.specs.SliceHeadline.{MeetsSliced}
+use Rattle.quota_session.specs.Transcript.{MeetsTasks}
 use Rattle.quota_session.proofs.CallerLemmas.{tasks_met}
 use Rattle.quota_session.specs.Playing.{quota_tasks}
 use Rattle.manager_modes.proofs.CallerLemmas.{IsSound, bench_sound, compare_sound, compare_shown, did_all, load_sound, never_bad_image, own_sound, own_shown, run_sound, run_shown, save_sound}

@@ -19,35 +19,36 @@ use Rattle.command_line.specs.Choices.{Chooses}
 use Rattle.command_line.specs.declared.choice.Choice.{Choice}
 use Rattle.command_line.specs.declared.choice.Mode.{Mode}
 use Rattle.command_line.specs.declared.choice.Mode.TheVariants.{Run, Compare, Bench, Large, Save, Load, Slice, Quota}
-use Rattle.headline_laws.specs.OneOutput.{BeginNone, BeginOnce, IsOrdered}
-use Rattle.headline_laws.proofs.CallerLemmas.{begins_once, begun_alike}
+use Rattle.script_laws.specs.OneOutput.{BeginNone, BeginOnce, IsOrdered}
+use Rattle.script_laws.proofs.CallerLemmas.{begins_once, begun_alike}
 use Rattle.heap_image.specs.Decoded.{Decoded, whole as image_of}
-use Rattle.image_laws.specs.Claims.{LoadsAs, MeetsLoad, Prints}
+use Rattle.image_run.specs.Claims.{LoadsAs, MeetsLoad, Prints}
 use Rattle.image_run.specs.Loads.{EndsLoadBy}
 use Rattle.image_run.specs.Saves.{WritesAtEnd, saved, script_status, unseen}
 use Rattle.image_run.specs.Script.{script_under}
-use Rattle.large_objects.specs.Playing.{large_heap}
-use Rattle.large_laws.specs.LargeHeadline.{MeetsLarge}
+use Rattle.large_session.specs.Playing.{large_heap}
+use Rattle.large_session.specs.LargeHeadline.{MeetsLarge}
 use Rattle.manager_modes.specs.Claims.{MeetsClaim}
-use Rattle.manager_modes.specs.Outcomes.{Benches, Compares, CallState, IsMadeLarge, Loads, PlaysOwn, Runs, Saves, effects_of, kinds_in, orders_in}
-use Rattle.quota_laws.specs.Transcript.{MeetsTasks}
+use Rattle.manager_modes.specs.Outcomes.{Benches, Compares, CallState, IsMadeLarge, Loads, PlaysOwn, RunsChosen, Saves, effects_of, kinds_in, orders_in}
+use Rattle.quota_session.specs.Transcript.{MeetsTasks}
 use Rattle.quota_session.specs.Playing.{quota_tasks}
 use Rattle.run_model.specs.Runs.{Run as RunOver}
 use Rattle.run_model.specs.Sessions.{RunState, fresh_session}
 use Rattle.run_model.specs.Texts.{Reply, said, text_of}
-use Rattle.script_loop.proofs.CallerLemmas.{appended_none, observed_row, wrote_by}
+use Rattle.script_loop.proofs.CallerLemmas.{observed_row, wrote_by}
+use Rattle.cf_io.proofs.CallerLemmas.{appended_none}
 use Rattle.script_loop.specs.Consequences.{AnswersAll}
 use Rattle.script_loop.specs.OneManager.{one_manager}
 use Rattle.script_loop.specs.ScriptOutcome.{Effects, IsStatusRow, MOST_BYTES, MeetsOutcome, EndsAt, has_bad, items_within}
 use Rattle.script_loop.specs.Semantics.{RunBy, Semantics}
 use Rattle.script_reader.specs.Items.{Item, asks}
-use Rattle.side_by_side.proofs.CallerLemmas.{chosen_kind, own_of, stand_of}
-use Rattle.side_by_side.specs.FirstOfKind.{chosen_manager, first_of_kind}
-use Rattle.side_by_side.specs.SideBySide.{SideBySide, fresh_side_by_side, kinds_of, many_managers, runs_of}
-use Rattle.side_by_side.specs.OwnRuns.{JoinStates, OwnRuns, EachEndsAt, interleaved_replies}
-use Rattle.slice_laws.proofs.CallerLemmas.{one_play}
+use Rattle.manager_modes.proofs.CallerLemmas.{chosen_kind, own_of, stand_of}
+use Rattle.manager_modes.specs.FirstOfKind.{chosen_manager, first_of_kind}
+use Rattle.manager_modes.specs.SideBySide.{SideBySide, fresh_side_by_side, kinds_of, many_managers, runs_of}
+use Rattle.manager_modes.specs.OwnRuns.{JoinStates, OwnRuns, EachEndsAt, interleaved_replies}
+use Rattle.slice_session.proofs.CallerLemmas.{one_play}
 use Rattle.slice_session.specs.Playing.{SlicePlay, slices}
-use Rattle.bench_run.specs.Bench.{EndsBench, bench_items, bench_text}
+use Rattle.manager_modes.specs.Bench.{EndsBench, bench_items, bench_text}
 use Rattle.generator.specs.Generated.{generated}
 use Rattle.script_reader.specs.declared.command.Command.{Command}
 use Rattle.top_call.specs.OneScript.{AnswersWhole, IsRunInOrder, KeepsContract, LeavesNoChoice, PrintsReplies, PromisesOrder, TopCall, status_of}
@@ -91,7 +92,7 @@ ordered_end from to None stands order = tt
 ordered_end from to (Some s) stands order = subst (λ (r : RunState). PromisesOrder r.heap) stands order
 
 run_printed : (kind : Kind) (all : List ℕ) (call : TopCall) → AnswersWhole all call → PromisesOrder (chosen_manager kind call.old.managers)
-    → Runs kind call.old call.status call.new → PrintsReplies (IsRunInOrder kind) all call
+    → RunsChosen kind call.old call.status call.new → PrintsReplies (IsRunInOrder kind) all call
 run_printed kind all call whole order did =
     let from = run_at fresh_session (chosen_manager kind call.old.managers) in
     let w = wrote_by one_manager from did.end (effects_of call.old call.status call.new) all whole.had did.outcome whole.answered in

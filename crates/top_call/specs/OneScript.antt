@@ -14,10 +14,10 @@ use Rattle.script_reader.specs.Items.{Item}
 use Rattle.run_model.specs.Runs.{Run as RunOver}
 use Rattle.run_model.specs.Sessions.{RunState}
 use Rattle.run_model.specs.Texts.{Reply, text_of}
-use Rattle.headline_laws.specs.OneOutput.{IsOrdered}
+use Rattle.script_laws.specs.OneOutput.{IsOrdered}
 use Rattle.script_loop.specs.Consequences.{AnswersAll}
 use Rattle.script_loop.specs.ScriptOutcome.{MOST_BYTES, has_bad, items_within}
-use Rattle.side_by_side.specs.FirstOfKind.{chosen_manager}
+use Rattle.manager_modes.specs.FirstOfKind.{chosen_manager}
 use Rattle.manager_modes.specs.Outcomes.{CallState, kinds_in, orders_in}
 use Rattle.top_call.specs.TopOutcome.{EndsWell, PrintsAsClaimed}
 

@@ -10,21 +10,21 @@ use Rattle.command_line.specs.Choices.{AreRefused, Chooses}
 use Rattle.command_line.specs.declared.choice.Choice.{Choice}
 use Rattle.command_line.specs.declared.choice.Mode.{Mode}
 use Rattle.command_line.specs.declared.choice.Mode.TheVariants.{Run, Compare, Bench, Large, Save, Load, Slice, Quota}
-use Rattle.headline_laws.specs.Headline.{MeetsHeadline}
-use Rattle.large_laws.specs.LargeHeadline.{MeetsLarge}
-use Rattle.image_laws.specs.Claims.{LoadsAs, Prints, SavesAs}
-use Rattle.quota_laws.specs.Transcript.{MeetsTasks}
+use Rattle.script_laws.specs.Headline.{MeetsHeadline}
+use Rattle.large_session.specs.LargeHeadline.{MeetsLarge}
+use Rattle.image_run.specs.Claims.{LoadsAs, Prints, SavesAs}
+use Rattle.quota_session.specs.Transcript.{MeetsTasks}
 use Rattle.script_loop.specs.Consequences.{AnswersAll}
 use Rattle.script_loop.specs.ScriptOutcome.{Effects, IsClean}
-use Rattle.side_by_side.specs.OwnRuns.{MeetHeadlines}
+use Rattle.manager_modes.specs.OwnRuns.{MeetHeadlines}
 use Rattle.slice_session.specs.Playing.{SlicePlay, slice_play, slices}
 use Rattle.sliced_heap.specs.Shown as sliced_state
-use Rattle.slice_laws.specs.SliceHeadline.{MeetsSliced}
+use Rattle.slice_session.specs.SliceHeadline.{MeetsSliced}
 use Rattle.quota_heap.specs.State as quota_state
 use Rattle.quota_session.specs.Playing.{quota_tasks}
 use Rattle.quota_session.specs.QuotaRun.{QuotaRun, first_session, quota_run}
 use Rattle.manager_modes.specs.Claims.{HoldsImage, MeetsClaim}
-use Rattle.manager_modes.specs.Outcomes.{Benches, Compares, CallState, Loads, OrLacks, PlaysLarge, PlaysOwn, Runs, Saves, effects_of, kinds_in}
+use Rattle.manager_modes.specs.Outcomes.{Benches, Compares, CallState, Loads, OrLacks, PlaysLarge, PlaysOwn, RunsChosen, Saves, effects_of, kinds_in}
 
 -- the state of a new run in mode `slice`: no id is live, and the sliced heap, for slices of at most `quantum` words, was never open
 abbrev pub IsMadeSliced : ℕ → SlicePlay → Type 0
@@ -44,7 +44,7 @@ PlaysQuotas = PlaysOwn quota_tasks IsMadeForTasks
 
 -- the record of what a call in this mode did, for the values of the arguments
 abbrev pub InMode : Mode → Choice → CallState → Status → CallState → Type 0
-InMode Run choice = Runs choice.kind
+InMode Run choice = RunsChosen choice.kind
 InMode Compare choice = Compares
 InMode Bench choice = Benches choice
 InMode Large choice = PlaysLarge

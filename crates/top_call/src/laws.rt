@@ -10,8 +10,8 @@ ghost use Rattle.command_line.specs.declared.choice.Choice.{Choice};
 ghost use Rattle.command_line.specs.declared.choice.Mode.{Mode};
 ghost use Rattle.command_line.specs.declared.choice.Mode.TheVariants.{Run};
 ghost use Rattle.run_model.specs.Sessions.{RunState};
-ghost use Rattle.bench_run.specs.Bench.{EndsBench};
-ghost use Rattle.side_by_side.specs.FirstOfKind.{chosen_manager};
+ghost use Rattle.manager_modes.specs.Bench.{EndsBench};
+ghost use Rattle.manager_modes.specs.FirstOfKind.{chosen_manager};
 ghost use Rattle.manager_modes.specs.Outcomes.{Benches, CallState, kinds_in};
 ghost use Rattle.top_call.specs.OneScript.{AnswersWhole, IsRunInOrder, KeepsContract, LeavesNoChoice, PrintsReplies, PromisesOrder, TopCall};
 
@@ -32,7 +32,7 @@ pub fn equal_scripts_get_equal_output()
 
 /// In mode `run`, on a manager that promises an order, the replies printed are those of a run in that
 /// order: each address, choice, word and count of steps follows from the order. There is one
-/// such list of replies (`one_output` of `headline_laws`).
+/// such list of replies (`one_output` of `script_laws`).
 pub fn a_run_in_order_is_printed()
     ensures { (words : List Text) (choice : Choice) (all : List ℕ) (call : TopCall) → Chooses words choice
         → choice.mode ≡ Run → KeepsContract words call → AnswersWhole all call

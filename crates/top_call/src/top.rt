@@ -38,12 +38,12 @@ pub fn cf_main<H: Manager, S: Source, K: Sink>(
     managers: &mut Vec<H>,
 ) -> Status
     ensures outcome { EndsWell (map (λ word. string_bytes word) words.now)
-        (seen S.Source K.Sink H.Manager source.old sink.old managers.old.items) result
-        (seen S.Source K.Sink H.Manager source.new sink.new managers.new.items) }
+        (seen S.Source K.Sink (λ m. H.state m) source.old sink.old managers.old.items) result
+        (seen S.Source K.Sink (λ m. H.state m) source.new sink.new managers.new.items) }
     // The replies meet the claim of the mode.
     ensures claimed { PrintsAsClaimed (map (λ word. string_bytes word) words.now)
-        (seen S.Source K.Sink H.Manager source.old sink.old managers.old.items) result
-        (seen S.Source K.Sink H.Manager source.new sink.new managers.new.items) }
+        (seen S.Source K.Sink (λ m. H.state m) source.old sink.old managers.old.items) result
+        (seen S.Source K.Sink (λ m. H.state m) source.new sink.new managers.new.items) }
     ensures kinds { map (λ h. h.kind) (map (λ m. H.state m) managers.new.items)
         ≡ map (λ h. h.kind) (map (λ m. H.state m) managers.old.items) }
     // A manager promises an order afterwards if it did before.
@@ -81,8 +81,8 @@ fn run_mode<H: Manager, S: Source, K: Sink>(
     requires least { 1 ≤ choice.quantum }
     requires most { choice.quantum ≤ 16384 }
     ensures { EndsWithCause (InMode choice.mode choice)
-        (seen S.Source K.Sink H.Manager source.old sink.old managers.old.items) result
-        (seen S.Source K.Sink H.Manager source.new sink.new managers.new.items) }
+        (seen S.Source K.Sink (λ m. H.state m) source.old sink.old managers.old.items) result
+        (seen S.Source K.Sink (λ m. H.state m) source.new sink.new managers.new.items) }
 {
     match choice.mode {
         Mode::Run => run_chosen(rt, alloc, choice.kind, managers, source, sink),

@@ -5,7 +5,7 @@ use Rattle.std.proofs.lemmas.List.{get_or-take, get_or-drop}
 use Rattle.block_table.specs.Table.{Table, IsBlockTable}
 use Rattle.block_table.proofs.CallerLemmas.{frame_below, frames_differ}
 use Rattle.page_model.specs.Image.{Clears, IsDisjoint, IsOutside, MovesWords}
-use Rattle.region.specs.Words.{AreDistinct, AreOther, AreWithin, ClearsBlocks, MovesBlocks}
+use Rattle.region.specs.Words.{AreDistinct, AreOther, BlocksAreWithin, ClearsBlocks, MovesBlocks}
 use Rattle.virtual_words.specs.Words.{table_word, virtual_words}
 use Rattle.virtual_words.proofs.Standing.{virtual_at, virtual_past}
 
@@ -15,7 +15,7 @@ module _ (t : Table) (h : IsBlockTable t) (v n : ℕ) (fits : v + n ≤ length t
   pub entry_at : (k : ℕ) → k < n → get_or part k 0 ≡ get_or t.frames (v + k) 0
   entry_at k lt = ap (λ (xs : List ℕ). get_or xs k 0) is ∙ get_or-take n (drop v t.frames) k 0 lt ∙ get_or-drop v t.frames k 0
 
-  pub entries_within : (words : ℕ) → words ≡ 4 * length t.frames → AreWithin part words
+  pub entries_within : (words : ℕ) → words ≡ 4 * length t.frames → BlocksAreWithin part words
   entries_within words whole k lt =
       let e = entry_at k (omega arith) in
       let b = frame_below t h (v + k) (omega arith) in

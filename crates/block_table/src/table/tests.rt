@@ -1,8 +1,7 @@
 //! A test that names each field of `BlockTable` with its type, so that no field is added unseen.
 use super::BlockTable;
-use counted_cells::Cells;
 use std::test::Fail;
-use step_ledger::Meter;
+use step_ledger::{Cells, Meter};
 
 /// Returns the table's entries. Names each field with its type, so that no field is added unseen.
 fn entries_of(table: &BlockTable) -> &Cells<u32> {

@@ -1,8 +1,8 @@
 //! A test that names each field of `Classes` with its type, so that no field is added unseen.
 use super::Classes;
 use cf_base::Layout;
-use counted_cells::Cells;
 use std::test::Fail;
+use step_ledger::Cells;
 
 /// Names each field with its type, so that no field is added unseen: a size for each class, a cell
 /// for each need of at most a page, and two plain numbers. A page of 64 = 2^6 words has 20 classes,

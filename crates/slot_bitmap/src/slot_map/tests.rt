@@ -1,6 +1,6 @@
 //! A test that names each field of `SlotMap` with its type, so that no field is added unseen.
 use super::SlotMap;
-use counted_cells::{CellArray, WordCell};
+use step_ledger::{CellArray, WordCell};
 
 /// Names each field with its type, so that no field is added unseen: cells, and two plain numbers.
 #[test]

@@ -1,9 +1,8 @@
 //! A test that each field of `ListHeads`, the heads of the free lists and their bitmaps, is in
 //! counted cells.
 use super::ListHeads;
-use counted_cells::{CellArray, Cells};
 use std::test::Fail;
-use step_ledger::Meter;
+use step_ledger::{CellArray, Cells, Meter};
 
 /// Names each field with its type, so that no field is added unseen: all are counted cells. Of 24
 /// lists only list 22 has a block. It is list 6 of the 16 in group 1, so bit 6 of `lists[1]` is set,

@@ -6,7 +6,7 @@ use Rattle.std.specs.Int.{w32}
 use Rattle.cf_session.specs.Apply.{run_at}
 use Rattle.heap_image.specs.Decoded.{breaks_in, bytes_decoded, has_room, length_decoded}
 use Rattle.heap_image.specs.Entries.{reached_in}
-use Rattle.heap_image.specs.Heaps.{objects_of}
+use Rattle.heap_image.specs.Heaps.{live_objects}
 use Rattle.heap_image.specs.Stages.{LeadsTo}
 use Rattle.run_model.specs.Sessions.{Ids, SessionState}
 use Rattle.heap_image.specs.Counts.{after_mallocs}
@@ -42,7 +42,7 @@ returns-then-not-make_object-clause-entry g c = λ go.
         field_bad w32 (breaks_in p r 2) (λ n. has_room p r.objects n) (λ n rest. bytes_decoded p r c.args.id n rest go) _ _ (c.args.at + 2) c.in-Ok.n
             c.in-Ok.ensures.reads (sym c.make_object.ensures.test ∙ no) refl (omega arith),
       ),
-      subst (λ b. OnFalse b (LeadsTo old new (objects_of old))) no c.make_object.ensures.refused,
+      subst (λ b. OnFalse b (LeadsTo old new (live_objects old))) no c.make_object.ensures.refused,
     )
 
 pub fill_object-requires-clause-made : goal.fill_object-requires-clause-made
@@ -51,7 +51,7 @@ fill_object-requires-clause-made g c =
     let new = run_at c.make_object.new.session (g.H.Manager.state c.make_object.new.heap) in
     let yes : c.make_object.result ≡ true = c.if-not-make_object.false in
     held_in old new c.args.id (replicate c.in-Ok.n 0)
-    (subst (λ b. OnTrue b (LeadsTo old new (insert (objects_of old) c.args.id (replicate c.in-Ok.n 0)))) yes c.make_object.ensures.made)
+    (subst (λ b. OnTrue b (LeadsTo old new (insert (live_objects old) c.args.id (replicate c.in-Ok.n 0)))) yes c.make_object.ensures.made)
 
 pub returns-in-Ok-fill_object-clause-entry : goal.returns-in-Ok-fill_object-clause-entry
 returns-in-Ok-fill_object-clause-entry g c = λ go.
@@ -59,7 +59,7 @@ returns-in-Ok-fill_object-clause-entry g c = λ go.
     let mid = run_at c.make_object.new.session (g.H.Manager.state c.make_object.new.heap) in
     let new = run_at c.fill_object.new.session (g.H.Manager.state c.fill_object.new.heap) in
     let yes : c.make_object.result ≡ true = c.if-not-make_object.false in
-    let made = subst (λ b. OnTrue b (LeadsTo old mid (insert (objects_of old) c.args.id (replicate c.in-Ok.n 0)))) yes c.make_object.ensures.made in
+    let made = subst (λ b. OnTrue b (LeadsTo old mid (insert (live_objects old) c.args.id (replicate c.in-Ok.n 0)))) yes c.make_object.ensures.made in
     object_read old mid new (reached_in old c.args.next c.args.at) c.args.id c.in-Ok.n _ _ _ refl c.requires.rises (sym c.make_object.ensures.test ∙ yes)
     c.in-Ok.ensures.reads made go _ refl refl c.in-Ok-fill_object.ensures.fills
 
@@ -69,7 +69,7 @@ returns-in-Err-fill_object-clause-entry g c = λ go.
     let mid = run_at c.make_object.new.session (g.H.Manager.state c.make_object.new.heap) in
     let new = run_at c.fill_object.new.session (g.H.Manager.state c.fill_object.new.heap) in
     let yes : c.make_object.result ≡ true = c.if-not-make_object.false in
-    let made = subst (λ b. OnTrue b (LeadsTo old mid (insert (objects_of old) c.args.id (replicate c.in-Ok.n 0)))) yes c.make_object.ensures.made in
+    let made = subst (λ b. OnTrue b (LeadsTo old mid (insert (live_objects old) c.args.id (replicate c.in-Ok.n 0)))) yes c.make_object.ensures.made in
     object_stops old mid new (reached_in old c.args.next c.args.at) c.args.id c.in-Ok.n _ _ _ refl c.requires.rises (sym c.make_object.ensures.test ∙ yes)
     c.in-Ok.ensures.reads made go c.in-Err-fill_object.fault c.requires.fresh c.in-Err-fill_object.ensures.fills
 

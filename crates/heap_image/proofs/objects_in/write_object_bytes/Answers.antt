@@ -10,12 +10,12 @@ returns-clause-writes g c = λ v some.
     let same : live.0 ≡ v = cc in
     let fits = subst (λ (w : List ℕ). c.args.at + length c.args.bytes.now ≤ length w) same live.2 in
     wrote (run_at c.args.session.now (g.H.Manager.state c.args.heap.now)) (run_at c.apply_ref.new.self (g.H.Manager.state c.apply_ref.new.heap))
-    c.requires.loading (record { opened = c.in-Ok.ensures.open; rules = c.in-Ok.ensures.rules; tied = c.in-Ok.ensures.tied })
+    c.requires.loading c.in-Ok.ensures.going
     c.args.id c.args.at c.args.bytes.now v some fits c.in-Ok.ensures.step.0.reply c.in-Ok.ensures.step.0.turn
 
 pub returns-clause-counts : goal.returns-clause-counts
 returns-clause-counts g c =
     let live = c.requires.within in
     wrote_counts (run_at c.args.session.now (g.H.Manager.state c.args.heap.now)) (run_at c.apply_ref.new.self (g.H.Manager.state c.apply_ref.new.heap))
-    c.requires.loading (record { opened = c.in-Ok.ensures.open; rules = c.in-Ok.ensures.rules; tied = c.in-Ok.ensures.tied })
+    c.requires.loading c.in-Ok.ensures.going
     c.args.id c.args.at c.args.bytes.now live.0 live.1 live.2 c.in-Ok.ensures.step.0.reply c.in-Ok.ensures.step.0.turn

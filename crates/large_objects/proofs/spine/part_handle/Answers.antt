@@ -1,6 +1,6 @@
 use Rattle.std.proofs.Common.{arith, sym, ◌∙◌, ap}
 use Rattle.std.specs.Int.{from_le_bytes, w32}
-use Rattle.large_objects.specs.Large.{bytes_in, handle_at}
+use Rattle.large_objects.specs.Large.{bytes_found, handle_at}
 use Rattle.large_objects.proofs.InnerSteps.{inner_small}
 use Rattle.large_objects.proofs.spine.part_handle.Goals as goal
 
@@ -12,4 +12,4 @@ overflow_mul-i g c =
 pub returns : goal.returns
 unfolding handle_at
 returns g c = c.from_le_bytes.ensures ∙ ap (from_le_bytes w32) (c.read_inner.ensures c.requires.has.bytes c.requires.has.found)
-    ∙ sym (ap (λ o. handle_at (bytes_in o) c.args.i) c.requires.has.found)
+    ∙ sym (ap (λ o. handle_at (bytes_found o) c.args.i) c.requires.has.found)

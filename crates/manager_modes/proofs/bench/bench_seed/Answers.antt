@@ -8,8 +8,8 @@ pub returns-in-Moving : goal.returns-in-Moving
 returns-in-Moving g c =
     let by = c.run_bench.ensures in
     bench_done c.args.choice _ _ c.run_bench.result c.in-Ok.session _
-    (run_at c.run_bench.new.session c.run_bench.new.heap) c.in-Ok.ensures
-    (c.closed-own.ensures ∙ ap closed_state (sym c.in-Moving.is)) by.promise by.outcome by.sink_same by.write_fault
+    (run_at c.run_bench.new.session c.run_bench.new.heap.state) c.in-Ok.ensures
+    (c.closed-own.ensures.state ∙ ap closed_state (sym c.in-Moving.is)) by.promise by.outcome by.sink_same by.write_fault
 
 pub returns-in-NonMoving : goal.returns-in-NonMoving
 returns-in-NonMoving g c =

@@ -1,6 +1,6 @@
 use Rattle.std.proofs.Common.{◌≡◌, arith, length, subst}
-use Rattle.side_by_side.proofs.CallerLemmas.{begun_each}
-use Rattle.side_by_side.specs.SideBySide.{AreFresh}
+use Rattle.manager_modes.proofs.Fresh.{begun_each}
+use Rattle.manager_modes.specs.SideBySide.{AreFresh}
 use Rattle.manager_modes.proofs.Outcomes.{each_ends}
 use Rattle.manager_modes.proofs.compare.compare_all.Goals as goal
 

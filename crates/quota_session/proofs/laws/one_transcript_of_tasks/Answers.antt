@@ -1,4 +1,4 @@
-use Rattle.run_laws.proofs.CallerLemmas.{all_items_valid}
+use Rattle.script_laws.proofs.CallerLemmas.{all_items_valid}
 use Rattle.quota_session.proofs.ScriptShown.{transcript_shown}
 use Rattle.quota_session.proofs.laws.one_transcript_of_tasks.Goals as goal
 

@@ -1,4 +1,4 @@
-use Rattle.run_laws.proofs.CallerLemmas.{all_items_valid}
+use Rattle.script_laws.proofs.CallerLemmas.{all_items_valid}
 use Rattle.quota_session.proofs.ScriptShown.{transcript_shown}
 use Rattle.quota_session.proofs.TaskReads.{reads_are_shown}
 use Rattle.quota_session.proofs.laws.reads_give_what_was_written.Goals as goal

@@ -1,6 +1,6 @@
 use Rattle.std.proofs.Common.{◌≤◌, ◌∙◌, ◌++◌, [], arith, ap, drop, length, length-drop}
 use Rattle.std.proofs.lemmas.List.{length-take-le, take_rest}
-use Rattle.script_loop.proofs.Feeding.{appended_after, appended_none}
+use Rattle.cf_io.proofs.CallerLemmas.{appended_after, appended_none}
 use Rattle.script_loop.proofs.AnswersSoFar.{answered_fed, answered_next, answered_none, answered_over, cut_next, cut_over}
 use Rattle.script_loop.proofs.answering.answer_chunk.Goals as goal
 

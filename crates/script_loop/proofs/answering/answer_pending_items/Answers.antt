@@ -1,6 +1,6 @@
 use Rattle.std.proofs.Common.{◌∙◌, ◌++◌, [], arith, refl}
 use Rattle.run_model.specs.Texts.{led}
-use Rattle.script_loop.proofs.Feeding.{appended_after, appended_none}
+use Rattle.cf_io.proofs.CallerLemmas.{appended_after, appended_none}
 use Rattle.script_loop.proofs.AnswersSoFar.{answered_command, answered_none, answered_open, answered_then, bad_at, cut_command, cut_open, cut_then, named}
 use Rattle.script_loop.proofs.AnswersSoFar.{ready_command, ready_open}
 use Rattle.script_loop.proofs.answering.answer_pending_items.Goals as goal

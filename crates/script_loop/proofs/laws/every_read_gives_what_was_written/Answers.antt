@@ -1,6 +1,6 @@
 use Rattle.script_loop.proofs.Consequences.{prints_reads, wrote_all}
 use Rattle.script_loop.specs.ScriptOutcome.{items_within}
-use Rattle.run_laws.proofs.CallerLemmas.{reads_are_shown}
+use Rattle.script_laws.proofs.CallerLemmas.{reads_are_shown}
 use Rattle.script_loop.proofs.laws.every_read_gives_what_was_written.Goals as goal
 
 pub returns-clause-printed : goal.returns-clause-printed

@@ -1,4 +1,4 @@
-use Rattle.run_laws.proofs.CallerLemmas.{runs_on, runs_exist}
+use Rattle.script_laws.proofs.CallerLemmas.{runs_on, runs_exist}
 use Rattle.slice_session.specs.Playing.{BeginsSlices}
 use Rattle.slice_session.specs.SliceRun.{SliceStep}
 use Rattle.slice_session.proofs.CommandSteps.{slices_go_on}

@@ -7,6 +7,6 @@ pub returns : goal.returns
 returns g c =
     let opened = at_ok c.open_heap.result _ c.open_heap.ensures.ok c.ok.result c.ok.ensures.value c.in_ok-ok.field-0 c.in_ok-ok.was in
     let rules = at_ok c.open_heap.result _ c.open_heap.ensures.rules c.ok.result c.ok.ensures.value c.in_ok-ok.field-0 c.in_ok-ok.was in
-    in_box c.new.result (λ b. b.value) _ (IsFreshHeap g.H.ExportedManager.of_kind (profile_of c.args.s.now))
-    (fresh_from_closed g.H.ExportedManager.of_kind c.args.s.now _ _ c.new_closed-heap.ensures opened c.open_heap.ensures.promise rules)
-    c.new.ensures.ok c.ok-2.result c.ok-2.ensures.value
+    in_box c.new-2.result (λ b. b.value) _ (IsFreshHeap (g.H.Manager.state c.args.heap).kind (profile_of c.args.s.now))
+    (fresh_from_closed c.args.s.now (g.H.Manager.state c.args.heap) _ c.requires.order opened c.open_heap.ensures.promise rules)
+    c.new-2.ensures.ok c.ok-2.result c.ok-2.ensures.value

@@ -7,14 +7,23 @@ use Rattle.std_alloc.proofs.SendSync.{quiet}
 use Rattle.held_heap.proofs.Crosses.{place-Keyless}
 use Rattle.held_heap.specs.Moving.{open_heap}
 use Rattle.held_heap.specs.contracts.moving.HeapBlock.{the_row, the_type}
-use Rattle.held_heap.specs.contracts.exported_manager.MovingHeapExportedManager.TheImpl as exported_manager
-use Rattle.moving_heap.specs.contracts.manager.MovingHeap as manager
-use Rattle.moving_heap.specs.contracts.manager.MovingHeapManager.TheImpl as calls
+use Rattle.held_heap.specs.contracts.of_kind.PagedHeapOfKind.TheImpl as of_kind
 use Rattle.held_heap.proofs.held.Held.TheSendSync.{the_send as held}
-use Rattle.moving_heap.proofs.manager.MovingHeap.TheSendSync.{the_send as heap}
+use Rattle.paged_heap.specs.contracts.manager.PagedHeap as paged_heap
+use Rattle.paged_heap.specs.contracts.manager.PagedHeapManager.TheImpl as manager
+use Rattle.paged_heap.specs.contracts.manager.PagedHeapStepBounds.TheImpl as step_bounds
+use Rattle.paged_heap.proofs.manager.PagedHeap.TheSendSync.{the_send as heap}
+use Rattle.paged_heap.specs.contracts.page_kind.DirectPageKind.TheImpl as page_kind
+use Rattle.virtual_words.specs.contracts.direct.Direct as direct
+use Rattle.virtual_words.specs.contracts.direct.DirectMapping.TheImpl as mapping
 
 heap-send : IsSend open_heap
-heap-send = held manager.the_row exported_manager.ghosts calls.ghosts heap
+heap-send = held
+    (paged_heap.the_row direct.the_row mapping.ghosts)
+    (of_kind.ghosts direct.the_row page_kind.ghosts of_kind.no_dict mapping.ghosts of_kind.no_dict)
+    (manager.ghosts direct.the_row page_kind.ghosts manager.no_dict mapping.ghosts manager.no_dict)
+    (step_bounds.ghosts direct.the_row page_kind.ghosts step_bounds.no_dict mapping.ghosts step_bounds.no_dict)
+    (heap direct.the_row mapping.ghosts)
 
 pub send : IsSend the_row
 send =

@@ -7,14 +7,23 @@ use Rattle.std_alloc.proofs.SendSync.{quiet}
 use Rattle.held_heap.proofs.Crosses.{place-Keyless}
 use Rattle.held_heap.specs.NonMoving.{open_heap}
 use Rattle.held_heap.specs.contracts.nonmoving.HeapBlock.{the_row, the_type}
-use Rattle.held_heap.specs.contracts.exported_manager.NonMovingHeapExportedManager.TheImpl as exported_manager
-use Rattle.nonmoving_heap.specs.contracts.manager.NonMovingHeap as manager
-use Rattle.nonmoving_heap.specs.contracts.manager.NonMovingHeapManager.TheImpl as calls
+use Rattle.held_heap.specs.contracts.of_kind.PagedHeapOfKind.TheImpl as of_kind
 use Rattle.held_heap.proofs.held.Held.TheSendSync.{the_send as held}
-use Rattle.nonmoving_heap.proofs.manager.NonMovingHeap.TheSendSync.{the_send as heap}
+use Rattle.paged_heap.specs.contracts.manager.PagedHeap as paged_heap
+use Rattle.paged_heap.specs.contracts.manager.PagedHeapManager.TheImpl as manager
+use Rattle.paged_heap.specs.contracts.manager.PagedHeapStepBounds.TheImpl as step_bounds
+use Rattle.paged_heap.proofs.manager.PagedHeap.TheSendSync.{the_send as heap}
+use Rattle.paged_heap.specs.contracts.page_kind.MappedPageKind.TheImpl as page_kind
+use Rattle.virtual_words.specs.contracts.mapped.Mapped as mapped
+use Rattle.virtual_words.specs.contracts.mapped.MappedMapping.TheImpl as mapping
 
 heap-send : IsSend open_heap
-heap-send = held manager.the_row exported_manager.ghosts calls.ghosts heap
+heap-send = held
+    (paged_heap.the_row mapped.the_row mapping.ghosts)
+    (of_kind.ghosts mapped.the_row page_kind.ghosts of_kind.no_dict mapping.ghosts of_kind.no_dict)
+    (manager.ghosts mapped.the_row page_kind.ghosts manager.no_dict mapping.ghosts manager.no_dict)
+    (step_bounds.ghosts mapped.the_row page_kind.ghosts step_bounds.no_dict mapping.ghosts step_bounds.no_dict)
+    (heap mapped.the_row mapping.ghosts)
 
 pub send : IsSend the_row
 send =

@@ -6,10 +6,11 @@ use Rattle.std_alloc.proofs.SendSync.{quiet}
 use Rattle.held_heap.proofs.Crosses.{place-Keyless}
 use Rattle.held_heap.specs.Tlsf.{open_heap}
 use Rattle.held_heap.specs.contracts.tlsf.HeapBlock.{the_row, the_type}
-use Rattle.held_heap.specs.contracts.exported_manager.TagHeapExportedManager.TheImpl as exported_manager
+use Rattle.held_heap.specs.contracts.of_kind.TagHeapOfKind.TheImpl as of_kind
 use Rattle.held_heap.proofs.held.Held.TheSendSync.{the_send as held}
 use Rattle.tag_heap.specs.contracts.manager.TagHeap as tag_heap
 use Rattle.tag_heap.specs.contracts.manager.TagHeapManager.TheImpl as manager
+use Rattle.tag_heap.specs.contracts.manager.TagHeapStepBounds.TheImpl as step_bounds
 use Rattle.tag_heap.proofs.manager.TagHeap.TheSendSync.{the_send as heap}
 use Rattle.tlsf_heap.specs.contracts.buckets.TlsfBuckets as tlsf
 use Rattle.tlsf_heap.specs.contracts.buckets.TlsfBucketsBuckets.TheImpl as buckets
@@ -18,8 +19,9 @@ use Rattle.tlsf_heap.specs.contracts.heap.TlsfBucketsFitPolicy.TheImpl as policy
 heap-send : IsSend open_heap
 heap-send = held
     (tag_heap.the_row tlsf.the_row policy.ghosts buckets.ghosts)
-    (exported_manager.ghosts tlsf.the_row policy.ghosts exported_manager.no_dict buckets.ghosts exported_manager.no_dict exported_manager.no_dict)
+    (of_kind.ghosts tlsf.the_row policy.ghosts of_kind.no_dict buckets.ghosts of_kind.no_dict of_kind.no_dict)
     (manager.ghosts tlsf.the_row policy.ghosts manager.no_dict buckets.ghosts manager.no_dict manager.no_dict)
+    (step_bounds.ghosts tlsf.the_row policy.ghosts step_bounds.no_dict buckets.ghosts step_bounds.no_dict step_bounds.no_dict)
     (heap tlsf.the_row policy.ghosts buckets.ghosts)
 
 pub send : IsSend the_row

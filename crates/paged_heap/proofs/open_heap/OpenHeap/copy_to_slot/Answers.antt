@@ -1,5 +1,5 @@
 -- The kept words are moved and cut, and the header is written before them.
-use Rattle.std.proofs.Common.{◌+◌, ◌-◌, ◌*◌, ◌/◌, ◌<◌, ◌≤◌, set, arith, sym, ◌∙◌, ap, subst}
+use Rattle.std.proofs.Common.{◌+◌, ◌-◌, ◌*◌, ◌<◌, set, arith, sym, ◌∙◌, ap, subst}
 use Rattle.step_ledger.specs.Counting.{RoseBy}
 use Rattle.page_model.specs.Order.{word_steps}
 use Rattle.step_ledger.proofs.CallerLemmas.{rose_both}
@@ -29,14 +29,6 @@ returns-clause-words g c =
       as_long = λ le. ap (λ (o : OpenHeap). (seen kind o).words) (c.zero_tail.ensures.kept (omega arith));
       whole = c.write.ensures.words ∙ ap (set cut c.args.to) c.pack.ensures;
     }
-
-pub returns-clause-bound : goal.returns-clause-bound
-returns-clause-bound g c =
-    let w = c.words-words.ensures in
-    let a = c.move_words.ensures.bound in let b = c.zero_tail.ensures.bound in let d = c.write.ensures.bound in let e = c.rebind.ensures.steps in
-    let few : (8 * c.words-words.result + 7) / 8 - c.args.x.bytes / 8 ≤ 1 = omega arith in
-    let ak = a.kept in let ab = a.bound in let bk = b.kept in let bb = b.bound in let dk = d.kept in let db = d.bound in let ek = e.kept in let eb = e.bound in
-    record { kept = omega arith; bound = omega arith }
 
 pub returns-clause-steps : goal.returns-clause-steps
 returns-clause-steps g c =

@@ -5,6 +5,7 @@ use Rattle.paged_heap.proofs.ByKind.{free_by_order}
 use Rattle.paged_heap.proofs.Preserved.{cost_kept}
 use Rattle.paged_heap.proofs.HeaderLemmas.{few_free, free_with_cost}
 use Rattle.paged_heap.proofs.LayoutFacts.{paged_kind}
+use Rattle.paged_heap.proofs.StepLemmas.{free_low}
 use Rattle.step_ledger.proofs.CallerLemmas.{rose_is}
 use Rattle.paged_heap.proofs.open_heap.OpenHeap.free.Goals as goal
 
@@ -27,7 +28,13 @@ returns-clause-ordered g c =
       cost = (
           let is = rose_is _ _ _ _ c.requires.room
           (few_free (seen g.A.Mapping.kind c.args.self.now) c.requires.kept.kept c.args.h.0 _ _ c.free_inner-result.ensures.step)
-          c.free_inner-result.ensures.cost c.free_inner-result.ensures.bound in
+          c.free_inner-result.ensures.cost
+          (record { kept = c.free_inner-result.ensures.steps.kept; bound = (let a = c.free_inner-result.ensures.steps.bound in let l = free_low g.A.Mapping.kind c.free_inner-result.result in omega arith) }) in
           let a = c.count-before.ensures in let b = c.count.ensures in
           omega arith);
     })
+
+pub returns-clause-bound : goal.returns-clause-bound
+returns-clause-bound g c =
+    let a = c.free_inner-result.ensures.steps in let l = free_low g.A.Mapping.kind c.free_inner-result.result in
+    record { kept = a.kept; bound = omega (arith, a.bound, l) }

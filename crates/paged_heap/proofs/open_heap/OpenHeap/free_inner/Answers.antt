@@ -22,34 +22,21 @@ unreachable-requires g c =
     has_class (seen g.A.Mapping.kind c.args.self.now) c.requires.kept c.args.h.0 c.in-Some.place (sym c.in-Some.ensures.found) c.length_at-length.result
     c.length_at-length.ensures.value c.in_default-class_of.ensures.found
 
-pub must_move-requires-clause-page : goal.must_move-requires-clause-page
-must_move-requires-clause-page g c =
+pub must_move-moves-requires-clause-page : goal.must_move-moves-requires-clause-page
+must_move-moves-requires-clause-page g c =
     page_there c.requires.kept
     (object_at (seen g.A.Mapping.kind c.args.self.now) c.requires.kept c.args.h.0 c.in-Some.place (sym c.in-Some.ensures.found)
     c.length_at-length.result c.length_at-length.ensures.value c.in-Some-class_of.c c.in-Some-class_of.ensures.found)
 
-pub free_and_fill-requires-clause-object : goal.free_and_fill-requires-clause-object
-free_and_fill-requires-clause-object g c =
+pub free_object-requires-clause-object : goal.free_object-requires-clause-object
+free_object-requires-clause-object g c =
     object_at (seen g.A.Mapping.kind c.args.self.now) c.requires.kept c.args.h.0 c.in-Some.place (sym c.in-Some.ensures.found) c.length_at-length.result
     c.length_at-length.ensures.value c.in-Some-class_of.c c.in-Some-class_of.ensures.found
 
-pub free_alone-requires-clause-object : goal.free_alone-requires-clause-object
-free_alone-requires-clause-object g c =
-    object_at (seen g.A.Mapping.kind c.args.self.now) c.requires.kept c.args.h.0 c.in-Some.place (sym c.in-Some.ensures.found) c.length_at-length.result
-    c.length_at-length.ensures.value c.in-Some-class_of.c c.in-Some-class_of.ensures.found
-
-pub returns-then-must_move-clause-cost : goal.returns-then-must_move-clause-cost
-returns-then-must_move-clause-cost g c =
+pub returns-clause-cost : goal.returns-clause-cost
+returns-clause-cost g c =
     let h = seen g.A.Mapping.kind c.args.self.now in let k = c.requires.kept in
     let o = object_at h k c.args.h.0 c.in-Some.place (sym c.in-Some.ensures.found) c.length_at-length.result c.length_at-length.ensures.value
     c.in-Some-class_of.c c.in-Some-class_of.ensures.found in
-    free_sum k o c.free_and_fill.result _ _ _ _ _ _ c.in-Some.ensures.steps c.length_at-length.ensures.steps c.in-Some-class_of.ensures.steps c.must_move.ensures.steps
-    c.free_and_fill.ensures.cost
-
-pub returns-else-must_move-clause-cost : goal.returns-else-must_move-clause-cost
-returns-else-must_move-clause-cost g c =
-    let h = seen g.A.Mapping.kind c.args.self.now in let k = c.requires.kept in
-    let o = object_at h k c.args.h.0 c.in-Some.place (sym c.in-Some.ensures.found) c.length_at-length.result c.length_at-length.ensures.value
-    c.in-Some-class_of.c c.in-Some-class_of.ensures.found in
-    free_sum k o c.free_alone.result _ _ _ _ _ _ c.in-Some.ensures.steps c.length_at-length.ensures.steps c.in-Some-class_of.ensures.steps c.must_move.ensures.steps
-    c.free_alone.ensures.cost
+    free_sum k o c.free_object.result _ _ _ _ _ _ c.in-Some.ensures.steps c.length_at-length.ensures.steps c.in-Some-class_of.ensures.steps
+    c.must_move-moves.ensures.steps c.free_object.ensures.cost

@@ -5,6 +5,7 @@ use Rattle.paged_heap.proofs.ByKind.{resize_by_order}
 use Rattle.paged_heap.proofs.Preserved.{cost_kept}
 use Rattle.paged_heap.proofs.LayoutFacts.{paged_kind}
 use Rattle.paged_heap.proofs.ResizeCosts.{few_resize}
+use Rattle.paged_heap.proofs.StepLemmas.{resize_low}
 use Rattle.step_ledger.proofs.CallerLemmas.{rose_is}
 use Rattle.paged_heap.proofs.ResizeLemmas.{resize_with_cost}
 use Rattle.paged_heap.proofs.open_heap.OpenHeap.resize.Goals as goal
@@ -29,7 +30,13 @@ returns-clause-ordered g c =
       cost = (
           let is = rose_is _ _ _ _ c.requires.room
           (few_resize (seen g.A.Mapping.kind c.args.self.now) c.requires.kept.kept c.args.h.0 c.args.bytes _ _ c.resize_inner-result.ensures.step)
-          c.resize_inner-result.ensures.cost c.resize_inner-result.ensures.bound in
+          c.resize_inner-result.ensures.cost
+          (record { kept = c.resize_inner-result.ensures.steps.kept; bound = (let a = c.resize_inner-result.ensures.steps.bound in let l = resize_low g.A.Mapping.kind c.args.bytes c.resize_inner-result.result in omega arith) }) in
           let a = c.count-before.ensures in let b = c.count.ensures in
           omega arith);
     })
+
+pub returns-clause-bound : goal.returns-clause-bound
+returns-clause-bound g c =
+    let a = c.resize_inner-result.ensures.steps in let l = resize_low g.A.Mapping.kind c.args.bytes c.resize_inner-result.result in
+    record { kept = a.kept; bound = omega (arith, a.bound, l) }

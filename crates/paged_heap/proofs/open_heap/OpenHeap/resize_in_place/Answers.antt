@@ -7,7 +7,7 @@ use Rattle.paged_heap.specs.Heap.{Heap, seen}
 use Rattle.paged_heap.proofs.ByKind.{in_region}
 use Rattle.paged_heap.proofs.FreedObject.{asked_some}
 use Rattle.paged_heap.proofs.CountLimits.{asked_room}
-use Rattle.paged_heap.proofs.ResizeInPlace.{bytes_in, bytes_low, fits_chosen, fits_kept, fits_resized, holds_bytes}
+use Rattle.paged_heap.proofs.ResizeInPlace.{bytes_in, bytes_low, fits_chosen, fits_kept, fits_resized}
 use Rattle.paged_heap.proofs.open_heap.OpenHeap.resize_in_place.Goals as goal
 
 pub zero_tail-requires-clause-within : goal.zero_tail-requires-clause-within
@@ -100,14 +100,6 @@ returns-clause-choice g c =
     let still : c.args.length ≤ c.args.bytes → t ≡ h = λ le. ap (seen kind) (c.zero_tail.ensures.kept le) in
     fits_chosen h t n k c.args.h.0 c.args.place c.args.length c.args.c c.requires.object c.args.bytes c.requires.same c.zero_tail.ensures.rest
     c.zero_tail.ensures.cut still en _
-
-pub returns-clause-bound : goal.returns-clause-bound
-returns-clause-bound g c =
-    let kind = g.A.Mapping.kind in let h = seen kind c.args.self.now in let k = c.requires.kept.kept in
-    let a = c.zero_tail.ensures.bound in let b = c.write.ensures.bound in
-    let r = holds_bytes k c.requires.object in let e = c.slot_words-slot_words.ensures.value in
-    let ak = a.kept in let ab = a.bound in let bk = b.kept in let bb = b.bound in
-    record { kept = omega arith; bound = omega arith }
 
 pub returns-clause-steps : goal.returns-clause-steps
 returns-clause-steps g c = rose_both _ _ _ _ _ c.zero_tail.ensures.steps c.write.ensures.steps

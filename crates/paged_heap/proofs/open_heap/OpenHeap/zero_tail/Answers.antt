@@ -1,7 +1,7 @@
 -- The first word is cut, and those after it are cleared.
 use Rattle.std.proofs.Common.{◌≡◌, ◌+◌, ◌-◌, ◌/◌, ◌%◌, take, drop, replicate, arith, sym, ◌∙◌, subst}
 use Rattle.page_model.specs.Image.{Clears}
-use Rattle.word_bytes.specs.Overwriting.{Overwrites}
+use Rattle.region.specs.Overwriting.{Overwrites}
 use Rattle.virtual_words.specs.Words.{words_of}
 use Rattle.virtual_words.proofs.CallerLemmas.{laid_long}
 use Rattle.paged_heap.proofs.ResizeInPlace.{cut_is, zero_part}

@@ -1,5 +1,5 @@
 use Rattle.std.proofs.Common.{length, ◌+◌, ◌/◌, ◌%◌, arith, subst}
-use Rattle.word_bytes.specs.Overwriting.{Overwrites}
+use Rattle.region.specs.Overwriting.{Overwrites}
 use Rattle.quota_heap.proofs.Parts.{count_few, place_small, words_in, wrote, wrote_kept, wrote_nothing}
 use Rattle.quota_heap.proofs.Tasks.{a_task}
 use Rattle.quota_heap.proofs.open_tasks.OpenTasks.write.Goals as goal

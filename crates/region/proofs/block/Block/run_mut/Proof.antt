@@ -40,7 +40,7 @@ use Rattle.region.specs.contracts.block.Block.{the_row as R}
 use Rattle.region.specs.contracts.block.Block.run_mut as f
 use Rattle.region.proofs.block.Block.run_mut.Statement.{statement}
 use Rattle.region.proofs.block.Block.run_mut.Code as code
-use Rattle.region.proofs.CallerLemmas.{length-with_words}
+use Rattle.region.proofs.WordsAfter.{length-with_words}
 use Rattle.region.proofs.Lists.{as_many, cut_run, fit-words, length-part}
 use Rattle.region.proofs.LayoutFacts.{block_val, block_had, block_made, row_out, row_in}
 

@@ -1,8 +1,7 @@
-use Rattle.std.proofs.Common.{◌≡◌, ◌<◌, ◌+◌, ap, arith, inl, min, refl, sym}
+use Rattle.std.proofs.Common.{◌≡◌, ◌<◌, ◌+◌, ap, arith, inl, min, refl, sym, ◌∙◌}
 use Rattle.cf_io.specs.Feeds.{last_count}
-use Rattle.std.proofs.Common.{◌∙◌}
 use Rattle.std.proofs.lemmas.List.{length-take-le}
-use Rattle.script_loop.proofs.Feeding.{given_min, nothing_taken}
+use Rattle.cf_io.proofs.CallerLemmas.{given_min, nothing_taken}
 use Rattle.script_loop.proofs.LoopTurn.{chunk_of, some_past, whole_chunk}
 use Rattle.script_loop.proofs.running.Script.turn.Goals as goal
 

@@ -1,6 +1,6 @@
 use Rattle.std.proofs.Common.{◌+◌, ◌-◌, ◌*◌, ◌/◌, ◌%◌, ◌≡◌, arith, ◌∙◌, ap}
-use Rattle.word_bytes.specs.Overwriting.{byte_from}
-use Rattle.word_bytes.proofs.CallerLemmas.{byte_shift}
+use Rattle.region.specs.Overwriting.{byte_from}
+use Rattle.region.proofs.CallerLemmas.{byte_shift}
 use Rattle.tag_blocks.specs.Blocks.{Tagged}
 use Rattle.tag_blocks.proofs.FindLemmas.{tags_seen}
 use Rattle.tag_blocks.proofs.AccessLemmas.{access_within}

@@ -1,5 +1,5 @@
 use Rattle.std.proofs.Common.{◌+◌, ◌/◌, ◌%◌, arith, subst}
-use Rattle.word_bytes.specs.Overwriting.{Overwrites}
+use Rattle.region.specs.Overwriting.{Overwrites}
 use Rattle.tag_blocks.specs.Blocks.{Tagged}
 use Rattle.tag_blocks.proofs.ViewLemmas.{tags_kept}
 use Rattle.tag_blocks.proofs.AccessLemmas.{access_within, bytes_kept, bytes_blocks}

@@ -64,8 +64,8 @@ returns-clause-rules g c = rw c.release.ensures.places (freed_rules _ c.self.inv
     (c.from.ensures ∙ c.unpack-length.ensures.length ∙ ap (λ w. w / 2 ^ 32) c.tag_of.ensures.value)
     g.met.B.FitPolicy.tiled)
 
-pub returns-clause-exact : goal.returns-clause-exact
-returns-clause-exact g c =
+pub returns-clause-steps : goal.returns-clause-steps
+returns-clause-steps g c =
     let there = sym (place_described c.self.inside.blocks.words c.self.inside.proxies.places c.args.h.0) ∙ sym c.in-Some.ensures.found in
     rw (← c.self.view_is, there, block_free_cost) (rw (← c.self.view_is) (by_same _ _ _ _ (rose_both _ _ _ _ _ c.in-Some.ensures.steps (rose_both _ _ _ _ _ c.tag_of.ensures.steps
     (rose_both _ _ _ _ _ c.release.ensures.steps c.release-slot_words.ensures.steps)))

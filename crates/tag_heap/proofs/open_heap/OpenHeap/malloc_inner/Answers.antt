@@ -80,14 +80,14 @@ carve_at-requires-clause-found g c =
 pub carve_at-requires-clause-tags : goal.carve_at-requires-clause-tags
 carve_at-requires-clause-tags g c = c.self.invariant.tags
 
-pub returns-in_err-place-clause-exact : goal.returns-in_err-place-clause-exact
-returns-in_err-place-clause-exact g c =
+pub returns-in_err-place-clause-steps : goal.returns-in_err-place-clause-steps
+returns-in_err-place-clause-steps g c =
     let p = err_from_is_err_and c.from_residual.result c.from_residual.ensures.1 in
     let took = c.in_err-place.ensures.steps in
     rw (p.1, p.2) took
 
-pub returns-clause-exact : goal.returns-clause-exact
-returns-clause-exact g c =
+pub returns-clause-steps : goal.returns-clause-steps
+returns-clause-steps g c =
     let took = rw (← c.self.view_is) at c.in_ok-place.ensures.steps in
     let there = sym (place_described c.carve_at.new.self.words _ c.in-Some.handle.0) ∙ c.in-Some.ensures.live in
     rw (← c.self.view_is, there) (by_same _ _ _ _ (rose_both _ _ _ _ _ took (rose_both _ _ _ _ _ c.in-Some.ensures.steps c.carve_at.ensures.steps)) (

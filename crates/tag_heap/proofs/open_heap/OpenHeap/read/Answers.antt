@@ -6,6 +6,9 @@ use Rattle.tag_heap.proofs.open_heap.OpenHeap.read.Goals as goal
 pub returns-in_err-place-clause-rules : goal.returns-in_err-place-clause-rules
 returns-in_err-place-clause-rules g c = rw (← c.self.view_is) (rules _ c.self.invariant g.met.B.FitPolicy.tiled)
 
+pub returns-then-len-eq0-clause-rules : goal.returns-then-len-eq0-clause-rules
+returns-then-len-eq0-clause-rules g c = rw (← c.self.view_is) (rules _ c.self.invariant g.met.B.FitPolicy.tiled)
+
 pub returns-clause-answer : goal.returns-clause-answer
 returns-clause-answer g c =
     let l = rw (← c.self.view_is) at c.in_ok-place.ensures.found in

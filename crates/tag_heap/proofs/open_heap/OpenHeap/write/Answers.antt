@@ -1,10 +1,17 @@
 use Rattle.std.proofs.Common.{arith}
 use Rattle.tag_heap.proofs.Preserved.{rules}
-use Rattle.tag_heap.proofs.WriteLemmas.{writes, wrote_rules, wrote_valid}
+use Rattle.tag_heap.proofs.WriteLemmas.{writes, wrote_nothing, wrote_rules, wrote_valid}
 use Rattle.tag_heap.proofs.open_heap.OpenHeap.write.Goals as goal
 
 pub returns-in_err-place-clause-rules : goal.returns-in_err-place-clause-rules
 returns-in_err-place-clause-rules g c = rw (← c.self.view_is) (rules _ c.self.invariant g.met.B.FitPolicy.tiled)
+
+pub returns-then-len-eq0-clause-step : goal.returns-then-len-eq0-clause-step
+returns-then-len-eq0-clause-step g c = rw (← c.self.view_is) (wrote_nothing g.B.FitPolicy.kind g.met.B.FitPolicy.tiled _ c.args.h.0 c.args.at c.in_ok-place.place
+    c.args.bytes.now c.if-len-eq0.true (rw (← c.self.view_is) at c.in_ok-place.ensures.found))
+
+pub returns-then-len-eq0-clause-rules : goal.returns-then-len-eq0-clause-rules
+returns-then-len-eq0-clause-rules g c = rw (← c.self.view_is) (rules _ c.self.invariant g.met.B.FitPolicy.tiled)
 
 pub invariant_of-self : goal.invariant_of-self
 invariant_of-self g c =

@@ -1,4 +1,0 @@
-pub mod SizeList
-pub mod Classes
-pub mod Entries
-pub mod Counted

@@ -1,5 +1,0 @@
-use Rattle.headline_laws.proofs.OneTranscript.{one_shown}
-use Rattle.headline_laws.proofs.one_transcript.Goals as goal
-
-pub returns : goal.returns
-returns c = λ kind items replies last paged ones less run. one_shown kind items replies last paged ones less run

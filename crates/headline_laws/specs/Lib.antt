@@ -1,4 +1,0 @@
-pub mod ShownHeap
-pub mod ShownWords
-pub mod Headline
-pub mod OneOutput

@@ -1,2 +1,0 @@
-pub mod EmptyHeap
-pub mod Exact

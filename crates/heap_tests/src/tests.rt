@@ -1,0 +1,10 @@
+//! Tests of `SlicedHeap` and `QuotaHeap`, by the steps of single calls (`sliced`, `quota`); of `LargeHeap` at its
+//! limits (`large`); of `save` and `load`, by images worked out by hand (`saved`, with the calls of `images`) and
+//! by the largest one (`largest_image`); and of `library_example` (`example`).
+mod example;
+mod images;
+mod large;
+mod largest_image;
+mod quota;
+mod saved;
+mod sliced;

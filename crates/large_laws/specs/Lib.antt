@@ -1,2 +1,0 @@
-pub mod LargeHeadline
-pub mod Small

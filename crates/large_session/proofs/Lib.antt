@@ -1,0 +1,13 @@
+pub mod OwnRun
+pub mod InnerThere
+pub mod LargeThere
+pub mod RunInvariant
+pub mod ReplyLemmas
+pub mod OpenReply
+pub mod Turns
+pub mod ReadBack
+pub mod Reports
+pub mod Steps
+pub mod Claims
+pub mod Worked
+pub mod CallerLemmas

@@ -1,0 +1,15 @@
+//! Mode `large`: `LargeSession` maps the ids of a script to the handles of long objects, `run_large` runs a script
+//! on them, and the laws say what is claimed of every such script, by its lines and their replies alone.
+#![tactic(auto)]
+
+mod commands;
+mod laws;
+mod mode_handler;
+mod session;
+
+pub use laws::{
+    a_long_run_can_always_go_on, each_command_has_its_turn, reads_give_what_was_written,
+    the_large_headline, what_was_cut_is_a_prefix, wrong_large_replies_fall_short,
+};
+pub use mode_handler::{LargeHandler, run_large};
+pub use session::LargeSession;

@@ -1,7 +1,0 @@
-use Rattle.cf_base.specs.declared.kind.Kind.TheVariants.{NonMoving}
-use Rattle.paged_heap.specs.Heap.{seen}
-use Rattle.paged_heap.proofs.CallerLemmas.{rules}
-use Rattle.nonmoving_heap.proofs.manager.NonMovingHeapManager.open_heap.Goals as goal
-
-pub returns-clause-rules : goal.returns-clause-rules
-returns-clause-rules c = rules (seen NonMoving c.in_ok-empty_heap.field-0) c.in_ok-empty_heap.ensures.kept.kept

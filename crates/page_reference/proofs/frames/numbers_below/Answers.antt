@@ -1,7 +1,0 @@
--- A range yields its numbers.
-use Rattle.std.proofs.Common.{refl, arith}
-use Rattle.std.proofs.lemmas.Iterator.{items_from_collect, YieldsList-from_range}
-use Rattle.page_reference.proofs.frames.numbers_below.Goals as goal
-
-pub returns : goal.returns
-returns c = items_from_collect c.collect.result c.collect.ensures.ran (YieldsList-from_range 0 c.args.n c.args.n refl (omega arith))

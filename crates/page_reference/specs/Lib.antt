@@ -1,4 +1,0 @@
-pub mod Arranged
-pub mod Next
-pub mod Words
-pub mod Amounts

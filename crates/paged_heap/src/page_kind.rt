@@ -1,0 +1,88 @@
+//! The trait `PageKind`: what the moving and the non-moving manager do each in its own way.
+ghost use Rattle.std.specs.Prelude.{◌≡◌, IfOk, refl};
+ghost use Rattle.std.specs.FinMap as map;
+ghost use Rattle.step_ledger.specs.Counting.{RoseBy};
+ghost use Rattle.cf_model.specs.Answers.{block_in};
+ghost use Rattle.cf_model.specs.Costs.{block_steps};
+ghost use Rattle.cf_model.specs.Families.{IsPaged};
+ghost use Rattle.cf_model.specs.Steps.{IsEmptyHeap};
+ghost use Rattle.paged_heap.specs.Layout.{Holds, state_at};
+
+use crate::open_heap::OpenHeap;
+use block_table::BlockTable;
+use cf_base::{Handle, Kind, Layout, OutOfMemory, Settings};
+use std::alloc::Global;
+use step_ledger::Steps;
+use virtual_words::{Direct, Mapped, Mapping};
+
+/// A kind of manager with pages: what it does beside `Mapping` in its own way.
+pub trait PageKind: Mapping {
+    /// The kind.
+    fn kind() -> Kind
+        ensures { result ≡ Self.kind };
+
+    /// Opens a heap without objects. Fails if out of memory.
+    fn open(alloc: Global, s: &Settings) -> Result<OpenHeap, OutOfMemory>
+        ensures kept { IfOk result (λ h. Holds Self.kind h) }
+        ensures empty { IfOk result (λ h. IsEmptyHeap Self.kind s.now (state_at Self.kind h)) };
+
+    /// The number of the physical block that holds block i of the object's slot, counted from 0;
+    /// none if the kind has no block table, the handle is not live, or the slot has no block i.
+    fn block(heap: &OpenHeap, h: Handle, i: u32, steps: &mut Steps) -> Option<u32>
+        requires { Holds Self.kind heap.now }
+        ensures value { result ≡ block_in Self.kind (state_at Self.kind heap.now) h.0 i }
+        ensures steps { RoseBy steps.old steps.new (block_steps Self.kind (map.get (state_at Self.kind heap.now).held h.0) result) };
+
+    // The kind has pages.
+    ghost paged: { IsPaged Self.kind };
+}
+
+// The moving manager: its slots are whole words, and it has no block table.
+impl PageKind for Direct {
+    fn kind() -> Kind {
+        Kind::Moving
+    }
+
+    fn open(alloc: Global, s: &Settings) -> Result<OpenHeap, OutOfMemory> {
+        OpenHeap::new::<Direct>(alloc, s, Layout::Words, None)
+    }
+
+    fn block(_heap: &OpenHeap, _h: Handle, _i: u32, _steps: &mut Steps) -> Option<u32> {
+        None
+    }
+
+    ghost paged = { refl };
+}
+
+// The non-moving manager: its slots are whole blocks of four words, and a block table maps each
+// block, at first to itself.
+impl PageKind for Mapped {
+    fn kind() -> Kind {
+        Kind::NonMoving
+    }
+
+    fn open(alloc: Global, s: &Settings) -> Result<OpenHeap, OutOfMemory> {
+        let blocks = BlockTable::new(alloc, s.pages, s.page_words / 4)?;
+        OpenHeap::new::<Mapped>(alloc, s, Layout::Blocks, Some(blocks))
+    }
+
+    fn block(heap: &OpenHeap, h: Handle, i: u32, steps: &mut Steps) -> Option<u32> {
+        let Some(place) = heap.proxies.lookup(h, steps) else {
+            return None;
+        };
+        let length = heap.length_at::<Mapped>(place, steps);
+        let Some(c) = heap.tables.classes.class_of(length, steps) else {
+            unreachable!();
+        };
+        if i < heap.tables.classes.slot_words(c) / 4 {
+            match &heap.blocks {
+                Some(table) => Some(table.block(place / 4 + i, steps)),
+                None => unreachable!(),
+            }
+        } else {
+            None
+        }
+    }
+
+    ghost paged = { refl };
+}

@@ -1,5 +1,0 @@
-use Rattle.quota_laws.proofs.IsolatedCalls.{calls_isolated}
-use Rattle.quota_laws.proofs.tasks_are_isolated.Goals as goal
-
-pub returns : goal.returns
-returns c = λ s task items lt. calls_isolated task lt s items

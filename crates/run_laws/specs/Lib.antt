@@ -1,2 +1,0 @@
-pub mod ValidItems
-pub mod IdBytes

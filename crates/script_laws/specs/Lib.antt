@@ -1,0 +1,11 @@
+pub mod Headline
+pub mod ShownHeap
+pub mod ShownWords
+pub mod IdBytes
+pub mod Transcripts
+pub mod RepliesById
+pub mod ById
+pub mod AtOne
+pub mod Histories
+pub mod OneOutput
+pub mod ValidItems

@@ -1,0 +1,13 @@
+//! What is claimed of the replies to every script in modes `run` and `compare`, by its lines and replies alone
+//! (`MeetsHeadline`), and the transcript: the replies if every bound is 1, as a function of the kind and the
+//! script. The public functions do nothing: the contract of each is a theorem on runs.
+#![tactic(auto)]
+
+mod headline;
+mod runs;
+
+pub use headline::{
+    at_bound_one_the_headline_is_the_transcript, equal_objects_get_equal_replies, one_output,
+    one_transcript, the_headline, the_output_shows_the_replies, wrong_replies_fall_short,
+};
+pub use runs::{a_run_can_always_go_on, reads_give_what_was_written};

@@ -1,0 +1,29 @@
+//! Theorems on every run over a script: its reads print what was written, and it can be continued to the end.
+ghost use Rattle.std.specs.Prelude.{ℕ, ◌≡◌, Bool, List, ◌++◌, Option, None, ◌+◌};
+ghost use Rattle.cf_base.specs.declared.kind.Kind.{Kind};
+ghost use Rattle.script_reader.specs.Items.{Item, items};
+ghost use Rattle.run_model.specs.Runs.{Run};
+ghost use Rattle.run_model.specs.Sessions.{RunState};
+ghost use Rattle.run_model.specs.Texts.{Reply};
+ghost use Rattle.script_laws.specs.IdBytes.{AreReadsOf};
+
+/// Over a run of any kind, each read of an id prints the bytes last written through it. A byte that
+/// was not written since the malloc or the resize that added it is 0. What was written follows from
+/// the lines before the read and their replies (`shown_after`), whatever was moved or freed in between.
+pub fn reads_give_what_was_written()
+    ensures { (kind : Kind) (items : List Item) (replies : List Reply) (new : Option RunState)
+        → Run kind None items replies new → AreReadsOf None items replies }
+{}
+
+/// Clause `there`: there is a run over the items of any input. Clause `on`: each run over a prefix of these
+/// items, `done`, can be continued to the end.
+pub fn a_run_can_always_go_on()
+    ensures there { (kind : Kind) (given : List ℕ) (ended : Bool)
+        → (replies : List Reply) × (new : Option RunState)
+        × Run kind None (items given ended) replies new }
+    ensures on { (kind : Kind) (given : List ℕ) (ended : Bool) (done after : List Item)
+        (replies : List Reply) (mid : Option RunState)
+        → items given ended ≡ done ++ after → Run kind None done replies mid
+        → (more : List Reply) × (new : Option RunState)
+        × Run kind None (items given ended) (replies ++ more) new }
+{}

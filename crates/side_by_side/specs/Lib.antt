@@ -1,4 +1,0 @@
-pub mod SideBySide
-pub mod OwnRuns
-pub mod FirstOfKind
-pub mod Progress

@@ -1,3 +1,0 @@
-pub mod ShownSlices
-pub mod SliceHeadline
-pub mod Small

@@ -1,6 +1,0 @@
-pub mod ByIds
-pub mod SmallMaps
-pub mod PagesAtOne
-pub mod BoundsAtOne
-pub mod Worked
-pub mod CallerLemmas

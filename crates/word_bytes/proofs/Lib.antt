@@ -1,4 +1,0 @@
-pub mod Overwriting
-pub mod WordRanges
-pub mod RunLemmas
-pub mod CallerLemmas
