@@ -2,14 +2,20 @@
 
 It computes each address, number, word and count of steps from the rules alone: which page, slot, number, object and free
 block comes first (`page_model/specs/Order`), and what a call costs (`cf_model/specs/ExactCosts`, `block_model/specs/Costs`).
+In modes `large`, `quota` and `slice` it computes each reply but that to `p` from how many objects each class has. It counts what
+the scripts make the tool do, and fails if they leave out something that is listed in `MET`, `MET_BLOCKS` or `MET_MODES`.
 """
+import itertools
 import os
 import random
 import select
 import subprocess
 import sys
 import tempfile
-from concurrent.futures import ThreadPoolExecutor
+from collections import Counter
+from concurrent.futures import ProcessPoolExecutor
+from functools import partial
+from pathlib import Path
 
 NONE = 2**32 - 1
 
@@ -28,6 +34,7 @@ class Heap:
         self.spare = list(range(proxies))
         self.held = {}
         self.cost = 0
+        self.seen = Counter()
 
 
 class Pages(Heap):
@@ -98,6 +105,8 @@ class Pages(Heap):
             self.pool.insert(0, page)
         elif many == self.slots(c):
             self.not_full[c].insert(0, page)
+            self.seen["two partly full pages of a class"] += len(self.not_full[c]) == 2
+            self.seen["64 partly full pages of a class"] += len(self.not_full[c]) == 64
         del self.used[page][slot]
         return many
 
@@ -119,6 +128,8 @@ class Pages(Heap):
                     self.frames[a], self.frames[b] = self.frames[b], self.frames[a]
             self.moves += 1
             self.moved_words += size
+            kind = "of the class" if self.bounds[c] != self.bound else "above 1" if self.bound > 1 else "1"
+            self.seen[f"move at a bound {kind}"] += 1
             return 1 + self.touch + (size if self.moving else size + size // 2) + (12 if many == 1 else 7)
         many = len(self.used[page])
         full = self.slots(c)
@@ -168,12 +179,15 @@ class Pages(Heap):
         if old == new:
             self.cost = 3 + 2 * self.touch + self.tail(n, m)
             self.held[number] = [place, changed]
+            self.seen["z in its slot"] += 1
             return "ok"
         target, steps = self.take(new, number)
         kept = (min(m, n) + 7) // 8
         carry = self.run(1, kept, 2) + self.tail(n, 8 * kept) + self.touch + 1
         self.held[number] = [target, changed]
+        moves = self.moves
         self.cost = 4 + self.touch + steps + carry + self.leave(place, old)
+        self.seen["z to another class with a move" if self.moves > moves else "z to another class"] += 1
         return "ok"
 
     # The reply to `k`, for the class whose slots have `size` words.
@@ -190,6 +204,7 @@ class Pages(Heap):
         place, bytes_ = self.held[number]
         if i >= self.sizes[self.class_for(len(bytes_))] // 4:
             return "range"
+        self.seen["b of a moved block"] += self.frames[place // 4 + i] != place // 4 + i
         return f"block {self.frames[place // 4 + i]}"
 
     # Word w of the region, as objects see it.
@@ -231,6 +246,7 @@ class Blocks(Heap):
         self.bucket = self.tlsf_bucket if tlsf else lambda size: size.bit_length() - 1
         self.search = self.tlsf_search if tlsf else lambda size: (size - 1).bit_length()
         self.blocks = {0: [self.words, None]}
+        self.ends = {self.words: 0}
         self.lists = {self.bucket(self.words): [0]}
 
     # The number of the list that TLSF has for blocks of this size in words.
@@ -243,6 +259,11 @@ class Blocks(Heap):
     @classmethod
     def tlsf_search(cls, size):
         return size if size < 16 else cls.tlsf_bucket(size + 2 ** (size.bit_length() - 5) - 1)
+
+    # Makes the words from `at` on a block of an object, or a free one.
+    def set_block(self, at, size, number):
+        self.blocks[at] = [size, number]
+        self.ends[at + size] = at
 
     def unlink(self, at, size):
         """Removes a free block from its list; returns the steps."""
@@ -281,8 +302,8 @@ class Blocks(Heap):
         steps = 3 + self.unlink(at, size)
         number = self.spare.pop(0)
         if wanted + 2 <= size:
-            self.blocks[at] = [wanted, number]
-            self.blocks[at + wanted] = [size - wanted, None]
+            self.set_block(at, wanted, number)
+            self.set_block(at + wanted, size - wanted, None)
             steps += 1 + self.behind(at + size) + self.push(at + wanted, size - wanted)
         else:
             self.blocks[at] = [size, number]
@@ -301,12 +322,12 @@ class Blocks(Heap):
             steps += 5 + self.unlink(end, more) + self.behind(end + more)
             end += more
         steps += 0 if at == 0 else 1
-        before = next((a for a in self.blocks if a + self.blocks[a][0] == at), None)
+        before = self.ends.get(at)
         if before is not None and self.blocks[before][1] is None:
             steps += 5 + self.unlink(before, self.blocks[before][0]) + self.behind(end)
             del self.blocks[at]
             start = before
-        self.blocks[start] = [end - start, None]
+        self.set_block(start, end - start, None)
         self.cost = steps + 2 + self.push(start, end - start)
         self.spare.insert(0, number)
 
@@ -326,7 +347,7 @@ class Blocks(Heap):
     def word(self, w):
         at = max(a for a in self.blocks if a <= w)
         size, number = self.blocks[at]
-        before = next((self.blocks[a][0] for a in self.blocks if a + self.blocks[a][0] == at), 0)
+        before = at - self.ends[at] if at else 0
         if w == at:
             return size + (0 if number is None else 2**31) + 2**32 * before
         if number is None:
@@ -360,10 +381,22 @@ KINDS = {
     "half": lambda *settings: Blocks(False, *settings),
 }
 
+# What the drawn scripts must make each manager with pages do.
+MET = [
+    "m live", "m refused size", "m refused proxy", "m refused space", "f unknown", "w unknown", "w range", "r unknown", "r range",
+    "z in its slot", "z to another class", "z to another class with a move", "z unknown", "z refused size", "z refused space",
+    "move at a bound 1", "move at a bound above 1", "move at a bound of the class", "two partly full pages of a class",
+    "64 partly full pages of a class", "k none", "q unknown", "p range",
+]
+# And the non-moving one.
+MET_BLOCKS = ["b unknown", "b range", "b of a moved block"]
+
 
 def answer(heap, ids, words):
     """The reply to a command, as lines."""
     name, *rest = words
+    if name in ("s", "t", "quota", "need", "admit"):
+        return ["none"]
     if name in ("walk", "frag", "steps"):
         reply = getattr(heap, name)()
         return reply if isinstance(reply, list) else [reply]
@@ -392,37 +425,321 @@ def answer(heap, ids, words):
         return [f"at {place}"]
     if name == "b":
         return [heap.block(number, int(rest[1]))]
-    at = int(rest[1])
-    if name == "w":
-        new = bytes.fromhex(rest[2])
-        if at + len(new) > len(bytes_):
-            return ["range"]
-        bytes_[at:at + len(new)] = new
-        return ["ok"]
-    if at + int(rest[2]) > len(bytes_):
-        return ["range"]
-    return ["=" + bytes_[at:at + int(rest[2])].hex()]
+    return [accessed(bytes_, name, *rest[1:])]
 
 
-def drawn_lines(draw):
-    """Draws a script, line by line: after each call that changes the heap, it asks for an address, a block, a word and steps."""
-    page_bytes = draw.choice((512, 512, 1024))
-    pages, bound, proxies = draw.randint(2, 9), draw.randint(1, 3), draw.choice((5, 60, 60, 60))
-    yield f"heap {pages} {page_bytes} {bound} {proxies}"
-    for _ in range(draw.randint(0, 2)):
-        yield f"k {draw.choice((4, 8, 11, 12, 16, 23, 24, 64, 5000))} {draw.randint(1, 3)}"
-    # Few sizes with several slots to a page, so that pages fill, and frees move objects from pages that hold some.
-    sizes = [draw.choice((16, 40, 80, 90, 120, 176)) for _ in range(2)] + [draw.randrange(page_bytes + 20)]
-    ids = draw.choice((6, 20, 45))
-    for turn in range(draw.randint(40, 110)):
-        some = draw.randrange(ids)
-        size = draw.choice(sizes[:2] if draw.random() < 0.85 else sizes)
-        name = draw.choice("mmmmw" if turn < ids else "mmfffzw")
+def accessed(bytes_, name, at, text):
+    """The reply to `w` or `r` for an object's bytes, from byte `at` on; `text` has the bytes, or how many."""
+    count = len(text) // 2 if name == "w" else int(text)
+    part = slice(int(at), int(at) + count)
+    if part.stop > len(bytes_):
+        return "range"
+    if name == "r":
+        return "=" + bytes_[part].hex()
+    bytes_[part] = bytes.fromhex(text)
+    return "ok"
+
+
+class Counted:
+    """Modes `large` and `quota`: each bound is 1, so the replies follow from how many objects of each class there are."""
+
+    def __init__(self, pages, page_bytes, bound, proxies):
+        self.pages, self.page_words, self.proxies = pages, page_bytes // 8, proxies
+        self.sizes = Pages(True, 1, page_bytes, 1, 1).sizes
+        self.objects = {}
+
+    # The class of an object of n bytes.
+    def class_for(self, n):
+        return next(c for c, size in enumerate(self.sizes) if need(n) <= size)
+
+    # How many slots of class c a page has.
+    def slots(self, c):
+        return self.page_words // self.sizes[c]
+
+    # How many objects each class has, by class, if there are objects of these lengths.
+    def counts(self, lengths):
+        return sorted(Counter(map(self.class_for, lengths)).items())
+
+    # How many pages these counts of objects need.
+    def needed(self, counts):
+        return sum(-(-n // self.slots(c)) for c, n in counts)
+
+    def walk(self, lengths, pages):
+        """The reply to `walk` for objects of these lengths on at most this many pages, as lines."""
+        lines, counts = [], self.counts(lengths)
+        for c, n in counts:
+            slots = self.slots(c)
+            lines.append(f"class {self.sizes[c]} slots {slots} live {n} pages {-(-n // slots)} notfull {int(n % slots > 0)}")
+        used = self.needed(counts)
+        return [*lines, f"total live {len(lengths)} pages {used} free {pages - used}"]
+
+    # The reply to a malloc of n bytes, if it is not refused for size: `more` are the lengths that it adds.
+    def malloc(self, some, n, lengths, more, pages):
+        if len(lengths) + len(more) > self.proxies:
+            return "refused proxy"
+        if self.needed(self.counts([*lengths, *more])) > pages:
+            return "refused space"
+        self.objects[some] = bytearray(n)
+        return "ok"
+
+    # The reply to `m`, `f`, `w` or `r`.
+    def change(self, name, some, *rest):
+        if name == "m":
+            return "live" if some in self.objects else self.make(some, int(rest[0]))
+        if some not in self.objects:
+            return "unknown"
+        return self.free(some) if name == "f" else accessed(self.objects[some], name, *rest)
+
+    # The reply to a free of a live object.
+    def free(self, some):
+        del self.objects[some]
+        return "ok"
+
+
+class Large(Counted):
+    """Mode `large`."""
+
+    # The lengths of the parts and the spine of an object of n bytes.
+    def parts(self, n):
+        part = 8 * self.page_words - 8
+        count = -(-n // part)
+        return [n] if count < 2 else [*[part] * (count - 1), n - part * (count - 1), 4 * count]
+
+    # The reply to `m` for an id that is not live.
+    def make(self, some, n):
+        more = self.parts(n)
+        if need(more[-1]) > self.page_words:
+            return "refused size"
+        return self.malloc(some, n, self.lengths(), more, self.pages)
+
+    # The lengths of all parts and spines.
+    def lengths(self):
+        return [length for bytes_ in self.objects.values() for length in self.parts(len(bytes_))]
+
+    def answer(self, name, *rest):
+        if name == "walk":
+            return self.walk(self.lengths(), self.pages)
+        if name == "frag":
+            lengths = self.lengths()
+            taken = sum(8 * self.sizes[self.class_for(n)] for n in lengths)
+            return [f"frag asked {sum(lengths)} taken {taken} held {8 * self.page_words * self.needed(self.counts(lengths))}"]
+        return [self.change(name, *rest) if name in ("m", "f", "w", "r") else "none"]
+
+
+class Tasks(Counted):
+    """Mode `quota`: an object is named by its task and its id."""
+
+    def __init__(self, *settings):
+        super().__init__(*settings)
+        self.task, self.quotas, self.needs = 0, [0] * 16, [[] for _ in range(16)]
+
+    # The lengths of the objects of a task.
+    def lengths(self, task):
+        return [len(bytes_) for (owner, _), bytes_ in self.objects.items() if owner == task]
+
+    # The reply to `m` for an id of the present task that is not live.
+    def make(self, some, n):
+        if need(n) > self.page_words:
+            return "refused size"
+        return self.malloc(some, n, self.lengths(self.task), [n], self.quotas[self.task])
+
+    # The reply to `quota`.
+    def quota(self, task, pages):
+        if sum(self.quotas) - self.quotas[task] + pages > self.pages:
+            return "refused sum"
+        if self.needed(self.counts(self.lengths(task))) > pages:
+            return "refused used"
+        self.quotas[task] = pages
+        return "ok"
+
+    # The reply to `admit`.
+    def admit(self, task):
+        needs = self.needs[task]
+        if any(need(n) > self.page_words for n, _ in needs):
+            return "size"
+        if sum(count for _, count in needs) > self.proxies:
+            return "proxies"
+        lengths = [n for n, count in needs for _ in range(count)]
+        short = (nth for nth in range(len(lengths)) if self.needed(self.counts(lengths[:nth + 1])) > self.quotas[task])
+        return next((f"no {nth + 1}" for nth in short), "yes")
+
+    def answer(self, name, *rest):
+        if name == "walk":
+            return self.walk(self.lengths(self.task), self.quotas[self.task])
+        if name in ("m", "f", "w", "r"):
+            return [self.change(name, (self.task, rest[0]), *rest[1:])]
+        if name not in ("t", "quota", "need", "admit"):
+            return ["none"]
+        task, *rest = map(int, rest)
+        if name == "t":
+            self.task = task
+        elif name == "need":
+            if len(self.needs[task]) == 64:
+                return ["full"]
+            self.needs[task].append(rest)
+        return [getattr(self, name)(task, *rest) if name in ("quota", "admit") else "ok"]
+
+
+class Sliced(Counted):
+    """Mode `slice`. No more than two pages of a class are partly full, and two only during a job."""
+
+    def __init__(self, quantum, *settings):
+        super().__init__(*settings)
+        self.quantum = quantum
+        # The job's class, the words left, the objects beside its slot, and those on the other partly full page.
+        self.job = None
+
+    # The class of each object.
+    def classes(self):
+        return Counter(self.class_for(len(bytes_)) for bytes_ in self.objects.values())
+
+    # How many pages are free. The job's page counts as one of its class.
+    def free_pages(self):
+        used = self.needed(self.classes().items())
+        if self.job:
+            c, _, beside, other = self.job
+            n, slots = self.classes()[c], self.slots(c)
+            used += (n - beside - other) // slots + 1 + (other > 0) - -(-n // slots)
+        return self.pages - used
+
+    # The reply to `m` for an id that is not live.
+    def make(self, some, n):
+        if need(n) > self.page_words:
+            return "refused size"
+        c, classes, free = self.class_for(n), self.classes(), self.free_pages()
+        slots = self.slots(c)
+        if self.job and self.job[0] == c:
+            _, _, beside, other = self.job
+            usable = beside + 1 < slots or other > 0
+        else:
+            usable = classes[c] % slots > 0
+        reply = self.malloc(some, n, [len(bytes_) for bytes_ in self.objects.values()], [n], self.pages)
+        if reply == "ok" and not usable and not free:
+            del self.objects[some]
+            return "busy"
+        if reply == "ok" and self.job and self.job[0] == c:
+            if beside + 1 < slots:
+                self.job[2] += 1
+            else:
+                self.job[3] = (other + 1) % slots
+        return reply
+
+    # The reply to a free of a live object, with the first slice of its job.
+    def free(self, some):
+        if self.job:
+            return "busy"
+        c = self.class_for(len(self.objects.pop(some)))
+        self.job = [c, self.sizes[c], self.classes()[c] % self.slots(c), 0]
+        self.slice()
+        return "ok"
+
+    # Does a slice of the job. If two pages are partly full at its end, an object of one moves to the other.
+    def slice(self):
+        if self.job:
+            self.job[1] -= self.quantum
+            if self.job[1] <= 0:
+                c, _, _, other = self.job
+                self.job = [c, self.sizes[c], other - 1, 0] if other else None
+
+    def answer(self, name, *rest):
+        if name == "s":
+            self.slice()
+            return [f"left {self.job[1] if self.job else 0}"]
+        return [self.change(name, *rest) if name in ("m", "f", "w", "r") else "none"]
+
+
+# Each mode with a heap of its own, by the most words of a slice.
+MODES = {"large": lambda quantum: Large, "quota": lambda quantum: Tasks, "slice": lambda quantum: partial(Sliced, quantum)}
+
+# What the drawn scripts of these modes must be answered.
+MET_MODES = [
+    "large m live", "large m refused size", "large m refused proxy", "large m refused space", "large f unknown", "large w range",
+    "large r range", "large walk class", "quota m refused size", "quota m refused proxy", "quota m refused space", "quota r range",
+    "quota quota refused sum", "quota quota refused used", "quota admit yes", "quota admit no", "quota admit size",
+    "quota admit proxies", "slice m busy", "slice m refused size", "slice m refused proxy", "slice m refused space",
+    "slice f busy", "slice s left", "slice r range",
+]
+
+
+def mode_replies(mode, quantum, lines):
+    """What must be printed in this mode for the script, by its lines, each a list of lines; and how often each reply is."""
+    heap, replies, seen = None, [["ok"]], Counter()
+    for line in lines:
+        words = line.split()
+        if words[0] == "heap":
+            heap = MODES[mode](quantum)(*map(int, words[1:]))
+            continue
+        replies.append(heap.answer(*words))
+        reply = replies[-1][0].split()
+        seen[" ".join([mode, words[0], reply[0][:9], *(reply[1:] if reply[0] == "refused" else [])])] += 1
+    return replies, seen
+
+
+def mode_lines(draw, mode):
+    """Draws a script for one of the modes `large`, `quota` and `slice`, line by line."""
+    page_bytes = 512 << draw.choice((0, 0, 0, 0, 1, 2))
+    pages, ids, live, task = draw.choice((3, 5, 8, 14, 30)), draw.choice((8, 20, 30)), set(), 0
+    yield f"heap {pages} {page_bytes} {draw.randint(1, 3)} {draw.choice((6, 30, 200))}"
+    half, part = page_bytes // 2 - 8, page_bytes - 8
+    sizes = [half, half, half - 7, draw.choice((part, 20, 0, page_bytes // 3 - 9)), draw.choice((half, part, part + 1))]
+    if mode == "large":
+        sizes += [part + 1, 2 * part, 2 * part + 1, 5 * part + half, part * (part // 4), part * (part // 4) + 1]
+    if mode == "quota":
+        yield from (f"quota {owner} {draw.randint(1, 4)}" for owner in range(3))
+    others = {
+        "large": ("walk", "frag", "walk", "q 1", "z 1 8", "p 0", "steps", "s"),
+        "slice": ("s", "s", "s", "s", "s", "s", "walk", "frag", "steps", "t 1"),
+        "quota": ("walk", "t", "t", "quota", "need", "need", "admit", "frag", "p 0", "s"),
+    }[mode]
+    for _ in range(draw.randint(60, 250)):
+        name = draw.choice((*"mmmffwr", *draw.choices(others, k=3)))
+        some = draw.choice(sorted(live)) if live and name != "m" and draw.random() < 0.8 else draw.randrange(ids)
+        live = live | {some} if name == "m" else live - {some} if name == "f" else live
+        size, task = draw.choice(sizes), draw.choice((0, 1, 2, draw.randrange(16)))
+        at = max(0, draw.choice((0, size, part, 2 * part)) - draw.randrange(9))
         yield {
             "m": f"m {some} {size}",
             "f": f"f {some}",
-            "z": f"z {some} {size}",
-            "w": f"w {some} {draw.randrange(9)} {draw.randbytes(draw.randint(1, 12)).hex()}",
+            "w": f"w {some} {at} {draw.randbytes(draw.randint(1, 12)).hex()}",
+            "r": f"r {some} {at} {draw.randint(1, 20)}",
+            "t": f"t {task}",
+            "quota": f"quota {task} {draw.randrange(pages // 2 + 2)}",
+            "need": f"need {task} {size} {draw.randrange(4)}",
+            "admit": f"admit {task}",
+        }.get(name, name)
+
+
+def drawn_lines(draw, calls):
+    """
+    Draws a script, line by line. Phases that fill the heap and that drain it alternate. After each call that changes the
+    heap it asks for an address, a block, a word and steps, and at the end for the words and all that the ids have.
+    """
+    page_bytes = 512 << draw.choice((0, 0, 0, 0, 1, 1, 2, 3, 4, 5, 6, 7, 8))
+    pages, bound, proxies = draw.randint(2, 14), draw.choice((1, 1, 2, 3, 64)), draw.choice((5, 20, 60, 60, 60))
+    yield f"heap {pages} {page_bytes} {bound} {proxies}"
+    # Few sizes with several slots to a page, so that pages fill, and frees move objects from pages that hold some.
+    sizes = [max(0, page_bytes // draw.choice((2, 2, 3, 3, 4, 6)) - 8 - draw.randint(0, 7)) for _ in range(2)]
+    for _ in range(draw.randint(0, 3)):
+        slots = Pages(draw.random() < 0.5, 1, page_bytes, 1, 1)
+        own = slots.sizes[slots.class_for(draw.choice(sizes))]
+        yield f"k {draw.choice((own, own, own, draw.choice(slots.sizes), 10, 20000))} {draw.randint(1, 3)}"
+    sizes += [draw.choice((0, 16, 40, 90)), page_bytes - 8 + draw.choice((0, 1, 300))]
+    ids, live, fills, left = draw.choice((6, 20, 45)), set(), False, 0
+    for _ in range(calls):
+        if not left:
+            fills, left = not fills, draw.randint(10, 60)
+        left -= 1
+        name = draw.choice("mmmmmzzwf" if fills else "ffffmzzw")
+        size = draw.choice(sizes[:2] if draw.random() < 0.85 else sizes)
+        # Mostly an id for which the call is not refused, as far as it is known without the heap.
+        free = sorted(set(range(ids)) - live) if name == "m" else sorted(live)
+        some = draw.choice(free) if free and draw.random() < 0.9 else draw.randrange(ids)
+        live = live | {some} if name == "m" else live - {some} if name == "f" else live
+        yield {
+            "m": f"m {some} {size}",
+            "f": f"f {some}",
+            "z": f"z {some} {size - draw.choice((0, 0, size // 9))}",
+            "w": f"w {some} {max(0, size - draw.randrange(20))} {draw.randbytes(draw.randint(1, 12)).hex()}",
         }[name]
         yield f"q {draw.randrange(ids)}"
         yield f"b {draw.randrange(ids)} {draw.randrange(4)}"
@@ -430,32 +747,68 @@ def drawn_lines(draw):
         yield "steps"
         if draw.random() < 0.15:
             yield draw.choice(("walk", "frag", f"r {draw.randrange(ids)} {draw.randrange(9)} {draw.randrange(20)}"))
+    words = pages * page_bytes // 8
+    for word in range(words + 1) if words < 1000 else draw.sample(range(words), 200):
+        yield f"p {word}"
+    for some in range(ids):
+        yield f"q {some}"
+        yield from (f"r {some} 0 {min(size, 4096)}" for size in sizes)
+        yield from (f"b {some} {i}" for i in range(17))
+
+
+def largest_lines(draw, pages, proxies, bound):
+    """Draws a script that makes an object for each id on pages of 512 bytes, as far as the heap serves, then goes on."""
+    yield f"heap {pages} 512 {bound} {proxies}"
+    for some in range(65_536):
+        yield f"m {some} {draw.choice((24, 24, 24, 56))}"
+    yield from ("steps", "walk", "frag")
+    for turn in range(24_000):
+        some, size = draw.randrange(65_536), draw.choice((24, 24, 24, 56, 176))
+        calls = (f"m {some} {size}", f"f {some}", f"f {some}", f"z {some} {size}")
+        yield draw.choice(calls if turn % 8000 < 5000 else calls[:1])
+        yield "steps"
+        yield f"q {draw.randrange(65_536)}"
+    yield from ("walk", "frag")
 
 
 def wanted(kind, lines):
-    """What the tool must print for the script, by its lines."""
-    heap, ids, replies = None, {}, []
+    """What the manager must print for the script, by its lines, each a list of lines; and how often it did what."""
+    heap, ids, replies, seen = None, {}, [], Counter()
     for line in lines:
         words = line.split()
         if words[0] == "heap":
             heap = KINDS[kind](*map(int, words[1:]))
-            replies.append("ok\n")
+            replies.append(["ok"])
         else:
-            replies.append("".join(f"{reply}\n" for reply in answer(heap, ids, words)))
-    return replies
+            replies.append(answer(heap, ids, words))
+            seen[f"{words[0]} {replies[-1][0]}"] += replies[-1][0].split()[0] in ("live", "unknown", "range", "none", "refused")
+    return replies, Counter({f"{kind}: {what}": n for what, n in (seen + heap.seen).items()})
 
 
-def in_chunks(program, kind, lines, replies, draw):
+# The bytes of the replies to each line.
+def run_text(replies):
+    return ["".join(f"{line}\n" for line in reply).encode() for reply in replies]
+
+
+# The same in mode `compare`, from the replies of the four managers.
+def compare_text(each):
+    return [
+        "".join(f"{kind} {line}\n" for kind, reply in zip(KINDS, replies) for line in reply).encode()
+        for replies in zip(*each)
+    ]
+
+
+def in_chunks(command, text, replies, draw):
     """What the tool prints if the script comes in drawn chunks, each written when the whole lines before it are answered."""
-    text = "".join(f"{line}\n" for line in lines).encode()
-    with subprocess.Popen([program, "--manager", kind], stdin=subprocess.PIPE, stdout=subprocess.PIPE) as child:
+    with subprocess.Popen(command, stdin=subprocess.PIPE, stdout=subprocess.PIPE) as child:
         printed, at, whole = b"", 0, 0
+        ends = [0, *itertools.accumulate(map(len, replies))]
         while at < len(text):
-            end = at + draw.choice((1, 2, 7, 40, 200))
+            end = at + draw.choice((1, 2, 7, 40, 200, 200, 4000))
             child.stdin.write(text[at:end])
             child.stdin.flush()
             whole += text[at:end].count(b"\n")
-            due, at = sum(map(len, replies[:whole])), end
+            due, at = ends[whole], end
             while len(printed) < due and select.select([child.stdout], [], [], 20)[0]:
                 chunk = os.read(child.stdout.fileno(), due - len(printed))
                 if not chunk:
@@ -475,35 +828,89 @@ def first_difference(right, printed):
     return f"line {line + 1} of the output is {printed[line]!r}, not {right[line]!r}"
 
 
-def differs(program, seed):
-    """The first difference between what the tool prints for the seed's script and what it must print; None if there is none."""
-    draw = random.Random(seed)
-    kind, lines = list(KINDS)[seed % 4], list(drawn_lines(draw))
-    replies = wanted(kind, lines)
-    right = "".join(replies).encode()
-    text = "".join(f"{line}\n" for line in lines).encode()
+def from_file(command, text):
     with tempfile.TemporaryFile() as file:
         file.write(text)
         file.seek(0)
-        from_file = subprocess.run([program, "--manager", kind], stdin=file, capture_output=True).stdout
-    if from_file != right:
-        return f"seed {seed}, {kind}: {first_difference(right, from_file)}"
-    if subprocess.run([program, "--manager", kind], input=text, capture_output=True).stdout != right:
-        return f"seed {seed}, {kind}: the output differs if the script comes through a pipe"
-    if in_chunks(program, kind, lines, replies, draw) != right:
-        return f"seed {seed}, {kind}: the output differs if the script comes in chunks"
-    return None
+        return subprocess.run(command, stdin=file, capture_output=True).stdout
 
 
-# Tries this many seeds, and prints the first five differences.
+def differs(program, seed):
+    """
+    Draws a script, and runs it in mode `compare` from a file, and on one of the managers through a pipe and in chunks. Then draws
+    one for mode `large`, `quota` or `slice`. Returns the first difference from what must be printed, `None` if there is none, and
+    how often each manager did what.
+    """
+    draw = random.Random(seed)
+    largest = {0: (4096, 50_000, 1), 1: (2500, 65_536, 64)}.get(seed)
+    calls = 1000 if seed % 40 == 2 else draw.randint(40, 110)
+    lines = list(largest_lines(draw, *largest) if largest else drawn_lines(draw, calls))
+    text = "".join(f"{line}\n" for line in lines).encode()
+    each, seen = zip(*(wanted(kind, lines) for kind in KINDS))
+    seen = sum(seen, Counter(lines=len(lines), replies=sum(len(reply) for replies in each for reply in replies)))
+    kind = list(KINDS)[seed % 4]
+    by_line, one = compare_text(each), run_text(each[seed % 4])
+    ways = [("compare", "a file", b"".join(by_line), from_file([program, "compare"], text))]
+    if not largest:
+        run = [program, "--manager", kind]
+        ways += [
+            (kind, "a pipe", b"".join(one), subprocess.run(run, input=text, capture_output=True).stdout),
+            (kind, "chunks", b"".join(one), in_chunks(run, text, one, draw)),
+        ]
+        mode, quantum = draw.choice(list(MODES)), draw.choice((1, 8, 16, 64))
+        lines = list(mode_lines(draw, mode))
+        replies, more = mode_replies(mode, quantum, lines)
+        seen += more + Counter(lines=len(lines), replies=sum(map(len, replies)))
+        text = "".join(f"{line}\n" for line in lines).encode()
+        printed = from_file([program, mode, "--quantum", str(quantum)], text)
+        ways.append((f"{mode} --quantum {quantum}", "a file", b"".join(run_text(replies)), printed))
+    for name, way, right, printed in ways:
+        if printed != right:
+            return f"seed {seed}, {name}, through {way}: {first_difference(right, printed)}", seen
+    return None, seen
+
+
+def example_differs(path):
+    """The first difference of an example's `.out` from what must be printed; whether this program has its mode, with status 0."""
+    lines = path.read_text().splitlines()
+    arguments = next((line.split()[2:] for line in lines if line.startswith("# arguments:")), [])
+    mode = arguments[0] if arguments else "--manager"
+    if mode not in ("compare", "--manager", *MODES) or any(line.startswith("# status:") for line in lines):
+        return None, False
+    lines = [line for line in lines if line.strip() and not line.startswith("#")]
+    if mode in MODES:
+        text = run_text(mode_replies(mode, int(arguments[2]) if arguments[1:] else 16, lines)[0])
+    elif mode == "compare":
+        text = compare_text([wanted(kind, lines)[0] for kind in KINDS])
+    else:
+        text = run_text(wanted(arguments[1] if arguments else "cf", lines)[0])
+    right, shown = b"".join(text), path.with_suffix(".out").read_bytes()
+    return None if shown == right else f"{path}: {first_difference(right, shown)}", True
+
+
+# Compares the examples, then this many drawn scripts, and prints the first five differences, or what was compared.
 def main(program, count):
-    with ThreadPoolExecutor(os.cpu_count()) as pool:
-        wrong = [it for it in pool.map(lambda seed: differs(program, seed), range(count)) if it]
+    with ProcessPoolExecutor(os.cpu_count()) as pool:
+        drawn = pool.map(differs, [program] * count, range(count))
+        wrong, counts = map(list, zip(*map(example_differs, sorted(Path("examples").glob("*.cf")))))
+        seen = Counter()
+        for difference, more in drawn:
+            wrong.append(difference)
+            seen += more
+    wrong = [it for it in wrong if it]
+    if count >= 200:
+        met = [*itertools.product(("cf", "nm"), MET), *itertools.product(("nm",), MET_BLOCKS)]
+        wrong += [f"no drawn script has with {kind}: {what}" for kind, what in met if not seen[f"{kind}: {what}"]]
+        wrong += [f"no drawn script has {what}" for what in MET_MODES if not seen[what]]
     for it in wrong[:5]:
         print(f"checks/one_output: {it}", file=sys.stderr)
     if wrong:
         sys.exit(1)
-    print(f"checks/one_output: {count} drawn scripts, three ways each")
+    lines = f"{seen['lines']:,} lines, {seen['replies']:,} of replies"
+    print(f"checks/one_output: {count} drawn scripts and {sum(counts)} examples, {lines}; of them with cf and nm:")
+    print(", ".join(f"{what} {seen['cf: ' + what]:,} {seen['nm: ' + what]:,}" for what in [*MET, *MET_BLOCKS]))
+    print(", ".join(f"{what} {seen[what]:,}" for what in MET_MODES))
 
 
-main(sys.argv[1], int(sys.argv[2]))
+if __name__ == "__main__":
+    main(sys.argv[1], int(sys.argv[2]))

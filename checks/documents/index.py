@@ -1,14 +1,15 @@
 """Checks tools/index: what it prints of a small repository, that docs/INDEX.md is what it prints of this one, and its error
-line and status if there is no crates.txt."""
+lines."""
 import difflib
+import shutil
 import subprocess
 import tempfile
 from pathlib import Path
 
 SOURCES = {
-    "crates.txt": "# The lowest.\nlow:\n\nhigh: low arrayvec\n",
+    "crates.txt": "# Parts: what is low. It is said here.\nlow:\n\n# Not a group.\nhigh: low arrayvec\n",
     "crates/low/src/lib.rt": """//! Things that are counted: one
-//! by one. It holds no lists.
+//! by one | two. It holds no lists.
 #![tactic(auto)]
 
 mod hidden;
@@ -35,35 +36,28 @@ pub fn things_add_up()
 /// No law: it has a result.
 pub fn is_none() -> bool
     ensures { 0 ≡ 0 }
-{
-    true
-}
+{}
 
 /// No law: it changes a count.
 pub fn counts(n: &mut u64)
     ensures { 0 ≡ 0 }
-{
-    *n = 0;
-}
+{}
 
 /// No law: it ensures nothing.
-pub fn rests() {
-}
+pub fn rests() {}
 
 impl<T> Things<T> {
     /// A law of one thing.
     pub fn is_added(&self)
         ensures { 0 ≡ 0 }
-    {
-    }
+    {}
 }
 
 impl Inside {
     /// Its type is not public.
     pub fn is_inside(&self)
         ensures { 0 ≡ 0 }
-    {
-    }
+    {}
 }
 
 /// It cites another law.
@@ -71,17 +65,11 @@ pub fn nothing_is_none(
     _n: &u64,
 )
     ensures { 0 ≡ 0 }
-{
-    things_add_up();
-}
-
-fn none()
 {}
 """,
     "crates/low/src/open.rt": "// No comment of a function.\n\npub fn silent()\n    ensures { 0 ≡ 0 }\n{}\n",
-    "crates/low/specs/Lib.antt": "pub mod Things\npub mod Inner\npub mod Alone\n",
+    "crates/low/specs/Lib.antt": "pub mod Things\npub mod Alone\n",
     "crates/low/specs/Alone.antt": "-- What is alone.\nuse Rattle.std.specs.Prelude.{ℕ}\n\nunfoldable pub ◌+++◌ : ℕ → ℕ → ℕ\na +++ b = a\n",
-    "crates/low/specs/Inner.antt": "-- How things lie. No public clause cites this module.\n\n-- inside\nabbrev pub inner : ℕ\ninner = 0\n",
     "crates/low/specs/Things.antt": """-- What things are.
 -- There are few.
 use Rattle.std.specs.Prelude.{ℕ}
@@ -111,37 +99,42 @@ own = 1
     "crates/high/src/main.rt": "//! The program.\n\nfn main() {}\n",
 }
 
-WANTED = """
+PAGE = """
 | crate | what it is |
 |---|---|
-| [low](#low) | Things that are counted: one by one. |
-| high | The program. |
+| **Parts** | **what is low.** |
+| [low](../crates/low) | Things that are counted: one by one \\| two. |
+| [high](../crates/high) | The program. |
 
-## low
+## Laws
 
-Things that are counted: one by one. It holds no lists.
+A law is a public function that returns nothing and changes nothing: its contract is a theorem.
 
-**Laws**
-
-- [`here`](../crates/low/src/lib.rt): Here too is a law.
-- [`things_add_up`](../crates/low/src/laws.rt): Two counts `a < b` add up, and a&lt;b.
-- [`Things::is_added`](../crates/low/src/laws.rt): A law of one thing.
-- [`nothing_is_none`](../crates/low/src/laws.rt): It cites another law.
-- [`silent`](../crates/low/src/open.rt)
-
-**Things**: What things are. There are few.
-
-- [`count_of`](../crates/low/specs/Things.antt): how many things there are, at most 8 \\* 8
-- [`silent`](../crates/low/specs/Things.antt)
-- [`Thing`](../crates/low/specs/Things.antt): a thing
-- [`Kind`](../crates/low/specs/Things.antt): is this | that
-
-**Alone**: What is alone.
-
-- [`◌+++◌`](../crates/low/specs/Alone.antt)
-
-Cited by no public clause: Inner.
+- low: `here`, `things_add_up`, `Things::is_added`, `nothing_is_none`, `silent`
 """
+CRATE = """low: Things that are counted: one by one | two. It holds no lists.
+
+crates/low/src/lib.rt: Things that are counted: one by one | two. It holds no lists.
+  here: Here too is a law.
+
+crates/low/src/laws.rt: Its own comment.
+  things_add_up: Two counts `a < b` add up, and a<b.
+  Things::is_added: A law of one thing.
+  nothing_is_none: It cites another law.
+
+crates/low/src/open.rt
+  silent
+
+crates/low/specs/Things.antt: What things are. There are few.
+  count_of: how many things there are, at most 8 * 8
+  silent
+  Thing: a thing
+  Kind: is this | that
+
+crates/low/specs/Alone.antt: What is alone.
+  ◌+++◌
+"""
+NAMED = "crates/low/src/open.rt: silent\ncrates/low/specs/Things.antt: silent\n"
 
 
 def differ(wanted, found):
@@ -156,15 +149,18 @@ def check_index(fail):
             path = Path(folder) / name
             path.parent.mkdir(parents=True, exist_ok=True)
             path.write_text(text, encoding="utf-8")
-        made = subprocess.run(["tools/index", folder], capture_output=True, text=True).stdout
-        made = made[made.find("\n\n| crate |") + 1 :]
-        if made != WANTED:
-            fail(f"tools/index prints something else of worked sources:\n{differ(WANTED, made)}")
-        Path(folder, "crates.txt").unlink()
-        bad = subprocess.run(["tools/index", folder], capture_output=True, text=True)
-        if bad.returncode != 2 or bad.stdout or bad.stderr.count("\n") != 1 or "crates.txt" not in bad.stderr:
-            fail(f"tools/index without a crates.txt: status {bad.returncode}, {bad.stderr}")
+        program = shutil.copy("tools/index", Path(folder, "crates"))
+        for arguments, wanted in (([], PAGE), (["low"], CRATE), (["silent"], NAMED)):
+            made = subprocess.run([program, *arguments], capture_output=True, text=True).stdout
+            made = made if arguments else made[made.find("\n\n| crate |") + 1 :]
+            if made != wanted:
+                fail(f"tools/index {' '.join(arguments)} prints something else of worked sources:\n{differ(wanted, made)}")
+        for arguments, cause in ((["nowhere"], "nowhere"), ([], "crates.txt")):
+            bad = subprocess.run([program, *arguments], capture_output=True, text=True)
+            if bad.returncode != 2 or bad.stdout or bad.stderr.count("\n") != 1 or cause not in bad.stderr:
+                fail(f"tools/index: status {bad.returncode}, {bad.stderr} in place of status 2 and a line with {cause}")
+            Path(folder, "crates.txt").unlink(missing_ok=True)
     made = subprocess.run(["tools/index"], capture_output=True, text=True).stdout
-    if made != Path("docs/INDEX.md").read_text(encoding="utf-8"):
-        here = Path("docs/INDEX.md").read_text(encoding="utf-8")
+    here = Path("docs/INDEX.md").read_text(encoding="utf-8")
+    if made != here:
         fail(f"docs/INDEX.md is not made of these sources: run tools/index > docs/INDEX.md\n{differ(here, made)}")
