@@ -9,6 +9,7 @@ mod managers;
 mod opening;
 mod own_faults;
 mod own_heaps;
+mod padded;
 mod rows;
 mod watched;
 
