@@ -5,13 +5,14 @@ use Rattle.std.proofs.Common.{refl, sym, ◌∙◌, ap, subst}
 use Rattle.std.specs.Prelude.{slice_get, if◌then◌else◌, is_some, nat_eq}
 use Rattle.std.specs.List.{Contains, position}
 use Rattle.std.proofs.lemmas.Bool.{cases_eq, false≢true}
-use Rattle.std.proofs.lemmas.List.{get_or_default, get_or-set_same, length-set}
+use Rattle.std.proofs.lemmas.List.{get_or_default, get_or-set_same, length-set, set-set}
 use Rattle.std.proofs.lemmas.Nat.{mul-le}
 use Rattle.std.proofs.lemmas.Option.{slice_get_within}
 use Rattle.cf_lemmas.proofs.Tests.{eq_no, eq_yes}
 use Rattle.slot_bitmap.proofs.CallerLemmas.{count-set, count-unset, some_free, some_used}
 use Rattle.step_ledger.specs.Counting.{RoseBy}
 use Rattle.step_ledger.proofs.CallerLemmas.{rose_both}
+use Rattle.slot_bitmap.specs.Maps.{SlotTable, on_page, with_page}
 use Rattle.size_classes.specs.Table.{ClassTable}
 use Rattle.class_lists.specs.declared.Which.{Which}
 use Rattle.class_lists.specs.declared.Which.TheVariants.{Full, NotFull}
@@ -30,6 +31,29 @@ finds_free xs some none = false≢true (ap is_some none ∙ some_free xs some)
 
 pub finds_used : (xs : List Bool) → 0 < used_in xs → None ≡ position (λ used. used) xs → ⊥
 finds_used xs some none = false≢true (ap is_some none ∙ some_used xs some)
+
+-- the slots of a page that was written last, as they are read back
+module _ (old new : SlotTable) (page : ℕ) (slots : List Bool) (is : new ≡ with_page old page slots) (lt : page < length old.pages) where
+  pub read_back : on_page new page ≡ slots
+  read_back = ap (λ (m : SlotTable). on_page m page) is ∙ get_or-set_same old.pages page slots [] lt
+
+  pub full_again : {X : Type 0} → (used_in (on_page new page) ≡ length (on_page new page) → X) → used_in slots ≡ length slots → X
+  full_again use_it e = use_it (ap used_in read_back ∙ e ∙ sym (ap length read_back))
+
+  pub part_again : {X : Type 0} → (used_in (on_page new page) ≢ length (on_page new page) → X) → used_in slots ≢ length slots → X
+  part_again use_it ne = use_it (λ e. ne (sym (ap used_in read_back) ∙ e ∙ ap length read_back))
+
+-- the map of a page is made anew, then one slot is written
+pub written_twice : (old mid new : SlotTable) (page slot : ℕ) (slots : List Bool) (b : Bool) → mid ≡ with_page old page slots → page < length old.pages
+    → new ≡ with_page mid page (set (on_page mid page) slot b) → new ≡ with_page old page (set slots slot b)
+written_twice old mid new page slot slots b first lt second =
+    let again : with_page mid page (set (on_page mid page) slot b) ≡ with_page mid page (set slots slot b) =
+    ap (λ xs. with_page mid page (set xs slot b)) (read_back old mid page slots first lt) in
+    let over : with_page mid page (set slots slot b) ≡ with_page (with_page old page slots) page (set slots slot b) =
+    ap (λ (m : SlotTable). with_page m page (set slots slot b)) first in
+    let once : with_page (with_page old page slots) page (set slots slot b) ≡ with_page old page (set slots slot b) =
+    ap (λ ps. record old { pages = ps }) (set-set old.pages page slots (set slots slot b)) in
+    second ∙ again ∙ over ∙ once
 
 -- a list with a head is its head, then its other entries
 pub front_is : (xs : List ℕ) (page : ℕ) → slice_get xs 0 ≡ Some page → xs ≡ page ∷ drop 1 xs
@@ -53,6 +77,10 @@ module _ (k : ClassTable) (t : Tables) (a : AreTables k t) where
 
   pub page_inside : (page : ℕ) → page < t.pool.pages → page < length t.maps
   page_inside page lt = (let e = a.maps in omega arith)
+
+  -- the slots of a page, as they are read from the maps
+  pub page_read : (page : ℕ) → page < t.pool.pages → slots_on t page ≡ get_or t.maps page (slots_on t page)
+  page_read page lt = get_or_default t.maps page [] (slots_on t page) (page_inside page lt)
 
   -- the first partly full page
   module _ (c page : ℕ) (front : Some page ≡ slice_get (pages_in t.lists c NotFull) 0) where
@@ -128,6 +156,9 @@ module _ (k : ClassTable) (t : Tables) (a : AreTables k t) where
     pub pool_unlisted : IsUnlisted t.lists page
     pool_unlisted = ((pool_front k t a page pool f).1).unlisted
 
+    pub pool_read : slots_on t page ≡ get_or t.maps page (slots_on t page)
+    pool_read = get_or_default t.maps page [] (slots_on t page) pool_inside
+
     pub pool_unused : (slots : List Bool) → slots ≡ get_or t.maps page slots → used_in slots ≡ 0
     pool_unused slots read = ap used_in (read ∙ get_or_default t.maps page slots [] pool_inside) ∙ ((pool_front k t a page pool f).1).unused
 
@@ -202,12 +233,11 @@ module _ (k : ClassTable) (t : Tables) (a : AreTables k t) (c page : ℕ) (front
       by_test false four w = rose_both old second new 4 1 four w
 
 -- A slot of a page becomes free: the number of slots that are still used.
-pub used_still : (maps : List (List Bool)) (page slot count : ℕ) (slots map : List Bool) → page < length maps → slots ≡ get_or maps page slots
-    → slice_get (get_or maps page []) slot ≡ Some true → map ≡ set slots slot false → count ≡ used_in map → count + 1 ≡ used_in (get_or maps page [])
-used_still maps page slot count slots map inside read used wrote many =
-    let same = read ∙ get_or_default maps page slots [] inside in
-    let n = count-unset (get_or maps page []) slot used in
-    let w : used_in map ≡ used_in (set (get_or maps page []) slot false) = ap used_in (wrote ∙ ap (λ xs. set xs slot false) same) in
+pub used_left : (old new : SlotTable) (page count slot : ℕ) → new ≡ with_page old page (set (on_page old page) slot false)
+    → page < length old.pages → slice_get (on_page old page) slot ≡ Some true → count ≡ used_in (on_page new page) → count + 1 ≡ used_in (on_page old page)
+used_left old new page count slot is lt used many =
+    let n = count-unset (on_page old page) slot used in
+    let w = ap used_in (read_back old new page _ is lt) in
     omega arith
 
 -- the steps of freeing a slot, whether that empties its page or not
