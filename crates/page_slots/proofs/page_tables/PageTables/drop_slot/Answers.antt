@@ -1,8 +1,8 @@
 -- A page with a used slot is in the list that its slots determine.
-use Rattle.std.proofs.Common.{refl, subst, sym}
+use Rattle.std.proofs.Common.{subst, sym}
 use Rattle.page_slots.specs.PageTables.{tables_with}
 use Rattle.page_slots.specs.Tables.{IsOf}
-use Rattle.page_slots.proofs.Calls.{dropped_steps, of_class, of_lists_class, of_listed, of_page, of_taken, page_inside, page_read}
+use Rattle.page_slots.proofs.Calls.{dropped_steps, of_class, of_lists_class, of_listed, of_page, of_taken, page_inside}
 use Rattle.page_slots.proofs.TablesAfterFree.{loses, loses_others}
 use Rattle.page_slots.proofs.page_tables.PageTables.drop_slot.Goals as goal
 
@@ -21,8 +21,7 @@ vacate-requires-clause-taken c = rw c.page_of-page.ensures (of_taken _ _ c.requi
 pub vacate-requires-clause-listed : goal.vacate-requires-clause-listed
 vacate-requires-clause-listed c =
     let there = subst (λ g. IsOf (tables_with c.args.self.now c.args.lists.now) c.args.c g) (sym c.page_of-page.ensures) c.requires.used.of in
-    of_listed _ _ c.requires.tables c.args.c c.page_of-page.result there c.list_of-which.result _ (page_read _ _ c.requires.tables _ (of_page _ _ c.requires.tables _ _ there)) c.list_of-which.ensures.full
-    c.list_of-which.ensures.not_full
+    of_listed _ _ c.requires.tables c.args.c c.page_of-page.result there c.list_of-which.result c.list_of-which.ensures.full c.list_of-which.ensures.not_full
 
 pub returns-clause-others : goal.returns-clause-others
 returns-clause-others c =
@@ -35,5 +34,5 @@ returns-clause-kept c = (loses _ _ c.requires.tables c.args.c c.page_of-page.res
 
 pub returns-clause-steps : goal.returns-clause-steps
 returns-clause-steps c =
-    rw (← c.page_of-page.ensures) (dropped_steps _ _ c.list_of-which.result _ _ _ refl
+    rw (← c.page_of-page.ensures) (dropped_steps _ c.list_of-which.result _ _ _
     c.list_of-which.ensures.full c.list_of-which.ensures.not_full c.list_of-which.ensures.steps c.vacate.ensures.steps)

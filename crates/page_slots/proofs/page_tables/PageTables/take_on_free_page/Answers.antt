@@ -1,7 +1,7 @@
 -- The first page of the pool is in no list.
 use Rattle.std.proofs.Common.{refl, inr, ◌∙◌, ap, arith}
 use Rattle.std.specs.Prelude.{slice_get}
-use Rattle.page_slots.proofs.Calls.{pool_inside, pool_read, read_back, written_twice, pool_small, pool_listable, pool_unlisted, pool_unused, took_free}
+use Rattle.page_slots.proofs.Calls.{pool_inside, read_back, written_twice, pool_small, pool_listable, pool_unlisted, pool_unused}
 use Rattle.page_slots.proofs.TablesAfterTake.{first_of, taken_gains, taken_others}
 use Rattle.page_slots.proofs.page_tables.PageTables.take_on_free_page.Goals as goal
 
@@ -12,8 +12,7 @@ pub renew-requires-clause-few : goal.renew-requires-clause-few
 renew-requires-clause-few c = omega (arith, c.slots-slots.ensures.wide, c.args.self.now.room)
 
 pub renew-requires-clause-unused : goal.renew-requires-clause-unused
-renew-requires-clause-unused c =
-    pool_unused _ _ c.requires.tables _ _ c.in_ok-page.ensures.taken _ (pool_read _ _ c.requires.tables _ _ c.in_ok-page.ensures.taken)
+renew-requires-clause-unused c = pool_unused _ _ c.requires.tables _ _ c.in_ok-page.ensures.taken
 
 pub set-requires : goal.set-requires
 set-requires c =
@@ -31,17 +30,17 @@ address_of-requires-clause-small c = pool_small _ _ c.requires.tables _ _ c.in_o
 
 pub returns-clause-taken : goal.returns-clause-taken
 returns-clause-taken c =
-    let inside = pool_inside _ _ c.requires.tables _ _ c.in_ok-page.ensures.taken in
-    let written = written_twice _ _ _ _ _ _ _ c.renew.ensures.value inside c.set.ensures.value in record {
+    let inside = pool_inside _ _ c.requires.tables _ _ c.in_ok-page.ensures.taken in record {
       page = c.in_ok-page.page;
       slot = 0;
       address = c.address_of.ensures;
-      taken = inr (
-        refl,
-        rw written (took_free _ _ c.requires.tables c.in_ok-page.page c.take.new.self c.in_ok-page.ensures.taken c.args.c c.slots-slots.result _
-            _ c.join_with_one.new.lists
-            c.requires.none c.slots-slots.ensures.value refl refl c.join_with_one.ensures.filled c.join_with_one.ensures.not_filled),
-      );
+      taken = inr (refl, record {
+        none = c.requires.none;
+        front = c.in_ok-page.ensures.taken;
+        maps = rw (← c.slots-slots.ensures.value) (written_twice _ _ _ _ _ _ _ c.renew.ensures.value inside c.set.ensures.value);
+        filled = rw (← c.slots-slots.ensures.value) c.join_with_one.ensures.filled;
+        not_filled = rw (← c.slots-slots.ensures.value) c.join_with_one.ensures.not_filled;
+      });
     }
 
 pub returns-clause-others : goal.returns-clause-others

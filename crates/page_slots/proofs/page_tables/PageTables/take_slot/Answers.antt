@@ -1,9 +1,9 @@
 -- The first partly full page has a free slot.
-use Rattle.std.proofs.Common.{inl, refl}
-use Rattle.slot_bitmap.specs.Maps.{on_page}
+use Rattle.std.proofs.Common.{ap, inl, refl, sym}
+use Rattle.slot_bitmap.specs.Maps.{SlotTable}
 use Rattle.class_lists.specs.PageLists.{pages_in}
 use Rattle.class_lists.specs.declared.Which.TheVariants.{NotFull}
-use Rattle.page_slots.proofs.Calls.{front_none, front_page, front_there, front_inside, full_again, page_read, part_again, read_back, front_small, front_reads, front_room, front_slot, took_open_steps, took_open}
+use Rattle.page_slots.proofs.Calls.{front_none, front_there, front_inside, read_back, front_small, front_room, front_slot, took_open_steps}
 use Rattle.page_slots.proofs.TablesAfterTake.{taken_gains, taken_others}
 use Rattle.page_slots.proofs.page_tables.PageTables.take_slot.Goals as goal
 
@@ -11,16 +11,14 @@ pub take_least-slot-requires-clause-page : goal.take_least-slot-requires-clause-
 take_least-slot-requires-clause-page c = front_inside _ _ c.requires.tables c.args.c c.in-Some.page c.in-Some.ensures.front
 
 pub take_least-slot-requires-clause-some : goal.take_least-slot-requires-clause-some
-take_least-slot-requires-clause-some c = front_room _ _ c.requires.tables c.args.c c.in-Some.page c.in-Some.ensures.front (on_page c.args.self.now.maps c.in-Some.page) (page_read _ _ c.requires.tables _ (front_page _ _ c.requires.tables c.args.c c.in-Some.page c.in-Some.ensures.front))
+take_least-slot-requires-clause-some c = front_room _ _ c.requires.tables c.args.c c.in-Some.page c.in-Some.ensures.front
 
 pub leave_if_filled-requires-clause-listed : goal.leave_if_filled-requires-clause-listed
 leave_if_filled-requires-clause-listed c = front_there _ _ c.requires.tables c.args.c c.in-Some.page c.in-Some.ensures.front
 
 pub address_of-requires-clause-slot : goal.address_of-requires-clause-slot
 address_of-requires-clause-slot c =
-    front_slot _ _ c.requires.tables c.args.c c.in-Some.page c.in-Some.ensures.front c.take_least-slot.result _
-    (front_reads _ _ c.requires.tables c.args.c c.in-Some.page c.in-Some.ensures.front (on_page c.args.self.now.maps c.in-Some.page) (page_read _ _ c.requires.tables _ (front_page _ _ c.requires.tables c.args.c c.in-Some.page c.in-Some.ensures.front))
-    c.take_least-slot.result _ c.take_least-slot.ensures.free)
+    front_slot _ _ c.requires.tables c.args.c c.in-Some.page c.in-Some.ensures.front c.take_least-slot.result _ c.take_least-slot.ensures.free
 
 pub address_of-requires-clause-small : goal.address_of-requires-clause-small
 address_of-requires-clause-small c = front_small _ _ c.requires.tables c.args.c c.in-Some.page c.in-Some.ensures.front
@@ -29,18 +27,20 @@ pub take_on_free_page-requires-clause-none : goal.take_on_free_page-requires-cla
 take_on_free_page-requires-clause-none c = front_none (pages_in c.args.lists.now c.args.c NotFull) c.in-None.ensures.front
 
 pub returns-in-Some-clause-taken : goal.returns-in-Some-clause-taken
-returns-in-Some-clause-taken c =
-    let inside = front_inside _ _ c.requires.tables c.args.c c.in-Some.page c.in-Some.ensures.front in
-    let map = c.take_least-slot.ensures.map in record {
-      page = c.in-Some.page;
-      slot = c.take_least-slot.result;
-      address = c.address_of.ensures;
-      taken = inl (rw map (took_open _ _ c.requires.tables c.args.c c.in-Some.page c.in-Some.ensures.front
-          (on_page c.args.self.now.maps c.in-Some.page) (page_read _ _ c.requires.tables _ (front_page _ _ c.requires.tables c.args.c c.in-Some.page c.in-Some.ensures.front)) c.take_least-slot.result
-          _ c.leave_if_filled.new.lists
-          c.take_least-slot.ensures.least c.take_least-slot.ensures.free refl (full_again _ _ _ _ map inside c.leave_if_filled.ensures.filled)
-          (part_again _ _ _ _ map inside c.leave_if_filled.ensures.not_filled)));
-    }
+returns-in-Some-clause-taken c = record {
+  page = c.in-Some.page;
+  slot = c.take_least-slot.result;
+  address = c.address_of.ensures;
+  taken = inl (record {
+    front = sym c.in-Some.ensures.front;
+    least = c.take_least-slot.ensures.least;
+    free = c.take_least-slot.ensures.free;
+    maps = ap (λ (m : SlotTable). m.pages) c.take_least-slot.ensures.map;
+    pool = refl;
+    filled = c.leave_if_filled.ensures.filled;
+    not_filled = c.leave_if_filled.ensures.not_filled;
+  });
+}
 
 pub returns-in-Some-clause-others : goal.returns-in-Some-clause-others
 returns-in-Some-clause-others c =
@@ -54,7 +54,6 @@ returns-in-Some-clause-kept c =
 pub returns-in-Some-clause-steps : goal.returns-in-Some-clause-steps
 returns-in-Some-clause-steps c =
     let inside = front_inside _ _ c.requires.tables c.args.c c.in-Some.page c.in-Some.ensures.front in
-    took_open_steps _ _ c.requires.tables c.args.c c.in-Some.page c.in-Some.ensures.front
-    (on_page c.args.self.now.maps c.in-Some.page) (page_read _ _ c.requires.tables _ (front_page _ _ c.requires.tables c.args.c c.in-Some.page c.in-Some.ensures.front)) c.take_least-slot.result
-    _ c.take_least-slot.ensures.free (read_back _ _ _ _ c.take_least-slot.ensures.map inside) c.args.steps.now _ _ _
+    took_open_steps _ _ c.requires.tables c.args.c c.in-Some.page c.in-Some.ensures.front c.take_least-slot.result _ c.take_least-slot.ensures.free
+    (read_back _ _ _ _ c.take_least-slot.ensures.map inside) c.args.steps.now _ _ _
     c.in-Some.ensures.steps c.take_least-slot.ensures.steps c.leave_if_filled.ensures.steps
