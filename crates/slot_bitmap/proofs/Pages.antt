@@ -30,7 +30,7 @@ words_apart w p q j k lt lt' ne same = elim (cases_lt q p) [
 
 -- ---- the slots of each page
 
-length-pages : (w : ℕ) (words : List ℕ) (pages : List PageSummary) → length (slots_by_page w words pages) ≡ length pages
+pub length-pages : (w : ℕ) (words : List ℕ) (pages : List PageSummary) → length (slots_by_page w words pages) ≡ length pages
 unfolding slots_by_page
 length-pages w words pages = length-map-range_with_len (slots_of_page w words pages) 0 (length pages)
 
@@ -164,3 +164,14 @@ module _ (w n : ℕ) (some : 1 ≤ w) (short : w ≤ 64) (pages : List PageSumma
       page-at w (replicate (n * w) 0) pages p d (omega (arith, count))
       ∙ rw (summary p lt) (all_free w (word_of w (replicate (n * w) 0) p) 1 (omega arith) (λ j. clear p j lt))
       ∙ sym (get_or-replicate n p (replicate 1 false) d lt))
+
+-- a slot that contracts see of a page: the page is one of the table's, and the slot is in one of 64 words
+pub slot_page : (w : ℕ) (words : List ℕ) (pages : List PageSummary) (p i : ℕ) (b : Bool) → AreValid w words pages
+    → slice_get (get_or (slots_by_page w words pages) p []) i ≡ Some b → p < length pages
+slot_page w words pages p i b v h = (at_slot v h).page.lt
+
+pub slot_short : (w : ℕ) (words : List ℕ) (pages : List PageSummary) (p i : ℕ) (b : Bool) → AreValid w words pages
+    → slice_get (get_or (slots_by_page w words pages) p []) i ≡ Some b → i / 64 < 64
+slot_short w words pages p i b v h = (at_slot v h).short
+
+pub ruleset page_rules = (length-pages, slot_page, slot_short)

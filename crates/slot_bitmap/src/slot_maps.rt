@@ -37,6 +37,7 @@ impl Model for SlotMaps {
     ghost invariant = { λ m. AreValid m.width m.words m.pages.items };
 }
 
+#[tactic(auto, using(crate::proofs::Pages::page_rules))]
 impl SlotMaps {
     /// Makes the maps of `pages` pages that may have up to `most` slots each. Each has one free
     /// slot, since no class uses the page yet. Only this call allocates. It fails with `OutOfMemory`

@@ -1,12 +1,9 @@
-use Rattle.std.proofs.Common.{sym, ap, ◌∙◌, arith}
+use Rattle.std.proofs.Common.{sym, ap, ◌∙◌}
 use Rattle.std.proofs.lemmas.List.{get_or_read}
 use Rattle.slot_bitmap.specs.declared.page_summary.PageSummary.{PageSummary}
 use Rattle.slot_bitmap.proofs.Slots.{no_used, used_word, some_bit, used_at, found_used}
 use Rattle.slot_bitmap.proofs.Pages.{page_in}
 use Rattle.slot_bitmap.proofs.slot_maps.SlotMaps.first_used.Goals as goal
-
-pub index-requires : goal.index-requires
-index-requires c = (let a = page_in c.self.invariant (rw (← c.self.view_is) at c.requires) in omega (arith, a.lt))
 
 pub returns-then-summary-eq0-clause-found : goal.returns-then-summary-eq0-clause-found
 returns-then-summary-eq0-clause-found c =

@@ -1,10 +1,7 @@
-use Rattle.std.proofs.Common.{ap, ◌∙◌, sym, arith}
+use Rattle.std.proofs.Common.{ap, ◌∙◌, sym}
 use Rattle.slot_bitmap.specs.declared.page_summary.PageSummary.{PageSummary}
 use Rattle.slot_bitmap.proofs.Pages.{page_in}
 use Rattle.slot_bitmap.proofs.slot_maps.SlotMaps.len.Goals as goal
-
-pub index-requires : goal.index-requires
-index-requires c = (let a = page_in c.self.invariant (rw (← c.self.view_is) at c.requires) in omega (arith, a.lt))
 
 pub returns : goal.returns
 returns c =

@@ -3,9 +3,6 @@ use Rattle.slot_bitmap.proofs.Slots.{all_free, valid_renewed, words_clear}
 use Rattle.slot_bitmap.proofs.Pages.{page_in, pages_after, valid_after}
 use Rattle.slot_bitmap.proofs.slot_maps.SlotMaps.renew.Goals as goal
 
-pub index_mut-summary-requires : goal.index_mut-summary-requires
-index_mut-summary-requires c = (let a = page_in c.self.invariant (rw (← c.self.view_is) at c.requires.page) in omega (arith, a.lt))
-
 pub ones-requires-clause-few : goal.ones-requires-clause-few
 ones-requires-clause-few c =
     let a = page_in c.self.invariant (rw (← c.self.view_is) at c.requires.page) in

@@ -5,9 +5,6 @@ use Rattle.slot_bitmap.proofs.Slots.{valid_set, written}
 use Rattle.slot_bitmap.proofs.Pages.{apart, at_slot, here, others, pages_after, valid_after}
 use Rattle.slot_bitmap.proofs.slot_maps.SlotMaps.set.Goals as goal
 
-pub index_mut-summary-requires : goal.index_mut-summary-requires
-index_mut-summary-requires c = (let s = at_slot c.self.invariant (rw (← c.self.view_is) at c.requires) in omega (arith, s.page.lt))
-
 pub write_bit-word-requires-clause-cell : goal.write_bit-word-requires-clause-cell
 write_bit-word-requires-clause-cell c = (let s = at_slot c.self.invariant (rw (← c.self.view_is) at c.requires) in s.page.cell _ s.word)
 
@@ -22,12 +19,6 @@ ones-full-requires-clause-some c =
     let s = at_slot c.self.invariant (rw (← c.self.view_is) at c.requires) in
     let read = ap (λ (s : PageSummary). s.slots) (s.page.read c.index_mut-summary.ensures.value) in
     omega (arith, s.inside, read, c.min.ensures)
-
-pub write_bit-requires : goal.write_bit-requires
-write_bit-requires c = (let s = at_slot c.self.invariant (rw (← c.self.view_is) at c.requires) in s.short)
-
-pub write_bit-requires-2 : goal.write_bit-requires-2
-write_bit-requires-2 c = (let s = at_slot c.self.invariant (rw (← c.self.view_is) at c.requires) in s.short)
 
 pub overflow_add-summary : goal.overflow_add-summary
 overflow_add-summary c =

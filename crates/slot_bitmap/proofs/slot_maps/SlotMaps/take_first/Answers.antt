@@ -5,9 +5,6 @@ use Rattle.slot_bitmap.proofs.Slots.{free_at, free_start, free_word, found_free,
 use Rattle.slot_bitmap.proofs.Pages.{apart, at_slot, here, others, page_in, pages_after, valid_after}
 use Rattle.slot_bitmap.proofs.slot_maps.SlotMaps.take_first.Goals as goal
 
-pub index_mut-summary-requires : goal.index_mut-summary-requires
-index_mut-summary-requires c = (let a = page_in c.self.invariant (rw (← c.self.view_is) at c.requires) in omega (arith, a.lt))
-
 pub returns-then-free-eq0-clause-found : goal.returns-then-free-eq0-clause-found
 returns-then-free-eq0-clause-found c =
     let a = page_in c.self.invariant (rw (← c.self.view_is) at c.requires) in

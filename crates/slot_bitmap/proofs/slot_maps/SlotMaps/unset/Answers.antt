@@ -5,17 +5,8 @@ use Rattle.slot_bitmap.proofs.Slots.{counted_some, valid_unset, written}
 use Rattle.slot_bitmap.proofs.Pages.{apart, at_slot, here, others, pages_after, valid_after}
 use Rattle.slot_bitmap.proofs.slot_maps.SlotMaps.unset.Goals as goal
 
-pub index_mut-summary-requires : goal.index_mut-summary-requires
-index_mut-summary-requires c = (let s = at_slot c.self.invariant (rw (← c.self.view_is) at c.requires) in omega (arith, s.page.lt))
-
 pub write_bit-word-requires-clause-cell : goal.write_bit-word-requires-clause-cell
 write_bit-word-requires-clause-cell c = (let s = at_slot c.self.invariant (rw (← c.self.view_is) at c.requires) in s.page.cell _ s.word)
-
-pub write_bit-requires : goal.write_bit-requires
-write_bit-requires c = (let s = at_slot c.self.invariant (rw (← c.self.view_is) at c.requires) in s.short)
-
-pub write_bit-requires-2 : goal.write_bit-requires-2
-write_bit-requires-2 c = (let s = at_slot c.self.invariant (rw (← c.self.view_is) at c.requires) in s.short)
 
 pub overflow_sub-summary : goal.overflow_sub-summary
 overflow_sub-summary c =
