@@ -1,26 +1,27 @@
 -- For the calls that take or free a slot: the tables meet what each part of the code requires. What taking a slot on the first partly full or the first free
 -- page does, and what each part costs.
-use Rattle.std.proofs.Common.{◌≡◌, ◌≢◌, ℕ, Bool, true, false, not, ◌+◌, ◌*◌, ◌^◌, ◌<◌, ◌≤◌, List, [], ◌∷◌, length, drop, get_or, set, replicate, Some, None, arith, inl, inr}
+use Rattle.std.proofs.Common.{◌≡◌, ◌≢◌, ℕ, Bool, true, false, not, ◌+◌, ◌*◌, ◌^◌, ◌<◌, ◌≤◌, List, [], ◌∷◌, length, drop, get_or, set, Some, None, arith, inl, inr}
 use Rattle.std.proofs.Common.{refl, sym, ◌∙◌, ap, subst}
 use Rattle.std.specs.Prelude.{slice_get, if◌then◌else◌, is_some, nat_eq}
 use Rattle.std.specs.List.{Contains, position}
 use Rattle.std.proofs.lemmas.Bool.{cases_eq, false≢true}
-use Rattle.std.proofs.lemmas.List.{get_or_default, get_or-set_same, length-set}
+use Rattle.std.proofs.lemmas.List.{get_or-set_same, length-set, set-set}
 use Rattle.std.proofs.lemmas.Nat.{mul-le}
 use Rattle.std.proofs.lemmas.Option.{slice_get_within}
 use Rattle.cf_lemmas.proofs.Tests.{eq_no, eq_yes}
 use Rattle.slot_bitmap.proofs.CallerLemmas.{count-set, count-unset, some_free, some_used}
 use Rattle.step_ledger.specs.Counting.{RoseBy}
 use Rattle.step_ledger.proofs.CallerLemmas.{rose_both}
+use Rattle.slot_bitmap.specs.Maps.{SlotTable, on_page, with_page}
 use Rattle.size_classes.specs.Table.{ClassTable}
 use Rattle.class_lists.specs.declared.Which.{Which}
 use Rattle.class_lists.specs.declared.Which.TheVariants.{Full, NotFull}
-use Rattle.class_lists.specs.PageLists.{PageLists, IsUnlisted, pages_in}
+use Rattle.class_lists.specs.PageLists.{IsUnlisted, pages_in}
 use Rattle.page_pool.specs.Pool.{Pool, TakesFront, is_in_pool}
-use Rattle.page_slots.specs.Tables.{Tables, AreTables, IsOf, IsPageOf, JoinsList, slots_in, slots_on, tables, used_in}
+use Rattle.page_slots.specs.Tables.{Tables, AreTables, IsOf, IsPageOf, slots_in, slots_on, used_in}
 use Rattle.page_model.specs.Order.{drop_steps}
 use Rattle.page_slots.specs.Release.{HasUsedSlot, steps_to_vacate}
-use Rattle.page_slots.specs.Take.{FillsPage, TakesOnPartlyFullPage, TakesOnFreePage, steps_to_take}
+use Rattle.page_slots.specs.Take.{steps_to_take}
 use Rattle.page_slots.proofs.Pages.{placed_in, listed_page, listed_class, of_list}
 use Rattle.page_slots.proofs.TablesAfterTake.{front_listed, pool_front}
 
@@ -30,6 +31,16 @@ finds_free xs some none = false≢true (ap is_some none ∙ some_free xs some)
 
 pub finds_used : (xs : List Bool) → 0 < used_in xs → None ≡ position (λ used. used) xs → ⊥
 finds_used xs some none = false≢true (ap is_some none ∙ some_used xs some)
+
+-- the slots of a page that was written last
+pub read_back : (old new : SlotTable) (page : ℕ) (slots : List Bool) → new ≡ with_page old page slots → page < length old.pages → on_page new page ≡ slots
+read_back old new page slots is lt = ap (λ (m : SlotTable). on_page m page) is ∙ get_or-set_same old.pages page slots [] lt
+
+-- the map of a page is made anew, then one slot is written
+pub written_twice : (old mid new : SlotTable) (page slot : ℕ) (slots : List Bool) (b : Bool) → mid ≡ with_page old page slots → page < length old.pages
+    → new ≡ with_page mid page (set (on_page mid page) slot b) → new.pages ≡ set old.pages page (set slots slot b)
+written_twice old mid new page slot slots b first lt second =
+    rw (second, first, get_or-set_same old.pages page slots [] lt) (set-set old.pages page slots (set slots slot b))
 
 -- a list with a head is its head, then its other entries
 pub front_is : (xs : List ℕ) (page : ℕ) → slice_get xs 0 ≡ Some page → xs ≡ page ∷ drop 1 xs
@@ -80,39 +91,11 @@ module _ (k : ClassTable) (t : Tables) (a : AreTables k t) where
     pub front_slot : (slot : ℕ) (b : Bool) → slice_get (slots_on t page) slot ≡ Some b → slot < slots_in k c
     front_slot slot b is = (let lt = slice_get_within (slots_on t page) slot b is in let l = front_placed.slots in omega arith)
 
-    -- the slots of that page, as they are read from the maps
-    module _ (slots : List Bool) (read : slots ≡ get_or t.maps page slots) where
-      same_map : slots ≡ slots_on t page
-      same_map = read ∙ get_or_default t.maps page slots [] front_inside
+    pub front_room : used_in (slots_on t page) < length (slots_on t page)
+    front_room = (let l = front_placed.slots in let f = front_placed.fills in let few = f.1 in omega arith)
 
-      pub front_long : length slots ≡ slots_in k c
-      front_long = ap length same_map ∙ front_placed.slots
-
-      pub front_room : used_in slots < length slots
-      front_room = (let e = ap used_in same_map in let l = front_long in let f = front_placed.fills in let few = f.1 in omega arith)
-
-      pub front_some_used : 0 < used_in slots
-      front_some_used = (let e = ap used_in same_map in let f = front_placed.fills in let some = f.0 in omega arith)
-
-      pub front_reads : (slot : ℕ) (b : Bool) → slice_get slots slot ≡ Some b → slice_get (slots_on t page) slot ≡ Some b
-      front_reads slot b is = sym (ap (λ xs. slice_get xs slot) same_map) ∙ is
-
-      -- its lowest free slot is taken
-      pub took_open : (slot : ℕ) (map : List Bool) (lists : PageLists) → position (λ used. not used) slots ≡ Some slot
-          → slice_get slots slot ≡ Some false
-          → map ≡ set slots slot true → (used_in map ≡ length map → FillsPage t.lists c page lists)
-          → (used_in map ≢ length map → lists ≡ t.lists)
-          → TakesOnPartlyFullPage t c page slot (tables (set t.maps page map) lists t.pool)
-      took_open slot map lists least free is filled not_filled =
-          let here : get_or (set t.maps page map) page [] ≡ map = get_or-set_same t.maps page map [] front_inside in record {
-            front = sym front;
-            least = sym (ap (position (λ used. not used)) same_map) ∙ least;
-            free = front_reads slot false free;
-            maps = ap (set t.maps page) (is ∙ ap (λ xs. set xs slot true) same_map);
-            pool = refl;
-            filled = λ e. filled (sym (ap used_in here) ∙ e ∙ ap length here);
-            not_filled = λ ne. not_filled (λ e. ne (ap used_in here ∙ e ∙ sym (ap length here)));
-          }
+    pub front_long : length (slots_on t page) ≡ slots_in k c
+    front_long = front_placed.slots
 
   -- the first page of the pool
   module _ (page : ℕ) (pool : Pool) (f : TakesFront t.pool (Some page) pool) where
@@ -128,21 +111,8 @@ module _ (k : ClassTable) (t : Tables) (a : AreTables k t) where
     pub pool_unlisted : IsUnlisted t.lists page
     pool_unlisted = ((pool_front k t a page pool f).1).unlisted
 
-    pub pool_unused : (slots : List Bool) → slots ≡ get_or t.maps page slots → used_in slots ≡ 0
-    pool_unused slots read = ap used_in (read ∙ get_or_default t.maps page slots [] pool_inside) ∙ ((pool_front k t a page pool f).1).unused
-
-    -- its first slot is taken
-    pub took_free : (c n : ℕ) (map fresh : List Bool) (lists : PageLists) → pages_in t.lists c NotFull ≡ [] → n ≡ slots_in k c
-        → fresh ≡ replicate n false → map ≡ set fresh 0 true
-        → (n ≡ 1 → JoinsList t.lists c Full page lists) → (n ≢ 1 → JoinsList t.lists c NotFull page lists)
-        → TakesOnFreePage k t c page (tables (set t.maps page map) lists pool)
-    took_free c n map fresh lists none slots is_fresh is filled not_filled = record {
-      none = none;
-      front = f;
-      maps = ap (set t.maps page) (is ∙ ap (λ xs. set xs 0 true) (is_fresh ∙ ap (λ n. replicate n false) slots));
-      filled = λ e. filled (slots ∙ e);
-      not_filled = λ ne. not_filled (λ e. ne (sym slots ∙ e));
-    }
+    pub pool_unused : used_in (slots_on t page) ≡ 0
+    pool_unused = ((pool_front k t a page pool f).1).unused
 
   -- a page of class c
   module _ (c page : ℕ) (of : IsOf t c page) where
@@ -159,35 +129,26 @@ module _ (k : ClassTable) (t : Tables) (a : AreTables k t) where
     of_taken = (of_list k t a c page of).1.taken
 
     -- it is in the list that its slots determine
-    pub of_listed : (w : Which) (slots : List Bool) → slots ≡ get_or t.maps page slots → (used_in slots ≡ length slots → w ≡ Full)
-        → (used_in slots ≢ length slots → w ≡ NotFull)
-        → Contains (pages_in t.lists c w) page
-    of_listed w slots read full not_full = go (of_list k t a c page of).0 (of_list k t a c page of).1
+    pub of_listed : (w : Which) → (used_in (slots_on t page) ≡ length (slots_on t page) → w ≡ Full)
+        → (used_in (slots_on t page) ≢ length (slots_on t page) → w ≡ NotFull) → Contains (pages_in t.lists c w) page
+    of_listed w full not_full = go (of_list k t a c page of).0 (of_list k t a c page of).1
       where
-        same : slots ≡ slots_on t page
-        same = read ∙ get_or_default t.maps page slots [] (page_inside page of_page)
-
         go : (v : Which) → IsPageOf k t page c v → Contains (pages_in t.lists c w) page
-        go Full p = (
-            let e : used_in slots ≡ length slots = ap used_in same ∙ p.fills ∙ sym p.slots ∙ sym (ap length same) in
-            subst (λ v. Contains (pages_in t.lists c v) page) (sym (full e)) p.listed)
+        go Full p = subst (λ v. Contains (pages_in t.lists c v) page) (sym (full (p.fills ∙ sym p.slots))) p.listed
         go NotFull p = (
-            let ne : used_in slots ≢ length slots = (λ e. (
-            let u = ap used_in same in let l = ap length same in let s = p.slots in let f = p.fills in let few = f.1 in omega arith)) in
+            let ne : used_in (slots_on t page) ≢ length (slots_on t page) = (λ e. (let s = p.slots in let f = p.fills in let few = f.1 in omega arith)) in
             subst (λ v. Contains (pages_in t.lists c v) page) (sym (not_full ne)) p.listed)
 
 -- the steps of taking a slot on a partly full page
-module _ (k : ClassTable) (t : Tables) (a : AreTables k t) (c page : ℕ) (front : Some page ≡ slice_get (pages_in t.lists c NotFull) 0)
-    (slots : List Bool) (read : slots ≡ get_or t.maps page slots) where
-  filled_test : (slot : ℕ) (map : List Bool) → slice_get slots slot ≡ Some false → map ≡ set slots slot true
+module _ (k : ClassTable) (t : Tables) (a : AreTables k t) (c page : ℕ) (front : Some page ≡ slice_get (pages_in t.lists c NotFull) 0) where
+  filled_test : (slot : ℕ) (map : List Bool) → slice_get (slots_on t page) slot ≡ Some false → map ≡ set (slots_on t page) slot true
       → nat_eq (used_in map) (length map) ≡ nat_eq (used_in (slots_on t page) + 1) (slots_in k c)
   filled_test slot map free is =
-      let same = same_map k t a c page front slots read in
-      let used : used_in map ≡ used_in (slots_on t page) + 1 = ap used_in is ∙ count-set slots slot free ∙ ap (λ xs. used_in xs + 1) same in
-      let long : length map ≡ slots_in k c = ap length is ∙ length-set slots slot true ∙ front_long k t a c page front slots read in
+      let used : used_in map ≡ used_in (slots_on t page) + 1 = ap used_in is ∙ count-set (slots_on t page) slot free in
+      let long : length map ≡ slots_in k c = ap length is ∙ length-set (slots_on t page) slot true ∙ front_long k t a c page front in
       λ i. nat_eq (used i) (long i)
 
-  pub took_open_steps : (slot : ℕ) (map : List Bool) → slice_get slots slot ≡ Some false → map ≡ set slots slot true
+  pub took_open_steps : (slot : ℕ) (map : List Bool) → slice_get (slots_on t page) slot ≡ Some false → map ≡ set (slots_on t page) slot true
       → (old first second new : ℕ) → RoseBy old first 1 → RoseBy first second 3 → RoseBy second new (if nat_eq (used_in map) (length map) then 9 else 1)
       → RoseBy old new (steps_to_take k t c)
   took_open_steps slot map free is old first second new x y z =
@@ -202,12 +163,11 @@ module _ (k : ClassTable) (t : Tables) (a : AreTables k t) (c page : ℕ) (front
       by_test false four w = rose_both old second new 4 1 four w
 
 -- A slot of a page becomes free: the number of slots that are still used.
-pub used_still : (maps : List (List Bool)) (page slot count : ℕ) (slots map : List Bool) → page < length maps → slots ≡ get_or maps page slots
-    → slice_get (get_or maps page []) slot ≡ Some true → map ≡ set slots slot false → count ≡ used_in map → count + 1 ≡ used_in (get_or maps page [])
-used_still maps page slot count slots map inside read used wrote many =
-    let same = read ∙ get_or_default maps page slots [] inside in
-    let n = count-unset (get_or maps page []) slot used in
-    let w : used_in map ≡ used_in (set (get_or maps page []) slot false) = ap used_in (wrote ∙ ap (λ xs. set xs slot false) same) in
+pub used_left : (old new : SlotTable) (page count slot : ℕ) → new ≡ with_page old page (set (on_page old page) slot false)
+    → page < length old.pages → slice_get (on_page old page) slot ≡ Some true → count ≡ used_in (on_page new page) → count + 1 ≡ used_in (on_page old page)
+used_left old new page count slot is lt used many =
+    let n = count-unset (on_page old page) slot used in
+    let w = ap used_in (read_back old new page _ is lt) in
     omega arith
 
 -- the steps of freeing a slot, whether that empties its page or not
@@ -228,10 +188,10 @@ module _ (maps : List (List Bool)) (page count : ℕ) (few : count + 1 ≡ used_
       by_list NotFull third = rose_both a c d 4 0 (rose_both a b c 3 1 first second) third
 
 -- the steps of freeing a slot, with the step that finds the page's list
-pub dropped_steps : (xs map : List Bool) (which : Which) (a b c : ℕ) → map ≡ xs → (used_in map ≡ length map → which ≡ Full)
-    → (used_in map ≢ length map → which ≡ NotFull) → RoseBy a b 1 → RoseBy b c (steps_to_vacate which (used_in xs))
+pub dropped_steps : (xs : List Bool) (which : Which) (a b c : ℕ) → (used_in xs ≡ length xs → which ≡ Full)
+    → (used_in xs ≢ length xs → which ≡ NotFull) → RoseBy a b 1 → RoseBy b c (steps_to_vacate which (used_in xs))
     → RoseBy a c (drop_steps (used_in xs) (length xs))
-dropped_steps xs map which a b c same full part first second = elim (cases_eq (used_in xs) 1) [
+dropped_steps xs which a b c full part first second = elim (cases_eq (used_in xs) 1) [
   | inl one ↦ (
       let z : RoseBy b c 9 = rw (eq_yes _ _ one) at second in
       rw (eq_yes _ _ one) (rose_both a b c 1 9 first z))
@@ -239,11 +199,11 @@ dropped_steps xs map which a b c same full part first second = elim (cases_eq (u
       let z : RoseBy b c (elim which [ Full ↦ 12 | NotFull ↦ 4 ]) = rw (eq_no _ _ several) at second in
       elim (cases_eq (used_in xs) (length xs)) [
         | inl all ↦ (
-            let w : which ≡ Full = full (ap used_in same ∙ all ∙ sym (ap length same)) in
+            let w : which ≡ Full = full all in
             let y : RoseBy b c 12 = subst (λ v. RoseBy b c (elim v [ Full ↦ 12 | NotFull ↦ 4 ])) w z in
             rw (eq_no _ _ several, eq_yes _ _ all) (rose_both a b c 1 12 first y))
         | inr some ↦ (
-            let w : which ≡ NotFull = part (λ e. some (sym (ap used_in same) ∙ e ∙ ap length same)) in
+            let w : which ≡ NotFull = part some in
             let y : RoseBy b c 4 = subst (λ v. RoseBy b c (elim v [ Full ↦ 12 | NotFull ↦ 4 ])) w z in
             rw (eq_no _ _ several, eq_no _ _ some) (rose_both a b c 1 4 first y))
       ])

@@ -10,10 +10,10 @@ use Rattle.page_slots.specs.declared.page_tables.PageTables.{PageTables}
 
 -- the tables as one owner sees them: the shared tables t, with the lists of that owner
 abbrev pub tables_with : PageTables → PageLists → Tables
-tables_with t lists = tables t.maps.items lists t.pool
+tables_with t lists = tables t.maps.pages lists t.pool
 
 -- the shared tables of a new heap: every page is free, and the map of each has one free slot, since no class uses the page yet
 pub record AreFirst (s : Settings) (layout : Layout) (t : PageTables) : Type 0 where
   pub classes : t.classes ≡ table_of s.page_words layout
-  pub maps : t.maps.items ≡ replicate s.pages (replicate 1 false)
+  pub maps : t.maps.pages ≡ replicate s.pages (replicate 1 false)
   pub pool : t.pool ≡ record { pages = s.pages; free = range_with_len 0 s.pages }

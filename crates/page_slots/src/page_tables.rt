@@ -1,24 +1,28 @@
 //! `PageTables`: the size classes, the used slots and the free pages of a region.
-ghost use Rattle.std.specs.Prelude.{IfOk};
-ghost use Rattle.page_slots.specs.PageTables.{AreFirst};
+ghost use Rattle.std.specs.Prelude.{◌/◌, ◌≤◌};
 
 use cf_base::{Layout, OutOfMemory, Settings};
 use page_pool::PagePool;
 use size_classes::Classes;
-use slot_bitmap::{SlotMap, free_maps};
+use slot_bitmap::SlotMaps;
 use std::alloc::Global;
 
-/// What all owners of a region's pages share: the size classes, a map of the slots of each page,
+/// What all owners of a region's pages share: the size classes, the maps of the slots of all pages,
 /// and the pool of free pages. An owner is a heap, or a task of the heap of tasks; it lists the
 /// pages that it uses, by class, in a `ClassLists`.
 #[derive(Drop)]
 pub struct PageTables {
     pub classes: Classes,
-    pub maps: Vec<SlotMap>,
+    pub maps: SlotMaps,
     pub pool: PagePool,
+    /// Each slot has at least four words, so the maps have room for the slots of each class.
+    pub ghost room: { classes.page_words / 4 ≤ maps.most },
 }
 
 impl PageTables {
+    ghost use Rattle.std.specs.Prelude.{IfOk};
+    ghost use Rattle.page_slots.specs.PageTables.{AreFirst};
+
     /// Returns tables in which all pages of the settings are free, with slot sizes of this layout.
     /// Fails if out of memory; no other call of `PageTables` allocates.
     pub fn new(alloc: Global, s: &Settings, layout: Layout) -> Result<PageTables, OutOfMemory>
@@ -26,7 +30,7 @@ impl PageTables {
     {
         Ok(PageTables {
             classes: Classes::new(alloc, s.page_words, layout)?,
-            maps: free_maps(alloc, s.pages)?,
+            maps: SlotMaps::new(alloc, s.pages, s.page_words / 4)?,
             pool: PagePool::new(alloc, s.pages)?,
         })
     }

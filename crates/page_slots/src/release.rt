@@ -8,6 +8,7 @@ ghost use Rattle.class_lists.specs.PageLists.{AreApart, pages_in};
 ghost use Rattle.class_lists.specs.declared.Which.TheVariants.{Full, NotFull};
 ghost use Rattle.page_pool.specs.Pool.{IsPool, Pool, is_in_pool};
 ghost use Rattle.size_classes.specs.Table.{IsClassTable};
+ghost use Rattle.slot_bitmap.specs.Maps.{on_page};
 ghost use Rattle.page_slots.specs.PageTables.{tables_with};
 ghost use Rattle.page_slots.specs.Tables.{AreTables, IsUsed, KeepsForeign, page_at, slot_at, used_in};
 ghost use Rattle.page_slots.specs.Release.{FillsFrom, HasUsedSlot, IsFiller, MovesObject, MakesPagePartlyFull, Vacates, steps_to_drop, steps_to_fill, steps_to_vacate};
@@ -15,7 +16,7 @@ ghost use Rattle.page_slots.specs.Release.{FillsFrom, HasUsedSlot, IsFiller, Mov
 use crate::page_tables::PageTables;
 use crate::place::{address_of, slot_of};
 use class_lists::{ClassLists, Which};
-use slot_bitmap::SlotMap;
+use slot_bitmap::SlotMaps;
 use step_ledger::Steps;
 
 impl PageTables {
@@ -31,15 +32,15 @@ impl PageTables {
         steps: &mut Steps,
     ) -> bool
         requires table { IsClassTable self.now.classes.page_words self.now.classes.sizes }
-        requires page { page_at self.now.classes at < length self.now.maps.items }
+        requires page { page_at self.now.classes at < length self.now.maps.pages }
         requires class { c < lists.now.classes }
-        ensures value { IsTrue result ↔ MovesObject (slice_index_or self.now.maps.items (page_at self.now.classes at) [])
+        ensures value { IsTrue result ↔ MovesObject (slice_index_or self.now.maps.pages (page_at self.now.classes at) [])
             (length (pages_in lists.now c Which.NotFull)) bound }
         ensures steps { RoseBy steps.old steps.new 1 }
     {
-        let map = &self.maps[self.classes.page_of(at) as usize];
-        let used = map.count(steps);
-        used == map.len() && used > 1 && lists.len(c, Which::NotFull) == bound
+        let page = self.classes.page_of(at);
+        let used = self.maps.count(page, steps);
+        used == self.maps.len(page) && used > 1 && lists.len(c, Which::NotFull) == bound
     }
 
     /// Frees the used slot of class c at the address `at`, without a move. A page that is then
@@ -59,7 +60,7 @@ impl PageTables {
     {
         let page = self.classes.page_of(at);
         let slot = slot_of(&self.classes, c, at);
-        let which = list_of(&self.maps[page as usize], steps);
+        let which = list_of(&self.maps, page, steps);
         self.vacate(lists, c, which, page, slot, steps);
     }
 
@@ -69,7 +70,7 @@ impl PageTables {
         requires tables { AreTables self.now.classes (tables_with self.now lists.now) }
         requires class { c < length self.now.classes.sizes }
         requires some { 1 ≤ length (pages_in lists.now c Which.NotFull) }
-        ensures filler { IsFiller self.now.classes self.now.maps.items lists.now c result }
+        ensures filler { IsFiller self.now.classes self.now.maps.pages lists.now c result }
         ensures steps { RoseBy steps.old steps.new 3 }
     {
         let (page, slot) = self.filling_slot(lists, c, steps);
@@ -101,16 +102,16 @@ impl PageTables {
     fn filling_slot(&self, lists: &ClassLists, c: u32, steps: &mut Steps) -> (u32, u32)
         requires class { c < lists.now.classes }
         requires some { 1 ≤ length (pages_in lists.now c Which.NotFull) }
-        requires used { (page : ℕ) → Some page ≡ slice_get (pages_in lists.now c Which.NotFull) 0 → HasUsedSlot self.now.maps.items page }
+        requires used { (page : ℕ) → Some page ≡ slice_get (pages_in lists.now c Which.NotFull) 0 → HasUsedSlot self.now.maps.pages page }
         ensures front { slice_get (pages_in lists.now c Which.NotFull) 0 ≡ Some result.0 }
-        ensures least { position (λ used. used) (slice_index_or self.now.maps.items result.0 []) ≡ Some result.1 }
-        ensures used { slice_get (slice_index_or self.now.maps.items result.0 []) result.1 ≡ Some true }
+        ensures least { position (λ used. used) (slice_index_or self.now.maps.pages result.0 []) ≡ Some result.1 }
+        ensures used { slice_get (slice_index_or self.now.maps.pages result.0 []) result.1 ≡ Some true }
         ensures steps { RoseBy steps.old steps.new 3 }
     {
         let Some(page) = lists.front(c, Which::NotFull, steps) else {
             unreachable!();
         };
-        let Some(slot) = self.maps[page as usize].first_used(steps) else {
+        let Some(slot) = self.maps.first_used(page, steps) else {
             unreachable!();
         };
         (page, slot)
@@ -132,21 +133,20 @@ impl PageTables {
         requires class { c < lists.old.classes }
         requires apart { AreApart lists.old }
         requires pool { IsPool self.old.pool }
-        requires page { page < length self.old.maps.items }
+        requires page { page < length self.old.maps.pages }
         requires within { page < self.old.pool.pages }
         requires taken { is_in_pool self.old.pool.free page ≡ false }
         requires listed { Contains (pages_in lists.old c which) page }
-        requires used { slice_get (slice_index_or self.old.maps.items page []) slot ≡ Some true }
+        requires used { slice_get (slice_index_or self.old.maps.pages page []) slot ≡ Some true }
         ensures freed { Vacates (tables_with self.old lists.old) c page slot (tables_with self.new lists.new) }
         ensures classes { self.new.classes ≡ self.old.classes }
         ensures lists { AreApart lists.new }
         ensures pool { IsPool self.new.pool }
-        ensures steps { RoseBy steps.old steps.new (steps_to_vacate which (used_in (slice_index_or self.old.maps.items page []))) }
+        ensures steps { RoseBy steps.old steps.new (steps_to_vacate which (used_in (slice_index_or self.old.maps.pages page []))) }
         ensures bound { RoseAtMost steps.old steps.new 12 }
     {
-        let map = &mut self.maps[page as usize];
-        map.unset(slot, steps);
-        if map.count(steps) == 0 {
+        self.maps.unset(page, slot, steps);
+        if self.maps.count(page, steps) == 0 {
             lists.unlink(c, which, page, steps);
             self.pool.give(page, steps);
         } else {
@@ -155,14 +155,15 @@ impl PageTables {
     }
 }
 
-/// Returns which list a page with this map of its slots is in: that of the full pages if all slots
-/// are used. Costs one step.
-fn list_of(map: &SlotMap, steps: &mut Steps) -> Which
-    ensures full { used_in map.now ≡ length map.now → result ≡ Which.Full }
-    ensures not_full { used_in map.now ≢ length map.now → result ≡ Which.NotFull }
+/// Returns which list a page of a class is in: that of the full pages if all its slots are used.
+/// Costs one step.
+fn list_of(maps: &SlotMaps, page: u32, steps: &mut Steps) -> Which
+    requires { page < length maps.now.pages }
+    ensures full { used_in (on_page maps.now page) ≡ length (on_page maps.now page) → result ≡ Which.Full }
+    ensures not_full { used_in (on_page maps.now page) ≢ length (on_page maps.now page) → result ≡ Which.NotFull }
     ensures steps { RoseBy steps.old steps.new 1 }
 {
-    if map.count(steps) == map.len() {
+    if maps.count(page, steps) == maps.len(page) {
         Which::Full
     } else {
         Which::NotFull

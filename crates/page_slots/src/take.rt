@@ -4,6 +4,7 @@ ghost use Rattle.std.specs.Prelude.{◌≡◌, ◌≢◌, ◌<◌, [], if◌then
 ghost use Rattle.std.specs.List.{Contains, position};
 ghost use Rattle.step_ledger.specs.Counting.{RoseAtMost, RoseBy};
 ghost use Rattle.class_lists.specs.PageLists.{AreApart, IsUnlisted, pages_in};
+ghost use Rattle.slot_bitmap.specs.Maps.{on_page, with_page};
 ghost use Rattle.page_slots.specs.PageTables.{tables_with};
 ghost use Rattle.page_slots.specs.Tables.{AreTables, JoinsList, KeepsForeign, used_in};
 ghost use Rattle.page_slots.specs.Take.{FillsPage, TakesSlot, steps_to_take};
@@ -11,7 +12,7 @@ ghost use Rattle.page_slots.specs.Take.{FillsPage, TakesSlot, steps_to_take};
 use crate::page_tables::PageTables;
 use crate::place::address_of;
 use class_lists::{ClassLists, Which};
-use slot_bitmap::SlotMap;
+use slot_bitmap::SlotMaps;
 use step_ledger::Steps;
 
 impl PageTables {
@@ -32,9 +33,8 @@ impl PageTables {
     {
         match lists.front(c, Which::NotFull, steps) {
             Some(page) => {
-                let map = &mut self.maps[page as usize];
-                let slot = take_least(map, steps);
-                leave_if_filled(map, lists, c, page, steps);
+                let slot = take_least(&mut self.maps, page, steps);
+                leave_if_filled(&self.maps, lists, c, page, steps);
                 Some(address_of(&self.classes, c, page, slot))
             }
             None => self.take_on_free_page(lists, c, steps),
@@ -62,25 +62,25 @@ impl PageTables {
     {
         let page = self.pool.take(steps)?;
         let slots = self.classes.slots(c);
-        let map = &mut self.maps[page as usize];
-        map.renew(slots, steps);
-        map.set(0, steps);
+        self.maps.renew(page, slots, steps);
+        self.maps.set(page, 0, steps);
         join_with_one(lists, c, page, slots, steps);
         Some(address_of(&self.classes, c, page, 0))
     }
 }
 
-/// Marks the lowest free slot in the map of a page as used, and returns its number. At least one
-/// slot must be free.
+/// Marks the lowest free slot of a page as used, and returns its number. At least one slot must be
+/// free.
 #[inline(always)]
-fn take_least(map: &mut SlotMap, steps: &mut Steps) -> u32
-    requires { used_in map.old < length map.old }
-    ensures least { position (λ used. not used) map.old ≡ Some result }
-    ensures free { slice_get map.old result ≡ Some false }
-    ensures map { map.new ≡ slice_set map.old result true }
+fn take_least(maps: &mut SlotMaps, page: u32, steps: &mut Steps) -> u32
+    requires page { page < length maps.old.pages }
+    requires some { used_in (on_page maps.old page) < length (on_page maps.old page) }
+    ensures least { position (λ used. not used) (on_page maps.old page) ≡ Some result }
+    ensures free { slice_get (on_page maps.old page) result ≡ Some false }
+    ensures map { maps.new ≡ with_page maps.old page (slice_set (on_page maps.old page) result true) }
     ensures steps { RoseBy steps.old steps.new 3 }
 {
-    let Some(slot) = map.take_first(steps) else {
+    let Some(slot) = maps.take_first(page, steps) else {
         unreachable!();
     };
     slot
@@ -89,16 +89,17 @@ fn take_least(map: &mut SlotMap, steps: &mut Steps) -> u32
 /// If all slots in the map of a page of class c are used, moves the page from the partly full pages
 /// to the full ones.
 #[inline(always)]
-fn leave_if_filled(map: &SlotMap, lists: &mut ClassLists, c: u32, page: u32, steps: &mut Steps)
+fn leave_if_filled(maps: &SlotMaps, lists: &mut ClassLists, c: u32, page: u32, steps: &mut Steps)
+    requires page { page < length maps.now.pages }
     requires class { c < lists.old.classes }
     requires apart { AreApart lists.old }
     requires listed { Contains (pages_in lists.old c Which.NotFull) page }
-    ensures filled { used_in map.now ≡ length map.now → FillsPage lists.old c page lists.new }
-    ensures not_filled { used_in map.now ≢ length map.now → lists.new ≡ lists.old }
+    ensures filled { used_in (on_page maps.now page) ≡ length (on_page maps.now page) → FillsPage lists.old c page lists.new }
+    ensures not_filled { used_in (on_page maps.now page) ≢ length (on_page maps.now page) → lists.new ≡ lists.old }
     ensures kept { AreApart lists.new }
-    ensures steps { RoseBy steps.old steps.new (if nat_eq (used_in map.now) (length map.now) then 9 else 1) }
+    ensures steps { RoseBy steps.old steps.new (if nat_eq (used_in (on_page maps.now page)) (length (on_page maps.now page)) then 9 else 1) }
 {
-    if map.count(steps) == map.len() {
+    if maps.count(page, steps) == maps.len(page) {
         lists.unlink(c, Which::NotFull, page, steps);
         lists.push(c, Which::Full, page, steps);
     }

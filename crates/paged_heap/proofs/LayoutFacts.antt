@@ -35,8 +35,8 @@ with_tables h t lists = record h { tables = t; lists = lists }
 
 -- if the other tables have the same classes, only maps, lists and pool of the heap change
 pub retabled : (kind : Kind) (h : OpenHeap) (t : PageTables) (lists : PageLists) → t.classes ≡ h.tables.classes
-    → seen kind (with_tables h t lists) ≡ record (seen kind h) { maps = t.maps.items; lists = lists; pool = t.pool }
-retabled kind h t lists same = ap (λ k. record (seen kind h) { classes = k; maps = t.maps.items; lists = lists; pool = t.pool }) same
+    → seen kind (with_tables h t lists) ≡ record (seen kind h) { maps = t.maps.pages; lists = lists; pool = t.pool }
+retabled kind h t lists same = ap (λ k. record (seen kind h) { classes = k; maps = t.maps.pages; lists = lists; pool = t.pool }) same
 
 module _ (h : Heap) (k : IsValid h) where
   -- the classes are those of the paging

@@ -86,10 +86,10 @@ module _ {g : SharedPages} (k : ArePages g) {t : ℕ} {x : Task} (i : IsTask g t
       subst (λ d. IsUsed (tables_of g x) d (page_of (paging_at g) a) (slot_at (class_table (paging_at g)) d a)) it_class u in
       subst (λ (s : ClassTable). IsUsed (tables_of g x) c (page_at s a) (slot_at s c a)) (table_is g k) v
 
-  pub page_there : page_at g.tables.classes a < length g.tables.maps.items
+  pub page_there : page_at g.tables.classes a < length g.tables.maps.pages
   page_there =
       let lt = found_page (paging_ok g) i.serve i.occupied q it_found in
-      subst (λ p. p < length g.tables.maps.items) page_same lt
+      subst (λ p. p < length g.tables.maps.pages) page_same lt
 
   along : (p p' d d' b b' : ℕ) → p ≡ p' → d ≡ d' → b ≡ b' → MovesObject (slots_on (tables_of g x) p) (length (pages_in x.lists d NotFull)) b
       → MovesObject (slots_on (tables_of g x) p') (length (pages_in x.lists d' NotFull)) b'

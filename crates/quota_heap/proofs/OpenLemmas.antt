@@ -102,7 +102,7 @@ module _ (s : Settings) (h : OpenTasks) (f : AreFirstPages s h.shared_pages) (n 
       subst (λ t. AreFirst t Words h.shared_pages.tables) (sym f.settings) f.tables in
       let t = first_table h.shared_pages.settings.page_words Words h.shared_pages.settings.page_size in
       let small = h.shared_pages.settings.small_region in
-      (new_serve (paging_at h.shared_pages) n h.shared_pages.tables.maps.items (empty_lists n s.pages) h.shared_pages.tables.pool t (omega arith) many_classes
+      (new_serve (paging_at h.shared_pages) n h.shared_pages.tables.maps.pages (empty_lists n s.pages) h.shared_pages.tables.pool t (omega arith) many_classes
       first.maps (ap (empty_lists n) (sym pages_is)) first.pool).part
 
   held_none : held_of h.shared_pages (first_task n s.pages s.proxies) ≡ empty
@@ -113,7 +113,7 @@ module _ (s : Settings) (h : OpenTasks) (f : AreFirstPages s h.shared_pages) (n 
     sound = subst (IsSound (paging_at h.shared_pages)) (sym held_none) (sound_empty (paging_at h.shared_pages));
     serve = shown;
     occupied = subst (λ m. Occupies (paging_at h.shared_pages) m (tables_with h.shared_pages.tables (empty_lists n s.pages))) (sym held_none)
-        (first_occupied n s.pages (paging_at h.shared_pages) h.shared_pages.tables.maps.items h.shared_pages.tables.pool);
+        (first_occupied n s.pages (paging_at h.shared_pages) h.shared_pages.tables.maps.pages h.shared_pages.tables.pool);
     headed = λ q y e. absurd (
         let z : Some y ≡ None = sym e ∙ ap (λ m. get m q) held_none ∙ get-empty nat_cmp q in cc);
     numbers = sym (ap (λ (t : Settings). t.proxies) f.settings);

@@ -1,6 +1,7 @@
 -- For each call that changes a heap of tasks: if only one task and what all tasks share changed, and both fit the objects, words and counts after the call
 -- (`Becomes`), the heap is valid.
-use Rattle.std.proofs.Common.{◌≡◌, ◌≢◌, ℕ, ◌+◌, ◌<◌, length, get_or, set, Some, arith, sym, ◌∙◌, ap, subst, inl, inr}
+use Rattle.std.proofs.Math.Bridge.{le_prop}
+use Rattle.std.proofs.Common.{◌≡◌, ◌≢◌, ℕ, ◌+◌, ◌/◌, ◌<◌, ◌≤◌, length, get_or, set, Some, arith, sym, ◌∙◌, ap, subst, inl, inr}
 use Rattle.std.specs.Prelude.{slice_get, sum}
 use Rattle.std.proofs.lemmas.Bool.{cases_eq}
 use Rattle.std.proofs.lemmas.List.{length-set}
@@ -52,19 +53,25 @@ pub record Becomes (h n : OpenTasks) (t : ℕ) (x x' : Task) (m : Held) : Type 0
   pub counted : (c : ℕ) → c < classes (paging_at h.shared_pages) → get_or x'.live c 0 ≡ live (paging_at h.shared_pages) (objects (objects_of_task m t)) c
   pub pages : x'.pages ≡ pages_needed (paging_at h.shared_pages) (objects (objects_of_task m t))
 
--- heap n with these settings and classes in place of its own
-abbrev pub with_rest : OpenTasks → Settings → ClassTable → OpenTasks
-with_rest n s classes = record n {
-  shared_pages = record n.shared_pages { settings = s; tables = record n.shared_pages.tables { classes = classes } };
+-- heap n with these settings and classes in place of its own; its maps have room for the slots of the classes
+abbrev pub with_rest : (n : OpenTasks) → Settings → (k : ClassTable) → k.page_words / 4 ≤ n.shared_pages.tables.maps.most → OpenTasks
+with_rest n s k room = record n {
+  shared_pages = record n.shared_pages { settings = s; tables = record n.shared_pages.tables { classes = k; room = room } };
 }
 
 module _ (h n : OpenTasks) (k : IsValid h) (t : ℕ) (x x' : Task) (m : Held) (b : Becomes h n t x x' m) where
+  room : h.shared_pages.tables.classes.page_words / 4 ≤ n.shared_pages.tables.maps.most
+  room = subst (λ (k : ClassTable). k.page_words / 4 ≤ n.shared_pages.tables.maps.most) b.rest.classes n.shared_pages.tables.room
+
   -- heap n with the settings and classes of h; it equals n, as no call changes them
   abbrev w : OpenTasks
-  w = with_rest n h.shared_pages.settings h.shared_pages.tables.classes
+  w = with_rest n h.shared_pages.settings h.shared_pages.tables.classes room
 
   same : n ≡ w
-  same = ap (λ s. with_rest n s n.shared_pages.tables.classes) b.rest.settings ∙ ap (with_rest n h.shared_pages.settings) b.rest.classes
+  same = ap (λ s. with_rest n s n.shared_pages.tables.classes n.shared_pages.tables.room) b.rest.settings
+      ∙ subst (λ (k : ClassTable). (r : k.page_words / 4 ≤ n.shared_pages.tables.maps.most)
+      → with_rest n h.shared_pages.settings n.shared_pages.tables.classes n.shared_pages.tables.room ≡ with_rest n h.shared_pages.settings k r) b.rest.classes
+      (λ r. ap (with_rest n h.shared_pages.settings n.shared_pages.tables.classes) (le_prop n.shared_pages.tables.room r)) room
 
   lt : t < length h.tasks.items
   lt = slice_get_within h.tasks.items t x b.at

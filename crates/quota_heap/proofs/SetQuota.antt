@@ -142,8 +142,8 @@ module _ (h : OpenTasks) (k : IsValid h) (t : ℕ) (sixteen : t < 16) (n : ℕ) 
           let o = k.others u v a.0 b.0 a.1 b.1 ne in
           let ly : (a.0).lists ≡ y.lists = sym (ap (λ (s : Task). s.lists) a.2) in
           let lz : (b.0).lists ≡ z.lists = sym (ap (λ (s : Task). s.lists) b.2) in
-          subst (λ ls. AreOthers (tables h.shared_pages.tables.maps.items ls h.shared_pages.tables.pool) z.lists) ly
-          (subst (λ ls. AreOthers (tables h.shared_pages.tables.maps.items (a.0).lists h.shared_pages.tables.pool) ls) lz o));
+          subst (λ ls. AreOthers (tables h.shared_pages.tables.maps.pages ls h.shared_pages.tables.pool) z.lists) ly
+          (subst (λ ls. AreOthers (tables h.shared_pages.tables.maps.pages (a.0).lists h.shared_pages.tables.pool) ls) lz o));
       shared = subst (IsShared (profile_of h.shared_pages.settings)) (sym held_same) k.shared;
       image = subst (λ m. IsSlotImage (paging_at h.shared_pages) m h.shared_pages.region) (sym held_same) k.image;
       quotas = subst (AreQuotas (profile_of h.shared_pages.settings) (quotas_of new.tasks.items)) (sym held_same)

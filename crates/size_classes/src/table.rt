@@ -79,6 +79,7 @@ impl Classes {
         ensures value { result ≡ slots self.now.page_words self.now.sizes c }
         ensures some { 1 ≤ result }
         ensures few { result ≤ 4096 }
+        ensures wide { result ≤ self.now.page_words / 4 }
     {
         self.page_words / self.slot_words(c)
     }

@@ -80,5 +80,5 @@ abbrev pub seen_with : OpenHeap → PageTables → PageLists → Heap
 seen_with h t lists = seen (record h { tables = t; lists = lists })
 
 pub only_tables : (h : OpenHeap) (t : PageTables) (lists : PageLists) → t.classes ≡ h.tables.classes
-    → seen_with h t lists ≡ record (seen h) { maps = t.maps.items; lists = lists; pool = t.pool }
-only_tables h t lists same = ap (λ k. record (seen h) { classes = k; maps = t.maps.items; lists = lists; pool = t.pool }) same
+    → seen_with h t lists ≡ record (seen h) { maps = t.maps.pages; lists = lists; pool = t.pool }
+only_tables h t lists same = ap (λ k. record (seen h) { classes = k; maps = t.maps.pages; lists = lists; pool = t.pool }) same

@@ -49,8 +49,8 @@ impl OpenHeap {
         requires tables { AreTables self.old.tables.classes (tables_with self.old.tables self.old.lists) }
         requires class { k.class < length self.old.tables.classes.sizes }
         requires some { 1 ≤ length (pages_in self.old.lists k.class NotFull) }
-        requires within { (a : ℕ) → IsFiller self.old.tables.classes self.old.tables.maps.items self.old.lists k.class a → a < length self.old.region }
-        requires live { (a : ℕ) → IsFiller self.old.tables.classes self.old.tables.maps.items self.old.lists k.class a
+        requires within { (a : ℕ) → IsFiller self.old.tables.classes self.old.tables.maps.pages self.old.lists k.class a → a < length self.old.region }
+        requires live { (a : ℕ) → IsFiller self.old.tables.classes self.old.tables.maps.pages self.old.lists k.class a
             → IsSome (map.get self.old.proxies.places (slice_index self.old.region a % 2 ^ 32)) }
         ensures begun { StartsMove (seen self.old) k (seen self.new) }
         ensures steps { RoseBy steps.old steps.new 5 }

@@ -4,6 +4,7 @@ ghost use Rattle.std.specs.List.{position, count_by};
 ghost use Rattle.step_ledger.specs.Counting.{RoseBy};
 
 use crate::bits;
+use crate::page_summary::PageSummary;
 use std::marker::Model;
 use step_ledger::{CellArray, Steps, WordCell, with_bit};
 
@@ -16,25 +17,18 @@ use step_ledger::{CellArray, Steps, WordCell, with_bit};
 pub struct SlotMap {
     /// Bit b of word j is set if slot 64 j + b is used.
     words: CellArray<u64, 64>,
-    /// Bit j is set if word j has a free slot.
-    with_free: WordCell,
-    /// Bit j is set if word j has a used slot.
-    with_used: WordCell,
-    /// How many slots the page has.
-    slots: u32,
-    /// How many of them are used.
-    used: u32,
+    summary: PageSummary,
 }
 
 impl Model for SlotMap {
     ghost use Rattle.std.specs.Prelude.{List, Bool};
-    ghost use Rattle.slot_bitmap.specs.Layout.{slots_in_words, IsValid};
+    ghost use Rattle.slot_bitmap.specs.Layout.{slots_in_words, word_in, IsMap};
 
     ghost Value = { List Bool };
 
-    ghost view = { λ m. slots_in_words m.words m.slots };
+    ghost view = { λ m. slots_in_words (word_in m.words) m.summary.slots };
 
-    ghost invariant = { λ m. IsValid m.words m.with_free m.with_used m.slots m.used };
+    ghost invariant = { λ m. IsMap m.words m.summary };
 }
 
 #[tactic(auto, using(crate::proofs::Slots::slot_rules))]
@@ -47,10 +41,12 @@ impl SlotMap {
     {
         SlotMap {
             words: CellArray::new([0; 64]),
-            with_free: WordCell::new(bits::ones(slots.div_ceil(64))),
-            with_used: WordCell::new(0),
-            slots,
-            used: 0,
+            summary: PageSummary {
+                with_free: WordCell::new(bits::ones(slots.div_ceil(64))),
+                with_used: WordCell::new(0),
+                slots,
+                used: 0,
+            },
         }
     }
 
@@ -63,16 +59,18 @@ impl SlotMap {
         ensures value { self.new ≡ replicate slots false }
         ensures steps { RoseBy steps.old steps.new 2 }
     {
-        self.slots = slots;
-        self.with_free.set(bits::ones(slots.div_ceil(64)), steps);
-        self.with_used.set(0, steps);
+        self.summary.slots = slots;
+        self.summary
+            .with_free
+            .set(bits::ones(slots.div_ceil(64)), steps);
+        self.summary.with_used.set(0, steps);
     }
 
     /// The number of slots of the page.
     pub fn len(&self) -> u32
         ensures { result ≡ length self.now }
     {
-        self.slots
+        self.summary.slots
     }
 
     /// How many slots are used. Costs one step.
@@ -81,7 +79,7 @@ impl SlotMap {
         ensures steps { RoseBy steps.old steps.new 1 }
     {
         steps.tick(1);
-        self.used
+        self.summary.used
     }
 
     /// Returns whether slot `i` is used. Costs one step.
@@ -100,7 +98,7 @@ impl SlotMap {
         ensures free { IfSome result (λ i. slice_get self.now i ≡ Some false) }
         ensures steps { RoseBy steps.old steps.new (if is_some result then 2 else 1) }
     {
-        let summary = self.with_free.get(steps);
+        let summary = self.summary.with_free.get(steps);
         if summary == 0 {
             return None;
         }
@@ -116,7 +114,7 @@ impl SlotMap {
         ensures used { IfSome result (λ i. slice_get self.now i ≡ Some true) }
         ensures steps { RoseBy steps.old steps.new (if is_some result then 2 else 1) }
     {
-        let summary = self.with_used.get(steps);
+        let summary = self.summary.with_used.get(steps);
         if summary == 0 {
             return None;
         }
@@ -131,13 +129,13 @@ impl SlotMap {
         ensures value { self.new ≡ slice_set self.old i true }
         ensures steps { RoseBy steps.old steps.new 3 }
     {
-        prove!(i < self.slots);
+        prove!(i < self.summary.slots);
         let at = i / 64;
         let word = self.words.write_bit(at as usize, i % 64, true, steps);
-        let full = bits::ones((self.slots - 64 * at).min(64));
-        self.with_free.write_bit(at, word != full, steps);
-        self.with_used.write_bit(at, true, steps);
-        self.used += 1;
+        let full = bits::ones((self.summary.slots - 64 * at).min(64));
+        self.summary.with_free.write_bit(at, word != full, steps);
+        self.summary.with_used.write_bit(at, true, steps);
+        self.summary.used += 1;
     }
 
     /// Marks the lowest free slot as used and returns it; none if all are used. Costs three steps,
@@ -150,16 +148,16 @@ impl SlotMap {
         ensures none { IsNone result → self.new ≡ self.old }
         ensures steps { RoseBy steps.old steps.new (if is_some result then 3 else 1) }
     {
-        let summary = self.with_free.lend(steps);
+        let summary = self.summary.with_free.lend(steps);
         if *summary == 0 {
             return None;
         }
         let at = bits::lowest_set(*summary);
         let (bit, word) = self.words.set_least_clear(at as usize, steps);
-        let full = bits::ones((self.slots - 64 * at).min(64));
+        let full = bits::ones((self.summary.slots - 64 * at).min(64));
         *summary = with_bit(*summary, at, word != full);
-        self.with_used.write_bit(at, true, steps);
-        self.used += 1;
+        self.summary.with_used.write_bit(at, true, steps);
+        self.summary.used += 1;
         Some(64 * at + bit)
     }
 
@@ -169,12 +167,12 @@ impl SlotMap {
         ensures value { self.new ≡ slice_set self.old i false }
         ensures steps { RoseBy steps.old steps.new 3 }
     {
-        prove!(i < self.slots);
+        prove!(i < self.summary.slots);
         let at = i / 64;
         let word = self.words.write_bit(at as usize, i % 64, false, steps);
-        self.with_free.write_bit(at, true, steps);
-        self.with_used.write_bit(at, word != 0, steps);
-        self.used -= 1;
+        self.summary.with_free.write_bit(at, true, steps);
+        self.summary.with_used.write_bit(at, word != 0, steps);
+        self.summary.used -= 1;
     }
 }
 

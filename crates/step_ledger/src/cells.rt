@@ -1,10 +1,13 @@
 //! `Cells`, a list of counted cells in allocated memory. Each access to a cell adds a step to the
 //! ledger.
-ghost use Rattle.std.specs.Prelude.{◌≡◌, ◌+◌, ◌<◌, ◌≤◌, ◌⊎◌, length, drop, take, slice_index_or, slice_set};
+ghost use Rattle.std.specs.Prelude.{ℕ, ◌≡◌, ◌+◌, ◌^◌, ◌<◌, ◌≤◌, ◌⊎◌, true, length, drop, take, slice_index, slice_index_or, slice_set};
+ghost use Rattle.std.specs.Int.{bit_at};
 ghost use Rattle.step_ledger.specs.Counting.{RoseBy};
+ghost use Rattle.cf_lemmas.specs.Bits.{WritesBit};
 ghost use Rattle.cf_lemmas.specs.Exchanges.{exchanged};
 
 use crate::Steps;
+use crate::array::with_bit;
 use std::marker::Model;
 
 /// A list of cells in allocated memory. Each access to a cell adds its step to the ledger. Reading
@@ -113,6 +116,44 @@ impl<T: Copy> Cells<T> {
     {
         steps.tick(n as u64); // n cells are read
         &self.items[from..from + n]
+    }
+}
+
+impl Cells<u64> {
+    /// Sets bit `bit` of cell `i` if `on`, else clears it. Costs one step: the word is read and
+    /// written in one access. Returns the new word.
+    pub fn write_bit(&mut self, i: usize, bit: u32, on: bool, steps: &mut Steps) -> u64
+        requires cell { i < length self.old }
+        requires bit { bit < 64 }
+        ensures written { WritesBit 64 (slice_index self.old i) result bit on }
+        ensures within { (n : ℕ) → bit < n → slice_index self.old i < 2 ^ n → result < 2 ^ n }
+        ensures cells { self.new ≡ slice_set self.old i result }
+        ensures steps { RoseBy steps.old steps.new 1 }
+    {
+        steps.tick(1); // one word, read and written at once
+        let word = with_bit(self.items[i], bit, on);
+        self.items[i] = word;
+        word
+    }
+
+    /// Sets the lowest clear bit of cell `i`, which must have a clear bit. Costs one step: the word
+    /// is read and written in one access. Returns the position of the bit, and the new word.
+    pub fn set_least_clear(&mut self, i: usize, steps: &mut Steps) -> (u32, u64)
+        requires cell { i < length self.old }
+        requires clear { slice_index self.old i + 1 < 2 ^ 64 }
+        ensures bit { result.0 < 64 }
+        ensures at { bit_at (slice_index self.old i) result.0 ≡ 0 }
+        ensures below { (k : ℕ) → k < result.0 → bit_at (slice_index self.old i) k ≡ 1 }
+        ensures written { WritesBit 64 (slice_index self.old i) result.1 result.0 true }
+        ensures within { (n : ℕ) → result.0 < n → slice_index self.old i < 2 ^ n → result.1 < 2 ^ n }
+        ensures cells { self.new ≡ slice_set self.old i result.1 }
+        ensures steps { RoseBy steps.old steps.new 1 }
+    {
+        steps.tick(1); // one word, searched and written at once
+        let bit = self.items[i].trailing_ones();
+        let word = with_bit(self.items[i], bit, true);
+        self.items[i] = word;
+        (bit, word)
     }
 }
 

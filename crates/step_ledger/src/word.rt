@@ -1,6 +1,6 @@
 //! `WordCell`, one counted cell, which holds a word of 64 bits. Each access adds a step to the
 //! ledger.
-ghost use Rattle.std.specs.Prelude.{◌≡◌, ◌<◌};
+ghost use Rattle.std.specs.Prelude.{◌≡◌, ℕ, ◌^◌, ◌<◌};
 ghost use Rattle.std.specs.Borrow.{Lends, sem, u64};
 ghost use Rattle.step_ledger.specs.Counting.{RoseBy};
 ghost use Rattle.cf_lemmas.specs.Bits.{WritesBit};
@@ -55,6 +55,7 @@ impl WordCell {
     pub fn write_bit(&mut self, bit: u32, on: bool, steps: &mut Steps)
         requires { bit < 64 }
         ensures written { WritesBit 64 self.old self.new bit on }
+        ensures within { (n : ℕ) → bit < n → self.old < 2 ^ n → self.new < 2 ^ n }
         ensures steps { RoseBy steps.old steps.new 1 }
     {
         steps.tick(1); // the word is read and written at once

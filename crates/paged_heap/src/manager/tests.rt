@@ -12,7 +12,7 @@ use page_slots::PageTables;
 use proxy_table::ProxyTable;
 use region::Region;
 use size_classes::Classes;
-use slot_bitmap::SlotMap;
+use slot_bitmap::SlotMaps;
 use std::alloc::Global;
 use std::marker::PhantomData;
 use std::test::Fail;
@@ -58,7 +58,7 @@ fn region_of(open: &OpenHeap) -> &Region {
         pool,
     } = tables;
     let _classes: &Classes = classes;
-    let _maps: &Vec<SlotMap> = maps;
+    let _maps: &SlotMaps = maps;
     let _pool: &PagePool = pool;
     let _lists: &ClassLists = lists;
     let _proxies: &ProxyTable = proxies;

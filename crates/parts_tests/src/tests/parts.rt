@@ -1,4 +1,6 @@
 //! Tests of what heaps and sessions are made of: each table, pool and list is made and used once.
+ghost use Rattle.std.specs.Prelude.{◌≡◌, ◌<◌, ◌≤◌, length};
+
 use block_table::BlockTable;
 use cf_base::Handle;
 use class_lists::{ClassLists, Which};
@@ -6,8 +8,9 @@ use id_table::IdTable;
 use page_pool::PagePool;
 use proxy_table::ProxyTable;
 use region::Region;
+use slot_bitmap::SlotMaps;
 use std::test::Fail;
-use step_ledger::Meter;
+use step_ledger::{Meter, Steps};
 
 // `PagePool::take` returns pages 0 and 1 of a new pool in turn, then none. After pages 0 and 1 are returned
 // by `give`, it takes the one that was given last. Each of the six calls with a ledger costs one step.
@@ -85,5 +88,64 @@ fn an_id_names_what_it_was_last_bound_to(rt: HostRuntime) -> Result<(), Fail> {
     ids.bind(65_535, Handle(8));
     ids.bind(65_535, Handle(9));
     assert_eq!(rt; (ids.handle(65_535), ids.live()), (Some(Handle(9)), 1));
+    Ok(())
+}
+
+/// Takes free slots of a page, `n` in all, and returns the last.
+fn fill(maps: &mut SlotMaps, page: u32, n: u32, steps: &mut Steps) -> Option<u32>
+    requires { page < length maps.old.pages }
+    ensures { length maps.new.pages ≡ length maps.old.pages }
+{
+    let mut last = None;
+    for _i in 0..n {
+        last = maps.take_first(page, steps);
+    }
+    last
+}
+
+/// Makes a table of three pages with up to `slots` slots each, gives page 1 as many, and takes all of
+/// them. Returns the slot that was taken last, then the lowest used and the lowest free slot of page 1,
+/// and the lowest free slots of pages 0 and 2; how many slots of page 1 are used; and the steps in all.
+fn page_filled(rt: &HostRuntime, slots: u32) -> Result<([Option<u32>; 5], u32, u64), Fail>
+    requires some { 1 ≤ slots }
+    requires few { slots ≤ 4096 }
+{
+    let mut meter = Meter::new(rt);
+    let mut maps = SlotMaps::new(rt.alloc(), 3, slots)?;
+    maps.renew(1, slots, meter.steps());
+    let found = [
+        fill(&mut maps, 1, slots, meter.steps()),
+        maps.first_used(1, meter.steps()),
+        maps.first_free(1, meter.steps()),
+        maps.first_free(0, meter.steps()),
+        maps.first_free(2, meter.steps()),
+    ];
+    Ok((found, maps.count(1, meter.steps()), meter.lap()))
+}
+
+// A table whose pages have 1 to 64 words each. The slots of a page are taken in order; then none is free.
+// Each other page still has its one free slot. A slot is taken for three steps; what is left costs ten.
+#[test]
+fn a_page_is_filled_and_the_others_stay_free(rt: HostRuntime) -> Result<(), Fail> {
+    let seen = [
+        page_filled(&rt, 1)?,
+        page_filled(&rt, 63)?,
+        page_filled(&rt, 64)?,
+        page_filled(&rt, 65)?,
+        page_filled(&rt, 128)?,
+        page_filled(&rt, 4096)?,
+    ];
+    let found = |last| [Some(last), Some(0), None, Some(0), Some(0)];
+    assert_eq!(rt;
+        seen,
+        [
+            (found(0), 1, 13),
+            (found(62), 63, 199),
+            (found(63), 64, 202),
+            (found(64), 65, 205),
+            (found(127), 128, 394),
+            (found(4095), 4096, 12_298),
+        ]
+    );
     Ok(())
 }

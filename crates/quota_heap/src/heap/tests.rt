@@ -11,7 +11,7 @@ use page_slots::PageTables;
 use proxy_table::ProxyTable;
 use region::Region;
 use size_classes::Classes;
-use slot_bitmap::SlotMap;
+use slot_bitmap::SlotMaps;
 use std::alloc::Global;
 use std::test::Fail;
 
@@ -52,7 +52,7 @@ fn region_of(shared_pages: &SharedPages) -> &Region {
         pool,
     } = tables;
     let _classes: &Classes = classes;
-    let _maps: &Vec<SlotMap> = maps;
+    let _maps: &SlotMaps = maps;
     let _pool: &PagePool = pool;
     region
 }

@@ -9,7 +9,7 @@ use page_slots::PageTables;
 use proxy_table::ProxyTable;
 use region::Region;
 use size_classes::Classes;
-use slot_bitmap::SlotMap;
+use slot_bitmap::SlotMaps;
 use std::alloc::Global;
 use std::test::Fail;
 
@@ -48,7 +48,7 @@ fn region_of(open: &OpenHeap) -> &Region {
     let _live: &[u32; CLASSES] = live;
     let _needed: &u32 = needed;
     let region: &Region = region;
-    let _maps: &Vec<SlotMap> = maps;
+    let _maps: &SlotMaps = maps;
     let _lists: &ClassLists = lists;
     let _pool: &PagePool = pool;
     let _proxies: &ProxyTable = proxies;

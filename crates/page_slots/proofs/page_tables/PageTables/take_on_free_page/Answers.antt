@@ -1,18 +1,23 @@
 -- The first page of the pool is in no list.
 use Rattle.std.proofs.Common.{refl, inr, ◌∙◌, ap, arith}
 use Rattle.std.specs.Prelude.{slice_get}
-use Rattle.page_slots.proofs.Calls.{pool_inside, pool_small, pool_listable, pool_unlisted, pool_unused, took_free}
+use Rattle.page_slots.proofs.Calls.{pool_inside, read_back, written_twice, pool_small, pool_listable, pool_unlisted, pool_unused}
 use Rattle.page_slots.proofs.TablesAfterTake.{first_of, taken_gains, taken_others}
 use Rattle.page_slots.proofs.page_tables.PageTables.take_on_free_page.Goals as goal
 
-pub index_mut-map-requires : goal.index_mut-map-requires
-index_mut-map-requires c = (let lt = pool_inside _ _ c.requires.tables _ _ c.in_ok-page.ensures.taken in omega arith)
+pub renew-requires-clause-page : goal.renew-requires-clause-page
+renew-requires-clause-page c = pool_inside _ _ c.requires.tables _ _ c.in_ok-page.ensures.taken
+
+pub renew-requires-clause-few : goal.renew-requires-clause-few
+renew-requires-clause-few c = omega (arith, c.slots-slots.ensures.wide, c.args.self.now.room)
 
 pub renew-requires-clause-unused : goal.renew-requires-clause-unused
-renew-requires-clause-unused c = pool_unused _ _ c.requires.tables _ _ c.in_ok-page.ensures.taken _ c.index_mut-map.ensures.value
+renew-requires-clause-unused c = pool_unused _ _ c.requires.tables _ _ c.in_ok-page.ensures.taken
 
 pub set-requires : goal.set-requires
-set-requires c = ap (λ xs. slice_get xs 0) c.renew.ensures.value ∙ first_of c.slots-slots.result c.slots-slots.ensures.some
+set-requires c =
+    let inside = pool_inside _ _ c.requires.tables _ _ c.in_ok-page.ensures.taken in
+    ap (λ xs. slice_get xs 0) (read_back _ _ _ _ c.renew.ensures.value inside) ∙ first_of c.slots-slots.result c.slots-slots.ensures.some
 
 pub join_with_one-requires-clause-page : goal.join_with_one-requires-clause-page
 join_with_one-requires-clause-page c = pool_listable _ _ c.requires.tables _ _ c.in_ok-page.ensures.taken
@@ -24,17 +29,19 @@ pub address_of-requires-clause-small : goal.address_of-requires-clause-small
 address_of-requires-clause-small c = pool_small _ _ c.requires.tables _ _ c.in_ok-page.ensures.taken
 
 pub returns-clause-taken : goal.returns-clause-taken
-returns-clause-taken c = record {
-  page = c.in_ok-page.page;
-  slot = 0;
-  address = c.address_of.ensures;
-  taken = inr (
-    refl,
-    took_free _ _ c.requires.tables c.in_ok-page.page c.take.new.self c.in_ok-page.ensures.taken c.args.c c.slots-slots.result c.set.new.self
-        c.renew.new.self c.join_with_one.new.lists
-        c.requires.none c.slots-slots.ensures.value c.renew.ensures.value c.set.ensures.value c.join_with_one.ensures.filled c.join_with_one.ensures.not_filled,
-  );
-}
+returns-clause-taken c =
+    let inside = pool_inside _ _ c.requires.tables _ _ c.in_ok-page.ensures.taken in record {
+      page = c.in_ok-page.page;
+      slot = 0;
+      address = c.address_of.ensures;
+      taken = inr (refl, record {
+        none = c.requires.none;
+        front = c.in_ok-page.ensures.taken;
+        maps = rw (← c.slots-slots.ensures.value) (written_twice _ _ _ _ _ _ _ c.renew.ensures.value inside c.set.ensures.value);
+        filled = rw (← c.slots-slots.ensures.value) c.join_with_one.ensures.filled;
+        not_filled = rw (← c.slots-slots.ensures.value) c.join_with_one.ensures.not_filled;
+      });
+    }
 
 pub returns-clause-others : goal.returns-clause-others
 returns-clause-others c =
