@@ -1,0 +1,4 @@
+pub mod Certificates
+pub mod Demands
+pub mod Heaps
+pub mod Runs
