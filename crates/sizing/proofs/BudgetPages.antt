@@ -1,6 +1,6 @@
 -- For `pages_for_a_budget_serve`: at bound one the objects need at most (asked + the sum of t - least) / t pages.
 use Rattle.std.proofs.Common.{◌≡◌, ℕ, zero, suc, ◌+◌, ◌-◌, ◌*◌, ◌%◌, ◌<◌, ◌≤◌, List, [], ◌∷◌, Some, length, replicate, arith, ap, sym}
-use Rattle.std.proofs.Common.{inl, inr, refl, subst}
+use Rattle.std.proofs.Common.{inl, inr, refl}
 use Rattle.std.specs.Prelude.{nat_eq, sum_by}
 use Rattle.std.specs.List.{range_with_len}
 use Rattle.std.proofs.lemmas.Bool.{cases_eq}

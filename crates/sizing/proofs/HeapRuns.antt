@@ -1,5 +1,5 @@
 -- For the laws of `heaps.rt`: a run of a manager with pages is a run of the page model, so the laws of runs hold of it.
-use Rattle.std.proofs.Common.{◌≡◌, ◌≢◌, ℕ, ◌<◌, ◌≤◌, List, [], ◌∷◌, Option, Some, None, Ok, Err, replicate, arith, ap, sym, ◌∙◌, inl, inr, refl, subst}
+use Rattle.std.proofs.Common.{◌≡◌, ◌≢◌, ℕ, List, [], ◌∷◌, Option, Some, None, Ok, Err, replicate, arith, ap, sym, ◌∙◌, inl, inr, refl, subst}
 use Rattle.std.specs.Prelude.{◌⊎◌}
 use Rattle.std.specs.FinMap.{empty, get, insert}
 use Rattle.cf_base.specs.declared.answers.Freed.{Freed}
@@ -13,12 +13,12 @@ use Rattle.page_model.specs.Held.{Held, Objects, Placed, objects}
 use Rattle.page_model.specs.Paging.{IsPaging, Paging, class_for}
 use Rattle.page_model.specs.Steps.{Moves, MustMove, RemovesObject, Request, resized}
 use Rattle.page_model.proofs.CallerLemmas.{class_fits, length-written}
-use Rattle.cf_model.specs.Rules.{IsPaged, KeepsPages, KeepsRules, KeepsRulesOf}
+use Rattle.cf_model.specs.Rules.{IsPaged, KeepsRulesOf}
 use Rattle.cf_model.specs.State.{HeapState, paging_in}
 use Rattle.cf_model.specs.Steps.{ChangesCost, IsFreeStep, IsLeftByRefusal, IsMallocStep, IsResizeStep, LacksRoomIn, number_of}
 use Rattle.cf_model.proofs.PageSteps.{free_removes, malloc_places}
 use Rattle.sizing.specs.Heaps.{Answered, HeapRun, IsFresh, Leads, free_with, malloc_with, resize_with, write_with}
-use Rattle.sizing.specs.Runs.{Does, HeapCall, MallocLacks, ResizeLacks, Run, ServesMallocs, ServesResizes, free_of, malloc_of, resize_of, write_of}
+use Rattle.sizing.specs.Runs.{Does, HeapCall, Run, ServesMallocs, ServesResizes, free_of, malloc_of, resize_of, write_of}
 
 -- a call of the manager keeps kind and pages, and is a call of the page model, unless it leaves the objects as they are
 record IsTurned (old new : HeapState) : Type 0 where

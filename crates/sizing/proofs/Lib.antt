@@ -6,3 +6,4 @@ pub mod MostPages
 pub mod ModePages
 pub mod BudgetPages
 pub mod HeapRuns
+pub mod Needed

@@ -8,25 +8,25 @@ use Rattle.std.proofs.lemmas.List.{get_or-map, length-map}
 use Rattle.std.proofs.lemmas.List.Elements.{All-cons, All-contains, All-contains_itself, All-map, All-nil, All-weaker}
 use Rattle.std.proofs.lemmas.Nat.{div-add-mod', mul-le}
 use Rattle.std.proofs.Math.Nat.{le-max_left, le-max_right, le-min, max-le, min-le_left, min-le_right, mod-lt}
-use Rattle.std.specs.FinMap.{empty, get, insert, values}
+use Rattle.std.specs.FinMap.{empty, get, insert}
 use Rattle.cf_base.specs.Settings.{Profile}
 use Rattle.cf_lemmas.proofs.Ranges.{sum_le}
 use Rattle.cf_lemmas.proofs.Values.{no_values}
 use Rattle.page_model.specs.Arrangement.{IsSound, live, pages_of_class, used_pages}
 use Rattle.page_model.specs.Counts.{ceil_div, most_pages}
-use Rattle.page_model.specs.Held.{Held, Objects, Placed, objects}
+use Rattle.page_model.specs.Held.{Held, Objects, objects}
 use Rattle.page_model.specs.Paging.{EveryBoundIsOne, IsPaging, Paging, bound_of, class_for, classes, slots_of}
 use Rattle.page_model.proofs.CallerLemmas.{between_multiples, bytes_missing, ceil_mono, no_objects, slots_some, sound_empty}
 use Rattle.page_model.proofs.Lacking.{none_free}
 use Rattle.page_model.proofs.Nothing.{none_home}
 use Rattle.page_model.proofs.PageCounts.{sound_can_hold}
 use Rattle.page_model.proofs.PageLaws.{most_pages_least}
-use Rattle.quota_model.specs.Admission.{declared, first_large, in_order, live_of, pages_needed_by}
+use Rattle.quota_model.specs.Admission.{first_large, in_order, live_of, pages_needed_by}
 use Rattle.quota_model.specs.declared.answers.Need.{Need}
 use Rattle.quota_model.proofs.EnoughPages.{live_of-inserted}
 use Rattle.sizing.specs.Certificates.{IsCertificate, LeadsTo, Point}
 use Rattle.sizing.specs.Demands.{HasAtMost, KeepsTo, KeepsToOne, count_in, greatest_of, pages_of_modes, spread_of, spread_of_modes}
-use Rattle.sizing.specs.Runs.{CanBeRefused, Does, HeapCall, MallocLacks, Run, ServesMallocs, ServesResizes}
+use Rattle.sizing.specs.Runs.{CanBeRefused, Does, HeapCall, Run, ServesMallocs, ServesResizes}
 use Rattle.sizing.proofs.Calls.{live_malloced, run_keeps, sound_next, within_next}
 use Rattle.sizing.proofs.ClassPages.{full_now, sum_less}
 use Rattle.sizing.proofs.FewerPages.{refused}

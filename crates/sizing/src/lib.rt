@@ -3,8 +3,10 @@
 #![tactic(auto)]
 
 mod budget;
+mod count;
 mod heaps;
 mod laws;
+mod least;
 mod modes;
 
 pub use budget::pages_for_a_budget_serve;
@@ -15,7 +17,9 @@ pub use heaps::{
 pub use laws::{
     enough_pages_serve, fewer_pages_refuse, nothing_must_move, pages_follow_the_most_live,
 };
+pub use least::{least_pages, pages_with_mode};
 pub use modes::{
     certified_pages_serve, fewer_pages_for_modes_refuse, pages_for_modes_serve,
     pages_for_modes_serve_at_bound_one,
 };
+pub use quota_model::Need;
