@@ -1,14 +1,13 @@
 //! The test whether a quota of pages is enough for the objects that a task declares, its `needs`.
-ghost use Rattle.std.specs.Prelude.{◌≡◌, ℕ, ◌+◌, ◌-◌, ◌^◌, ◌≤◌, ◌<◌, IfErr, IfNone, IfOk, IfSome, Some, length, nat_lt, position};
+ghost use Rattle.std.specs.Prelude.{◌≡◌, ℕ, ◌+◌, ◌-◌, ◌^◌, ◌≤◌, ◌<◌, IfErr, IfOk, Some, length, nat_lt, position};
 ghost use Rattle.std.specs.FinMap.{empty};
 ghost use Rattle.cf_base.specs.Classes.{need, sizes};
 ghost use Rattle.cf_base.specs.Settings.{profile_of};
 ghost use Rattle.cf_base.specs.declared.kind.Layout.TheVariants.{Words};
 ghost use Rattle.page_model.specs.Counts.{ceil_div};
 ghost use Rattle.quota_model.specs.Layout.{IsPast};
-ghost use Rattle.quota_model.specs.Admission.{CanBeAsked, IsAdmission, IsEnough, declared_in_all, first_refused_for_space, in_order, pages_needed_by};
+ghost use Rattle.quota_model.specs.Admission.{CanBeAsked, IsAdmission, declared_in_all, first_refused_for_space, in_order, pages_needed_by};
 ghost use Rattle.quota_model.specs.Refusals.{task_paging};
-ghost use Rattle.quota_model.specs.declared.answers.Admission.TheVariants.{Yes};
 
 use crate::sizes::{CLASSES, class_at, fill_sizes, slots_at};
 use crate::{Admission, Need};

@@ -52,12 +52,15 @@ turned old new (resize_with asked (Err e)) is step = only_cost old new (rw (is, 
 turned old new (write_with at bytes (Ok u)) is step = record {
   kind = ap (λ (s : HeapState). s.kind) step.whole;
   pages = ap paging_in step.whole;
-  step = inr (write_of at.number (written step.object.bytes at.from bytes), record {
-    object = step.object;
-    found = step.found;
-    long = length-written _ _ _ step.within;
-    left = ap (λ (s : HeapState). s.held) step.whole;
-  });
+  step = inr (
+    write_of at.number (written step.object.bytes at.from bytes),
+    record {
+      object = step.object;
+      found = step.found;
+      long = length-written _ _ _ step.within;
+      left = ap (λ (s : HeapState). s.held) step.whole;
+    },
+  );
 }
 turned old new (write_with at bytes (Err e)) is step = record {
   kind = ap (λ (s : HeapState). s.kind) step.1;

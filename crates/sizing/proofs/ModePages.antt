@@ -177,9 +177,13 @@ module _ (p : Paging) (ok : IsPaging p) where
           within = one_of;
           covered = λ needs is keeps. (
               let y = sure.next x.0 needs x.1 is in
-              let few = few_at y.0 needs y.2 (objects new) keeps in
-              (y.0, y.1, y.2, below_next old new k.sound sound x.0 y.0 y.3 x.3 (few_at x.0 was.0 x.2 (objects old) was.2) few
-              (grows_within old new call k.sound does y.0 y.1 few)));
+              let few = few_at y.0 needs y.2 (objects new) keeps in (
+                y.0,
+                y.1,
+                y.2,
+                below_next old new k.sound sound x.0 y.0 y.3 x.3 (few_at x.0 was.0 x.2 (objects old) was.2) few
+                    (grows_within old new call k.sound does y.0 y.1 few),
+              ));
         }
 
     covered_along : (needs : List Need) → Contains modes needs → (calls : List HeapCall) (m : Held) → Run p (KeepsToOne modes) empty calls m → IsCovered m

@@ -28,12 +28,19 @@ one_more h n m k zero pos some s =
           ))
     ]
 one_more h n m k (suc q) pos some s = elim (cases_lt n ((h - suc q) * m + suc q * (m - 1))) [
-  | inl less ↦ (h, omega arith, (suc q, record {
-      few = s.few;
-      within = s.within;
-      least = (let l = s.least in omega arith);
-      most = omega arith;
-    }))
+  | inl less ↦ (
+    h,
+    omega arith,
+    (
+      suc q,
+      record {
+        few = s.few;
+        within = s.within;
+        least = (let l = s.least in omega arith);
+        most = omega arith;
+      },
+    ),
+  )
   | inr full ↦ (
       let few = s.few in
       let within = s.within in
@@ -48,13 +55,19 @@ one_more h n m k (suc q) pos some s = elim (cases_lt n ((h - suc q) * m + suc q 
             let z : (suc q) * (m - 1) ≡ (suc q) * 0 = ap (λ x. suc q * x) (let x : m - 1 ≡ 0 = omega arith in x) in
             omega arith)
       ] in
-      let wide : q * 1 ≤ q * (m - 1) = mul-le q 1 q (m - 1) (omega arith) several in
-      (h, omega arith, (q, record {
-        few = omega arith;
-        within = omega arith;
-        least = rw fewer (omega arith);
-        most = rw fewer (omega arith);
-      })))
+      let wide : q * 1 ≤ q * (m - 1) = mul-le q 1 q (m - 1) (omega arith) several in (
+        h,
+        omega arith,
+        (
+          q,
+          record {
+            few = omega arith;
+            within = omega arith;
+            least = rw fewer (omega arith);
+            most = rw fewer (omega arith);
+          },
+        ),
+      ))
 ]
 
 -- the most pages of n + j objects, if n objects can be on h

@@ -10,8 +10,7 @@ use Rattle.cf_base.specs.Classes.{need, sizes, sizes_from}
 use Rattle.cf_base.specs.Limits.{is_page_size}
 use Rattle.cf_base.specs.Settings.{Profile}
 use Rattle.cf_base.specs.declared.kind.Layout.{Layout}
-use Rattle.cf_base.specs.declared.kind.Layout.TheVariants.{Blocks, Words}
-use Rattle.cf_base.proofs.CallerLemmas.{page_size}
+use Rattle.cf_base.specs.declared.kind.Layout.TheVariants.{Words}
 use Rattle.cf_base.proofs.Sizes.{map-one, sizes_from-next, sizes_from-page}
 use Rattle.cf_lemmas.proofs.Ranges.{sum_grows}
 use Rattle.cf_lemmas.proofs.Tests.{and_false, eq_no, eq_yes, le_no, le_yes, lt_no, lt_yes}
@@ -42,14 +41,9 @@ between_few below most needs = sum_grows (λ (e : Need). cond (nat_lt below (nee
     at_most true n = omega arith
     at_most false n = omega arith
 
--- sizes counted in units of one word, and of four
+-- sizes counted in units of one word
 pub in_words : (page : ℕ) (needs : List Need) → pages_by_size (1 * page) 0 (map (λ s. 1 * s) (sizes_from page 4 page)) needs ≡ pages_by_size page 0 (sizes page Words) needs
 in_words page needs = (let one : 1 * page ≡ page = omega arith in λ i. pages_by_size (one i) 0 (map-one (sizes_from page 4 page) i) needs)
-
-pub in_blocks : (page : ℕ) → IsTrue (is_page_size page) → (needs : List Need)
-    → pages_by_size (4 * (page / 4)) 0 (map (λ s. 4 * s) (sizes_from (page / 4) 1 (page / 4))) needs ≡ pages_by_size page 0 (sizes page Blocks) needs
-in_blocks page is needs = (let p = page_size page is in let w = p.whole in let e : 4 * (page / 4) ≡ page = omega arith in
-    ap (λ x. pages_by_size x 0 (sizes page Blocks) needs) e)
 
 -- one size more is counted
 pub size_counted : (unit page s s' below pages x total : ℕ) (needs : List Need) → 1 ≤ s → s < page → s' ≡ (9 * s + 7) / 8

@@ -56,7 +56,8 @@ fn pages_of_size(page_words: u32, below: u32, slot: u32, needs: &[Need]) -> u64
     requires objects { declared_in_all needs.now ≤ 65536 }
     ensures { result ≡ ceil_div (declared_between below slot needs.now) (page_words / slot) }
 {
-    pages_for(count_between(below, slot, needs), (page_words / slot) as u64)
+    let slots = (page_words / slot) as u64;
+    pages_for(count_between(below, slot, needs), slots)
 }
 
 /// How many of the declared objects need more than `below` words and at most `most`.

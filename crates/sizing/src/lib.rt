@@ -23,3 +23,6 @@ pub use modes::{
     pages_for_modes_serve_at_bound_one,
 };
 pub use quota_model::Need;
+
+#[cfg(test)]
+mod tests;
