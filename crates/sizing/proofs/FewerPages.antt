@@ -22,10 +22,7 @@ use Rattle.page_model.proofs.Enough.{needed_le_used}
 use Rattle.page_model.proofs.Lacking.{lacks_room_is, used_le}
 use Rattle.quota_model.specs.Admission.{count_of_class, declared, first_large, in_order, live_of, pages_needed_by}
 use Rattle.quota_model.specs.declared.answers.Need.{Need}
-use Rattle.quota_model.proofs.Ceilings.{count-append, count-cons}
-use Rattle.quota_model.proofs.Contained.{times}
-use Rattle.quota_model.proofs.Declared.{AllFit, all_fit, declared_is}
-use Rattle.quota_model.proofs.EnoughPages.{live_of-inserted}
+use Rattle.quota_model.proofs.CallerLemmas.{AllFit, all_fit, count-append, count-cons, declared_is, live_of-inserted, times}
 use Rattle.sizing.specs.Demands.{KeepsTo}
 use Rattle.sizing.specs.Runs.{CanBeRefused, malloc_of}
 

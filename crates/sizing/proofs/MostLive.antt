@@ -13,9 +13,7 @@ use Rattle.page_model.proofs.Lacking.{none_free}
 use Rattle.page_model.proofs.Nothing.{none_home}
 use Rattle.quota_model.specs.Admission.{in_order, pages_needed_by}
 use Rattle.quota_model.specs.declared.answers.Need.{Need}
-use Rattle.quota_model.proofs.Contained.{contained}
-use Rattle.quota_model.proofs.Declared.{declared_is}
-use Rattle.quota_model.proofs.EnoughPages.{count-map}
+use Rattle.quota_model.proofs.CallerLemmas.{contained, count-map, declared_is}
 use Rattle.sizing.specs.Demands.{HasAtMost, KeepsTo, count_in}
 use Rattle.sizing.specs.Runs.{HeapCall, IsServed, Run}
 use Rattle.sizing.proofs.Calls.{IsWithinPages, live_malloced, live_resized, run_keeps, sound_next, within_next}

@@ -22,8 +22,7 @@ use Rattle.quota_model.specs.Admission.{CanBeAsked, IsAdmission, IsEnough, count
 use Rattle.quota_model.specs.Refusals.{task_paging}
 use Rattle.quota_model.specs.declared.answers.Admission.TheVariants.{Yes}
 use Rattle.quota_model.specs.declared.answers.Need.{Need}
-use Rattle.quota_model.proofs.CallerLemmas.{enough_iff, length-in_order, pages_few}
-use Rattle.quota_model.proofs.Declared.{counted_by}
+use Rattle.quota_model.proofs.CallerLemmas.{counted_by, enough_iff, length-in_order, pages_few}
 use Rattle.sizing.specs.Demands.{KeepsTo}
 use Rattle.sizing.specs.Layout.{declared_between, pages_by_size}
 use Rattle.sizing.specs.Runs.{CanBeRefused, IsServed}
