@@ -1,8 +1,9 @@
 -- The lemmas that other crates' proofs cite: admission, counts by class and the pages that they need, the objects, quotas and addresses of tasks before and
 -- after a call, and the region's words after it.
 pub use Rattle.quota_model.proofs.Ceilings.{count-append, count-cons, pages_grow, pages_same, pages_of_none, pages_few}
-pub use Rattle.quota_model.proofs.Declared.{all_fail, length-in_order}
-pub use Rattle.quota_model.proofs.EnoughPages.{granted_within, live_of-inserted}
+pub use Rattle.quota_model.proofs.Contained.{contained, times}
+pub use Rattle.quota_model.proofs.Declared.{AllFit, all_fail, all_fit, counted_by, declared_is, length-in_order}
+pub use Rattle.quota_model.proofs.EnoughPages.{count-map, granted_within, live_of-inserted}
 pub use Rattle.quota_model.proofs.AdmissionLaws.{enough_iff, none_iff, one_answer, some_iff}
 pub use Rattle.quota_model.proofs.TaskParts.{get_part, get_part_past, found_small, found_whole, found_part, part_inserted, part_removed, part_other_inserted}
 pub use Rattle.quota_model.proofs.TaskParts.{part_other_removed}

@@ -1,6 +1,6 @@
--- For `count_pages`, `admit` and `least_quota`: the objects of each class and the pages that they need, after some entries of what a task declares, one more,
+-- For `count_pages` and `admit`: the objects of each class and the pages that they need, after some entries of what a task declares, one more,
 -- and all; a quota of at least these pages is enough.
-use Rattle.std.proofs.Common.{◌≡◌, ◌≢◌, ℕ, false, ◌+◌, ◌-◌, ◌<◌, ◌≤◌, List, [], ◌++◌, Some, None, length, get_or, set, replicate, take}
+use Rattle.std.proofs.Common.{◌≡◌, ◌≢◌, ℕ, false, ◌+◌, ◌-◌, ◌<◌, ◌≤◌, List, [], ◌++◌, Some, length, get_or, set, replicate, take}
 use Rattle.std.proofs.Common.{arith, ap, sym, ◌∙◌, inl, inr, refl, subst}
 use Rattle.std.specs.Prelude.{IsTrue, nat_eq, nat_lt}
 use Rattle.std.specs.FinMap.{empty}
@@ -17,7 +17,7 @@ use Rattle.page_model.proofs.CallerLemmas.{class_fits}
 use Rattle.quota_model.specs.Admission.{CanBeAsked, IsEnough, Share, count_of_class, first_refused_for_space, in_order, pages_needed_by}
 use Rattle.quota_model.specs.Refusals.{task_paging}
 use Rattle.quota_model.specs.declared.answers.Need.{Need}
-use Rattle.quota_model.proofs.CallerLemmas.{all_fail, enough_iff, length-in_order, none_iff, pages_few, pages_of_none, some_iff, zeros}
+use Rattle.quota_model.proofs.CallerLemmas.{all_fail, enough_iff, length-in_order, pages_of_none, some_iff, zeros}
 use Rattle.quota_model.specs.Layout.{AreTallied, IsPast}
 use Rattle.quota_model.proofs.Classes.{tasks_paged}
 use Rattle.quota_model.proofs.Entries.{ceil_within, count_here, count_other, count_split, in_order_more, pages_next, take_within}
@@ -42,22 +42,6 @@ all_counted t needs i counts pages before is k =
 pub within_is_enough : (t : Share) (needs : List Need) → CanBeAsked t.profile needs → (pages : ℕ) → pages ≡ pages_needed_by (task_paging t.profile) (in_order needs)
     → pages ≤ t.quota → IsEnough t needs
 within_is_enough t needs asked pages is within = (enough_iff t needs asked).1 (omega arith)
-
--- a quota of fewer pages isn't enough
-pub fewer_is_short : (t : Share) (needs : List Need) → CanBeAsked t.profile needs → (pages : ℕ) → pages ≡ pages_needed_by (task_paging t.profile) (in_order needs)
-    → t.quota < pages → ¬ IsEnough t needs
-fewer_is_short t needs asked pages is less = λ enough. (let within = (enough_iff t needs asked).0 enough in absurd (omega arith))
-
--- if the quota has at least the number of proxies in pages, no request is refused for space
-pub never_short : (t : Share) (needs : List Need) → CanBeAsked t.profile needs → t.profile.proxies ≤ t.quota
-    → (nth : ℕ) → first_refused_for_space t empty 0 (in_order needs) ≡ Some nth → ⊥
-never_short t needs asked wide nth short =
-    let few = asked.few in
-    let count = length-in_order needs in
-    let pages = pages_few (task_paging t.profile) (in_order needs) in
-    let none = (none_iff t needs asked).1 (omega arith) in
-    let e : None ≡ Some nth = sym none ∙ short in
-    cc
 
 module _ (t : Share) (is_page : IsTrue (is_page_size t.profile.page_words)) (needs : List Need) (asked : CanBeAsked t.profile needs) (i : ℕ) (d : Need)
     (lt : i < length needs) where

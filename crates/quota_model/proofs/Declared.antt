@@ -2,7 +2,7 @@
 -- of these objects fits a page.
 use Rattle.std.proofs.Common.{◌≡◌, ℕ, zero, suc, Bool, true, false, cond, ◌*◌, ◌<◌, ◌≤◌, List, [], ◌∷◌, ◌++◌, Some, None, length, get_or, replicate}
 use Rattle.std.proofs.Common.{arith, ap, sym, ◌∙◌, inl, inr, refl}
-use Rattle.std.specs.Prelude.{⊤, nat_eq, nat_lt, position}
+use Rattle.std.specs.Prelude.{⊤, count_by, nat_eq, nat_lt, position, sum_by}
 use Rattle.std.proofs.lemmas.Bool.{cases_lt, false≢true}
 use Rattle.std.specs.List.{position_or_len}
 use Rattle.std.proofs.lemmas.List.Sums.{sum_by-cons, fails_before_first}
@@ -20,16 +20,20 @@ times_cond : (b : Bool) (k : ℕ) → k * cond b 1 0 ≡ cond b k 0
 times_cond true k = omega arith
 times_cond false k = omega arith
 
+-- the declared mallocs whose length passes a test are those of the entries whose length does
+pub counted_by : (f : ℕ → Bool) (needs : List Need) → count_by f (in_order needs) ≡ sum_by (λ (e : Need). cond (f e.bytes) e.count 0) needs
+counted_by f [] = refl
+counted_by f (e ∷ es) =
+    let a = sum_by-cons (λ (d : Need). cond (f d.bytes) d.count 0) e es in
+    let b = count-append f (replicate e.count e.bytes) (in_order es) in
+    let c = sum_by-replicate (λ m. cond (f m) 1 0) e.count e.bytes in
+    let d = times_cond (f e.bytes) e.count in
+    let rest = counted_by f es in
+    omega arith
+
 -- a length occurs in the list of declared mallocs as often as the entries declare it
 pub declared_is : (needs : List Need) (n : ℕ) → declared needs n ≡ times n (in_order needs)
-declared_is [] n = refl
-declared_is (e ∷ es) n =
-    let a = sum_by-cons (λ (d : Need). cond (nat_eq d.bytes n) d.count 0) e es in
-    let b = count-append (λ m. nat_eq m n) (replicate e.count e.bytes) (in_order es) in
-    let c = sum_by-replicate (λ m. cond (nat_eq m n) 1 0) e.count e.bytes in
-    let d = times_cond (nat_eq e.bytes n) e.count in
-    let rest = declared_is es n in
-    omega arith
+declared_is needs n = sym (counted_by (λ m. nat_eq m n) needs)
 
 pub length-in_order : (needs : List Need) → length (in_order needs) ≡ declared_in_all needs
 length-in_order [] = refl

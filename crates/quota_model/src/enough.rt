@@ -1,15 +1,13 @@
-//! The test whether a quota of pages is enough for the objects that a task declares, its `needs`, and
-//! the least quota that is enough.
-ghost use Rattle.std.specs.Prelude.{◌≡◌, ℕ, ◌+◌, ◌-◌, ◌^◌, ◌≤◌, ◌<◌, IfErr, IfNone, IfOk, IfSome, Some, length, nat_lt, position};
+//! The test whether a quota of pages is enough for the objects that a task declares, its `needs`.
+ghost use Rattle.std.specs.Prelude.{◌≡◌, ℕ, ◌+◌, ◌-◌, ◌^◌, ◌≤◌, ◌<◌, IfErr, IfOk, Some, length, nat_lt, position};
 ghost use Rattle.std.specs.FinMap.{empty};
 ghost use Rattle.cf_base.specs.Classes.{need, sizes};
 ghost use Rattle.cf_base.specs.Settings.{profile_of};
 ghost use Rattle.cf_base.specs.declared.kind.Layout.TheVariants.{Words};
 ghost use Rattle.page_model.specs.Counts.{ceil_div};
 ghost use Rattle.quota_model.specs.Layout.{IsPast};
-ghost use Rattle.quota_model.specs.Admission.{CanBeAsked, IsAdmission, IsEnough, declared_in_all, first_refused_for_space, in_order, pages_needed_by};
+ghost use Rattle.quota_model.specs.Admission.{CanBeAsked, IsAdmission, declared_in_all, first_refused_for_space, in_order, pages_needed_by};
 ghost use Rattle.quota_model.specs.Refusals.{task_paging};
-ghost use Rattle.quota_model.specs.declared.answers.Admission.TheVariants.{Yes};
 
 use crate::sizes::{CLASSES, class_at, fill_sizes, slots_at};
 use crate::{Admission, Need};
@@ -41,29 +39,9 @@ pub fn admit(s: &Settings, quota: u32, needs: &[Need]) -> Admission
     }
 }
 
-/// The least quota, in pages, for which `admit` returns `Yes` with these settings and needs. It may
-/// exceed the pages of the settings. `None` if an entry's object is larger than a page, or if the
-/// counts sum to more than the proxies: no quota is enough then.
-pub fn least_quota(s: &Settings, needs: &[Need]) -> Option<u32>
-    requires few { length needs.now ≤ 64 }
-    ensures enough { IfSome result (λ quota. IsAdmission (record { profile = profile_of s.now; quota = quota }) needs.now Yes) }
-    ensures least { IfSome result (λ quota. (less : ℕ) → less < quota
-        → ¬ IsEnough (record { profile = profile_of s.now; quota = less }) needs.now) }
-    ensures none { IfNone result (¬ CanBeAsked (profile_of s.now) needs.now) }
-{
-    if first_large(s.page_words, needs).is_some() || count_in_all(needs) > s.proxies as u64 {
-        return None;
-    }
-    match pages_within(s, u32::MAX, needs) {
-        Ok(pages) => Some(pages),
-        // Not reached, since at most 65,536 objects need at most 65,536 pages.
-        Err(_) => None,
-    }
-}
-
 /// The index of the first entry whose object is larger than a page of `page_words` words, if there
 /// is one.
-fn first_large(page_words: u32, needs: &[Need]) -> Option<usize>
+pub fn first_large(page_words: u32, needs: &[Need]) -> Option<usize>
     ensures { result ≡ position (λ e. nat_lt page_words (need e.bytes)) needs.now }
 {
     needs
@@ -72,7 +50,7 @@ fn first_large(page_words: u32, needs: &[Need]) -> Option<usize>
 }
 
 /// The number of objects, of any length, that all entries declare together.
-fn count_in_all(needs: &[Need]) -> u64
+pub fn count_in_all(needs: &[Need]) -> u64
     requires few { length needs.now ≤ 64 }
     ensures { result ≡ declared_in_all needs.now }
 {
@@ -80,7 +58,7 @@ fn count_in_all(needs: &[Need]) -> u64
 }
 
 /// How many pages, with `slots` slots each, `count` objects need: the quotient, rounded up.
-fn pages_for(count: u64, slots: u64) -> u64
+pub fn pages_for(count: u64, slots: u64) -> u64
     requires some { 1 ≤ slots }
     requires few { count + slots < 2 ^ 63 }
     ensures { result ≡ ceil_div count slots }

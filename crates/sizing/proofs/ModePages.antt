@@ -1,0 +1,312 @@
+-- For the laws of `modes.rt`: a program whose objects are always within one of several modes. A certificate bounds its pages along every run; `spread_of_modes`
+-- is the sum of one.
+use Rattle.std.proofs.Common.{◌≡◌, ℕ, ◌+◌, ◌-◌, ◌*◌, ◌%◌, ◌<◌, ◌≤◌, suc, List, [], ◌∷◌, Contains, None, length, map, replicate, arith, ap, sym, ◌∙◌, inl, inr, refl, subst}
+use Rattle.std.specs.Prelude.{All, count_by, max, min, nat_eq, sum_by}
+use Rattle.std.specs.List.{range_with_len}
+use Rattle.std.proofs.lemmas.Bool.{cases_lt}
+use Rattle.std.proofs.lemmas.List.{get_or-map, length-map}
+use Rattle.std.proofs.lemmas.List.Elements.{All-cons, All-contains, All-contains_itself, All-map, All-nil, All-weaker}
+use Rattle.std.proofs.lemmas.Nat.{div-add-mod', mul-le}
+use Rattle.std.proofs.Math.Nat.{le-max_left, le-max_right, le-min, max-le, min-le_left, min-le_right, mod-lt}
+use Rattle.std.specs.FinMap.{empty, get, insert}
+use Rattle.cf_base.specs.Settings.{Profile}
+use Rattle.cf_lemmas.proofs.Ranges.{sum_le}
+use Rattle.cf_lemmas.proofs.Values.{no_values}
+use Rattle.page_model.specs.Arrangement.{IsSound, live, pages_of_class, used_pages}
+use Rattle.page_model.specs.Counts.{ceil_div, most_pages}
+use Rattle.page_model.specs.Held.{Held, Objects, objects}
+use Rattle.page_model.specs.Paging.{EveryBoundIsOne, IsPaging, Paging, bound_of, class_for, classes, slots_of}
+use Rattle.page_model.proofs.CallerLemmas.{between_multiples, bytes_missing, ceil_mono, no_objects, slots_some, sound_empty}
+use Rattle.page_model.proofs.Lacking.{none_free}
+use Rattle.page_model.proofs.Nothing.{none_home}
+use Rattle.page_model.proofs.PageCounts.{sound_can_hold}
+use Rattle.page_model.proofs.PageLaws.{most_pages_least}
+use Rattle.quota_model.specs.Admission.{first_large, in_order, live_of, pages_needed_by}
+use Rattle.quota_model.specs.declared.answers.Need.{Need}
+use Rattle.quota_model.proofs.CallerLemmas.{live_of-inserted}
+use Rattle.sizing.specs.Certificates.{IsCertificate, LeadsTo, Point}
+use Rattle.sizing.specs.Demands.{HasAtMost, KeepsTo, KeepsToOne, count_in, greatest_of, pages_of_modes, spread_of, spread_of_modes}
+use Rattle.sizing.specs.Runs.{CanBeRefused, Does, HeapCall, Run, ServesMallocs, ServesResizes}
+use Rattle.sizing.proofs.Calls.{live_malloced, run_keeps, sound_next, within_next}
+use Rattle.sizing.proofs.ClassPages.{full_now, sum_less}
+use Rattle.sizing.proofs.FewerPages.{refused}
+use Rattle.sizing.proofs.MostLive.{declared_few}
+use Rattle.sizing.proofs.MostPages.{ceil_within_most, most_at_one, most_grows}
+
+-- ---- lists of modes
+
+pub contains_head : {X : Type 0} (x : X) (xs : List X) → Contains (x ∷ xs) x
+contains_head x xs = (0, omega arith, refl)
+
+pub contains_later : {X : Type 0} (x y : X) (xs : List X) → Contains xs y → Contains (x ∷ xs) y
+contains_later x y xs c = (c.0 + 1, (let lt = c.1 in omega arith), (let e : c.0 + 1 ≡ suc c.0 = omega arith in rw e c.2))
+
+contains_mapped : {X Y : Type 0} (f : X → Y) (xs : List X) (x : X) → Contains xs x → Contains (map f xs) (f x)
+contains_mapped f xs x c = (c.0, (let e = length-map xs f in let lt = c.1 in omega arith), get_or-map f xs c.0 x (f x) c.1 ∙ ap f c.2)
+
+module _ (f : List Need → ℕ) where
+  pub at_most_greatest : (modes : List (List Need)) (needs : List Need) → Contains modes needs → f needs ≤ greatest_of f modes
+  at_most_greatest modes needs is = All-contains (λ n. f n ≤ greatest_of f modes) modes needs (all modes) is
+    where
+      all : (modes : List (List Need)) → All (λ n. f n ≤ greatest_of f modes) modes
+      all [] = All-nil (λ n. f n ≤ 0)
+      all (x ∷ xs) = All-cons (λ n. f n ≤ greatest_of f (x ∷ xs)) x xs (le-max_left (f x) (greatest_of f xs))
+          (All-weaker (λ n. f n ≤ greatest_of f xs) (λ n. f n ≤ greatest_of f (x ∷ xs))
+          (λ n le. (let up = le-max_right (f x) (greatest_of f xs) in omega arith)) xs (all xs))
+
+  -- a number below the greatest is below that of a mode
+  below_greatest : (modes : List (List Need)) (t : ℕ) → t < greatest_of f modes → (needs : List Need) × Contains modes needs × (t < f needs)
+  below_greatest [] t lt = absurd (omega arith)
+  below_greatest (x ∷ xs) t lt = elim (cases_lt t (f x)) [
+    | inl here ↦ (x, contains_head x xs, here)
+    | inr over ↦ elim (cases_lt t (greatest_of f xs)) [
+      | inl later ↦ (let r = below_greatest xs t later in (r.0, contains_later x r.0 xs r.1, r.2))
+      | inr past ↦ absurd (let m : max (f x) (greatest_of f xs) ≤ t = max-le over past in omega arith)
+    ]
+  ]
+
+-- ---- certificates
+
+filled : (b m : ℕ) → 0 < m → ceil_div (b * m) m ≡ b
+filled b m pos = between_multiples (b * m + (m - 1)) b m pos (omega arith) (omega arith)
+
+-- n objects are at most the slots of the pages that they need
+slots_enough : (n m b : ℕ) → 0 < m → ceil_div n m ≤ b → n ≤ b * m
+slots_enough n m b pos le =
+    let d : ceil_div n m * m + (n + (m - 1)) % m ≡ n + (m - 1) = div-add-mod' (n + (m - 1)) m in
+    let r : (n + (m - 1)) % m < m = mod-lt (n + (m - 1)) pos in
+    let more = mul-le (ceil_div n m) m b m le (omega arith) in
+    omega arith
+
+-- without the object of a malloc the needs are kept too
+keeps_before : (needs : List Need) (m : Held) (h n : ℕ) → get m h ≡ None → KeepsTo needs (insert (objects m) h (replicate n 0)) → KeepsTo needs (objects m)
+keeps_before needs m h n none keeps q =
+    let a = live_of-inserted (objects m) h n q (bytes_missing m h none) in
+    let b = keeps q in
+    omega arith
+
+keeps_none : (needs : List Need) → KeepsTo needs (objects empty)
+keeps_none needs n =
+    let none : live_of (objects empty) n ≡ 0 = ap (λ (o : Objects). live_of o n) no_objects ∙ ap (count_by (λ (v : List ℕ). nat_eq (length v) n)) no_values in
+    omega arith
+
+module _ (p : Paging) (ok : IsPaging p) where
+  most_on : (m : Held) → IsSound p m → (c n : ℕ) → c < classes p → live p (objects m) c ≤ n → pages_of_class p m c ≤ most_pages n (slots_of p c) (bound_of p c)
+  most_on m s c n lt few =
+      let here = most_pages_least (pages_of_class p m c) (live p (objects m) c) (slots_of p c) (bound_of p c) (slots_some p ok c lt) (sound_can_hold p ok c lt m s) in
+      let more = most_grows (live p (objects m) c) n (slots_of p c) (bound_of p c) (slots_some p ok c lt) (ok.some c lt) few in
+      omega arith
+
+  module _ (modes : List (List Need)) (points : List Point) (sure : IsCertificate p modes points) where
+    -- the pages of the classes are within those of the point
+    abbrev IsBelow : Held → Point → Type 0
+    IsBelow m x = (c : ℕ) → c < classes p → pages_of_class p m c ≤ x.pages c
+
+    -- in the mode a point of the certificate covers the pages
+    abbrev Covers : Held → List Need → Type 0
+    Covers m needs = (x : Point) × Contains points x × (x.needs ≡ needs) × IsBelow m x
+
+    record IsCovered (m : Held) : Type 0 where
+      sound : IsSound p m
+      within : KeepsToOne modes (objects m)
+      covered : (needs : List Need) → Contains modes needs → KeepsTo needs (objects m) → Covers m needs
+
+    covered_first : (needs : List Need) → Contains modes needs → IsCovered empty
+    covered_first needs is = record {
+      sound = sound_empty p;
+      within = (needs, is, keeps_none needs);
+      covered = λ others is keeps. (let x = sure.first others is in (x.0, x.1, x.2, λ c lt. (let z = none_home p c in omega arith)));
+    }
+
+    -- the objects of a mode are within those of its point
+    few_at : (x : Point) (needs : List Need) → x.needs ≡ needs → (o : Objects) → KeepsTo needs o → HasAtMost p (count_in p x.needs) o
+    few_at x needs is o keeps = subst (λ n. HasAtMost p (count_in p n) o) (sym is) (declared_few p needs o keeps)
+
+    -- a call leaves each class the pages that it had, or those of the point
+    grows_within : (old new : Held) (call : HeapCall) → IsSound p old → Does p old call new → (y : Point) → Contains points y
+        → HasAtMost p (count_in p y.needs) (objects new) → (c : ℕ) → c < classes p → pages_of_class p new c ≤ max (pages_of_class p old c) (y.pages c)
+    grows_within old new call s does y inside few c lt =
+        let after = within_next p ok old s (λ d. max (pages_of_class p old d) (y.pages d) * slots_of p d)
+        (λ d l. (
+        let e = filled (max (pages_of_class p old d) (y.pages d)) (slots_of p d) (slots_some p ok d l) in
+        let up = le-max_left (pages_of_class p old d) (y.pages d) in
+        omega arith)) call new does
+        (λ d l. (
+        let a = few d l in
+        let b = slots_enough (count_in p y.needs d) (slots_of p d) (y.pages d) (slots_some p ok d l) (sure.tops y d inside l) in
+        let e = mul-le (y.pages d) (slots_of p d) (max (pages_of_class p old d) (y.pages d)) (slots_of p d) (le-max_right (pages_of_class p old d) (y.pages d)) (omega arith) in
+        omega arith)) c lt in
+        let e = filled (max (pages_of_class p old c) (y.pages c)) (slots_of p c) (slots_some p ok c lt) in
+        omega arith
+
+    -- the point to which the point of the old objects leads is above the new ones
+    below_next : (old new : Held) → IsSound p old → IsSound p new → (x y : Point) → LeadsTo p x y → IsBelow old x
+        → HasAtMost p (count_in p x.needs) (objects old) → HasAtMost p (count_in p y.needs) (objects new)
+        → ((c : ℕ) → c < classes p → pages_of_class p new c ≤ max (pages_of_class p old c) (y.pages c)) → IsBelow new y
+    below_next old new so sn x y leads below few few' grows c lt = elim (cases_lt (y.pages c) (pages_of_class p new c)) [
+      | inr fine ↦ fine
+      | inl more ↦ (
+          let was = few c lt in
+          let now = few' c lt in
+          let at = below c lt in
+          let next = leads c lt in
+          let fewer : pages_of_class p new c ≤ pages_of_class p old c = elim (cases_lt (pages_of_class p old c) (pages_of_class p new c)) [
+            | inr le ↦ le
+            | inl grew ↦ absurd (
+                let grows' = grows c lt in
+                let within : max (pages_of_class p old c) (y.pages c) ≤ pages_of_class p new c - 1 = max-le (omega arith) (omega arith) in
+                omega arith)
+          ] in
+          let on : pages_of_class p new c ≤ most_pages (min (count_in p x.needs c) (count_in p y.needs c)) (slots_of p c) (bound_of p c) =
+          elim (cases_lt (count_in p y.needs c) (live p (objects old) c)) [
+            | inl over ↦ most_on new sn c (min (count_in p x.needs c) (count_in p y.needs c)) lt (le-min (omega arith) now)
+            | inr under ↦ (let a = most_on old so c (min (count_in p x.needs c) (count_in p y.needs c)) lt (le-min was under) in omega arith)
+          ] in
+          let both : pages_of_class p new c
+          ≤ min (x.pages c) (most_pages (min (count_in p x.needs c) (count_in p y.needs c)) (slots_of p c) (bound_of p c)) = le-min (omega arith) on in
+          omega arith)
+    ]
+
+    covered_next : (old new : Held) (call : HeapCall) → IsCovered old → Does p old call new → KeepsToOne modes (objects new) → IsCovered new
+    covered_next old new call k does one_of =
+        let sound = sound_next p ok old k.sound call new does in
+        let was = k.within in
+        let x = k.covered was.0 was.1 was.2 in
+        record {
+          sound = sound;
+          within = one_of;
+          covered = λ needs is keeps. (
+              let y = sure.next x.0 needs x.1 is in
+              let few = few_at y.0 needs y.2 (objects new) keeps in (
+                y.0,
+                y.1,
+                y.2,
+                below_next old new k.sound sound x.0 y.0 y.3 x.3 (few_at x.0 was.0 x.2 (objects old) was.2) few
+                    (grows_within old new call k.sound does y.0 y.1 few),
+              ));
+        }
+
+    covered_along : (needs : List Need) → Contains modes needs → (calls : List HeapCall) (m : Held) → Run p (KeepsToOne modes) empty calls m → IsCovered m
+    covered_along needs is calls m run = run_keeps p (KeepsToOne modes) IsCovered covered_next calls empty m (covered_first needs is) run
+
+    pub certified_mallocs : ServesMallocs p (KeepsToOne modes)
+    unfolding used_pages
+    certified_mallocs calls m h n run l =
+        let o = l.asked in
+        let k = covered_along o.0 o.1 calls m run in
+        let x = k.covered o.0 o.1 (keeps_before o.0 m h n l.unused o.2) in
+        let all : used_pages p m ≡ p.pages = none_free p m k.sound l.lacking.taken in
+        let few = few_at x.0 o.0 x.2 (insert (objects m) h (replicate n 0)) o.2 (class_for p n) l.fits in
+        let added = live_malloced p m h n l.unused in
+        let next = full_now p ok m k.sound (class_for p n) l.fits (count_in p (x.0).needs (class_for p n)) l.lacking.full (omega arith) in
+        let top = sure.tops x.0 (class_for p n) x.1 l.fits in
+        let less = sum_less (pages_of_class p m) (x.0).pages 0 (classes p) (class_for p n) (omega arith) (let f = l.fits in omega arith)
+        (λ d _ lt. x.3 d (omega arith)) (omega arith) in
+        let within = sure.enough x.0 x.1 in
+        absurd (omega arith)
+
+    pub certified_resizes : ((x : Point) → Contains points x → sum_by x.pages (range_with_len 0 (classes p)) < p.pages) → ServesResizes p (KeepsToOne modes)
+    unfolding used_pages
+    certified_resizes spare calls m h n run l =
+        let o = l.asked in
+        let k = covered_along o.0 o.1 calls m run in
+        let w = k.within in
+        let x = k.covered w.0 w.1 w.2 in
+        let all : used_pages p m ≡ p.pages = none_free p m k.sound l.lacking.taken in
+        let sum = sum_le (pages_of_class p m) (x.0).pages 0 (classes p) (λ d _ lt. x.3 d (omega arith)) in
+        let less = spare x.0 x.1 in
+        absurd (omega arith)
+
+  module _ (modes : List (List Need)) where
+    -- the pages that the classes can have in a mode
+    abbrev point_of : List Need → Point
+    point_of needs = record { needs = needs; pages = spread_of p modes needs }
+
+    abbrev IsPointOf : Point → Type 0
+    IsPointOf x = (needs : List Need) × Contains modes needs × (x ≡ point_of needs)
+
+    is_point : (x : Point) → Contains (map point_of modes) x → IsPointOf x
+    is_point x inside = All-contains IsPointOf (map point_of modes) x
+        (All-map IsPointOf point_of modes (All-weaker (Contains modes) (λ needs. IsPointOf (point_of needs)) (λ needs is. (needs, is, refl)) modes
+        (All-contains_itself modes))) inside
+
+    sum_of_point : (x : Point) → Contains (map point_of modes) x → sum_by x.pages (range_with_len 0 (classes p)) ≤ spread_of_modes p modes
+    sum_of_point x inside =
+        let y = is_point x inside in
+        subst (λ z. sum_by z.pages (range_with_len 0 (classes p)) ≤ spread_of_modes p modes) (sym y.2)
+        (at_most_greatest (λ needs. sum_by (spread_of p modes needs) (range_with_len 0 (classes p))) modes y.0 y.1)
+
+    spread_tops : (needs : List Need) (c : ℕ) → Contains modes needs → c < classes p → ceil_div (count_in p needs c) (slots_of p c) ≤ spread_of p modes needs c
+    spread_tops needs c is lt = le-min (ceil_within_most (count_in p needs c) (slots_of p c) (bound_of p c) (slots_some p ok c lt) (ok.some c lt))
+        (ceil_mono (count_in p needs c) (greatest_of (λ n. count_in p n c) modes) (slots_of p c) (at_most_greatest (λ n. count_in p n c) modes needs is))
+
+    spread_leads : (needs others : List Need) → LeadsTo p (point_of needs) (point_of others)
+    spread_leads needs others c lt =
+        let low = min-le_left (spread_of p modes needs c)
+        (most_pages (min (count_in p needs c) (count_in p others c)) (slots_of p c) (bound_of p c)) in
+        let low' = min-le_right (spread_of p modes needs c)
+        (most_pages (min (count_in p needs c) (count_in p others c)) (slots_of p c) (bound_of p c)) in
+        let top = min-le_right (most_pages (count_in p needs c) (slots_of p c) (bound_of p c)) (ceil_div (greatest_of (λ n. count_in p n c) modes) (slots_of p c)) in
+        let grows = most_grows (min (count_in p needs c) (count_in p others c)) (count_in p others c) (slots_of p c) (bound_of p c) (slots_some p ok c lt) (ok.some c lt)
+        (min-le_right (count_in p needs c) (count_in p others c)) in
+        le-min (omega arith) (omega arith)
+
+    spread_certificate : spread_of_modes p modes ≤ p.pages → IsCertificate p modes (map point_of modes)
+    spread_certificate enough = record {
+      first = λ needs is. (point_of needs, contains_mapped point_of modes needs is, refl);
+      tops = λ x c inside lt. (
+          let y = is_point x inside in
+          subst (λ z. ceil_div (count_in p z.needs c) (slots_of p c) ≤ z.pages c) (sym y.2) (spread_tops y.0 c y.1 lt));
+      next = λ x needs inside is. (
+          let y = is_point x inside in
+          (point_of needs, contains_mapped point_of modes needs is, refl, subst (λ z. LeadsTo p z (point_of needs)) (sym y.2) (spread_leads y.0 needs)));
+      enough = λ x inside. (let sum = sum_of_point x inside in omega arith);
+    }
+
+    pub spread_mallocs : spread_of_modes p modes ≤ p.pages → ServesMallocs p (KeepsToOne modes)
+    spread_mallocs enough = certified_mallocs modes (map point_of modes) (spread_certificate enough)
+
+    pub spread_resizes : spread_of_modes p modes < p.pages → ServesResizes p (KeepsToOne modes)
+    spread_resizes less = certified_resizes modes (map point_of modes) (spread_certificate (omega arith))
+        (λ x inside. (let sum = sum_of_point x inside in omega arith))
+
+    -- at bound one a class has the pages that its objects need
+    pub spread_at_one : EveryBoundIsOne p → spread_of_modes p modes ≤ pages_of_modes p modes
+    spread_at_one ones = go modes
+      where
+        each : (needs : List Need) → sum_by (spread_of p modes needs) (range_with_len 0 (classes p)) ≤ pages_needed_by p (in_order needs)
+        each needs = sum_le (spread_of p modes needs) (λ c. ceil_div (count_in p needs c) (slots_of p c)) 0 (classes p) (λ c _ lt. (
+            let low = min-le_left (most_pages (count_in p needs c) (slots_of p c) (bound_of p c)) (ceil_div (greatest_of (λ n. count_in p n c) modes) (slots_of p c)) in
+            let one = most_at_one (count_in p needs c) (slots_of p c) (bound_of p c) (slots_some p ok c (omega arith)) (ones c (omega arith)) in
+            omega arith))
+
+        go : (all : List (List Need)) → greatest_of (λ needs. sum_by (spread_of p modes needs) (range_with_len 0 (classes p))) all ≤ pages_of_modes p all
+        go [] = omega arith
+        go (x ∷ xs) =
+            let here = each x in
+            let rest = go xs in
+            let left = le-max_left (pages_needed_by p (in_order x)) (pages_of_modes p xs) in
+            let right = le-max_right (pages_needed_by p (in_order x)) (pages_of_modes p xs) in
+            max-le (omega arith) (omega arith)
+
+-- a run within the needs of a mode is one within the modes
+run_weakened : (p : Paging) (A B : Objects → Type 0) → ((o : Objects) → A o → B o) → (calls : List HeapCall) (m last : Held) → Run p A m calls last
+    → Run p B m calls last
+run_weakened p A B weaker [] m last run = run
+run_weakened p A B weaker (call ∷ rest) m last run = (run.0, run.1, weaker (objects run.0) run.2, run_weakened p A B weaker rest run.0 last run.3)
+
+pub modes_refused : (p : Paging) (s : Profile) (modes : List (List Need)) → IsPaging p → s.page_words ≡ p.page_words
+    → ((needs : List Need) → Contains modes needs → first_large s needs ≡ None) → p.pages < pages_of_modes p modes
+    → CanBeRefused p (KeepsToOne modes) empty
+modes_refused p s modes ok same none past =
+    let at = below_greatest (λ needs. pages_needed_by p (in_order needs)) modes p.pages past in
+    let r = refused p ok at.0 s same (none at.0 at.1) at.2 in
+    let l = r.lacks in
+    record {
+      calls = r.calls;
+      last = r.last;
+      run = run_weakened p (KeepsTo at.0) (KeepsToOne modes) (λ o keeps. (at.0, at.1, keeps)) r.calls empty r.last r.run;
+      number = r.number;
+      bytes = r.bytes;
+      lacks = record { unused = l.unused; fits = l.fits; asked = (at.0, at.1, l.asked); lacking = l.lacking };
+    }

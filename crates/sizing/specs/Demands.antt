@@ -1,0 +1,52 @@
+-- What a program may have live: at most so many objects of each class, or of each length, or of each length in one of several modes, or so many bytes; and how
+-- many pages are enough.
+use Rattle.std.specs.Prelude.{◌≡◌, ℕ, ◌<◌, ◌≤◌, List, [], ◌∷◌, Some, Contains, length, max, min, sum_by}
+use Rattle.std.specs.FinMap.{get}
+use Rattle.std.specs.List.{range_with_len}
+use Rattle.page_model.specs.Arrangement.{live}
+use Rattle.page_model.specs.Counts.{ceil_div, most_pages}
+use Rattle.page_model.specs.Figures.{asked_bytes}
+use Rattle.page_model.specs.Held.{Objects}
+use Rattle.page_model.specs.Paging.{Paging, bound_of, class_for, classes, slots_of}
+use Rattle.quota_model.specs.Admission.{count_of_class, declared, in_order, live_of, pages_needed_by}
+use Rattle.quota_model.specs.declared.answers.Need.{Need}
+
+-- of each class c at most `most c` objects
+abbrev pub HasAtMost : Paging → (ℕ → ℕ) → Objects → Type 0
+HasAtMost p most o = (c : ℕ) → c < classes p → live p o c ≤ most c
+
+-- of each length at most as many objects as the needs declare
+abbrev pub KeepsTo : List Need → Objects → Type 0
+KeepsTo needs o = (n : ℕ) → live_of o n ≤ declared needs n
+
+-- within the needs of at least one of the modes
+abbrev pub KeepsToOne : List (List Need) → Objects → Type 0
+KeepsToOne modes o = (needs : List Need) × Contains modes needs × KeepsTo needs o
+
+-- at most `budget` bytes are asked for in all, and an object of class c has at least `least c` bytes
+pub record KeepsBudget (p : Paging) (least : ℕ → ℕ) (budget : ℕ) (o : Objects) : Type 0 where
+  pub within : asked_bytes o ≤ budget
+  pub long_enough : (h : ℕ) (v : List ℕ) → get o h ≡ Some v → least (class_for p (length v)) ≤ length v
+
+-- how many objects of class c the needs declare
+abbrev pub count_in : Paging → List Need → ℕ → ℕ
+count_in p needs c = count_of_class p (in_order needs) c
+
+-- the greatest number that f has for one of the modes, 0 if there is none
+abbrev pub greatest_of : (List Need → ℕ) → List (List Need) → ℕ
+greatest_of f [] = 0
+greatest_of f (needs ∷ more) = max (f needs) (greatest_of f more)
+
+-- the pages that the mode with the greatest need needs
+abbrev pub pages_of_modes : Paging → List (List Need) → ℕ
+pages_of_modes p modes = greatest_of (λ needs. pages_needed_by p (in_order needs)) modes
+
+-- The most pages that class c can have in one of the modes: those that the objects of the mode can be on, and no more than the objects of any mode fill, as a
+-- page is opened only when all are full.
+abbrev pub spread_of : Paging → List (List Need) → List Need → ℕ → ℕ
+spread_of p modes needs c =
+    min (most_pages (count_in p needs c) (slots_of p c) (bound_of p c)) (ceil_div (greatest_of (λ needs. count_in p needs c) modes) (slots_of p c))
+
+-- pages that are enough for the modes, whatever the bounds: those of the mode in which the classes can have most
+abbrev pub spread_of_modes : Paging → List (List Need) → ℕ
+spread_of_modes p modes = greatest_of (λ needs. sum_by (spread_of p modes needs) (range_with_len 0 (classes p))) modes

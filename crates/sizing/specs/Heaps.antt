@@ -1,0 +1,40 @@
+-- Runs of a program on a manager with pages, as the trait `Manager` shows them: its calls with their results, refused ones too.
+use Rattle.std.specs.Prelude.{◌≡◌, ℕ, List, [], ◌∷◌, Result}
+use Rattle.std.specs.FinMap.{empty}
+use Rattle.cf_base.specs.declared.answers.AccessFault.{AccessFault}
+use Rattle.cf_base.specs.declared.answers.Freed.{Freed}
+use Rattle.cf_base.specs.declared.answers.Handle.{Handle}
+use Rattle.cf_base.specs.declared.answers.NotLive.{NotLive}
+use Rattle.cf_base.specs.declared.answers.Refusal.{Refusal}
+use Rattle.cf_base.specs.declared.answers.Resized.{Resized}
+use Rattle.cf_base.specs.declared.answers.ResizeFault.{ResizeFault}
+use Rattle.page_model.specs.Held.{Objects, objects}
+use Rattle.page_model.specs.Steps.{Request}
+use Rattle.cf_model.specs.Rules.{IsPaged, KeepsRules}
+use Rattle.cf_model.specs.State.{HeapState}
+use Rattle.cf_model.specs.Steps.{IsFreeStep, IsMallocStep, IsResizeStep, IsWriteStep, Position}
+
+-- a call of a manager, with its result
+pub data Answered : Type 0 where
+  malloc_with : (bytes : ℕ) (r : Result Handle Refusal) → Answered
+  free_with : (h : ℕ) (r : Result Freed NotLive) → Answered
+  resize_with : (asked : Request) (r : Result Resized ResizeFault) → Answered
+  write_with : (at : Position) (bytes : List ℕ) (r : Result Unit AccessFault) → Answered
+
+-- the call may get its result and lead from the state `old` to `new`
+abbrev pub Leads : HeapState → Answered → HeapState → Type 0
+Leads old (malloc_with bytes r) new = IsMallocStep old bytes r new
+Leads old (free_with h r) new = IsFreeStep old h r new
+Leads old (resize_with asked r) new = IsResizeStep old asked r new
+Leads old (write_with at bytes r) new = IsWriteStep old at bytes r new
+
+-- from the state s the calls, one after the other, may lead to `last`; after each the live objects are allowed
+abbrev pub HeapRun : (Objects → Type 0) → HeapState → List Answered → HeapState → Type 0
+HeapRun allowed s [] last = last ≡ s
+HeapRun allowed s (call ∷ rest) last = (next : HeapState) × Leads s call next × allowed (objects next.held) × HeapRun allowed next rest last
+
+-- a manager with pages that was just opened: it has no objects
+pub record IsFresh (s : HeapState) : Type 0 where
+  pub pages : IsPaged s.kind
+  pub rules : KeepsRules s
+  pub none : s.held ≡ empty

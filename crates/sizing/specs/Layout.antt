@@ -1,0 +1,15 @@
+-- The pages that declared objects need, summed over the slot sizes of a page, as the code computes them. No public clause cites this module.
+use Rattle.std.specs.Prelude.{ℕ, ◌+◌, ◌/◌, ◌&&◌, List, [], ◌∷◌, if◌then◌else◌, nat_le, nat_lt, sum_by}
+use Rattle.cf_base.specs.Classes.{need}
+use Rattle.page_model.specs.Counts.{ceil_div}
+use Rattle.quota_model.specs.declared.answers.Need.{Need}
+
+-- how many of the declared objects need more than `below` words and at most `most`
+abbrev pub declared_between : ℕ → ℕ → List Need → ℕ
+declared_between below most needs = sum_by (λ (e : Need). if nat_lt below (need e.bytes) && nat_le (need e.bytes) most then e.count else 0) needs
+
+-- How many pages of `page_words` words the declared objects need that need more than `below` words, with slots of these sizes, which rise: the objects of each
+-- size are divided by the slots of a page and rounded up, and these are summed.
+abbrev pub pages_by_size : ℕ → ℕ → List ℕ → List Need → ℕ
+pages_by_size page_words below [] needs = 0
+pages_by_size page_words below (size ∷ sizes) needs = ceil_div (declared_between below size needs) (page_words / size) + pages_by_size page_words size sizes needs

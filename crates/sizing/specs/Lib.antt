@@ -1,0 +1,5 @@
+pub mod Certificates
+pub mod Demands
+pub mod Heaps
+pub mod Layout
+pub mod Runs

@@ -1,0 +1,72 @@
+-- Runs of a program on a heap with pages: its calls, each a step of the arrangement, and when one is refused for space. `p` holds the pages and the classes;
+-- `allowed` says which live objects the program may have.
+use Rattle.std.specs.Prelude.{◌≡◌, ◌≢◌, ℕ, ◌<◌, List, [], ◌∷◌, Option, Some, None, length, replicate}
+use Rattle.std.specs.FinMap.{empty, get, insert}
+use Rattle.page_model.specs.Arrangement.{LacksRoom, class_at}
+use Rattle.page_model.specs.Held.{Held, Objects, Placed, objects}
+use Rattle.page_model.specs.Paging.{Paging, class_for, classes}
+use Rattle.page_model.specs.Steps.{PlacesObject, RefitsObject, RemovesObject, resized}
+
+-- a call: a malloc of n bytes, whose object gets number h; a free of object h; a resize of object h to n bytes; a write after which object h has the bytes v
+pub data HeapCall : Type 0 where
+  malloc_of : (h n : ℕ) → HeapCall
+  free_of : (h : ℕ) → HeapCall
+  resize_of : (h n : ℕ) → HeapCall
+  write_of : (h : ℕ) (v : List ℕ) → HeapCall
+
+-- object h has the bytes v after a write, which changes neither its length nor its address
+pub record Rewrites (old : Held) (h : ℕ) (v : List ℕ) (new : Held) : Type 0 where
+  pub object : Placed
+  pub found : get old h ≡ Some object
+  pub long : length v ≡ length object.bytes
+  pub left : new ≡ insert old h (record object { bytes = v })
+
+-- the call may turn the objects `old` into `new`: which free slot is used, and which object a free moves, is left open
+abbrev pub Does : Paging → Held → HeapCall → Held → Type 0
+Does p old (malloc_of h n) new = PlacesObject p old (record { number = h; length = n }) new
+Does p old (free_of h) new = (moved : Option ℕ) × RemovesObject p old h (record { held = new; moved = moved })
+Does p old (resize_of h n) new = (moved : Option ℕ) × RefitsObject p old (record { number = h; length = n }) (record { held = new; moved = moved })
+Does p old (write_of h v) new = Rewrites old h v new
+
+-- from the objects m the calls, one after the other, may lead to `last`; after each the live objects are allowed
+abbrev pub Run : Paging → (Objects → Type 0) → Held → List HeapCall → Held → Type 0
+Run p allowed m [] last = last ≡ m
+Run p allowed m (call ∷ rest) last = (next : Held) × Does p m call next × allowed (objects next) × Run p allowed next rest last
+
+-- a malloc of n bytes, whose object would get number h, is allowed, and its class has no slot left
+pub record MallocLacks (p : Paging) (allowed : Objects → Type 0) (m : Held) (h n : ℕ) : Type 0 where
+  pub unused : get m h ≡ None
+  pub fits : class_for p n < classes p
+  pub asked : allowed (insert (objects m) h (replicate n 0))
+  pub lacking : LacksRoom p m (class_for p n)
+
+-- a resize of object h to n bytes, into another class, is allowed, and that class has no slot left
+pub record ResizeLacks (p : Paging) (allowed : Objects → Type 0) (m : Held) (h n : ℕ) : Type 0 where
+  pub object : Placed
+  pub found : get m h ≡ Some object
+  pub other : class_for p n ≢ class_at p object
+  pub fits : class_for p n < classes p
+  pub asked : allowed (insert (objects m) h (resized object.bytes n))
+  pub lacking : LacksRoom p m (class_for p n)
+
+-- whatever a program called before, in whatever order, no allowed malloc is refused for space
+abbrev pub ServesMallocs : Paging → (Objects → Type 0) → Type 0
+ServesMallocs p allowed = (calls : List HeapCall) (m : Held) (h n : ℕ) → Run p allowed empty calls m → ¬ MallocLacks p allowed m h n
+
+-- the same of resizes
+abbrev pub ServesResizes : Paging → (Objects → Type 0) → Type 0
+ServesResizes p allowed = (calls : List HeapCall) (m : Held) (h n : ℕ) → Run p allowed empty calls m → ¬ ResizeLacks p allowed m h n
+
+-- the pages are enough for mallocs and resizes
+pub record IsServed (p : Paging) (allowed : Objects → Type 0) : Type 0 where
+  pub mallocs : ServesMallocs p allowed
+  pub resizes : ServesResizes p allowed
+
+-- the pages are too few: after these calls, begun with the objects m, an allowed malloc is refused for space
+pub record CanBeRefused (p : Paging) (allowed : Objects → Type 0) (m : Held) : Type 0 where
+  pub calls : List HeapCall
+  pub last : Held
+  pub run : Run p allowed m calls last
+  pub number : ℕ
+  pub bytes : ℕ
+  pub lacks : MallocLacks p allowed last number bytes
