@@ -28,31 +28,31 @@ pub fails_after : (failed : Bool) (f0 f1 f2 : ℕ) (last : Bool) → f1 ≡ f0 �
 fails_after failed f0 f1 f2 last same fails = subst (λ n. FailsIf failed n f2 last) same fails
 
 pub writes_none : (w : SinkState) → WritesAll w [] w
-writes_none w = (appended_none w.written, refl)
+writes_none w = record { wrote = appended_none w.written; same = refl }
 
 -- after one more chunk the first i + n bytes are written
 pub writes_more : (w x y : SinkState) (bytes : List ℕ) (i n : ℕ) → WritesAll w (take i bytes) x → WritesAll x (take n (drop i bytes)) y
     → WritesAll w (take (i + n) bytes) y
 writes_more w x y bytes i n first next =
-    (appended_after _ _ _ _ _ first.0 next.0 ∙ ap (appended w.written) (sym (take-add i n bytes)), next.1 ∙ first.1)
+    record { wrote = appended_after _ _ _ _ _ first.wrote next.wrote ∙ ap (appended w.written) (sym (take-add i n bytes)); same = next.same ∙ first.same }
 
 -- what a write says of the sink's faults: their count never falls; if the write succeeds, it is unchanged; if not, the last call failed
 module _ {T : Type 0} (old new : SinkState) (bytes : List ℕ) where
   pub writes_grow : (r : Result T Failed) → Writes old bytes r new → old.faults ≤ new.faults
-  writes_grow (Ok u) wrote = omega (arith, wrote.1)
-  writes_grow (Err e) (front, lost, parts, is, fails) = fails.2
+  writes_grow (Ok u) wrote = omega (arith, wrote.same)
+  writes_grow (Err e) cut = cut.fails.2
 
   pub writes_same : (r : Result T Failed) → Writes old bytes r new → OnOk r (new.faults ≡ old.faults)
-  writes_same (Ok u) wrote = wrote.1
+  writes_same (Ok u) wrote = wrote.same
   writes_same (Err e) wrote = tt
 
   pub writes_fail : (r : Result T Failed) → Writes old bytes r new → OnErr r (FailsLast old.faults new.faults new.last_failed)
   writes_fail (Ok u) wrote = tt
-  writes_fail (Err e) (front, lost, parts, is, fails) = fails
+  writes_fail (Err e) cut = cut.fails
 
   pub writes_faults : (r : Result T Failed) → Writes old bytes r new → SinkFailsIf (is_err r) old new
-  writes_faults (Ok u) wrote = wrote.1
-  writes_faults (Err e) (front, lost, parts, is, fails) = fails
+  writes_faults (Ok u) wrote = wrote.same
+  writes_faults (Err e) cut = cut.fails
 
 pub given_min : (g0 g2 n : ℕ) → g2 ≡ min (g0 + n) last_count → HasGiven g0 n g2
 given_min g0 g2 n is = elim (cases_lt (g0 + n) last_count) [

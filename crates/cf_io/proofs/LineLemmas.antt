@@ -31,18 +31,19 @@ puts_same {T = T} w y a b r is put = subst (λ (bytes : List ℕ). Writes {T = T
 
 -- if the bytes a were written whole, and then the bytes b whole or in part, that is a write of `a ++ b`, whole or in part
 pub puts_then : {T : Type 0} (w x y : SinkState) (a b : List ℕ) (r : Result T Failed) → WritesAll w a x → Writes x b r y → Writes w (a ++ b) r y
-puts_then w x y a b (Ok u) first next = (appended_after _ _ _ a b first.0 next.0, next.1 ∙ first.1)
-puts_then w x y a b (Err e) first (front, lost, parts, is, fails) = (
-  a ++ front,
-  lost,
-  ap (λ xs. a ++ xs) parts ∙ sym (append_assoc a front lost),
-  appended_after _ _ _ a front first.0 is,
-  fails_after true _ _ _ _ first.1 fails,
-)
+puts_then w x y a b (Ok u) first next = record { wrote = appended_after _ _ _ a b first.wrote next.wrote; same = next.same ∙ first.same }
+puts_then w x y a b (Err e) first cut =
+    let (front, lost, parts, is) = cut.part in
+    record {
+      part = (a ++ front, lost, ap (λ xs. a ++ xs) parts ∙ sym (append_assoc a front lost), appended_after _ _ _ a front first.wrote is);
+      fails = fails_after true _ _ _ _ first.same cut.fails;
+    }
 
 -- if only a prefix of the bytes a was written, it is a prefix of `a ++ b`
 pub puts_cut : (w y : SinkState) (a b : List ℕ) (e : Failed) → Writes {T = Unit {0}} w a (Err e) y → Writes {T = Unit {0}} w (a ++ b) (Err e) y
-puts_cut w y a b e (front, lost, parts, rest) = (front, lost ++ b, ap (λ xs. xs ++ b) parts ∙ append_assoc front lost b, rest)
+puts_cut w y a b e cut =
+    let (front, lost, parts, is) = cut.part in
+    record { part = (front, lost ++ b, ap (λ xs. xs ++ b) parts ∙ append_assoc front lost b, is); fails = cut.fails }
 
 -- writing a line that begins with its lead is writing a reply of this one line
 pub puts_line : {T : Type 0} (w y : SinkState) (lead text line : List ℕ) (r : Result T Failed) → line ≡ lead ++ text → Writes w (line ++ 10 ∷ []) r y

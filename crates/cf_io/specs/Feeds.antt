@@ -55,15 +55,23 @@ abbrev pub IsSpent : Option (List ℕ) → Type 0
 IsSpent rest = IfSome rest (λ bytes. bytes ≡ [])
 
 -- all of `bytes` were written to the sink, which did not fail
-abbrev pub WritesAll : SinkState → List ℕ → SinkState → Type 0
-WritesAll old bytes new = (new.written ≡ appended old.written bytes) × (new.faults ≡ old.faults)
+pub record WritesAll (old : SinkState) (bytes : List ℕ) (new : SinkState) : Type 0 where
+  pub wrote : new.written ≡ appended old.written bytes
+  pub same : new.faults ≡ old.faults
 
--- Writing `bytes` turned the sink from `old` to `new`, by the result: all of them were written, and the sink did not fail; or it failed, only `front`, a prefix
--- of them, was written, and `lost` was not.
+-- only `front`, a prefix of `bytes`, was written, and `lost` was not; `old` and `new` are the bytes written before and after, if they are observable
+abbrev pub WritesPrefix : Option (List ℕ) → List ℕ → Option (List ℕ) → Type 0
+WritesPrefix old bytes new = (front : List ℕ) × (lost : List ℕ) × (bytes ≡ front ++ lost) × (new ≡ appended old front)
+
+-- the sink failed, and only a prefix of `bytes` was written
+pub record WritesPart (old : SinkState) (bytes : List ℕ) (new : SinkState) : Type 0 where
+  pub part : WritesPrefix old.written bytes new.written
+  pub fails : FailsLast old.faults new.faults new.last_failed
+
+-- writing `bytes` turned the sink from `old` to `new`, by the result: all of them were written; or the sink failed, and a prefix of them was written
 abbrev pub Writes : {T : Type 0} → SinkState → List ℕ → Result T Failed → SinkState → Type 0
 Writes old bytes (Ok u) new = WritesAll old bytes new
-Writes old bytes (Err e) new =
-    (front : List ℕ) × (lost : List ℕ) × (bytes ≡ front ++ lost) × (new.written ≡ appended old.written front) × FailsLast old.faults new.faults new.last_failed
+Writes old bytes (Err e) new = WritesPart old bytes new
 
 -- One call of `put` turned the sink from `old` to `new`, by the result: the first n of `bytes` were written, at least one if there are any; or the call failed,
 -- and none were.

@@ -44,7 +44,7 @@ pub fn push_field(line: &mut Line, text: &[u8], n: u64)
 /// call of the sink fails, the result is `Failed`, and a prefix of the line was written.
 pub fn put_line<K: Sink>(line: &mut Line, out: &mut K) -> Result<(), Failed>
     requires { length line.old < line_capacity }
-    ensures puts { Writes (K.state out.old) (line.old ++ 10 ∷ []) result (K.state out.new) }
+    ensures { Writes (K.state out.old) (line.old ++ 10 ∷ []) result (K.state out.new) }
 {
     line.push(b"\n").unwrap();
     put_all(out, line.bytes())

@@ -7,7 +7,7 @@ use cf_base::Failed;
 /// Calls `put` with the bytes, then with the bytes left, until the sink has written all. If a call fails, the
 /// result is `Failed`, and a prefix of the bytes was written.
 pub fn put_all<K: Sink>(sink: &mut K, bytes: &[u8]) -> Result<(), Failed>
-    ensures puts { Writes (K.state sink.old) bytes.now result (K.state sink.new) }
+    ensures { Writes (K.state sink.old) bytes.now result (K.state sink.new) }
 {
     let mut at = 0;
     'rest: while at < bytes.len() {

@@ -130,7 +130,7 @@ bench_status BadImage seed count from to before after done = absurd done.written
 -- mode `bench`
 module _ (choice : Choice) (k k' : SinkState) (st : Status) (session : SessionState) (old : HeapState) (end : RunState) (fresh : session ≡ fresh_session)
     (closed : old ≡ closed_state choice.kind) (promise : KeepsPromise old end.heap) (outcome : EndsBench st choice.seed choice.count (run_at session old) end k.written k'.written)
-    (firm : st ≢ WriteFault → k'.faults ≡ k.faults) (fault : st ≡ WriteFault → FailsLast k.faults k'.faults k'.failed) where
+    (firm : st ≢ WriteFault → k'.faults ≡ k.faults) (fault : st ≡ WriteFault → FailsLast k.faults k'.faults k'.last_failed) where
   ended : (st ≡ Done) ⊎ ((st ≡ WriteFault) ⊎ ((st ≡ OutOfMemory) × (k'.written ≡ k.written)))
   ended = bench_status st choice.seed choice.count (run_at session old) end k.written k'.written outcome
 
@@ -191,8 +191,8 @@ module _ (s s' : SourceState) (k k' : SinkState) (hs : List HeapState) (st : Sta
   call_as st = effects_of (call_state s k hs) st (call_state s' k' hs)
 
   -- mode `load`
-  pub loaded_ends : (st ≢ ReadFault → s'.faults ≡ s.faults) → (st ≡ ReadFault → FailsLast s.faults s'.faults s'.failed)
-      → (st ≢ WriteFault → k'.faults ≡ k.faults) → (st ≡ WriteFault → FailsLast k.faults k'.faults k'.failed) → EndsLoad (run_at session old) call end
+  pub loaded_ends : (st ≢ ReadFault → s'.faults ≡ s.faults) → (st ≡ ReadFault → FailsLast s.faults s'.faults s'.last_failed)
+      → (st ≢ WriteFault → k'.faults ≡ k.faults) → (st ≡ WriteFault → FailsLast k.faults k'.faults k'.last_failed) → EndsLoad (run_at session old) call end
       → EndsWithCause Loads (call_state s k hs) st (call_state s' k' hs)
   loaded_ends source_same read_fault sink_same write_fault ends = ends_of Loads s k hs st s' k' hs
       (record {

@@ -129,9 +129,9 @@ pub record EndsWithCause (Does : CallState → Status → CallState → Type 0) 
   pub kinds : kinds_in new ≡ kinds_in old
   pub orders : orders_in new ≡ orders_in old
   pub source_same : status ≢ ReadFault → new.source.faults ≡ old.source.faults
-  pub read_fault : status ≡ ReadFault → FailsLast old.source.faults new.source.faults new.source.failed
+  pub read_fault : status ≡ ReadFault → FailsLast old.source.faults new.source.faults new.source.last_failed
   pub sink_same : status ≢ WriteFault → new.sink.faults ≡ old.sink.faults
-  pub write_fault : status ≡ WriteFault → FailsLast old.sink.faults new.sink.faults new.sink.failed
+  pub write_fault : status ≡ WriteFault → FailsLast old.sink.faults new.sink.faults new.sink.last_failed
   pub too_long : status ≡ TooLong → (old.source.given + MOST_BYTES < new.source.given) ⊎ (new.source.given ≡ last_count)
 
 -- `EndsWithCause` for a mode that is given no managers, with any list of managers that the call doesn't touch; `source'` and `sink'` are the states after the call

@@ -1,10 +1,10 @@
 //! Mode `bench`: runs generated commands on one manager of the chosen kind. It prints no replies, but one line
 //! that counts them, the live objects, the pages or blocks in use and the objects that moved.
-ghost use Rattle.script_loop.specs.ScriptOutcome.{SourceState};
+ghost use Rattle.script_loop.specs.ScriptOutcome.{SourceState, is_write_fault};
 ghost use Rattle.manager_modes.specs.Outcomes.{Benches, EndsBeside, sink_seen};
-ghost use Rattle.std.specs.Prelude.{◌≡◌, ◌≤◌, ◌≢◌};
+ghost use Rattle.std.specs.Prelude.{◌≡◌};
 ghost use Rattle.manager_modes.specs.Bench.{EndsBench, IsAppliedTo};
-ghost use Rattle.cf_io.specs.Feeds.{FailsLast};
+ghost use Rattle.cf_io.specs.Feeds.{SinkFailsIf};
 ghost use Rattle.cf_model.specs.Ordered.{KeepsPromise};
 ghost use Rattle.cf_session.specs.Apply.{run_at};
 ghost use Rattle.generator.specs.Generated.{generated};
@@ -71,12 +71,10 @@ fn run_bench<H: Manager, K: Sink>(
 ) -> Status
     requires { session.old ≡ fresh_session }
     ensures outcome { EndsBench result seed count (run_at session.old (H.state heap.old)) (run_at session.new (H.state heap.new))
-        (K.written sink.old) (K.written sink.new) }
+        (K.state sink.old).written (K.state sink.new).written }
     ensures kind { (H.state heap.new).kind ≡ (H.state heap.old).kind }
     ensures promise { KeepsPromise (H.state heap.old) (H.state heap.new) }
-    ensures grows { K.faults sink.old ≤ K.faults sink.new }
-    ensures sink_same { result ≢ Status.WriteFault → K.faults sink.new ≡ K.faults sink.old }
-    ensures write_fault { result ≡ Status.WriteFault → FailsLast (K.faults sink.old) (K.faults sink.new) (K.last_failed sink.new) }
+    ensures sink { SinkFailsIf (is_write_fault result) (K.state sink.old) (K.state sink.new) }
 {
     let settings = Settings {
         pages: 64,

@@ -135,6 +135,6 @@ module _ (words : List Text) (choice : Choice) (chosen : Chooses words choice) (
   pub chosen_shows : PrintsAsClaimed words old st new
   chosen_shows is = record { choice = choice; chosen = chosen; shows = shown_at choice.mode choice old st new ends.outcome is }
 
-  pub chosen_whole : HasRightInput words old.source.rest → ¬ FailsLast old.source.faults new.source.faults new.source.failed → ¬ FailsLast old.sink.faults new.sink.faults new.sink.failed → EndsWhole st
+  pub chosen_whole : HasRightInput words old.source.rest → ¬ FailsLast old.source.faults new.source.faults new.source.last_failed → ¬ FailsLast old.sink.faults new.sink.faults new.sink.last_failed → EndsWhole st
   chosen_whole have = (sound choice.mode choice).whole old st new ends
       (subst (λ (c : Choice). IsRightInput c.mode old.source.rest) (one_choice words choice have.choice chosen have.chosen) have.right)

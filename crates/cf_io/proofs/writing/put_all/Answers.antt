@@ -8,11 +8,13 @@ rest-preserved g c =
     let h = rw (take_rest c.args.bytes.now c.rest.at) at c.in-Ok.ensures in
     record { within = omega (arith, h.1, length-drop {A = ℕ}); wrote = writes_more _ _ _ c.args.bytes.now _ _ c.rest.invariant.wrote h.0 }
 
-pub returns-in-Err-clause-puts : goal.returns-in-Err-clause-puts
-returns-in-Err-clause-puts g c = (
-  take c.rest.at c.args.bytes.now,
-  drop c.rest.at c.args.bytes.now,
-  sym (take-append-drop c.rest.at c.args.bytes.now),
-  c.in-Err.ensures.0 ∙ c.rest.invariant.wrote.0,
-  fails_after true _ _ _ _ c.rest.invariant.wrote.1 c.in-Err.ensures.1,
-)
+pub returns-in-Err : goal.returns-in-Err
+returns-in-Err g c = record {
+  part = (
+    take c.rest.at c.args.bytes.now,
+    drop c.rest.at c.args.bytes.now,
+    sym (take-append-drop c.rest.at c.args.bytes.now),
+    c.in-Err.ensures.0 ∙ c.rest.invariant.wrote.wrote,
+  );
+  fails = fails_after true _ _ _ _ c.rest.invariant.wrote.same c.in-Err.ensures.1;
+}

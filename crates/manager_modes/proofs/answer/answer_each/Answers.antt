@@ -80,7 +80,7 @@ loop-i-preserved g c =
       promise = same_seen (λ m. is_some (g.H.Manager.state m).order) c.loop-i.managers.items c.loop-i.i c.index_mut-in-loop-i.result.now
           c.answer_one.new.manager (omega arith) c.index_mut-in-loop-i.ensures.value c.in-Ok.ensures.promise ∙ so_far.promise;
       wrote = answer.2 ∙ ap (λ w. appended w (led [] answer.0)) so_far.wrote ∙ appended_then _ (led [] so_far.reply) (led [] answer.0)
-          ∙ ap (λ t. appended (g.K.Sink.written c.args.sink.now) t) (sym (led-append [] so_far.reply answer.0));
+          ∙ ap (λ t. appended (g.K.Sink.state c.args.sink.now).written t) (sym (led-append [] so_far.reply answer.0));
       same = c.in-Ok.ensures.same ∙ so_far.same;
     }
 

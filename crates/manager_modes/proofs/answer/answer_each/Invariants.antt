@@ -19,6 +19,6 @@ invariant-loop-i g l = record {
   going : All IsGoing (zipped l.sessions.items (map (λ m. g.H.Manager.state m) l.managers.items));
   kinds : map (λ m. (g.H.Manager.state m).kind) l.managers.items ≡ map (λ m. (g.H.Manager.state m).kind) l.initial.managers.items;
   promise : map (λ m. is_some (g.H.Manager.state m).order) l.managers.items ≡ map (λ m. is_some (g.H.Manager.state m).order) l.initial.managers.items;
-  wrote : g.K.Sink.written l.sink ≡ appended (g.K.Sink.written l.initial.sink) (led [] reply);
-  same : g.K.Sink.faults l.sink ≡ g.K.Sink.faults l.initial.sink;
+  wrote : (g.K.Sink.state l.sink).written ≡ appended (g.K.Sink.state l.initial.sink).written (led [] reply);
+  same : (g.K.Sink.state l.sink).faults ≡ (g.K.Sink.state l.initial.sink).faults;
 }

@@ -6,7 +6,7 @@ use Rattle.manager_modes.proofs.open_reply.put_opened.Given as goal
 
 abbrev pub invariant-loop-i : goal.invariant-loop-i
 invariant-loop-i g l = record {
-  wrote : g.K.Sink.written l.sink ≡ appended (g.K.Sink.written l.initial.sink)
+  wrote : (g.K.Sink.state l.sink).written ≡ appended (g.K.Sink.state l.initial.sink).written
       (led [] (opened_reply (take l.i (map (λ m. (g.H.Manager.state m).kind) l.managers.items))));
-  same : g.K.Sink.faults l.sink ≡ g.K.Sink.faults l.initial.sink;
+  same : (g.K.Sink.state l.sink).faults ≡ (g.K.Sink.state l.initial.sink).faults;
 }

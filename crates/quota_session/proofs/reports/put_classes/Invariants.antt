@@ -12,8 +12,8 @@ use Rattle.quota_session.proofs.reports.put_classes.Given as goal
 
 abbrev pub invariant-loop-c : goal.invariant-loop-c
 invariant-loop-c g l = record {
-  put : g.K.Sink.written l.out ≡ appended (g.K.Sink.written l.initial.out) (led [] (classes_below (task_paging l.heap.profile) (held_by l.heap l.task) l.c));
-  same : g.K.Sink.faults l.out ≡ g.K.Sink.faults l.initial.out;
+  put : (g.K.Sink.state l.out).written ≡ appended (g.K.Sink.state l.initial.out).written (led [] (classes_below (task_paging l.heap.profile) (held_by l.heap l.task) l.c));
+  same : (g.K.Sink.state l.out).faults ≡ (g.K.Sink.state l.initial.out).faults;
   used : l.used ≡ sum_by (pages_of_class (task_paging l.heap.profile) (held_by l.heap l.task)) (range_with_len 0 l.c);
   within : l.c ≤ classes (task_paging l.heap.profile);
   few : l.used ≤ l.c * 2 ^ 32;

@@ -10,11 +10,11 @@ returns-in-Ok-clause-written g c =
     puts_line {T = Unit {0}} _ _ [] (bench_line c.args.self.now) c.push_field-6.new.line (Ok tt)
     (six c.new-line.result _ _ _ _ _ _ _ _ _ _ _ _ c.new-line.ensures c.push_field.ensures.text c.push_field-2.ensures.text c.push_field-3.ensures.text
     c.push_field-4.ensures.text c.push_field-5.ensures.text c.push_field-6.ensures.text)
-    c.in-Ok.ensures.puts
+    c.in-Ok.ensures
 
 pub returns-in-Err-clause-written : goal.returns-in-Err-clause-written
 returns-in-Err-clause-written g c =
     puts_line {T = Unit {0}} _ _ [] (bench_line c.args.self.now) c.push_field-6.new.line (Err (record {}))
     (six c.new-line.result _ _ _ _ _ _ _ _ _ _ _ _ c.new-line.ensures c.push_field.ensures.text c.push_field-2.ensures.text c.push_field-3.ensures.text
     c.push_field-4.ensures.text c.push_field-5.ensures.text c.push_field-6.ensures.text)
-    c.in-Err.ensures.puts
+    c.in-Err.ensures
