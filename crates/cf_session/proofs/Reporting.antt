@@ -50,12 +50,13 @@ at run sink = record { run = run; written = sink.written }
 module _ (old new : RunState) (c : Command) (lead : List ℕ) (reply : Reply) (w y : SinkState) (going : IsGoing old) (step : Step old c reply new) where
   pub applied : (outcome : Outcome) → outcome ≡ outcome_of reply → WritesAll w (led lead reply) y
       → AppliesOneManager (at old w) (record { command = c; lead = lead }) (Ok outcome) (at new y)
-  applied outcome is put = (record { reply = reply; turn = turn old new c reply going step; written = put.0 }, is)
+  applied outcome is put = (record { reply = reply; turn = turn old new c reply going step; written = put.wrote }, is)
 
   pub applied_cut : (e : Failed) → Writes {T = Unit {0}} w (led lead reply) (Err e) y
       → AppliesOneManager (at old w) (record { command = c; lead = lead }) (Err e) (at new y)
-  applied_cut e ((front, lost, parts, put), fails) =
-      record { reply = reply; front = front; lost = lost; turn = turn old new c reply going step; cut = parts; written = put }
+  applied_cut e put =
+      let (front, lost, parts, is) = put.part in
+      record { reply = reply; front = front; lost = lost; turn = turn old new c reply going step; cut = parts; written = is }
 
 -- the outcome of a report is `Other`
 pub pages_other : (f : ℕ → Figures) (t : Totals) (cs : List ℕ) → Other ≡ outcome_of (map (λ c. class_line (f c)) cs ++ said (total_line t))

@@ -51,7 +51,7 @@ module _ (lead : List ℕ) (lines more : Reply) (w y : SinkState) where
   lines_then x r first next = puts_same w y _ _ r (sym (led-append lead lines more)) (puts_then w x y (led lead lines) (led lead more) r first next)
 
   pub lines_cut : (e : Failed) → Writes {T = Unit {0}} w (led lead lines) (Err e) y → Writes {T = Unit {0}} w (led lead (lines ++ more)) (Err e) y
-  lines_cut e cut = puts_same w y _ _ (Err e) (sym (led-append lead lines more)) (puts_cut w y (led lead lines) (led lead more) e cut)
+  lines_cut e cut = puts_same {T = Unit {0}} w y _ _ (Err e) (sym (led-append lead lines more)) (puts_cut w y (led lead lines) (led lead more) e cut)
 
 module _ (p : Paging) (m : Held) where
   lines-append : (some more : List ℕ) → lines_of p m (some ++ more) ≡ lines_of p m some ++ lines_of p m more

@@ -31,11 +31,7 @@ pub fn load_script<H: Manager, S: Source, K: Sink>(
     requires moving { (H.state heap.old).kind ≡ Moving }
     requires idle { session.old.ids ≡ map.empty }
     ensures ends { EndsLoad (run_at session.old (H.state heap.old)) (effects
-        (S.state source.old)
-        (K.state sink.old)
-        result
-        (S.state source.new)
-        (K.state sink.new)) (run_at session.new (H.state heap.new)) }
+        (S.state source.old) (K.state sink.old) result (S.state source.new) (K.state sink.new)) (run_at session.new (H.state heap.new)) }
     // The causes of each status, also if the source isn't observable.
     ensures source { SourceFailsIf (is_read_fault result) (S.state source.old) (S.state source.new) }
     ensures sink { SinkFailsIf (is_write_fault result) (K.state sink.old) (K.state sink.new) }

@@ -31,19 +31,11 @@ pub fn save_script<H: Manager, S: Source, K: Sink>(
     requires moving { (H.state heap.old).kind ≡ Moving }
     requires closed { (H.state heap.old).is_open ≡ false }
     ensures ends { EndsSave (run_at mode_handler.old.mode_handler (H.state heap.old)) (effects
-        (S.state source.old)
-        (K.state sink.old)
-        result
-        (S.state source.new)
-        (K.state sink.new)) (run_at mode_handler.new.mode_handler (H.state heap.new)) }
+        (S.state source.old) (K.state sink.old) result (S.state source.new) (K.state sink.new)) (run_at mode_handler.new.mode_handler (H.state heap.new)) }
     ensures promise { KeepsPromise (H.state heap.old) (H.state heap.new) }
     // The causes of each status, also if the source isn't observable.
     ensures causes { HasCauses
-        (S.state source.old)
-        (K.state sink.old)
-        result
-        (S.state source.new)
-        (K.state sink.new) }
+        (S.state source.old) (K.state sink.old) result (S.state source.new) (K.state sink.new) }
 {
     match play_script(mode_handler, heap, source, &mut NullSink) {
         Status::Done => {}

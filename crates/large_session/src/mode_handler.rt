@@ -93,11 +93,7 @@ pub fn run_large<H: Manager, S: Source, K: Sink>(
     requires fresh { mode_handler.old.session ≡ map.empty }
     requires pages { IsPaged heap.old.inner.kind }
     ensures { Plays large_heap (large_run mode_handler.old.session heap.old)
-        (S.state source.old)
-        (K.state sink.old)
-        result
-        (S.state source.new)
-        (K.state sink.new)
+        (S.state source.old) (K.state sink.old) result (S.state source.new) (K.state sink.new)
         (large_run mode_handler.new.session heap.new) }
 {
     play_script(mode_handler, heap, source, sink)

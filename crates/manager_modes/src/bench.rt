@@ -1,10 +1,10 @@
 //! Mode `bench`: runs generated commands on one manager of the chosen kind. It prints no replies, but one line
 //! that counts them, the live objects, the pages or blocks in use and the objects that moved.
-ghost use Rattle.script_loop.specs.ScriptOutcome.{SourceState, is_write_fault};
-ghost use Rattle.manager_modes.specs.Outcomes.{Benches, EndsBeside, sink_seen};
+ghost use Rattle.script_loop.specs.ScriptOutcome.{is_write_fault};
+ghost use Rattle.manager_modes.specs.Outcomes.{Benches, EndsBeside};
 ghost use Rattle.std.specs.Prelude.{◌≡◌};
 ghost use Rattle.manager_modes.specs.Bench.{EndsBench, IsAppliedTo};
-ghost use Rattle.cf_io.specs.Feeds.{SinkFailsIf};
+ghost use Rattle.cf_io.specs.Feeds.{SinkFailsIf, SourceState};
 ghost use Rattle.cf_model.specs.Ordered.{KeepsPromise};
 ghost use Rattle.cf_session.specs.Apply.{run_at};
 ghost use Rattle.generator.specs.Generated.{generated};
@@ -31,7 +31,7 @@ use tlsf_heap::TlsfHeap;
 /// status, `OutOfMemory` also if the session can't be allocated.
 pub fn bench_seed<K: Sink>(rt: &HostRuntime, alloc: Global, choice: Choice, sink: &mut K) -> Status
     ensures { (source : SourceState) → EndsBeside (Benches choice)
-        source (sink_seen K.Sink sink.old) result source (sink_seen K.Sink sink.new) }
+        source (K.state sink.old) result source (K.state sink.new) }
 {
     let Ok(mut session) = Session::start(rt, alloc) else {
         return Status::OutOfMemory;

@@ -97,11 +97,7 @@ pub fn run_quotas<S: Source, K: Sink>(
 ) -> Status
     requires { mode_handler.old.session ≡ first_session }
     ensures { Plays quota_tasks (quota_run (option_map profile_of mode_handler.old.settings) mode_handler.old.session heap.old)
-        (S.state source.old)
-        (K.state sink.old)
-        result
-        (S.state source.new)
-        (K.state sink.new)
+        (S.state source.old) (K.state sink.old) result (S.state source.new) (K.state sink.new)
         (quota_run (option_map profile_of mode_handler.new.settings) mode_handler.new.session heap.new) }
 {
     play_script(mode_handler, heap, source, sink)

@@ -19,12 +19,13 @@ module _ {S P : Type 0} (m : Semantics S P)
       → Applies m (snapshot old w.written) c answer (snapshot new y.written)
   reported old new c reply w y (Ok u) outcome answer turn shown put is =
       subst (λ (a : Result Outcome Failed). Applies m (snapshot old w.written) c a (snapshot new y.written)) (sym is)
-      (record { reply = reply; turns = turn; written = put.0 }, shown)
-  reported old new c reply w y (Err e) outcome answer turn shown ((front, lost, parts, put), fails) is =
+      (record { reply = reply; turns = turn; written = put.wrote }, shown)
+  reported old new c reply w y (Err e) outcome answer turn shown put is =
+      let (front, lost, parts, shows) = put.part in
       subst (λ (a : Result Outcome Failed). Applies m (snapshot old w.written) c a (snapshot new y.written)) (sym is) (record {
         out = front;
         turns = in_part old c front new (record { reply = reply; lost = lost; turn = turn; cut = parts });
-        written = put;
+        written = shows;
       })
 
   -- the reply is the one line that `BuildsReply` names, and was written whole or in part

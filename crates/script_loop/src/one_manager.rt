@@ -58,11 +58,7 @@ pub fn run_script<H: Manager, S: Source, K: Sink>(
 ) -> Status
     requires { session.old ≡ fresh_session }
     ensures { Plays one_manager (run_at session.old (H.state heap.old))
-        (S.state source.old)
-        (K.state sink.old)
-        result
-        (S.state source.new)
-        (K.state sink.new)
+        (S.state source.old) (K.state sink.old) result (S.state source.new) (K.state sink.new)
         (run_at session.new (H.state heap.new)) }
 {
     play_script(session, heap, source, sink)

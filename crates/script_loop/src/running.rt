@@ -108,11 +108,7 @@ pub fn play_script<H, A: ModeHandler<H>, S: Source, K: Sink>(
 ) -> Status
     requires { A.semantics.is_fresh (A.state mode_handler.old heap.old) }
     ensures { Plays A.semantics (A.state mode_handler.old heap.old)
-        (S.state source.old)
-        (K.state sink.old)
-        result
-        (S.state source.new)
-        (K.state sink.new)
+        (S.state source.old) (K.state sink.old) result (S.state source.new) (K.state sink.new)
         (A.state mode_handler.new heap.new) }
 {
     let mut script = Script::new();

@@ -89,11 +89,7 @@ pub fn run_slices<S: Source, K: Sink>(
     requires fresh { mode_handler.old.session ≡ map.empty }
     requires quantum { IsQuantum mode_handler.old.quantum }
     ensures { Plays slices (slice_play mode_handler.old.session mode_handler.old.quantum heap.old)
-        (S.state source.old)
-        (K.state sink.old)
-        result
-        (S.state source.new)
-        (K.state sink.new)
+        (S.state source.old) (K.state sink.old) result (S.state source.new) (K.state sink.new)
         (slice_play mode_handler.new.session mode_handler.new.quantum heap.new) }
 {
     play_script(mode_handler, heap, source, sink)

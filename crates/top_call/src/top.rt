@@ -1,6 +1,6 @@
 //! `cf_main`, the top call: parses the arguments and runs the chosen mode.
-ghost use Rattle.std.specs.Prelude.{◌≡◌, ◌<◌, ◌≤◌, ◌+◌, ◌⊎◌, is_some, map, string_bytes};
-ghost use Rattle.cf_io.specs.Feeds.{FailsLast, last_count, SinkFailsIf, SourceFailsIf};
+ghost use Rattle.std.specs.Prelude.{◌≡◌, ◌<◌, ◌≤◌, ◌+◌, ◌⊎◌, is_some, map, string_bytes, true};
+ghost use Rattle.cf_io.specs.Feeds.{SinkFailsIf, SourceFailsIf, last_count};
 ghost use Rattle.script_loop.specs.ScriptOutcome.{MOST_BYTES, is_read_fault, is_write_fault};
 ghost use Rattle.manager_modes.specs.Outcomes.{EndsWithCause, EndsWhole, seen};
 ghost use Rattle.top_call.specs.TopOutcome.{EndsWell, HasRightInput, InMode, PrintsAsClaimed};
@@ -52,8 +52,7 @@ pub fn cf_main<H: Manager, S: Source, K: Sink>(
     // If the arguments choose a mode, the input is right for it, and neither device fails, the call returns `Done`
     // or `OutOfMemory`.
     ensures complete { HasRightInput (map (λ word. string_bytes word) words.now) (S.state source.old).rest
-        → ¬ FailsLast (S.state source.old).faults (S.state source.new).faults (S.state source.new).last_failed
-        → ¬ FailsLast (K.state sink.old).faults (K.state sink.new).faults (K.state sink.new).last_failed → EndsWhole result }
+        → ¬ SourceFailsIf true (S.state source.old) (S.state source.new) → ¬ SinkFailsIf true (K.state sink.old) (K.state sink.new) → EndsWhole result }
     // The causes of each status, over every source and sink.
     ensures source { SourceFailsIf (is_read_fault result) (S.state source.old) (S.state source.new) }
     ensures sink { SinkFailsIf (is_write_fault result) (K.state sink.old) (K.state sink.new) }

@@ -57,7 +57,7 @@ returns-in-Ok-clause-ends g c =
     let to = settled (run_at c.play_script.new.mode_handler.mode_handler (g.H.Manager.state c.play_script.new.heap)) c.play_script.new.mode_handler.settings in
     let going = (opened from to _ c.in-Some.settings by.outcome c.in-Done.is c.in-Some.is c.requires.unset).0 in
     let moving : (g.H.Manager.state c.play_script.new.heap).kind ≡ Moving = ap (λ (p : Kind × Bool). p.0) by.plan ∙ c.requires.moving in
-    ends_saved from to _ _ _ _ _ _ c.play_script.result c.in-Done.is by.outcome (saved_going to.state going) c.in-Ok.ensures.0
+    ends_saved from to _ _ _ _ _ _ c.play_script.result c.in-Done.is by.outcome (saved_going to.state going) c.in-Ok.ensures.wrote
     (record {
       going = going;
       kind = moving;
@@ -70,18 +70,18 @@ returns-in-Err-clause-ends g c =
     let from = settled (run_at c.args.mode_handler.now.mode_handler (g.H.Manager.state c.args.heap.now)) c.args.mode_handler.now.settings in
     let to = settled (run_at c.play_script.new.mode_handler.mode_handler (g.H.Manager.state c.play_script.new.heap)) c.play_script.new.mode_handler.settings in
     let going = (opened from to _ c.in-Some.settings by.outcome c.in-Done.is c.in-Some.is c.requires.unset).0 in
-    ends_cut from to _ _ _ _ _ _ c.play_script.result c.in-Done.is by.outcome (saved_going to.state going) c.in-Err.ensures.0
+    ends_cut from to _ _ _ _ _ _ c.play_script.result c.in-Done.is by.outcome (saved_going to.state going) c.in-Err.ensures.part
 
 pub returns-in_default-settings-clause-causes : goal.returns-in_default-settings-clause-causes
 returns-in_default-settings-clause-causes g c = whole_causes _ _ _ _ (done_same c.play_script.result c.in-Done.is _ _ c.play_script.ensures.causes.source_fault) refl
 
 pub returns-in-Ok-clause-causes : goal.returns-in-Ok-clause-causes
 returns-in-Ok-clause-causes g c =
-    whole_causes _ _ _ _ (done_same c.play_script.result c.in-Done.is _ _ c.play_script.ensures.causes.source_fault) c.in-Ok.ensures.1
+    whole_causes _ _ _ _ (done_same c.play_script.result c.in-Done.is _ _ c.play_script.ensures.causes.source_fault) c.in-Ok.ensures.same
 
 pub returns-in-Err-clause-causes : goal.returns-in-Err-clause-causes
 returns-in-Err-clause-causes g c =
-    cut_causes _ _ _ _ (done_same c.play_script.result c.in-Done.is _ _ c.play_script.ensures.causes.source_fault) c.in-Err.ensures.1
+    cut_causes _ _ _ _ (done_same c.play_script.result c.in-Done.is _ _ c.play_script.ensures.causes.source_fault) c.in-Err.ensures.fails
 
 pub returns-in_default-settings-clause-promise : goal.returns-in_default-settings-clause-promise
 returns-in_default-settings-clause-promise g c = ap (λ (p : Kind × Bool). p.1) c.play_script.ensures.plan

@@ -1,5 +1,5 @@
-use Rattle.std.proofs.Common.{◌∙◌, ◌++◌, List, [], ℕ, ap, subst}
-use Rattle.cf_io.specs.Feeds.{Puts}
+use Rattle.std.proofs.Common.{◌∙◌, ◌++◌, List, [], ℕ, ap}
+use Rattle.cf_io.proofs.CallerLemmas.{puts_same}
 use Rattle.cf_io.specs.Texts.{led, said}
 use Rattle.frag_report.specs.Classes.{totals_with}
 use Rattle.frag_report.proofs.CallerLemmas.{lines_cut, lines_then}
@@ -15,7 +15,7 @@ returns-in-Ok g c =
     let last = ap (λ f. total_line (totals_with c.live.result c.in-Ok.used f)) c.saturating_sub.ensures
     ∙ totals_are s c.args.task c.live.result c.in-Ok.used c.quota-quota.result (c.live.ensures.count ∙ as_many _ _ c.requires.tied)
     c.in-Ok.ensures.used c.quota-quota.ensures in
-    subst (λ (t : List ℕ). Puts (g.K.Sink.state c.args.out.now).written (led [] (lines ++ said t)) c.put_total.result (g.K.Sink.state c.put_total.new.out).written) last
+    puts_same _ _ _ _ c.put_total.result (ap (λ (t : List ℕ). led [] (lines ++ said t)) last)
     (lines_then [] lines (said (total_line (totals_with c.live.result c.in-Ok.used c.saturating_sub.result))) _ _ _ c.put_total.result c.in-Ok.ensures.puts
     c.put_total.ensures)
 

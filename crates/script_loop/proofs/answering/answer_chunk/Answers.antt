@@ -33,7 +33,7 @@ feeds-preserved g c =
       same_end = kept.same_end ∙ ap (λ r. r.ended) took.fed ∙ so_far.same_end;
       fed = omega (arith, kept.fed, count, long, so_far.fed);
       within = omega (arith, some, length-drop c.feeds.at c.args.chunk.now);
-      wrote = (appended_after _ _ _ _ _ so_far.wrote.0 kept.wrote, c.in-GoesOn.ensures.sink ∙ so_far.wrote.1);
+      wrote = record { wrote = appended_after _ _ _ _ _ so_far.wrote.wrote kept.wrote; same = c.in-GoesOn.ensures.sink ∙ so_far.wrote.same };
     }
 
 pub returns-in-Stopped-clause-goes : goal.returns-in-Stopped-clause-goes
@@ -47,7 +47,7 @@ returns-in-Stopped-clause-goes g c =
           (answered_next g.A.ModeHandler.semantics
           (answered_fed g.A.ModeHandler.semantics _ c.args.chunk.now c.feeds.at c.feed-at.result so_far.answered so_far.same_end took.fed) kept.answered)
           kept.over.1;
-      wrote = appended_after _ _ _ _ _ so_far.wrote.0 kept.wrote;
+      wrote = appended_after _ _ _ _ _ so_far.wrote.wrote kept.wrote;
       over = kept.over;
     }
 
@@ -61,5 +61,5 @@ returns-in-Cut-clause-goes g c =
       cut = cut_over g.A.ModeHandler.semantics c.args.chunk.now _
           (cut_next g.A.ModeHandler.semantics (answered_fed g.A.ModeHandler.semantics _ c.args.chunk.now c.feeds.at c.feed-at.result so_far.answered so_far.same_end
           took.fed) kept.cut);
-      wrote = appended_after _ _ _ _ _ so_far.wrote.0 kept.wrote;
+      wrote = appended_after _ _ _ _ _ so_far.wrote.wrote kept.wrote;
     }

@@ -29,7 +29,7 @@ replies-preserved-in-Ok g c =
       going = next.still;
       same_end = next.reads.same_end ∙ so_far.same_end;
       fed = next.reads.same_fed ∙ so_far.fed;
-      wrote = (appended_after _ _ _ _ _ so_far.wrote.0 opened.written, c.in-Ok.ensures.sink ∙ so_far.wrote.1);
+      wrote = record { wrote = appended_after _ _ _ _ _ so_far.wrote.wrote opened.written; same = c.in-Ok.ensures.sink ∙ so_far.wrote.same };
     }
 
 pub returns-in-Err-Failed-clause-goes : goal.returns-in-Err-Failed-clause-goes
@@ -41,7 +41,7 @@ returns-in-Err-Failed-clause-goes g c =
     record {
       out = so_far.text ++ opened.front;
       cut = cut_then m so_far.answered (cut_open m _ _ c.in-Start.settings _ _ next opened c.in-Err-Failed.ensures.plan);
-      wrote = appended_after _ _ _ _ _ so_far.wrote.0 opened.written;
+      wrote = appended_after _ _ _ _ _ so_far.wrote.wrote opened.written;
     }
 
 pub replies-preserved : goal.replies-preserved
@@ -57,7 +57,7 @@ replies-preserved g c =
       going = next.still;
       same_end = next.reads.same_end ∙ so_far.same_end;
       fed = next.reads.same_fed ∙ so_far.fed;
-      wrote = (appended_after _ _ _ _ _ so_far.wrote.0 answer.written, c.in-Ok-answer.ensures.sink ∙ so_far.wrote.1);
+      wrote = record { wrote = appended_after _ _ _ _ _ so_far.wrote.wrote answer.written; same = c.in-Ok-answer.ensures.sink ∙ so_far.wrote.same };
     }
 
 pub returns-in-Err-clause-goes : goal.returns-in-Err-clause-goes
@@ -69,11 +69,11 @@ returns-in-Err-clause-goes g c =
     record {
       out = so_far.text ++ answer.out;
       cut = cut_then m so_far.answered (cut_command m _ _ _ answer.out next answer.turns c.in-Err.ensures.plan);
-      wrote = appended_after _ _ _ _ _ so_far.wrote.0 answer.written;
+      wrote = appended_after _ _ _ _ _ so_far.wrote.wrote answer.written;
     }
 
 pub returns-in-Bad-clause-goes : goal.returns-in-Bad-clause-goes
 returns-in-Bad-clause-goes g c =
     let so_far = c.replies.invariant in
-    named g.A.ModeHandler.semantics _ _ _ _ _ _ _ so_far.text _ so_far.answered so_far.wrote.0
+    named g.A.ModeHandler.semantics _ _ _ _ _ _ _ so_far.text _ so_far.answered so_far.wrote.wrote
     (bad_at _ _ _ so_far.going (rw c.in-Bad.is at c.read_next.ensures)) c.name_bad.ensures.names
