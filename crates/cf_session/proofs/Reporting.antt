@@ -3,6 +3,7 @@
 use Rattle.std.proofs.Common.{◌≡◌, ◌∙◌, ℕ, ◌++◌, List, [], ◌∷◌, Option, Some, None, Result, Ok, Err, length, map, refl, ap}
 use Rattle.std.proofs.Common.{ap₂, sym, subst, append_assoc}
 use Rattle.std.specs.Prelude.{codes}
+use Rattle.std.specs.Result.{is_err}
 use Rattle.std.specs.FinMap.{get}
 use Rattle.hex.specs.Hex.{encode_lower}
 use Rattle.cf_base.specs.declared.answers.AccessFault.{AccessFault}
@@ -12,7 +13,7 @@ use Rattle.cf_base.specs.declared.answers.Totals.{Totals}
 use Rattle.cf_base.specs.declared.answers.Figures.{Figures}
 use Rattle.cf_base.specs.declared.kind.Kind.{Kind}
 use Rattle.cf_base.specs.declared.kind.Kind.TheVariants.{Moving, NonMoving, Tlsf, HalfFit}
-use Rattle.cf_io.specs.Feeds.{SinkState, Writes, WritesAll}
+use Rattle.cf_io.specs.Feeds.{SinkFailsIf, SinkState, Writes, WritesAll}
 use Rattle.cf_model.specs.State.{HeapState, paging_in}
 use Rattle.cf_model.specs.Answers.{totals_in}
 use Rattle.cf_model.specs.Steps.{IsFault, Position, ReadsBytes}
@@ -105,6 +106,14 @@ pub shown_step : (old new : RunState) (asked c : Command) (lead text : List ℕ)
 shown_step old new asked c lead text w y answer is going step shown =
     subst (λ (k : Command). AppliesOneManager (at old w) (record { command = k; lead = lead }) answer (at new y)) (sym is)
     (reported old new c lead (said text) w y shown.written (outcome_in text) answer going step refl shown.puts shown.ended)
+
+-- the sink failed in a reply of one line if and only if the result is an error
+pub put_faults : (text lead : List ℕ) (w y : SinkState) (answer : Result Outcome Failed) → IsPut text lead w answer y → SinkFailsIf (is_err answer) w y
+put_faults text lead w y answer shown = go shown.written shown.puts shown.ended
+  where
+    go : (r : Result Unit Failed) → Writes w (led lead (said text)) r y → IsEnded r (outcome_in text) answer → SinkFailsIf (is_err answer) w y
+    go (Ok u) put is = subst (λ (a : Result Outcome Failed). SinkFailsIf (is_err a) w y) (sym is) put.same
+    go (Err e) put is = subst (λ (a : Result Outcome Failed). SinkFailsIf (is_err a) w y) (sym is) put.fails
 
 -- if a reply is on the line, the line has room for the line feed
 pub has_room : (lead line text : List ℕ) (o : OneLine) → SaidOn (lines_at lead line) text o → HasRoom line o

@@ -2,7 +2,7 @@ use Rattle.std.proofs.Common.{ap, refl}
 use Rattle.script_reader.specs.Owned.{owned_command}
 use Rattle.script_reader.specs.declared.command.Command.TheVariants.{Malloc, Free, Write, Read, Resize, Bound, Place, Block, Peek, Steps}
 use Rattle.cf_session.proofs.Lacking.{lacking}
-use Rattle.cf_session.proofs.Reporting.{has_room, reported_walk, reported_frag, shown_step}
+use Rattle.cf_session.proofs.Reporting.{has_room, put_faults, reported_walk, reported_frag, shown_step}
 use Rattle.cf_session.proofs.dispatch.answer.Goals as goal
 
 pub returns-in-Malloc-clause-step : goal.returns-in-Malloc-clause-step
@@ -75,3 +75,15 @@ returns-in_default-clause-step g c =
     shown_step _ _ _ (owned_command c.args.c) c.args.lead.now _ _ _ _ refl c.requires.going
     (lacking _ c.args.c d.not-Malloc d.not-Free d.not-Write d.not-Read d.not-Place d.not-Block d.not-Peek d.not-Walk d.not-Frag d.not-Steps d.not-Bound
     d.not-Resize) c.put_short_line-in_default.ensures
+
+pub returns-in-Place-clause-sink : goal.returns-in-Place-clause-sink
+returns-in-Place-clause-sink g c = put_faults _ c.args.lead.now _ _ _ (c.put_reply.ensures _ c.place.ensures)
+
+pub returns-in-Block-clause-sink : goal.returns-in-Block-clause-sink
+returns-in-Block-clause-sink g c = put_faults _ c.args.lead.now _ _ _ (c.put_reply-in-Block.ensures _ c.block.ensures)
+
+pub returns-in-Peek-clause-sink : goal.returns-in-Peek-clause-sink
+returns-in-Peek-clause-sink g c = put_faults _ c.args.lead.now _ _ _ (c.put_reply-in-Peek.ensures _ c.peek.ensures)
+
+pub returns-in-Steps-clause-sink : goal.returns-in-Steps-clause-sink
+returns-in-Steps-clause-sink g c = put_faults _ c.args.lead.now _ _ _ (c.put_reply-in-Steps.ensures _ c.put_steps_line.ensures)
