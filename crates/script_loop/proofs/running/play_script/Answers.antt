@@ -1,4 +1,4 @@
-use Rattle.std.proofs.Common.{◌∙◌, refl, false, true}
+use Rattle.std.proofs.Common.{◌∙◌, refl, true}
 use Rattle.cf_base.specs.declared.status.Status.TheVariants.{Done, BadScript, WriteFault, OutOfMemory}
 use Rattle.cf_io.proofs.CallerLemmas.{fails_after}
 use Rattle.script_loop.specs.ScriptOutcome.{is_read_fault, is_write_fault}
@@ -35,7 +35,7 @@ returns-in-GoesOn g c =
     let turn = c.in-Ended.ensures in
     let at = c.turns.invariant in
     plays_of m _ _ _ Done _ _ _ (at_end m at.so_far _ turn.turn _ Done (rw c.finish.ensures at c.in-GoesOn.ensures.goes))
-    (turn.source ∙ at.source_same) (fails_after false _ _ _ _ (turn.sink ∙ at.sink_same) c.in-GoesOn.ensures.sink)
+    (turn.source ∙ at.source_same) (c.in-GoesOn.ensures.sink ∙ turn.sink ∙ at.sink_same)
 
 pub returns-in-Stopped-answer_pending_items : goal.returns-in-Stopped-answer_pending_items
 returns-in-Stopped-answer_pending_items g c =
@@ -43,7 +43,7 @@ returns-in-Stopped-answer_pending_items g c =
     let turn = c.in-Ended.ensures in
     let at = c.turns.invariant in
     plays_of m _ _ _ BadScript _ _ _ (at_end m at.so_far _ turn.turn _ BadScript (rw c.finish.ensures at c.in-Stopped-answer_pending_items.ensures.goes))
-    (turn.source ∙ at.source_same) (fails_after false _ _ _ _ (turn.sink ∙ at.sink_same) c.in-Stopped-answer_pending_items.ensures.sink)
+    (turn.source ∙ at.source_same) (c.in-Stopped-answer_pending_items.ensures.sink ∙ turn.sink ∙ at.sink_same)
 
 pub returns-in-Cut : goal.returns-in-Cut
 returns-in-Cut g c =
@@ -59,4 +59,4 @@ returns-in-LacksMemory g c =
     let turn = c.in-Ended.ensures in
     let at = c.turns.invariant in
     plays_of m _ _ _ OutOfMemory _ _ _ (at_end m at.so_far _ turn.turn _ OutOfMemory (rw c.finish.ensures at c.in-LacksMemory.ensures.goes))
-    (turn.source ∙ at.source_same) (fails_after false _ _ _ _ (turn.sink ∙ at.sink_same) c.in-LacksMemory.ensures.sink)
+    (turn.source ∙ at.source_same) (c.in-LacksMemory.ensures.sink ∙ turn.sink ∙ at.sink_same)
