@@ -1,13 +1,13 @@
 -- For `save_script`, which runs a script and writes an image: from how the script ended, its settings kept, and what was written of the image to its
 -- contract `EndsSave`, for each status.
-use Rattle.std.proofs.Common.{◌≡◌, ◌≢◌, ◌∙◌, ◌++◌, ℕ, List, [], false, true, Option, Some, None, refl, ap, sym, subst}
+use Rattle.std.proofs.Common.{◌≡◌, ◌≢◌, ◌∙◌, ◌++◌, ℕ, Bool, List, [], false, true, Option, Some, None, refl, ap, sym, subst}
 use Rattle.std.specs.Prelude.{Err, option_map, if◌then◌else◌}
 use Rattle.cf_base.specs.Settings.{profile_of}
 use Rattle.cf_base.specs.declared.answers.Failed.{Failed}
 use Rattle.cf_base.specs.declared.settings.Settings.{Settings}
 use Rattle.cf_base.specs.declared.status.Status.{Status}
 use Rattle.cf_base.specs.declared.status.Status.TheVariants.{Done, Words, BadScript, ReadFault, WriteFault, OutOfMemory, TooLong, BadImage}
-use Rattle.cf_io.specs.Feeds.{FailsIf, SinkFailsIf, SinkState, SourceFailsIf, SourceState, WritesPrefix, appended}
+use Rattle.cf_io.specs.Feeds.{FailsIf, SinkFailsIf, SinkState, SourceState, WritesPrefix, appended}
 use Rattle.heap_image.specs.Heaps.{heap_image}
 use Rattle.image_run.specs.Saves.{CanBeSaved, EndsSave, saved}
 use Rattle.run_model.specs.Sessions.{IsGoing, RunState}
@@ -21,17 +21,17 @@ use Rattle.script_loop.specs.WithSettings.{GoesWith, Settled, with_settings}
 pub never_cut : (st : Status) → FailsIf (is_write_fault st) 0 0 false → st ≡ WriteFault → ⊥
 never_cut st cause is = let e : false ≡ true = (subst (λ (s : Status). FailsIf (is_write_fault s) 0 0 false) is cause).1 in absurd cc
 
-pub never_faults : (st : Status) (k : SinkState) → FailsIf (is_write_fault st) 0 0 false → SinkFailsIf (is_write_fault st) k k
-never_faults st k cause = go (is_write_fault st) cause
+pub never_faults : (st : Status) (n : ℕ) (last : Bool) → FailsIf (is_write_fault st) 0 0 false → FailsIf (is_write_fault st) n n last
+never_faults st n last cause = go (is_write_fault st) cause
   where
-    go : (b : Bool) → FailsIf b 0 0 false → SinkFailsIf b k k
+    go : (b : Bool) → FailsIf b 0 0 false → FailsIf b n n last
     go true fails = absurd (let e : false ≡ true = fails.1 in cc)
     go false same = refl
 
 -- ---- the causes, if the script was run to its end
 
-pub done_same : (st : Status) → st ≡ Done → (s s' : SourceState) → SourceFailsIf (is_read_fault st) s s' → s'.faults ≡ s.faults
-done_same st done s s' same = subst (λ (t : Status). SourceFailsIf (is_read_fault t) s s') done same
+pub done_same : (st : Status) → st ≡ Done → (a b : ℕ) (last : Bool) → FailsIf (is_read_fault st) a b last → b ≡ a
+done_same st done a b last same = subst (λ (t : Status). FailsIf (is_read_fault t) a b last) done same
 
 pub whole_causes : (s : SourceState) (k : SinkState) (s' : SourceState) (k' : SinkState) → s'.faults ≡ s.faults → k'.faults ≡ k.faults
     → HasCauses s k Done s' k'

@@ -66,7 +66,7 @@ module _ (id : ℕ) (bytes : List ℕ) (w x : SinkState) (at : ℕ) (so_far : Wr
     writes_on y put = record {
       done = so_far.done ++ line;
       rest = split ∙ sym (append_assoc so_far.done line behind);
-      written = put ∙ ap (λ (t : SinkState). appended t line) so_far.written ∙ appended_then w so_far.done line;
+      written = puts_then {T = Unit {0}} w x y so_far.done line (Ok tt) so_far.written put;
     }
 
     -- a line was cut

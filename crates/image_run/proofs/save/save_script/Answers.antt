@@ -17,7 +17,7 @@ returns-in_default g c =
       causes = record {
         silent = λ is. refl;
         source_fault = by.causes.source_fault;
-        sink_fault = never_faults c.play_script.result _ by.causes.sink_fault;
+        sink_fault = never_faults c.play_script.result _ _ by.causes.sink_fault;
         too_long = by.causes.too_long;
       };
     }
@@ -73,15 +73,15 @@ returns-in-Err-clause-ends g c =
     ends_cut from to _ _ _ _ _ _ c.play_script.result c.in-Done.is by.outcome (saved_going to.state going) c.in-Err.ensures.part
 
 pub returns-in_default-settings-clause-causes : goal.returns-in_default-settings-clause-causes
-returns-in_default-settings-clause-causes g c = whole_causes _ _ _ _ (done_same c.play_script.result c.in-Done.is _ _ c.play_script.ensures.causes.source_fault) refl
+returns-in_default-settings-clause-causes g c = whole_causes _ _ _ _ (done_same c.play_script.result c.in-Done.is _ _ _ c.play_script.ensures.causes.source_fault) refl
 
 pub returns-in-Ok-clause-causes : goal.returns-in-Ok-clause-causes
 returns-in-Ok-clause-causes g c =
-    whole_causes _ _ _ _ (done_same c.play_script.result c.in-Done.is _ _ c.play_script.ensures.causes.source_fault) c.in-Ok.ensures.same
+    whole_causes _ _ _ _ (done_same c.play_script.result c.in-Done.is _ _ _ c.play_script.ensures.causes.source_fault) c.in-Ok.ensures.same
 
 pub returns-in-Err-clause-causes : goal.returns-in-Err-clause-causes
 returns-in-Err-clause-causes g c =
-    cut_causes _ _ _ _ (done_same c.play_script.result c.in-Done.is _ _ c.play_script.ensures.causes.source_fault) c.in-Err.ensures.fails
+    cut_causes _ _ _ _ (done_same c.play_script.result c.in-Done.is _ _ _ c.play_script.ensures.causes.source_fault) c.in-Err.ensures.fails
 
 pub returns-in_default-settings-clause-promise : goal.returns-in_default-settings-clause-promise
 returns-in_default-settings-clause-promise g c = ap (λ (p : Kind × Bool). p.1) c.play_script.ensures.plan
