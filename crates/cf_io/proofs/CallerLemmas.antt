@@ -11,9 +11,9 @@ use Rattle.std.proofs.lemmas.Str.Parse.{digit_from_value}
 use Rattle.cf_io.specs.Lines.{word_text}
 use Rattle.cf_io.specs.Numbers.{is_digit, number_in}
 pub use Rattle.cf_io.proofs.Digits.{Spells, digits_stop, digits_within, first_shown, number_spelled, other_byte, spells}
-pub use Rattle.cf_io.proofs.Feeding.{appended_after, appended_none, appended_then, given_min, given_more, given_none, nothing_follows}
-pub use Rattle.cf_io.proofs.Feeding.{nothing_may_follow, nothing_taken, preceded_after, preceded_none}
-pub use Rattle.cf_io.proofs.LineLemmas.{decimal_short, five, led-append, pushed, puts_cut, puts_line, puts_then, three}
+pub use Rattle.cf_io.proofs.Feeding.{appended_after, appended_none, appended_then, fails_after, given_min, given_more, given_none, nothing_follows}
+pub use Rattle.cf_io.proofs.Feeding.{nothing_may_follow, nothing_taken, preceded_after, preceded_none, writes_faults, writes_more, writes_none}
+pub use Rattle.cf_io.proofs.LineLemmas.{decimal_short, five, led-append, pushed, puts_cut, puts_line, puts_same, puts_then, three}
 
 pub length_in_hex : (bytes : List ℕ) → length (encode_lower bytes) ≡ 2 * length bytes
 length_in_hex bytes = length-encode_with lower_digits bytes

@@ -1,14 +1,14 @@
 -- For crates that write replies: the bytes of a reply, each line after its lead; two writes, the second perhaps cut, as one; a line that texts were appended
 -- to; and that a text that fits the line is appended.
-use Rattle.std.proofs.Common.{◌≡◌, ◌∙◌, ℕ, ◌+◌, ◌<◌, ◌≤◌, ◌^◌, ◌++◌, List, [], ◌∷◌, Option, refl, ap, sym, append_assoc, append-nil, subst, arith, length, lit<}
+use Rattle.std.proofs.Common.{◌≡◌, ◌∙◌, ℕ, ◌+◌, ◌<◌, ◌≤◌, ◌^◌, ◌++◌, List, [], ◌∷◌, true, refl, ap, sym, append_assoc, append-nil, subst, arith, length, lit<}
 use Rattle.std.specs.Prelude.{Result, Ok, Err, decimal}
 use Rattle.std.specs.Result.{IsOk}
 use Rattle.cf_io.specs.Lines.{Pushes, line_capacity}
 use Rattle.cf_io.specs.declared.line.Full.{Full}
 use Rattle.std.proofs.lemmas.Fmt.{length-decimal-le}
 use Rattle.cf_base.specs.declared.answers.Failed.{Failed}
-use Rattle.cf_io.specs.Feeds.{appended, Puts}
-use Rattle.cf_io.proofs.Feeding.{appended_then}
+use Rattle.cf_io.specs.Feeds.{SinkState, Writes, WritesAll}
+use Rattle.cf_io.proofs.Feeding.{appended_after, fails_after}
 use Rattle.cf_io.specs.Texts.{Reply, led, said}
 
 -- a number of 64 bits has at most 20 digits
@@ -25,25 +25,31 @@ led-append lead (text ∷ rest) more =
     ap (λ xs. (lead ++ (text ++ 10 ∷ [])) ++ xs) (led-append lead rest more)
     ∙ sym (append_assoc (lead ++ (text ++ 10 ∷ [])) (led lead rest) (led lead more))
 
-abbrev Written : Type 0
-Written = Option (List ℕ)
+-- what is claimed of a write of the bytes a is claimed of b, if b equals a
+pub puts_same : {T : Type 0} (w y : SinkState) (a b : List ℕ) (r : Result T Failed) → a ≡ b → Writes w a r y → Writes w b r y
+puts_same {T = T} w y a b r is put = subst (λ (bytes : List ℕ). Writes {T = T} w bytes r y) is put
 
 -- if the bytes a were written whole, and then the bytes b whole or in part, that is a write of `a ++ b`, whole or in part
-pub puts_then : {T : Type 0} (w x y : Written) (a b : List ℕ) (r : Result T Failed) → x ≡ appended w a → Puts x b r y → Puts w (a ++ b) r y
-puts_then w x y a b (Ok u) first next = next ∙ ap (λ (o : Written). appended o b) first ∙ appended_then w a b
-puts_then w x y a b (Err e) first (front, lost, parts, is) =
-    (a ++ front, lost, ap (λ xs. a ++ xs) parts ∙ sym (append_assoc a front lost), is ∙ ap (λ (o : Written). appended o front) first ∙ appended_then w a front)
+pub puts_then : {T : Type 0} (w x y : SinkState) (a b : List ℕ) (r : Result T Failed) → WritesAll w a x → Writes x b r y → Writes w (a ++ b) r y
+puts_then w x y a b (Ok u) first next = record { wrote = appended_after _ _ _ a b first.wrote next.wrote; same = next.same ∙ first.same }
+puts_then w x y a b (Err e) first cut =
+    let (front, lost, parts, is) = cut.part in
+    record {
+      part = (a ++ front, lost, ap (λ xs. a ++ xs) parts ∙ sym (append_assoc a front lost), appended_after _ _ _ a front first.wrote is);
+      fails = fails_after true _ _ _ _ first.same cut.fails;
+    }
 
 -- if only a prefix of the bytes a was written, it is a prefix of `a ++ b`
-pub puts_cut : (w y : Written) (a b : List ℕ) (e : Failed) → Puts {T = Unit {0}} w a (Err e) y → Puts {T = Unit {0}} w (a ++ b) (Err e) y
-puts_cut w y a b e (front, lost, parts, is) = (front, lost ++ b, ap (λ xs. xs ++ b) parts ∙ append_assoc front lost b, is)
+pub puts_cut : (w y : SinkState) (a b : List ℕ) (e : Failed) → Writes {T = Unit {0}} w a (Err e) y → Writes {T = Unit {0}} w (a ++ b) (Err e) y
+puts_cut w y a b e cut =
+    let (front, lost, parts, is) = cut.part in
+    record { part = (front, lost ++ b, ap (λ xs. xs ++ b) parts ∙ append_assoc front lost b, is); fails = cut.fails }
 
 -- writing a line that begins with its lead is writing a reply of this one line
-pub puts_line : {T : Type 0} (w y : Written) (lead text line : List ℕ) (r : Result T Failed) → line ≡ lead ++ text → Puts w (line ++ 10 ∷ []) r y
-    → Puts w (led lead (said text)) r y
-puts_line {T = T} w y lead text line r is put =
-    let P : List ℕ → Type 0 = λ bytes. Puts {T = T} w bytes r y in
-    subst P (ap (λ (l : List ℕ). l ++ 10 ∷ []) is ∙ sym (led_said lead text)) put
+pub puts_line : {T : Type 0} (w y : SinkState) (lead text line : List ℕ) (r : Result T Failed) → line ≡ lead ++ text → Writes w (line ++ 10 ∷ []) r y
+    → Writes w (led lead (said text)) r y
+puts_line w y lead text line r is put =
+    puts_same w y _ _ r (ap (λ (l : List ℕ). l ++ 10 ∷ []) is ∙ sym (led_said lead text)) put
 
 -- a line that three texts were appended to, after its lead
 pub three : (lead l m n o a b c : List ℕ) → l ≡ lead → m ≡ l ++ a → n ≡ m ++ b → o ≡ n ++ c → o ≡ lead ++ (a ++ (b ++ c))

@@ -1,7 +1,8 @@
 -- What contracts see of a source over a reader of std and of a sink over a writer of std: the reader or writer, the counts, and which bytes a call moved.
-use Rattle.std.specs.Prelude.{ℕ, Bool, List, Option, Result}
+use Rattle.std.specs.Prelude.{ℕ, List, Option, None, Result}
 use Rattle.std.specs.Io.KnownBytes.{Appends, ReadConsumes}
 use Rattle.cf_base.specs.declared.answers.Failed.{Failed}
+use Rattle.cf_io.specs.Feeds.{SinkState, SourceState}
 use Rattle.cf_io.specs.declared.devices.StdSource.{StdSource}
 use Rattle.cf_io.specs.declared.devices.StdSink.{StdSink}
 
@@ -9,33 +10,17 @@ use Rattle.cf_io.specs.declared.devices.StdSink.{StdSink}
 abbrev pub reader_of : {T : Type 0} → StdSource T → T
 reader_of s = s.reader
 
--- how many bytes the source s has returned
-abbrev pub given_by : {T : Type 0} → StdSource T → ℕ
-given_by s = s.given
-
--- how many calls the source s had
-abbrev pub source_calls : {T : Type 0} → StdSource T → ℕ
-source_calls s = s.calls
-
--- how many calls of the source s failed
-abbrev pub source_faults : {T : Type 0} → StdSource T → ℕ
-source_faults s = s.faults
-
--- whether the last call of the source s failed
-abbrev pub source_failed : {T : Type 0} → StdSource T → Bool
-source_failed s = s.failed
+-- the source s as any source: the bytes left are not observable
+abbrev pub source_seen : {T : Type 0} → StdSource T → SourceState
+source_seen s = record { rest = None; given = s.given; calls = s.calls; faults = s.faults; last_failed = s.failed }
 
 -- the writer that the sink s writes to
 abbrev pub writer_of : {T : Type 0} → StdSink T → T
 writer_of s = s.writer
 
--- how many calls of the sink s failed
-abbrev pub sink_faults : {T : Type 0} → StdSink T → ℕ
-sink_faults s = s.faults
-
--- whether the last call of the sink s failed
-abbrev pub sink_failed : {T : Type 0} → StdSink T → Bool
-sink_failed s = s.failed
+-- the sink s as any sink: the bytes written are not observable
+abbrev pub sink_seen : {T : Type 0} → StdSink T → SinkState
+sink_seen s = record { written = None; faults = s.faults; last_failed = s.failed }
 
 -- A call of the source `old` returned `answer` and left the source `new`. If the bytes that the reader has left (`remaining`) are known, the call removed from
 -- them those that it read into `buf`, and none at an error. It read 0 bytes into a buffer that isn't empty only if no byte was left.

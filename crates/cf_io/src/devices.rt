@@ -1,12 +1,9 @@
 //! The source over a reader of std, for instance standard input, and the sink over a writer of std,
 //! for instance standard output.
-ghost use Rattle.std.specs.Prelude.{◌≡◌, ◌<◌, ◌≤◌, false, None, length, take, IfOk, IfSome, OnOk, OnErr};
-ghost use Rattle.std.specs.Result.{is_err};
+ghost use Rattle.std.specs.Prelude.{◌≡◌, ◌<◌, ◌≤◌, false, None, length, take, IfOk, IfSome};
 ghost use Rattle.std.specs.Io.KnownBytes.{Appends};
-ghost use Rattle.cf_io.specs.Devices.{ReadsFrom, given_by, reader_of, source_calls, source_failed, source_faults};
-ghost use Rattle.cf_io.specs.Devices.{WritesTo, sink_failed, sink_faults, writer_of};
-ghost use Rattle.cf_io.specs.Feeds.{one_more};
-ghost use Rattle.cf_io.specs.Sources.{more_given};
+ghost use Rattle.cf_io.specs.Devices.{ReadsFrom, WritesTo, reader_of, sink_seen, source_seen, writer_of};
+ghost use Rattle.cf_io.specs.Feeds.{PutsSome, Takes};
 
 use crate::sink::Sink;
 use crate::source::Source;
@@ -29,10 +26,7 @@ impl<T> StdSource<T> {
     /// A source over this reader, before its first call.
     pub fn new(reader: T) -> StdSource<T>
         ensures reader { reader_of result ≡ reader }
-        ensures given { given_by result ≡ 0 }
-        ensures calls { source_calls result ≡ 0 }
-        ensures faults { source_faults result ≡ 0 }
-        ensures failed { source_failed result ≡ false }
+        ensures state { source_seen result ≡ record { rest = None; given = 0; calls = 0; faults = 0; last_failed = false } }
     {
         StdSource {
             reader,
@@ -45,28 +39,13 @@ impl<T> StdSource<T> {
 }
 
 impl<T: Read> Source for StdSource<T> {
-    ghost rest = { λ _. None };
-
-    ghost given = { given_by };
-
-    ghost calls = { source_calls };
-
-    ghost faults = { source_faults };
-
-    ghost last_failed = { source_failed };
+    ghost state = { source_seen };
 
     /// One read of the reader into `buf`. Returns how many bytes it read, or `Failed` if the reader
     /// fails.
     fn take(&mut self, buf: &mut [u8]) -> Result<usize, Failed>
         ensures bytes { ReadsFrom T.remaining self.old result self.new buf.new }
-        ensures within { IfOk result (λ n. n ≤ length buf.new) }
-        ensures given { IfOk result (λ n. given_by self.new ≡ more_given (given_by self.old) n) }
-        ensures once { source_calls self.new ≡ one_more (source_calls self.old) }
-        ensures grows { source_faults self.old ≤ source_faults self.new }
-        ensures ok { OnOk result (source_faults self.new ≡ source_faults self.old) }
-        ensures err { OnErr result (source_faults self.new ≡ one_more (source_faults self.old)) }
-        ensures last { source_failed self.new ≡ is_err result }
-        ensures kept { OnErr result (given_by self.new ≡ given_by self.old) }
+        ensures takes { Takes (source_seen self.old) result buf.new (source_seen self.new) }
     {
         self.calls = self.calls.saturating_add(1);
         match self.reader.read(buf) {
@@ -98,8 +77,7 @@ impl<T> StdSink<T> {
     /// A sink over this writer, before its first call.
     pub fn new(writer: T) -> StdSink<T>
         ensures writer { writer_of result ≡ writer }
-        ensures faults { sink_faults result ≡ 0 }
-        ensures failed { sink_failed result ≡ false }
+        ensures state { sink_seen result ≡ record { written = None; faults = 0; last_failed = false } }
     {
         StdSink {
             writer,
@@ -126,22 +104,13 @@ fn write_and_flush<T: Write>(writer: &mut T, bytes: &[u8]) -> Option<usize>
 }
 
 impl<T: Write> Sink for StdSink<T> {
-    ghost written = { λ _. None };
-
-    ghost faults = { sink_faults };
-
-    ghost last_failed = { sink_failed };
+    ghost state = { sink_seen };
 
     /// One write of the bytes and a flush (`write_and_flush`). Returns how many bytes the writer
     /// took, or `Failed`.
     fn put(&mut self, bytes: &[u8]) -> Result<usize, Failed>
         ensures bytes { IfOk result (λ n. WritesTo T.contents self.old (take n bytes.now) self.new) }
-        ensures within { IfOk result (λ n. n ≤ length bytes.now) }
-        ensures some { 0 < length bytes.now → IfOk result (λ n. 0 < n) }
-        ensures grows { sink_faults self.old ≤ sink_faults self.new }
-        ensures ok { OnOk result (sink_faults self.new ≡ sink_faults self.old) }
-        ensures err { OnErr result (sink_faults self.new ≡ one_more (sink_faults self.old)) }
-        ensures last { sink_failed self.new ≡ is_err result }
+        ensures puts { PutsSome (sink_seen self.old) bytes.now result (sink_seen self.new) }
     {
         match write_and_flush(&mut self.writer, bytes) {
             Some(n) => {

@@ -1,6 +1,6 @@
 //! Builds one line of a reply in a buffer, and then writes it as a whole.
-ghost use Rattle.std.specs.Prelude.{◌≡◌, ◌+◌, ◌<◌, ◌≤◌, ◌++◌, ◌∷◌, [], OnErr, length, OnOk};
-ghost use Rattle.cf_io.specs.Feeds.{FailsLast, Puts};
+ghost use Rattle.std.specs.Prelude.{◌≡◌, ◌+◌, ◌<◌, ◌≤◌, ◌++◌, ◌∷◌, [], length};
+ghost use Rattle.cf_io.specs.Feeds.{Writes};
 ghost use Rattle.cf_io.specs.Lines.{line_capacity};
 ghost use Rattle.cf_io.specs.Texts.{with_number};
 
@@ -44,10 +44,7 @@ pub fn push_field(line: &mut Line, text: &[u8], n: u64)
 /// call of the sink fails, the result is `Failed`, and a prefix of the line was written.
 pub fn put_line<K: Sink>(line: &mut Line, out: &mut K) -> Result<(), Failed>
     requires { length line.old < line_capacity }
-    ensures puts { Puts (K.written out.old) (line.old ++ 10 ∷ []) result (K.written out.new) }
-    ensures grows { K.faults out.old ≤ K.faults out.new }
-    ensures same { OnOk result (K.faults out.new ≡ K.faults out.old) }
-    ensures failed { OnErr result (FailsLast (K.faults out.old) (K.faults out.new) (K.last_failed out.new)) }
+    ensures { Writes (K.state out.old) (line.old ++ 10 ∷ []) result (K.state out.new) }
 {
     line.push(b"\n").unwrap();
     put_all(out, line.bytes())

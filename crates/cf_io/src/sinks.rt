@@ -15,11 +15,7 @@ use std::marker::Model;
 pub struct NullSink;
 
 impl Sink for NullSink {
-    ghost written = { λ _. None };
-
-    ghost faults = { λ _. 0 };
-
-    ghost last_failed = { λ _. false };
+    ghost state = { λ _. record { written = None; faults = 0; last_failed = false } };
 
     /// Drops the bytes, and returns how many there were.
     fn put(&mut self, bytes: &[u8]) -> Result<usize, Failed>
@@ -84,11 +80,7 @@ impl MemSink {
 }
 
 impl Sink for MemSink {
-    ghost written = { λ s. Some s.written };
-
-    ghost faults = { λ s. s.schedule.faults };
-
-    ghost last_failed = { λ s. s.schedule.failed };
+    ghost state = { λ s. record { written = Some s.written; faults = s.schedule.faults; last_failed = s.schedule.failed } };
 
     /// Fails if the schedule lists this call, or if there are bytes and no room is left. Else keeps the
     /// longest prefix of the bytes that the room and the schedule allow, and returns its length.

@@ -47,15 +47,7 @@ impl SureSource {
 }
 
 impl Source for SureSource {
-    ghost rest = { λ s. Some s.left };
-
-    ghost given = { λ s. s.given };
-
-    ghost calls = { λ s. s.calls };
-
-    ghost faults = { λ _. 0 };
-
-    ghost last_failed = { λ _. false };
+    ghost state = { λ s. record { rest = Some s.left; given = s.given; calls = s.calls; faults = 0; last_failed = false } };
 
     /// Copies the bytes left to the start of `buf`, or the first of them if not all fit, and returns how
     /// many it copied.
@@ -115,15 +107,13 @@ impl MemSource {
 }
 
 impl Source for MemSource {
-    ghost rest = { λ s. Some s.left };
-
-    ghost given = { λ s. s.given };
-
-    ghost calls = { λ s. s.schedule.call };
-
-    ghost faults = { λ s. s.schedule.faults };
-
-    ghost last_failed = { λ s. s.schedule.failed };
+    ghost state = { λ s. record {
+        rest = Some s.left;
+        given = s.given;
+        calls = s.schedule.call;
+        faults = s.schedule.faults;
+        last_failed = s.schedule.failed;
+    } };
 
     /// Fails if the schedule lists this call; `buf` stays then. Else copies the first bytes left to the
     /// start of `buf`, as far as the buffer and the schedule allow, and returns how many it copied.
@@ -187,15 +177,7 @@ impl LoopSource {
 }
 
 impl Source for LoopSource {
-    ghost rest = { λ _. None };
-
-    ghost given = { λ s. s.given };
-
-    ghost calls = { λ s. s.calls };
-
-    ghost faults = { λ _. 0 };
-
-    ghost last_failed = { λ _. false };
+    ghost state = { λ s. record { rest = None; given = s.given; calls = s.calls; faults = 0; last_failed = false } };
 
     /// Fills `buf` with the next bytes of the endless pattern, and returns its length.
     fn take(&mut self, buf: &mut [u8]) -> Result<usize, Failed>

@@ -1,6 +1,5 @@
 //! `put_all`: writes all bytes of a slice to a sink, which may take only some of them in each call.
-ghost use Rattle.std.specs.Prelude.{◌≡◌, ◌≤◌, OnErr, OnOk};
-ghost use Rattle.cf_io.specs.Feeds.{FailsLast, Puts};
+ghost use Rattle.cf_io.specs.Feeds.{Writes};
 
 use crate::sink::Sink;
 use cf_base::Failed;
@@ -8,10 +7,7 @@ use cf_base::Failed;
 /// Calls `put` with the bytes, then with the bytes left, until the sink has written all. If a call fails, the
 /// result is `Failed`, and a prefix of the bytes was written.
 pub fn put_all<K: Sink>(sink: &mut K, bytes: &[u8]) -> Result<(), Failed>
-    ensures grows { K.faults sink.old ≤ K.faults sink.new }
-    ensures puts { Puts (K.written sink.old) bytes.now result (K.written sink.new) }
-    ensures same { OnOk result (K.faults sink.new ≡ K.faults sink.old) }
-    ensures failed { OnErr result (FailsLast (K.faults sink.old) (K.faults sink.new) (K.last_failed sink.new)) }
+    ensures { Writes (K.state sink.old) bytes.now result (K.state sink.new) }
 {
     let mut at = 0;
     'rest: while at < bytes.len() {

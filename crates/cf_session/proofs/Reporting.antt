@@ -3,6 +3,7 @@
 use Rattle.std.proofs.Common.{◌≡◌, ◌∙◌, ℕ, ◌++◌, List, [], ◌∷◌, Option, Some, None, Result, Ok, Err, length, map, refl, ap}
 use Rattle.std.proofs.Common.{ap₂, sym, subst, append_assoc}
 use Rattle.std.specs.Prelude.{codes}
+use Rattle.std.specs.Result.{is_err}
 use Rattle.std.specs.FinMap.{get}
 use Rattle.hex.specs.Hex.{encode_lower}
 use Rattle.cf_base.specs.declared.answers.AccessFault.{AccessFault}
@@ -12,12 +13,12 @@ use Rattle.cf_base.specs.declared.answers.Totals.{Totals}
 use Rattle.cf_base.specs.declared.answers.Figures.{Figures}
 use Rattle.cf_base.specs.declared.kind.Kind.{Kind}
 use Rattle.cf_base.specs.declared.kind.Kind.TheVariants.{Moving, NonMoving, Tlsf, HalfFit}
-use Rattle.cf_io.specs.Feeds.{appended, Puts}
+use Rattle.cf_io.specs.Feeds.{SinkFailsIf, SinkState, Writes, WritesAll}
 use Rattle.cf_model.specs.State.{HeapState, paging_in}
 use Rattle.cf_model.specs.Answers.{totals_in}
 use Rattle.cf_model.specs.Steps.{IsFault, Position, ReadsBytes}
 use Rattle.page_model.specs.Figures.{figures_of}
-use Rattle.cf_io.proofs.CallerLemmas.{puts_line}
+use Rattle.cf_io.proofs.CallerLemmas.{puts_line, puts_same}
 use Rattle.script_reader.specs.declared.command.Command.{Command}
 use Rattle.script_reader.specs.declared.command.Command.TheVariants.{Walk, Frag}
 use Rattle.run_model.specs.Answering.{Moment}
@@ -43,22 +44,20 @@ use Rattle.cf_session.specs.declared.short.Short.{Short}
 turn : (old new : RunState) (c : Command) (reply : Reply) → IsGoing old → Step old c reply new → IsCommandStep old c reply new
 turn old new c reply going step = record { step = step; bounds = step_meets_bounds old new c reply going step }
 
-abbrev Bytes : Type 0
-Bytes = Option (List ℕ)
-
-abbrev at : RunState → Bytes → Moment
-at run written = record { run = run; written = written }
+abbrev at : RunState → SinkState → Moment
+at run sink = record { run = run; written = sink.written }
 
 -- the reply of a step was written whole (`applied`), or the sink failed and a prefix was written (`applied_cut`)
-module _ (old new : RunState) (c : Command) (lead : List ℕ) (reply : Reply) (w y : Bytes) (going : IsGoing old) (step : Step old c reply new) where
-  pub applied : (outcome : Outcome) → outcome ≡ outcome_of reply → y ≡ appended w (led lead reply)
+module _ (old new : RunState) (c : Command) (lead : List ℕ) (reply : Reply) (w y : SinkState) (going : IsGoing old) (step : Step old c reply new) where
+  pub applied : (outcome : Outcome) → outcome ≡ outcome_of reply → WritesAll w (led lead reply) y
       → AppliesOneManager (at old w) (record { command = c; lead = lead }) (Ok outcome) (at new y)
-  applied outcome is put = (record { reply = reply; turn = turn old new c reply going step; written = put }, is)
+  applied outcome is put = (record { reply = reply; turn = turn old new c reply going step; written = put.wrote }, is)
 
-  pub applied_cut : (e : Failed) → Puts {T = Unit {0}} w (led lead reply) (Err e) y
+  pub applied_cut : (e : Failed) → Writes {T = Unit {0}} w (led lead reply) (Err e) y
       → AppliesOneManager (at old w) (record { command = c; lead = lead }) (Err e) (at new y)
-  applied_cut e (front, lost, parts, put) =
-      record { reply = reply; front = front; lost = lost; turn = turn old new c reply going step; cut = parts; written = put }
+  applied_cut e put =
+      let (front, lost, parts, is) = put.part in
+      record { reply = reply; front = front; lost = lost; turn = turn old new c reply going step; cut = parts; written = is }
 
 -- the outcome of a report is `Other`
 pub pages_other : (f : ℕ → Figures) (t : Totals) (cs : List ℕ) → Other ≡ outcome_of (map (λ c. class_line (f c)) cs ++ said (total_line t))
@@ -74,9 +73,9 @@ walk_other HalfFit s = refl
 pub frag_other : (s : HeapState) → Other ≡ outcome_of (frag_of s)
 frag_other s = refl
 
-pub reported : (old new : RunState) (c : Command) (lead : List ℕ) (reply : Reply) (w y : Bytes) (r : Result Unit Failed) (outcome : Outcome)
+pub reported : (old new : RunState) (c : Command) (lead : List ℕ) (reply : Reply) (w y : SinkState) (r : Result Unit Failed) (outcome : Outcome)
     (answer : Result Outcome Failed) → IsGoing old → Step old c reply new → outcome ≡ outcome_of reply
-    → Puts w (led lead reply) r y → IsEnded r outcome answer → AppliesOneManager (at old w) (record { command = c; lead = lead }) answer (at new y)
+    → Writes w (led lead reply) r y → IsEnded r outcome answer → AppliesOneManager (at old w) (record { command = c; lead = lead }) answer (at new y)
 reported old new c lead reply w y (Ok u) outcome answer going step shown put is =
     let P : Result Outcome Failed → Type 0 = λ a. AppliesOneManager (at old w) (record { command = c; lead = lead }) a (at new y) in
     subst P (sym is) (applied old new c lead reply w y going step outcome shown put)
@@ -84,29 +83,37 @@ reported old new c lead reply w y (Err e) outcome answer going step shown put is
     let P : Result Outcome Failed → Type 0 = λ a. AppliesOneManager (at old w) (record { command = c; lead = lead }) a (at new y) in
     subst P (sym is) (applied_cut old new c lead reply w y going step e put)
 
-pub reported_walk : (old : RunState) (lead : List ℕ) (w y : Bytes) (c : Command) (r : Result Unit Failed) (answer : Result Outcome Failed) → c ≡ Walk
+pub reported_walk : (old : RunState) (lead : List ℕ) (w y : SinkState) (c : Command) (r : Result Unit Failed) (answer : Result Outcome Failed) → c ≡ Walk
     → IsGoing old
-    → Puts w (led lead (walk_of old.heap.kind old.heap)) r y → IsEnded r Other answer
+    → Writes w (led lead (walk_of old.heap.kind old.heap)) r y → IsEnded r Other answer
     → AppliesOneManager (at old w) (record { command = c; lead = lead }) answer (at old y)
 reported_walk old lead w y c r answer is going put shown =
     let P : Command → Type 0 = λ k. AppliesOneManager (at old w) (record { command = k; lead = lead }) answer (at old y) in
     let other = walk_other old.heap.kind old.heap in
     subst P (sym is) (reported old old Walk lead (walk_of old.heap.kind old.heap) w y r Other answer going (refl, refl) other put shown)
 
-pub reported_frag : (old : RunState) (lead : List ℕ) (w y : Bytes) (c : Command) (r : Result Unit Failed) (answer : Result Outcome Failed) → c ≡ Frag
+pub reported_frag : (old : RunState) (lead : List ℕ) (w y : SinkState) (c : Command) (r : Result Unit Failed) (answer : Result Outcome Failed) → c ≡ Frag
     → IsGoing old
-    → Puts w (led lead (frag_of old.heap)) r y → IsEnded r Other answer
+    → Writes w (led lead (frag_of old.heap)) r y → IsEnded r Other answer
     → AppliesOneManager (at old w) (record { command = c; lead = lead }) answer (at old y)
 reported_frag old lead w y c r answer is going put shown =
     let P : Command → Type 0 = λ k. AppliesOneManager (at old w) (record { command = k; lead = lead }) answer (at old y) in
     subst P (sym is) (reported old old Frag lead (frag_of old.heap) w y r Other answer going (refl, refl) (frag_other old.heap) put shown)
 
 -- the reply of a step is the one line `text`, which was written whole or in part
-pub shown_step : (old new : RunState) (asked c : Command) (lead text : List ℕ) (w y : Bytes) (answer : Result Outcome Failed) → asked ≡ c → IsGoing old
+pub shown_step : (old new : RunState) (asked c : Command) (lead text : List ℕ) (w y : SinkState) (answer : Result Outcome Failed) → asked ≡ c → IsGoing old
     → Step old c (said text) new → IsPut text lead w answer y → AppliesOneManager (at old w) (record { command = asked; lead = lead }) answer (at new y)
 shown_step old new asked c lead text w y answer is going step shown =
     subst (λ (k : Command). AppliesOneManager (at old w) (record { command = k; lead = lead }) answer (at new y)) (sym is)
     (reported old new c lead (said text) w y shown.written (outcome_in text) answer going step refl shown.puts shown.ended)
+
+-- the sink failed in a reply of one line if and only if the result is an error
+pub put_faults : (text lead : List ℕ) (w y : SinkState) (answer : Result Outcome Failed) → IsPut text lead w answer y → SinkFailsIf (is_err answer) w y
+put_faults text lead w y answer shown = go shown.written shown.puts shown.ended
+  where
+    go : (r : Result Unit Failed) → Writes w (led lead (said text)) r y → IsEnded r (outcome_in text) answer → SinkFailsIf (is_err answer) w y
+    go (Ok u) put is = subst (λ (a : Result Outcome Failed). SinkFailsIf (is_err a) w y) (sym is) put.same
+    go (Err e) put is = subst (λ (a : Result Outcome Failed). SinkFailsIf (is_err a) w y) (sym is) put.fails
 
 -- if a reply is on the line, the line has room for the line feed
 pub has_room : (lead line text : List ℕ) (o : OneLine) → SaidOn (lines_at lead line) text o → HasRoom line o
@@ -114,15 +121,15 @@ has_room lead line text (reply.Short short) on = tt
 has_room lead line text (reply.Written outcome) on = on.1
 
 -- the reply `text` was written, if its function returned a short reply, and that was written
-pub shown_short : (lead line text : List ℕ) (w y : Bytes) (o : OneLine) (short : Short) (answer : Result Outcome Failed) → o ≡ reply.Short short
+pub shown_short : (lead line text : List ℕ) (w y : SinkState) (o : OneLine) (short : Short) (answer : Result Outcome Failed) → o ≡ reply.Short short
     → SaidOn (lines_at lead line) text o → IsPut (short_text short) lead w answer y → IsPut text lead w answer y
 shown_short lead line text w y o short answer is on shown =
     let same : short_text short ≡ text = subst (λ (p : OneLine). SaidOn (lines_at lead line) text p) is on in
     subst (λ (t : List ℕ). IsPut t lead w answer y) same shown
 
 -- the reply `text` was written, if its function left it on the line (`Written`), and the line was written to the sink
-pub shown_written : (lead line text : List ℕ) (w y : Bytes) (o : OneLine) (outcome : Outcome) (r : Result Unit Failed) (answer : Result Outcome Failed)
-    → o ≡ reply.Written outcome → SaidOn (lines_at lead line) text o → Puts w (line ++ 10 ∷ []) r y → IsEnded r outcome answer
+pub shown_written : (lead line text : List ℕ) (w y : SinkState) (o : OneLine) (outcome : Outcome) (r : Result Unit Failed) (answer : Result Outcome Failed)
+    → o ≡ reply.Written outcome → SaidOn (lines_at lead line) text o → Writes w (line ++ 10 ∷ []) r y → IsEnded r outcome answer
     → IsPut text lead w answer y
 shown_written lead line text w y o outcome r answer is on put shown =
     let here : SaidOn (lines_at lead line) text (reply.Written outcome) = subst (λ (p : OneLine). SaidOn (lines_at lead line) text p) is on in
@@ -133,15 +140,15 @@ shown_written lead line text w y o outcome r answer is on put shown =
     }
 
 -- the reply to a read was written, if the heap read the bytes, and their hexadecimal digits were written to the sink
-pub shown_bytes : (s : HeapState) (position : Position) (count : ℕ) (bytes lead seen : List ℕ) (w y : Bytes) (r : Result Unit Failed) (answer : Result Outcome Failed)
-    → ReadsBytes s position count bytes → seen ≡ led lead (said (codes "=" ++ encode_lower bytes)) → Puts w seen r y → IsEnded r Good answer
+pub shown_bytes : (s : HeapState) (position : Position) (count : ℕ) (bytes lead seen : List ℕ) (w y : SinkState) (r : Result Unit Failed) (answer : Result Outcome Failed)
+    → ReadsBytes s position count bytes → seen ≡ led lead (said (codes "=" ++ encode_lower bytes)) → Writes w seen r y → IsEnded r Good answer
     → IsPut (read_text (get s.held position.number) position.from count) lead w answer y
 shown_bytes s position count bytes lead seen w y r answer reads spelled put shown =
     subst (λ (t : List ℕ). IsPut t lead w answer y) (sym (read_said s position count bytes reads))
-    (record { written = r; puts = subst (λ (l : List ℕ). Puts w l r y) spelled put; ended = shown })
+    (record { written = r; puts = puts_same w y _ _ r spelled put; ended = shown })
 
 -- the reply to a read of object h is the reply to a read of the id whose handle is h
-pub shown_named : (session : SessionState) (heap : HeapState) (id h from count len : ℕ) (lead : List ℕ) (w y : Bytes) (answer : Result Outcome Failed)
+pub shown_named : (session : SessionState) (heap : HeapState) (id h from count len : ℕ) (lead : List ℕ) (w y : SinkState) (answer : Result Outcome Failed)
     → Some h ≡ get session.ids id → IsPut (read_text (get heap.held h) from count) lead w answer y → count ≡ len
     → IsPut (read_text (object_of (run_at session heap) id) from len) lead w answer y
 shown_named session heap id h from count len lead w y answer named put same =
@@ -150,29 +157,29 @@ shown_named session heap id h from count len lead w y answer named put same =
     subst (λ (o : Option ℕ). IsPut (read_text (elim o [ None ↦ None | Some q ↦ get heap.held q ]) from len) lead w answer y) named there
 
 -- the reply to a read was written, if the heap refused the read, and the short reply for the fault was written
-pub shown_fault : (s : HeapState) (position : Position) (count : ℕ) (fault : AccessFault) (short : Short) (lead : List ℕ) (w y : Bytes)
+pub shown_fault : (s : HeapState) (position : Position) (count : ℕ) (fault : AccessFault) (short : Short) (lead : List ℕ) (w y : SinkState)
     (answer : Result Outcome Failed) → IsFault s position count fault → short_text short ≡ write_text (Err fault) → IsPut (short_text short) lead w answer y
     → IsPut (read_text (get s.held position.number) position.from count) lead w answer y
 shown_fault s position count fault short lead w y answer cause is shown =
     subst (λ (t : List ℕ). IsPut t lead w answer y) (is ∙ fault_said s position count fault cause) shown
 
 -- a reply of one line was written, if the lead is empty, and the text with its line feed was written
-pub put_bare : (w y : Bytes) (lead text seen : List ℕ) (r : Result Unit Failed) → length lead ≡ 0 → seen ≡ text ++ 10 ∷ [] → Puts w seen r y
-    → Puts w (led lead (said text)) r y
+pub put_bare : (w y : SinkState) (lead text seen : List ℕ) (r : Result Unit Failed) → length lead ≡ 0 → seen ≡ text ++ 10 ∷ [] → Writes w seen r y
+    → Writes w (led lead (said text)) r y
 put_bare w y lead text seen r none is put =
     puts_line w y lead text text r (ap (λ (l : List ℕ). l ++ text) (sym (nil_from_length lead none)))
-    (subst (λ (s : List ℕ). Puts w s r y) is put)
+    (puts_same w y _ _ r is put)
 
 -- a reply of one line was written, if a line of the lead, the text and a line feed was written
-pub put_after : (w y : Bytes) (lead text seen before line : List ℕ) (r : Result Unit Failed) → before ≡ lead → line ≡ before ++ seen → seen ≡ text ++ 10 ∷ []
-    → Puts w line r y → Puts w (led lead (said text)) r y
+pub put_after : (w y : SinkState) (lead text seen before line : List ℕ) (r : Result Unit Failed) → before ≡ lead → line ≡ before ++ seen → seen ≡ text ++ 10 ∷ []
+    → Writes w line r y → Writes w (led lead (said text)) r y
 put_after w y lead text seen before line r begun pushed is put =
     puts_line w y lead text (lead ++ text) r refl
-    (subst (λ (s : List ℕ). Puts w s r y) (pushed ∙ ap₂ (λ (b s : List ℕ). b ++ s) begun is ∙ sym (append_assoc lead text (10 ∷ []))) put)
+    (puts_same w y _ _ r (pushed ∙ ap₂ (λ (b s : List ℕ). b ++ s) begun is ∙ sym (append_assoc lead text (10 ∷ []))) put)
 
 -- a run in progress is in progress after a command was answered, whole or in part
-pub applied_going : (old new : RunState) (c : Command) (lead : List ℕ) (w y : Bytes) (answer : Result Outcome Failed) → IsGoing old
-    → AppliesOneManager (at old w) (record { command = c; lead = lead }) answer (at new y) → IsGoing new
+pub applied_going : (old new : RunState) (c : Command) (lead : List ℕ) (w y : Option (List ℕ)) (answer : Result Outcome Failed) → IsGoing old
+    → AppliesOneManager (record { run = old; written = w }) (record { command = c; lead = lead }) answer (record { run = new; written = y }) → IsGoing new
 applied_going old new c lead w y (Ok outcome) going a = step_going old new c a.0.reply going a.0.turn.step
 applied_going old new c lead w y (Err e) going a = step_going old new c a.reply going a.turn.step
 

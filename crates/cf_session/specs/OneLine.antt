@@ -1,6 +1,6 @@
 -- Replies of one line while they are built and written, for the functions inside this crate. No public clause cites this module.
-use Rattle.std.specs.Prelude.{◌≡◌, ◌<◌, ℕ, ◌++◌, List, length, Option, Result}
-use Rattle.cf_io.specs.Feeds.{Puts}
+use Rattle.std.specs.Prelude.{◌≡◌, ◌<◌, ℕ, ◌++◌, List, length, Result}
+use Rattle.cf_io.specs.Feeds.{SinkState, Writes}
 use Rattle.cf_io.specs.Lines.{line_capacity}
 use Rattle.cf_base.specs.declared.answers.Failed.{Failed}
 use Rattle.cf_session.specs.Apply.{IsEnded, outcome_in}
@@ -31,8 +31,8 @@ HasRoom line (reply.Short short) = Unit {0}
 HasRoom line (reply.Written outcome) = length line < line_capacity
 
 -- The lead, `text` and a line feed were written, and the result is the outcome of `text`; or the sink failed, the result is an error, and a prefix of this line
--- was written. `before` and `after` are the bytes written before and after, if the sink is observable.
-pub record IsPut (text lead : List ℕ) (before : Option (List ℕ)) (answer : Result Outcome Failed) (after : Option (List ℕ)) : Type 0 where
+-- was written.
+pub record IsPut (text lead : List ℕ) (before : SinkState) (answer : Result Outcome Failed) (after : SinkState) : Type 0 where
   pub written : Result Unit Failed
-  pub puts : Puts before (led lead (said text)) written after
+  pub puts : Writes before (led lead (said text)) written after
   pub ended : IsEnded written (outcome_in text) answer

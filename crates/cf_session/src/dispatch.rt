@@ -1,12 +1,13 @@
 //! `answer`, the one match over all commands: does a command on the heap and writes its reply.
-ghost use Rattle.std.specs.Prelude.{◌≡◌, ◌^◌, ◌≤◌, OnErr, length, OnOk};
+ghost use Rattle.std.specs.Prelude.{◌≡◌, ◌^◌, ◌≤◌, length};
 ghost use Rattle.cf_base.specs.declared.numbers.TheConstants.{CHUNK};
-ghost use Rattle.cf_io.specs.Feeds.{FailsLast};
+ghost use Rattle.cf_io.specs.Feeds.{SinkFailsIf};
 ghost use Rattle.cf_session.specs.Apply.{AppliesOneManager, moment_at};
 ghost use Rattle.cf_session.specs.Records.{run_with, session_of};
 ghost use Rattle.script_reader.specs.Commands.{IsWellFormed};
 ghost use Rattle.script_reader.specs.Owned.{owned_command};
 ghost use Rattle.run_model.specs.Sessions.{IsGoing};
+ghost use Rattle.std.specs.Result.{is_err};
 
 use crate::changes::{free, malloc, resize, set_bound, write};
 use crate::outcome::Outcome;
@@ -43,12 +44,10 @@ pub(crate) fn answer<H: Manager, K: Sink>(
     requires buffer { length buffer.old ≡ CHUNK }
     requires text { length text.old ≡ 8202 }
     requires room { steps.old ≤ 2 ^ 63 }
-    ensures step { AppliesOneManager (moment_at (session_of records.old) (H.state heap.old) (K.written out.old))
+    ensures step { AppliesOneManager (moment_at (session_of records.old) (H.state heap.old) (K.state out.old).written)
         (record { command = owned_command c.entry; lead = lead.now })
-        result (moment_at (session_of records.new) (H.state heap.new) (K.written out.new)) }
-    ensures grows { K.faults out.old ≤ K.faults out.new }
-    ensures same { OnOk result (K.faults out.new ≡ K.faults out.old) }
-    ensures failed { OnErr result (FailsLast (K.faults out.old) (K.faults out.new) (K.last_failed out.new)) }
+        result (moment_at (session_of records.new) (H.state heap.new) (K.state out.new).written) }
+    ensures sink { SinkFailsIf (is_err result) (K.state out.old) (K.state out.new) }
 {
     match c {
         CommandRef::Malloc { id, bytes } => {

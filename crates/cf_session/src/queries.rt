@@ -1,10 +1,9 @@
 //! The commands that change nothing but the count of steps: `r`, `q`, `b`, `p` and `steps`. Each but `r` builds
 //! its reply in `line`, after the lead, or returns a short reply, and the caller writes it to the sink. `r`
 //! writes its reply itself.
-ghost use Rattle.std.specs.Prelude.{◌≡◌, ◌^◌, ◌<◌, ◌≤◌, ◌++◌, IsTrue, OnErr, codes, length, slice_get, take, OnOk};
+ghost use Rattle.std.specs.Prelude.{◌≡◌, ◌^◌, ◌<◌, ◌≤◌, ◌++◌, IsTrue, codes, length, slice_get, take};
 ghost use Rattle.std.specs.FinMap as map;
 ghost use Rattle.cf_base.specs.declared.numbers.TheConstants.{CHUNK};
-ghost use Rattle.cf_io.specs.Feeds.{FailsLast};
 ghost use Rattle.cf_io.specs.Lines.{line_capacity};
 ghost use Rattle.hex.specs.Hex.{encode_lower};
 ghost use Rattle.cf_session.specs.OneLine.{IsPut, SaidOn, lines_at};
@@ -44,11 +43,8 @@ pub(crate) fn read<H: Manager, K: Sink>(
     requires buffer { length buffer.old ≡ CHUNK }
     requires text { length text.old ≡ 8202 }
     requires lead { length lead.now ≤ 8 }
-    ensures shown { IsPut (read_text (object_of (run_with records.now (H.state heap.now)) id) at len) lead.now
-        (K.written out.old) result (K.written out.new) }
-    ensures grows { K.faults out.old ≤ K.faults out.new }
-    ensures same { OnOk result (K.faults out.new ≡ K.faults out.old) }
-    ensures failed { OnErr result (FailsLast (K.faults out.old) (K.faults out.new) (K.last_failed out.new)) }
+    ensures { IsPut (read_text (object_of (run_with records.now (H.state heap.now)) id) at len) lead.now
+        (K.state out.old) result (K.state out.new) }
 {
     let Some(h) = records.ids.handle(id) else {
         return put_short_line(Short::Unknown, lead, line, out);

@@ -1,7 +1,6 @@
 //! Writing a reply of one line to the sink. If the sink fails, the result is `Failed`, and a prefix of the
 //! reply was written.
-ghost use Rattle.std.specs.Prelude.{◌≤◌, List, ℕ, OnErr, length, OnOk, ◌≡◌};
-ghost use Rattle.cf_io.specs.Feeds.{Puts, FailsLast};
+ghost use Rattle.std.specs.Prelude.{◌≤◌, List, ℕ, length, ◌≡◌};
 ghost use Rattle.cf_session.specs.Apply.{IsEnded};
 ghost use Rattle.cf_session.specs.OneLine.{HasRoom, IsPut, SaidOn, lines_at};
 ghost use Rattle.cf_session.specs.Short.{short_text};
@@ -32,11 +31,8 @@ pub(crate) fn put_reply<K: Sink>(
 ) -> Result<Outcome, Failed>
     requires lead { length lead.now ≤ 8 }
     requires room { HasRoom line.old reply }
-    ensures shown { (text : List ℕ) → SaidOn (lines_at lead.now line.old) text reply
-        → IsPut text lead.now (K.written out.old) result (K.written out.new) }
-    ensures grows { K.faults out.old ≤ K.faults out.new }
-    ensures same { OnOk result (K.faults out.new ≡ K.faults out.old) }
-    ensures failed { OnErr result (FailsLast (K.faults out.old) (K.faults out.new) (K.last_failed out.new)) }
+    ensures { (text : List ℕ) → SaidOn (lines_at lead.now line.old) text reply
+        → IsPut text lead.now (K.state out.old) result (K.state out.new) }
 {
     match reply {
         OneLine::Short(short) => put_short_line(short, lead, line, out),
@@ -53,10 +49,7 @@ pub(crate) fn put_short_line<K: Sink>(
     out: &mut K,
 ) -> Result<Outcome, Failed>
     requires { length lead.now ≤ 8 }
-    ensures shown { IsPut (short_text short) lead.now (K.written out.old) result (K.written out.new) }
-    ensures grows { K.faults out.old ≤ K.faults out.new }
-    ensures same { OnOk result (K.faults out.new ≡ K.faults out.old) }
-    ensures failed { OnErr result (FailsLast (K.faults out.old) (K.faults out.new) (K.last_failed out.new)) }
+    ensures { IsPut (short_text short) lead.now (K.state out.old) result (K.state out.new) }
 {
     if lead.len() > 0 {
         begin_line(line, lead);

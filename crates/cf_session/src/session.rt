@@ -1,7 +1,7 @@
 //! `Session`: does the commands of a script on one manager and writes their replies.
-ghost use Rattle.std.specs.Prelude.{◌≡◌, ◌≤◌, IsTrue, OnErr, IfOk, length, OnOk};
+ghost use Rattle.std.specs.Prelude.{◌≡◌, ◌≤◌, IsTrue, IfOk, length};
 ghost use Rattle.std.specs.FinMap as map;
-ghost use Rattle.cf_io.specs.Feeds.{FailsLast};
+ghost use Rattle.cf_io.specs.Feeds.{SinkFailsIf};
 ghost use Rattle.cf_model.specs.Rules.{KeepsRules};
 ghost use Rattle.cf_model.specs.Steps.{number_of};
 ghost use Rattle.cf_session.specs.Apply.{AppliesOneManager, moment_at, run_at};
@@ -9,6 +9,7 @@ ghost use Rattle.id_table.specs.Ids.{AreWithin};
 ghost use Rattle.script_reader.specs.Commands.{IsWellFormed};
 ghost use Rattle.script_reader.specs.Owned.{owned_command};
 ghost use Rattle.run_model.specs.Sessions.{AreTied, IsGoing, fresh_session};
+ghost use Rattle.std.specs.Result.{is_err};
 
 use crate::dispatch::answer;
 use crate::outcome::Outcome;
@@ -77,15 +78,13 @@ impl Session {
         requires tied { AreTied self.old (H.state heap.old) }
         requires formed { IsWellFormed c.now }
         requires lead { length lead.now ≤ 8 }
-        ensures step { AppliesOneManager (moment_at self.old (H.state heap.old) (K.written out.old))
+        ensures step { AppliesOneManager (moment_at self.old (H.state heap.old) (K.state out.old).written)
             (record { command = c.now; lead = lead.now })
-            result (moment_at self.new (H.state heap.new) (K.written out.new)) }
+            result (moment_at self.new (H.state heap.new) (K.state out.new).written) }
         ensures tied { AreTied self.new (H.state heap.new) }
         ensures open { IsTrue (H.state heap.new).is_open }
         ensures rules { KeepsRules (H.state heap.new) }
-        ensures grows { K.faults out.old ≤ K.faults out.new }
-        ensures same { OnOk result (K.faults out.new ≡ K.faults out.old) }
-        ensures failed { OnErr result (FailsLast (K.faults out.old) (K.faults out.new) (K.last_failed out.new)) }
+        ensures sink { SinkFailsIf (is_err result) (K.state out.old) (K.state out.new) }
     {
         // For its contract: an open heap keeps its rules.
         let _open = heap.is_open();
@@ -104,13 +103,11 @@ impl Session {
         requires going { IsGoing (run_at self.old (H.state heap.old)) }
         requires formed { IsWellFormed (owned_command c) }
         requires lead { length lead.now ≤ 8 }
-        ensures step { AppliesOneManager (moment_at self.old (H.state heap.old) (K.written out.old))
+        ensures step { AppliesOneManager (moment_at self.old (H.state heap.old) (K.state out.old).written)
             (record { command = owned_command c.entry; lead = lead.now })
-            result (moment_at self.new (H.state heap.new) (K.written out.new)) }
+            result (moment_at self.new (H.state heap.new) (K.state out.new).written) }
         ensures going { IsGoing (run_at self.new (H.state heap.new)) }
-        ensures grows { K.faults out.old ≤ K.faults out.new }
-        ensures same { OnOk result (K.faults out.new ≡ K.faults out.old) }
-        ensures failed { OnErr result (FailsLast (K.faults out.old) (K.faults out.new) (K.last_failed out.new)) }
+        ensures sink { SinkFailsIf (is_err result) (K.state out.old) (K.state out.new) }
     {
         self.meter.lap();
         answer(

@@ -4,13 +4,13 @@ use Rattle.std.proofs.Common.{◌≡◌, ◌∙◌, ℕ, zero, suc, ◌+◌, ◌
 use Rattle.std.proofs.Common.{◌≤◌, Some, None, inl, inr, nat_lt}
 use Rattle.std.proofs.lemmas.Bool.{cases_lt}
 use Rattle.std.proofs.lemmas.List.{map-append}
-use Rattle.std.specs.Prelude.{Result, Err, map, not, nat_eq}
+use Rattle.std.specs.Prelude.{Result, Err, Ok, map, not, nat_eq}
 use Rattle.std.specs.List.{range_with_len}
 use Rattle.std.proofs.lemmas.List.Elements.{filter-append}
 use Rattle.cf_base.specs.declared.answers.Failed.{Failed}
 use Rattle.cf_base.specs.declared.answers.Figures.{Figures}
-use Rattle.cf_io.specs.Feeds.{appended, Puts}
-use Rattle.cf_io.proofs.CallerLemmas.{appended_then, led-append, puts_then, puts_cut}
+use Rattle.cf_io.specs.Feeds.{SinkState, Writes, WritesAll}
+use Rattle.cf_io.proofs.CallerLemmas.{led-append, puts_cut, puts_same, puts_then}
 use Rattle.cf_lemmas.proofs.Tests.{lt_no, lt_yes}
 use Rattle.page_model.specs.Arrangement.{live}
 use Rattle.page_model.specs.Figures.{figures_of}
@@ -44,19 +44,14 @@ class_past c n x is = elim (cases_lt c n) [
   | inr le ↦ le
 ]
 
-abbrev Written : Type 0
-Written = Option (List ℕ)
-
 -- if `lines` were written and then `more`, or only a prefix of `lines` was, that is a write of `lines ++ more`, whole or in part
-module _ (lead : List ℕ) (lines more : Reply) (w y : Written) where
-  pub lines_then : {T : Type 0} (x : Written) (r : Result T Failed) → x ≡ appended w (led lead lines) → Puts x (led lead more) r y
-      → Puts w (led lead (lines ++ more)) r y
-  lines_then {T = T} x r first next =
-      subst (λ (bytes : List ℕ). Puts {T = T} w bytes r y) (sym (led-append lead lines more)) (puts_then w x y (led lead lines) (led lead more) r first next)
+module _ (lead : List ℕ) (lines more : Reply) (w y : SinkState) where
+  pub lines_then : {T : Type 0} (x : SinkState) (r : Result T Failed) → WritesAll w (led lead lines) x → Writes x (led lead more) r y
+      → Writes w (led lead (lines ++ more)) r y
+  lines_then x r first next = puts_same w y _ _ r (sym (led-append lead lines more)) (puts_then w x y (led lead lines) (led lead more) r first next)
 
-  pub lines_cut : (e : Failed) → Puts {T = Unit {0}} w (led lead lines) (Err e) y → Puts {T = Unit {0}} w (led lead (lines ++ more)) (Err e) y
-  lines_cut e cut =
-      subst (λ (bytes : List ℕ). Puts {T = Unit {0}} w bytes (Err e) y) (sym (led-append lead lines more)) (puts_cut w y (led lead lines) (led lead more) e cut)
+  pub lines_cut : (e : Failed) → Writes {T = Unit {0}} w (led lead lines) (Err e) y → Writes {T = Unit {0}} w (led lead (lines ++ more)) (Err e) y
+  lines_cut e cut = puts_same {T = Unit {0}} w y _ _ (Err e) (sym (led-append lead lines more)) (puts_cut w y (led lead lines) (led lead more) e cut)
 
 module _ (p : Paging) (m : Held) where
   lines-append : (some more : List ℕ) → lines_of p m (some ++ more) ≡ lines_of p m some ++ lines_of p m more
@@ -77,12 +72,11 @@ module _ (p : Paging) (m : Held) where
       ∙ ap (λ (r : Reply). classes_below p m c ++ r) (line_is c ∙ ap class_if_live (sym is))
 
   -- if the lines of the classes below c were written, and then the line of class c, the lines of the classes below c + 1 were written
-  pub class_put : (lead : List ℕ) (c : ℕ) (f : Figures) (w x y : Written) → f ≡ figures_of p m c → x ≡ appended w (led lead (classes_below p m c))
-      → y ≡ appended x (led lead (class_if_live f)) → y ≡ appended w (led lead (classes_below p m (c + 1)))
+  pub class_put : (lead : List ℕ) (c : ℕ) (f : Figures) (w x y : SinkState) → f ≡ figures_of p m c → WritesAll w (led lead (classes_below p m c)) x
+      → WritesAll x (led lead (class_if_live f)) y → WritesAll w (led lead (classes_below p m (c + 1))) y
   class_put lead c f w x y is first next =
-      next ∙ ap (λ (o : Written). appended o (led lead (class_if_live f))) first
-      ∙ appended_then w (led lead (classes_below p m c)) (led lead (class_if_live f))
-      ∙ ap (appended w) (sym (led-append lead (classes_below p m c) (class_if_live f)) ∙ ap (led lead) (sym (below_more c f is)))
+      puts_same {T = Unit {0}} w y _ _ (Ok tt) (ap (led lead) (sym (below_more c f is)))
+      (lines_then lead (classes_below p m c) (class_if_live f) w y {T = Unit {0}} x (Ok tt) first next)
 
   -- the lines of all n classes are the lines of the classes below c, the line of class c, and then `more`
   lines_rest : (c n : ℕ) (f : Figures) → c < n → f ≡ figures_of p m c
@@ -95,11 +89,11 @@ module _ (p : Paging) (m : Held) where
             ∙ ap (λ (r : Reply). r ++ lines_of p m (range_with_len (0 + (c + 1)) (n - (c + 1)))) (below_more c f is),
       )
 
-  pub class_cut : (lead : List ℕ) (c n : ℕ) (f : Figures) (w x y : Written) (e : Failed) → c < n → f ≡ figures_of p m c
-      → x ≡ appended w (led lead (classes_below p m c)) → Puts {T = Unit {0}} x (led lead (class_if_live f)) (Err e) y
-      → Puts {T = Unit {0}} w (led lead (classes_below p m n)) (Err e) y
+  pub class_cut : (lead : List ℕ) (c n : ℕ) (f : Figures) (w x y : SinkState) (e : Failed) → c < n → f ≡ figures_of p m c
+      → WritesAll w (led lead (classes_below p m c)) x → Writes {T = Unit {0}} x (led lead (class_if_live f)) (Err e) y
+      → Writes {T = Unit {0}} w (led lead (classes_below p m n)) (Err e) y
   class_cut lead c n f w x y e lt is first cut =
       let rest = lines_rest c n f lt is in
-      subst (λ (r : Reply). Puts {T = Unit {0}} w (led lead r) (Err e) y) (sym rest.1)
+      puts_same {T = Unit {0}} w y _ _ (Err e) (ap (led lead) (sym rest.1))
       (lines_cut lead (classes_below p m c ++ class_if_live f) rest.0 w y e
       (lines_then lead (classes_below p m c) (class_if_live f) w y {T = Unit {0}} x (Err e) first cut))

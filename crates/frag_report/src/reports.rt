@@ -1,8 +1,8 @@
 //! The reports of commands `walk` and `frag`. Each line begins with `lead`: in mode `compare` the name of the
 //! manager's kind and a space, else no bytes. Each line is built in `line`, which is scratch, and passed to the
 //! sink `out` as a whole. If the sink fails, the result is `Failed`, and a prefix of the report was written.
-ghost use Rattle.std.specs.Prelude.{◌≡◌, ◌≤◌, IsTrue, OnErr, length, OnOk};
-ghost use Rattle.cf_io.specs.Feeds.{FailsLast, Puts};
+ghost use Rattle.std.specs.Prelude.{◌≡◌, ◌≤◌, IsTrue, length};
+ghost use Rattle.cf_io.specs.Feeds.{Writes};
 ghost use Rattle.cf_model.specs.Answers.{classes_in, totals_in};
 ghost use Rattle.cf_model.specs.State.{paging_in};
 ghost use Rattle.frag_report.specs.Classes.{classes_below, class_if_live, totals_with};
@@ -24,12 +24,9 @@ pub fn walk_lines<H: Manager, K: Sink>(
 ) -> Result<(), Failed>
     requires open { IsTrue (H.state heap.now).is_open }
     requires lead { length lead.now ≤ 8 }
-    ensures puts { Puts (K.written out.old)
+    ensures puts { Writes (K.state out.old)
         (led lead.now (walk_of (H.state heap.now).kind (H.state heap.now)))
-        result (K.written out.new) }
-    ensures grows { K.faults out.old ≤ K.faults out.new }
-    ensures same { OnOk result (K.faults out.new ≡ K.faults out.old) }
-    ensures failed { OnErr result (FailsLast (K.faults out.old) (K.faults out.new) (K.last_failed out.new)) }
+        result (K.state out.new) }
     ensures rises { steps.old ≤ steps.new }
 {
     let totals = heap.totals(steps);
@@ -50,11 +47,8 @@ pub fn frag_line<H: Manager, K: Sink>(
 ) -> Result<(), Failed>
     requires open { IsTrue (H.state heap.now).is_open }
     requires lead { length lead.now ≤ 8 }
-    ensures puts { Puts (K.written out.old) (led lead.now (frag_of (H.state heap.now)))
-        result (K.written out.new) }
-    ensures grows { K.faults out.old ≤ K.faults out.new }
-    ensures same { OnOk result (K.faults out.new ≡ K.faults out.old) }
-    ensures failed { OnErr result (FailsLast (K.faults out.old) (K.faults out.new) (K.last_failed out.new)) }
+    ensures puts { Writes (K.state out.old) (led lead.now (frag_of (H.state heap.now)))
+        result (K.state out.new) }
     ensures steps { _steps.new ≡ _steps.old }
 {
     let usage = heap.usage();
@@ -77,11 +71,8 @@ fn put_pages<H: Manager, K: Sink>(
     requires open { IsTrue (H.state heap.now).is_open }
     requires totals { totals.now ≡ totals_in (H.state heap.now).kind (H.state heap.now) }
     requires lead { length lead.now ≤ 8 }
-    ensures puts { Puts (K.written out.old) (led lead.now (pages_report (H.state heap.now)))
-        result (K.written out.new) }
-    ensures grows { K.faults out.old ≤ K.faults out.new }
-    ensures same { OnOk result (K.faults out.new ≡ K.faults out.old) }
-    ensures failed { OnErr result (FailsLast (K.faults out.old) (K.faults out.new) (K.last_failed out.new)) }
+    ensures { Writes (K.state out.old) (led lead.now (pages_report (H.state heap.now)))
+        result (K.state out.new) }
 {
     match put_classes(heap, lead, line, out) {
         Ok(()) => put_total(
@@ -105,12 +96,9 @@ fn put_classes<H: Manager, K: Sink>(
 ) -> Result<(), Failed>
     requires open { IsTrue (H.state heap.now).is_open }
     requires lead { length lead.now ≤ 8 }
-    ensures puts { Puts (K.written out.old)
+    ensures { Writes (K.state out.old)
         (led lead.now (classes_below (paging_in (H.state heap.now)) (H.state heap.now).held (classes_in (H.state heap.now).kind (H.state heap.now))))
-        result (K.written out.new) }
-    ensures grows { K.faults out.old ≤ K.faults out.new }
-    ensures same { OnOk result (K.faults out.new ≡ K.faults out.old) }
-    ensures failed { OnErr result (FailsLast (K.faults out.old) (K.faults out.new) (K.last_failed out.new)) }
+        result (K.state out.new) }
 {
     for c in 0..heap.classes() {
         let Some(figures) = heap.figures(c) else {
@@ -132,10 +120,7 @@ pub fn put_class<K: Sink>(
     out: &mut K,
 ) -> Result<(), Failed>
     requires { length lead.now ≤ 8 }
-    ensures puts { Puts (K.written out.old) (led lead.now (class_if_live figures.now)) result (K.written out.new) }
-    ensures grows { K.faults out.old ≤ K.faults out.new }
-    ensures same { OnOk result (K.faults out.new ≡ K.faults out.old) }
-    ensures failed { OnErr result (FailsLast (K.faults out.old) (K.faults out.new) (K.last_failed out.new)) }
+    ensures { Writes (K.state out.old) (led lead.now (class_if_live figures.now)) result (K.state out.new) }
 {
     if figures.live == 0 {
         return Ok(());
@@ -160,11 +145,8 @@ pub fn put_total<K: Sink>(
     out: &mut K,
 ) -> Result<(), Failed>
     requires { length lead.now ≤ 8 }
-    ensures puts { Puts (K.written out.old) (led lead.now (said (total_line (totals_with live used free))))
-        result (K.written out.new) }
-    ensures grows { K.faults out.old ≤ K.faults out.new }
-    ensures same { OnOk result (K.faults out.new ≡ K.faults out.old) }
-    ensures failed { OnErr result (FailsLast (K.faults out.old) (K.faults out.new) (K.last_failed out.new)) }
+    ensures { Writes (K.state out.old) (led lead.now (said (total_line (totals_with live used free))))
+        result (K.state out.new) }
 {
     begin_line(line, lead);
     push_field(line, b"total live ", live as u64);
@@ -181,11 +163,8 @@ fn put_blocks<K: Sink>(
     out: &mut K,
 ) -> Result<(), Failed>
     requires { length lead.now ≤ 8 }
-    ensures puts { Puts (K.written out.old) (led lead.now (said (blocks_line totals.now)))
-        result (K.written out.new) }
-    ensures grows { K.faults out.old ≤ K.faults out.new }
-    ensures same { OnOk result (K.faults out.new ≡ K.faults out.old) }
-    ensures failed { OnErr result (FailsLast (K.faults out.old) (K.faults out.new) (K.last_failed out.new)) }
+    ensures { Writes (K.state out.old) (led lead.now (said (blocks_line totals.now)))
+        result (K.state out.new) }
 {
     begin_line(line, lead);
     push_field(line, b"blocks used ", totals.used as u64);

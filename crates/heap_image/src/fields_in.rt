@@ -1,9 +1,9 @@
 //! Reads one field of an image from a source, whatever the source's chunks: `fill` fills a buffer; `read_u16`
 //! and `read_u32` read a number of two or four bytes, the least significant first.
-ghost use Rattle.std.specs.Prelude.{◌≡◌, ◌≤◌, Err, ◌≢◌};
+ghost use Rattle.std.specs.Prelude.{◌≡◌, Err};
 ghost use Rattle.std.specs.Int.{w16, w32};
-ghost use Rattle.cf_io.specs.Feeds.{FailsLast};
-ghost use Rattle.heap_image.specs.Feed.{feed_at};
+ghost use Rattle.cf_io.specs.Feeds.{SourceFailsIf};
+ghost use Rattle.heap_image.specs.Feed.{feed_of, is_unfilled, is_unread};
 ghost use Rattle.heap_image.specs.Stages.{FillsBuffer, ReadsNumber};
 
 use crate::fault::LoadFault;
@@ -24,10 +24,8 @@ pub(crate) enum Filled {
 /// full (`Whole`), the input ends (`Cut`) or a call fails (`Failed`), and returns which of the three it was.
 /// After `Cut` and `Failed` nothing is claimed of the bytes in the buffer.
 pub(crate) fn fill<S: Source>(source: &mut S, buffer: &mut [u8]) -> Filled
-    ensures fills { FillsBuffer (feed_at (S.rest source.old) (S.given source.old)) buffer.new result (feed_at (S.rest source.new) (S.given source.new)) }
-    ensures grows { S.faults source.old ≤ S.faults source.new }
-    ensures same { result ≢ Filled.Failed → S.faults source.new ≡ S.faults source.old }
-    ensures failed { result ≡ Filled.Failed → FailsLast (S.faults source.old) (S.faults source.new) (S.last_failed source.new) }
+    ensures fills { FillsBuffer (feed_of (S.state source.old)) buffer.new result (feed_of (S.state source.new)) }
+    ensures source { SourceFailsIf (is_unfilled result) (S.state source.old) (S.state source.new) }
 {
     let mut at = 0;
     'fills: while at < buffer.len() {
@@ -48,10 +46,8 @@ pub(crate) fn fill<S: Source>(source: &mut S, buffer: &mut [u8]) -> Filled
 /// input ends within them, and with `Read` if the source failed. `at` is their offset in the image, which
 /// `Bad` shows.
 pub(crate) fn read_u16<S: Source>(source: &mut S, at: u64) -> Result<u16, LoadFault>
-    ensures reads { ReadsNumber w16 at (feed_at (S.rest source.old) (S.given source.old)) result (feed_at (S.rest source.new) (S.given source.new)) }
-    ensures grows { S.faults source.old ≤ S.faults source.new }
-    ensures same { result ≢ Err LoadFault.Read → S.faults source.new ≡ S.faults source.old }
-    ensures failed { result ≡ Err LoadFault.Read → FailsLast (S.faults source.old) (S.faults source.new) (S.last_failed source.new) }
+    ensures reads { ReadsNumber w16 at (feed_of (S.state source.old)) result (feed_of (S.state source.new)) }
+    ensures source { SourceFailsIf (is_unread result) (S.state source.old) (S.state source.new) }
 {
     let mut bytes = [0; 2];
     match fill(source, &mut bytes) {
@@ -65,10 +61,8 @@ pub(crate) fn read_u16<S: Source>(source: &mut S, at: u64) -> Result<u16, LoadFa
 /// input ends within them, and with `Read` if the source failed. `at` is their offset in the image, which
 /// `Bad` shows.
 pub(crate) fn read_u32<S: Source>(source: &mut S, at: u64) -> Result<u32, LoadFault>
-    ensures reads { ReadsNumber w32 at (feed_at (S.rest source.old) (S.given source.old)) result (feed_at (S.rest source.new) (S.given source.new)) }
-    ensures grows { S.faults source.old ≤ S.faults source.new }
-    ensures same { result ≢ Err LoadFault.Read → S.faults source.new ≡ S.faults source.old }
-    ensures failed { result ≡ Err LoadFault.Read → FailsLast (S.faults source.old) (S.faults source.new) (S.last_failed source.new) }
+    ensures reads { ReadsNumber w32 at (feed_of (S.state source.old)) result (feed_of (S.state source.new)) }
+    ensures source { SourceFailsIf (is_unread result) (S.state source.old) (S.state source.new) }
 {
     let mut bytes = [0; 4];
     match fill(source, &mut bytes) {

@@ -1,13 +1,13 @@
 //! Loads an image from a source into a heap: opens the heap with the image's settings, then makes its objects.
-ghost use Rattle.std.specs.Prelude.{◌≡◌, ◌+◌, ◌<◌, ◌≤◌, ◌^◌, ℕ, List, Err, ◌≢◌};
+ghost use Rattle.std.specs.Prelude.{◌≡◌, ◌+◌, ◌<◌, ◌≤◌, ◌^◌, ℕ, List, Err};
 ghost use Rattle.std.specs.FinMap as map;
 ghost use Rattle.cf_base.specs.declared.kind.Kind.TheVariants.{Moving};
-ghost use Rattle.cf_io.specs.Feeds.{FailsLast};
+ghost use Rattle.cf_io.specs.Feeds.{SourceFailsIf};
 ghost use Rattle.cf_session.specs.Apply.{run_at};
 ghost use Rattle.heap_image.specs.Decoded.{at_first, count_decoded, end_decoded, entries_decoded};
 ghost use Rattle.heap_image.specs.Ends.{EndsReading, EndRead};
 ghost use Rattle.heap_image.specs.Counts.{CountsLoad};
-ghost use Rattle.heap_image.specs.Feed.{feed_at};
+ghost use Rattle.heap_image.specs.Feed.{feed_of, is_unread};
 ghost use Rattle.heap_image.specs.Heaps.{live_objects};
 ghost use Rattle.heap_image.specs.Load.{IsLoading, LoadsBy};
 
@@ -36,13 +36,11 @@ pub fn load<S: Source, H: Manager>(
 ) -> Result<Settings, LoadFault>
     requires moving { (H.state heap.old).kind ≡ Moving }
     requires idle { session.old.ids ≡ map.empty }
-    ensures loads { LoadsBy (run_at session.old (H.state heap.old)) (feed_at (S.rest source.old) (S.given source.old)) result (feed_at (S.rest source.new) (S.given source.new))
+    ensures loads { LoadsBy (run_at session.old (H.state heap.old)) (feed_of (S.state source.old)) result (feed_of (S.state source.new))
         (run_at session.new (H.state heap.new)) }
     ensures kind { (H.state heap.new).kind ≡ Moving }
     ensures counts { CountsLoad session.old result (run_at session.new (H.state heap.new)) }
-    ensures grows { S.faults source.old ≤ S.faults source.new }
-    ensures same { result ≢ Err LoadFault.Read → S.faults source.new ≡ S.faults source.old }
-    ensures read { result ≡ Err LoadFault.Read → FailsLast (S.faults source.old) (S.faults source.new) (S.last_failed source.new) }
+    ensures source { SourceFailsIf (is_unread result) (S.state source.old) (S.state source.new) }
 {
     let settings = match read_settings(source) {
         Ok(settings) => settings,
@@ -72,11 +70,9 @@ fn load_objects<S: Source, H: Manager>(
     requires proxies { (H.state heap.old).profile.proxies ≡ proxies }
     requires few { proxies ≤ 65536 }
     ensures ends { EndsReading (count_decoded (H.state heap.old).profile) (H.state heap.old).profile
-        (feed_at (S.rest source.old) (S.given source.old)) result (feed_at (S.rest source.new) (S.given source.new)) (run_at session.new (H.state heap.new)) }
+        (feed_of (S.state source.old)) result (feed_of (S.state source.new)) (run_at session.new (H.state heap.new)) }
     ensures counts { CountsLoad session.old result (run_at session.new (H.state heap.new)) }
-    ensures grows { S.faults source.old ≤ S.faults source.new }
-    ensures same { result ≢ Err LoadFault.Read → S.faults source.new ≡ S.faults source.old }
-    ensures failed { result ≡ Err LoadFault.Read → FailsLast (S.faults source.old) (S.faults source.new) (S.last_failed source.new) }
+    ensures source { SourceFailsIf (is_unread result) (S.state source.old) (S.state source.new) }
 {
     let count = match read_u32(source, 16) {
         Ok(count) => count,
@@ -101,11 +97,9 @@ fn load_entries<S: Source, H: Manager>(
     requires few { count ≤ (H.state heap.old).profile.proxies }
     requires proxies { (H.state heap.old).profile.proxies ≤ 65536 }
     ensures ends { EndsReading (entries_decoded (H.state heap.old).profile count at_first) (H.state heap.old).profile
-        (feed_at (S.rest source.old) (S.given source.old)) result (feed_at (S.rest source.new) (S.given source.new)) (run_at session.new (H.state heap.new)) }
+        (feed_of (S.state source.old)) result (feed_of (S.state source.new)) (run_at session.new (H.state heap.new)) }
     ensures counts { CountsLoad session.old result (run_at session.new (H.state heap.new)) }
-    ensures grows { S.faults source.old ≤ S.faults source.new }
-    ensures same { result ≢ Err LoadFault.Read → S.faults source.new ≡ S.faults source.old }
-    ensures failed { result ≡ Err LoadFault.Read → FailsLast (S.faults source.old) (S.faults source.new) (S.last_failed source.new) }
+    ensures source { SourceFailsIf (is_unread result) (S.state source.old) (S.state source.new) }
 {
     let mut buffer = [0; CHUNK];
     let mut next = 0;
@@ -125,10 +119,8 @@ fn load_entries<S: Source, H: Manager>(
 /// Checks that the source ends after the last entry, at the offset `at` of the image. Fails with `Bad { at }`
 /// if the source returns another byte, and with `Read` if the source failed.
 fn read_end<S: Source>(source: &mut S, at: u64) -> Result<(), LoadFault>
-    ensures end { EndRead at (feed_at (S.rest source.old) (S.given source.old)) result (feed_at (S.rest source.new) (S.given source.new)) }
-    ensures grows { S.faults source.old ≤ S.faults source.new }
-    ensures same { result ≢ Err LoadFault.Read → S.faults source.new ≡ S.faults source.old }
-    ensures failed { result ≡ Err LoadFault.Read → FailsLast (S.faults source.old) (S.faults source.new) (S.last_failed source.new) }
+    ensures end { EndRead at (feed_of (S.state source.old)) result (feed_of (S.state source.new)) }
+    ensures source { SourceFailsIf (is_unread result) (S.state source.old) (S.state source.new) }
 {
     let mut bytes = [0; 1];
     match fill(source, &mut bytes) {

@@ -1,9 +1,9 @@
 //! Saves a heap: writes its settings and its live objects as an image.
-ghost use Rattle.std.specs.Prelude.{◌≡◌, ◌^◌, ◌<◌, ◌≤◌, ◌*◌, IsTrue, OnErr, Some, length, OnOk};
+ghost use Rattle.std.specs.Prelude.{◌≡◌, ◌^◌, ◌<◌, ◌*◌, IsTrue, Some, length};
 ghost use Rattle.std.specs.FinMap as map;
 ghost use Rattle.cf_base.specs.declared.kind.Kind.TheVariants.{Moving};
 ghost use Rattle.cf_base.specs.Settings.{profile_of};
-ghost use Rattle.cf_io.specs.Feeds.{Puts, FailsLast};
+ghost use Rattle.cf_io.specs.Feeds.{Writes};
 ghost use Rattle.cf_session.specs.Apply.{run_at};
 ghost use Rattle.page_model.specs.Held.{Placed};
 ghost use Rattle.run_model.specs.Sessions.{AreTied};
@@ -60,10 +60,7 @@ pub fn save<H: Manager, K: Sink>(
     requires open { IsTrue (H.state heap.now).is_open }
     requires settings { (H.state heap.now).profile ≡ profile_of s.now }
     requires tied { AreTied session.now (H.state heap.now) }
-    ensures puts { Puts (K.written out.old) (heap_image (run_at session.now (H.state heap.now))) result (K.written out.new) }
-    ensures grows { K.faults out.old ≤ K.faults out.new }
-    ensures same { OnOk result (K.faults out.new ≡ K.faults out.old) }
-    ensures failed { OnErr result (FailsLast (K.faults out.old) (K.faults out.new) (K.last_failed out.new)) }
+    ensures { Writes (K.state out.old) (heap_image (run_at session.now (H.state heap.now))) result (K.state out.new) }
 {
     // For its contract: an open heap keeps its rules.
     let _open = heap.is_open();
@@ -82,11 +79,8 @@ pub fn save<H: Manager, K: Sink>(
 /// objects. `line` is the buffer in which the bytes are put together. Returns `Failed` only if the sink
 /// failed; then a prefix of the 20 bytes was written.
 fn put_header<K: Sink>(s: &Settings, live: u32, line: &mut Line, out: &mut K) -> Result<(), Failed>
-    ensures puts { Puts (K.written out.old) (header_of s.now.pages (8 * s.now.page_words) s.now.proxies live)
-        result (K.written out.new) }
-    ensures grows { K.faults out.old ≤ K.faults out.new }
-    ensures same { OnOk result (K.faults out.new ≡ K.faults out.old) }
-    ensures failed { OnErr result (FailsLast (K.faults out.old) (K.faults out.new) (K.last_failed out.new)) }
+    ensures { Writes (K.state out.old) (header_of s.now.pages (8 * s.now.page_words) s.now.proxies live)
+        result (K.state out.new) }
 {
     line.clear();
     push_text(line, b"CFI1");
@@ -130,11 +124,8 @@ fn put_bytes<H: Manager, K: Sink>(
     requires open { IsTrue (H.state heap.now).is_open }
     requires live { (x : Placed) × (map.get (H.state heap.now).held h.0 ≡ Some x) × (n ≡ length x.bytes) }
     requires buffer { length buffer.old ≡ 4096 }
-    ensures puts { (x : Placed) → map.get (H.state heap.now).held h.0 ≡ Some x
-        → Puts (K.written out.old) x.bytes result (K.written out.new) }
-    ensures grows { K.faults out.old ≤ K.faults out.new }
-    ensures same { OnOk result (K.faults out.new ≡ K.faults out.old) }
-    ensures failed { OnErr result (FailsLast (K.faults out.old) (K.faults out.new) (K.last_failed out.new)) }
+    ensures { (x : Placed) → map.get (H.state heap.now).held h.0 ≡ Some x
+        → Writes (K.state out.old) x.bytes result (K.state out.new) }
 {
     let mut at = 0;
     'chunks: while at < n {

@@ -3,12 +3,12 @@
 ghost use Rattle.std.specs.Prelude.{◌≡◌, ◌≢◌, ◌+◌, ◌<◌, ◌≤◌, ◌^◌, ℕ, List, Some, None, Err, OnErr, OnOk, true, false, length, replicate};
 ghost use Rattle.std.specs.Bool.{OnFalse, OnTrue};
 ghost use Rattle.std.specs.FinMap as map;
-ghost use Rattle.cf_io.specs.Feeds.{FailsLast};
+ghost use Rattle.cf_io.specs.Feeds.{SourceFailsIf};
 ghost use Rattle.cf_session.specs.Apply.{run_at};
 ghost use Rattle.page_model.specs.Bytes.{written};
 ghost use Rattle.heap_image.specs.Decoded.{Decoded, Reached, entry_decoded, has_room, length_decoded};
 ghost use Rattle.heap_image.specs.Counts.{CountsFree, CountsStop, after_mallocs};
-ghost use Rattle.heap_image.specs.Feed.{feed_at};
+ghost use Rattle.heap_image.specs.Feed.{feed_of, is_unread};
 ghost use Rattle.heap_image.specs.Heaps.{live_objects};
 ghost use Rattle.heap_image.specs.Load.{IsLoading};
 ghost use Rattle.heap_image.specs.Entries.{ReadsEntry, FillsObject, reached_in};
@@ -50,12 +50,10 @@ pub(crate) fn read_entry<S: Source, H: Manager>(
     ensures entry { (go : Reached → List ℕ → Decoded) → ReadsEntry (λ bytes. entry_decoded (H.state heap.old).profile
         (reached_in (run_at session.old (H.state heap.old)) next at) bytes go) go
         (run_at session.old (H.state heap.old)) (reached_in (run_at session.old (H.state heap.old)) next at)
-        (feed_at (S.rest source.old) (S.given source.old)) result (feed_at (S.rest source.new) (S.given source.new)) (run_at session.new (H.state heap.new)) }
+        (feed_of (S.state source.old)) result (feed_of (S.state source.new)) (run_at session.new (H.state heap.new)) }
     ensures counts { OnOk result (session.new ≡ after_mallocs session.old true session.new.ids) }
     ensures stopped { OnErr result (CountsStop session.old session.new) }
-    ensures grows { S.faults source.old ≤ S.faults source.new }
-    ensures same { result ≢ Err LoadFault.Read → S.faults source.new ≡ S.faults source.old }
-    ensures failed { result ≡ Err LoadFault.Read → FailsLast (S.faults source.old) (S.faults source.new) (S.last_failed source.new) }
+    ensures source { SourceFailsIf (is_unread result) (S.state source.old) (S.state source.new) }
 {
     let id = match read_u16(source, at) {
         Ok(id) => id,
@@ -88,12 +86,10 @@ fn read_object<S: Source, H: Manager>(
     ensures entry { (go : Reached → List ℕ → Decoded) → ReadsEntry (λ bytes. length_decoded (H.state heap.old).profile
         (reached_in (run_at session.old (H.state heap.old)) next at) id bytes go) go
         (run_at session.old (H.state heap.old)) (reached_in (run_at session.old (H.state heap.old)) next at)
-        (feed_at (S.rest source.old) (S.given source.old)) result (feed_at (S.rest source.new) (S.given source.new)) (run_at session.new (H.state heap.new)) }
+        (feed_of (S.state source.old)) result (feed_of (S.state source.new)) (run_at session.new (H.state heap.new)) }
     ensures counts { OnOk result (session.new ≡ after_mallocs session.old true session.new.ids) }
     ensures stopped { OnErr result (CountsStop session.old session.new) }
-    ensures grows { S.faults source.old ≤ S.faults source.new }
-    ensures same { result ≢ Err LoadFault.Read → S.faults source.new ≡ S.faults source.old }
-    ensures failed { result ≡ Err LoadFault.Read → FailsLast (S.faults source.old) (S.faults source.new) (S.last_failed source.new) }
+    ensures source { SourceFailsIf (is_unread result) (S.state source.old) (S.state source.new) }
 {
     let n = match read_u32(source, at + 2) {
         Ok(n) => n,
@@ -159,13 +155,11 @@ fn fill_object<S: Source, H: Manager>(
     requires loading { IsLoading (run_at session.old (H.state heap.old)) }
     requires made { map.get (live_objects (run_at session.old (H.state heap.old))) id ≡ Some (replicate n 0) }
     requires buffer { length buffer.old ≡ 4096 }
-    ensures fills { FillsObject n at (run_at session.old (H.state heap.old)) id (feed_at (S.rest source.old) (S.given source.old)) result (feed_at (S.rest source.new) (S.given source.new))
+    ensures fills { FillsObject n at (run_at session.old (H.state heap.old)) id (feed_of (S.state source.old)) result (feed_of (S.state source.new))
         (run_at session.new (H.state heap.new)) }
     ensures counts { OnOk result (session.new ≡ session.old) }
     ensures freed { OnErr result (CountsFree session.old session.new) }
-    ensures grows { S.faults source.old ≤ S.faults source.new }
-    ensures same { result ≢ Err LoadFault.Read → S.faults source.new ≡ S.faults source.old }
-    ensures failed { result ≡ Err LoadFault.Read → FailsLast (S.faults source.old) (S.faults source.new) (S.last_failed source.new) }
+    ensures source { SourceFailsIf (is_unread result) (S.state source.old) (S.state source.new) }
 {
     let mut done = 0;
     'chunks: while done < n {

@@ -1,9 +1,9 @@
 //! Visits the live objects of a heap by rising id, and writes each with an `ObjectWriter`: mode `save` as an
 //! entry of an image, mode `load` as lines of a script.
-ghost use Rattle.std.specs.Prelude.{◌≡◌, ◌≤◌, ℕ, List, IsTrue, OnErr, Some, length, OnOk};
+ghost use Rattle.std.specs.Prelude.{◌≡◌, ℕ, List, IsTrue, Some, length};
 ghost use Rattle.std.specs.FinMap as map;
 ghost use Rattle.cf_base.specs.declared.kind.Kind.TheVariants.{Moving};
-ghost use Rattle.cf_io.specs.Feeds.{Puts, FailsLast};
+ghost use Rattle.cf_io.specs.Feeds.{Writes};
 ghost use Rattle.cf_session.specs.Apply.{run_at};
 ghost use Rattle.page_model.specs.Held.{Placed};
 ghost use Rattle.run_model.specs.Sessions.{AreTied};
@@ -41,11 +41,8 @@ pub trait ObjectWriter {
         requires open { IsTrue (H.state heap.now).is_open }
         requires live { (x : Placed) × (map.get (H.state heap.now).held h.0 ≡ Some x) }
         requires buffer { length buffer.old ≡ 4096 }
-        ensures puts { (x : Placed) → map.get (H.state heap.now).held h.0 ≡ Some x
-            → Puts (K.written out.old) (text id x.bytes) result (K.written out.new) }
-        ensures grows { K.faults out.old ≤ K.faults out.new }
-        ensures same { OnOk result (K.faults out.new ≡ K.faults out.old) }
-        ensures failed { OnErr result (FailsLast (K.faults out.old) (K.faults out.new) (K.last_failed out.new)) };
+        ensures { (x : Placed) → map.get (H.state heap.now).held h.0 ≡ Some x
+            → Writes (K.state out.old) (text id x.bytes) result (K.state out.new) };
 }
 
 /// Writes the live objects of the heap one after another, by rising id, each with the writer. The session maps
@@ -62,11 +59,8 @@ pub fn put_objects<W: ObjectWriter, H: Manager, K: Sink>(
     requires moving { (H.state heap.now).kind ≡ Moving }
     requires open { IsTrue (H.state heap.now).is_open }
     requires tied { AreTied session.now (H.state heap.now) }
-    ensures puts { Puts (K.written out.old) (object_texts W.text (map.entries (live_objects (run_at session.now (H.state heap.now)))))
-        result (K.written out.new) }
-    ensures grows { K.faults out.old ≤ K.faults out.new }
-    ensures same { OnOk result (K.faults out.new ≡ K.faults out.old) }
-    ensures failed { OnErr result (FailsLast (K.faults out.old) (K.faults out.new) (K.last_failed out.new)) }
+    ensures { Writes (K.state out.old) (object_texts W.text (map.entries (live_objects (run_at session.now (H.state heap.now)))))
+        result (K.state out.new) }
 {
     // For its contract: each live id has 16 bits.
     let _first = session.handle(0);

@@ -1,11 +1,11 @@
 //! Reads the first 16 bytes of an image: the mark `CFI1`, then the pages, the bytes of a page and the
 //! proxies, each a number of four bytes.
-ghost use Rattle.std.specs.Prelude.{◌≡◌, ◌≤◌, IsTrue, Err, ◌≢◌};
+ghost use Rattle.std.specs.Prelude.{◌≡◌, IsTrue, Err};
 ghost use Rattle.std.specs.Str.{bytes_eq};
 ghost use Rattle.cf_base.specs.Limits.{is_within};
-ghost use Rattle.cf_io.specs.Feeds.{FailsLast};
+ghost use Rattle.cf_io.specs.Feeds.{SourceFailsIf};
 ghost use Rattle.heap_image.specs.Decoded.{decoded, is_page_of, page_bytes_decoded, pages_decoded, proxies_decoded};
-ghost use Rattle.heap_image.specs.Feed.{feed_at};
+ghost use Rattle.heap_image.specs.Feed.{feed_of, is_unread};
 ghost use Rattle.heap_image.specs.Image.{mark};
 ghost use Rattle.heap_image.specs.Stages.{ReadsSettingsOrStops};
 
@@ -18,10 +18,8 @@ use cf_io::Source;
 /// settings with these numbers and the bound 1. Fails with `Bad` if a field breaks a rule or is cut by the end
 /// of the input, and with `Read` if the source failed.
 pub(crate) fn read_settings<S: Source>(source: &mut S) -> Result<Settings, LoadFault>
-    ensures settings { ReadsSettingsOrStops 16 decoded (feed_at (S.rest source.old) (S.given source.old)) result (feed_at (S.rest source.new) (S.given source.new)) }
-    ensures grows { S.faults source.old ≤ S.faults source.new }
-    ensures same { result ≢ Err LoadFault.Read → S.faults source.new ≡ S.faults source.old }
-    ensures failed { result ≡ Err LoadFault.Read → FailsLast (S.faults source.old) (S.faults source.new) (S.last_failed source.new) }
+    ensures settings { ReadsSettingsOrStops 16 decoded (feed_of (S.state source.old)) result (feed_of (S.state source.new)) }
+    ensures source { SourceFailsIf (is_unread result) (S.state source.old) (S.state source.new) }
 {
     let mut bytes = [0; 4];
     match fill(source, &mut bytes) {
@@ -52,10 +50,8 @@ fn are_pages(pages: u32) -> bool
 /// Reads the number of pages at byte 4 of the image, then the bytes of a page and the proxies, and returns the
 /// settings. Fails as `read_settings` does.
 fn read_pages<S: Source>(source: &mut S) -> Result<Settings, LoadFault>
-    ensures settings { ReadsSettingsOrStops 12 pages_decoded (feed_at (S.rest source.old) (S.given source.old)) result (feed_at (S.rest source.new) (S.given source.new)) }
-    ensures grows { S.faults source.old ≤ S.faults source.new }
-    ensures same { result ≢ Err LoadFault.Read → S.faults source.new ≡ S.faults source.old }
-    ensures failed { result ≡ Err LoadFault.Read → FailsLast (S.faults source.old) (S.faults source.new) (S.last_failed source.new) }
+    ensures settings { ReadsSettingsOrStops 12 pages_decoded (feed_of (S.state source.old)) result (feed_of (S.state source.new)) }
+    ensures source { SourceFailsIf (is_unread result) (S.state source.old) (S.state source.new) }
 {
     let pages = match read_u32(source, 4) {
         Ok(pages) => pages,
@@ -71,10 +67,8 @@ fn read_pages<S: Source>(source: &mut S) -> Result<Settings, LoadFault>
 /// read before them. Fails as `read_settings` does.
 fn read_page_bytes<S: Source>(source: &mut S, pages: u32) -> Result<Settings, LoadFault>
     requires pages { IsTrue (is_within 1 4096 pages) }
-    ensures settings { ReadsSettingsOrStops 8 (page_bytes_decoded pages) (feed_at (S.rest source.old) (S.given source.old)) result (feed_at (S.rest source.new) (S.given source.new)) }
-    ensures grows { S.faults source.old ≤ S.faults source.new }
-    ensures same { result ≢ Err LoadFault.Read → S.faults source.new ≡ S.faults source.old }
-    ensures failed { result ≡ Err LoadFault.Read → FailsLast (S.faults source.old) (S.faults source.new) (S.last_failed source.new) }
+    ensures settings { ReadsSettingsOrStops 8 (page_bytes_decoded pages) (feed_of (S.state source.old)) result (feed_of (S.state source.new)) }
+    ensures source { SourceFailsIf (is_unread result) (S.state source.old) (S.state source.new) }
 {
     let page_bytes = match read_u32(source, 8) {
         Ok(page_bytes) => page_bytes,
@@ -95,10 +89,8 @@ fn read_proxies<S: Source>(
 ) -> Result<Settings, LoadFault>
     requires pages { IsTrue (is_within 1 4096 pages) }
     requires page { IsTrue (is_page_of pages page_bytes) }
-    ensures settings { ReadsSettingsOrStops 4 (proxies_decoded pages page_bytes) (feed_at (S.rest source.old) (S.given source.old)) result (feed_at (S.rest source.new) (S.given source.new)) }
-    ensures grows { S.faults source.old ≤ S.faults source.new }
-    ensures same { result ≢ Err LoadFault.Read → S.faults source.new ≡ S.faults source.old }
-    ensures failed { result ≡ Err LoadFault.Read → FailsLast (S.faults source.old) (S.faults source.new) (S.last_failed source.new) }
+    ensures settings { ReadsSettingsOrStops 4 (proxies_decoded pages page_bytes) (feed_of (S.state source.old)) result (feed_of (S.state source.new)) }
+    ensures source { SourceFailsIf (is_unread result) (S.state source.old) (S.state source.new) }
 {
     let proxies = match read_u32(source, 12) {
         Ok(proxies) => proxies,

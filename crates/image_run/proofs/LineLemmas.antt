@@ -1,17 +1,11 @@
 -- For `put_heap`, `put_malloc` and `put_write`: the lines that the code builds field by field are the lines of commands.
-use Rattle.std.proofs.Common.{◌≡◌, ◌∙◌, ◌++◌, List, [], ◌∷◌, ℕ, Option, ap, sym, subst, append_assoc, append-nil}
-use Rattle.std.specs.Prelude.{Result, codes, decimal}
-use Rattle.cf_base.specs.declared.answers.Failed.{Failed}
-use Rattle.cf_io.specs.Feeds.{Puts}
+use Rattle.std.proofs.Common.{◌≡◌, ◌∙◌, ◌++◌, List, [], ◌∷◌, ℕ, ap, sym, append_assoc, append-nil}
+use Rattle.std.specs.Prelude.{codes, decimal}
 use Rattle.cf_io.specs.Texts.{with_number}
 use Rattle.generator.specs.CommandText.{line_of}
 use Rattle.generator.specs.ReadBack.{heap_line}
 use Rattle.hex.specs.Hex.{encode_lower}
 use Rattle.script_reader.specs.declared.command.Command.TheVariants.{Malloc, Write}
-
--- if the list b equals a, what `Puts` claims of a it claims of b
-pub puts_same : (w y : Option (List ℕ)) (a b : List ℕ) (r : Result (Unit {0}) Failed) → a ≡ b → Puts w a r y → Puts w b r y
-puts_same w y a b r is put = subst (λ (bytes : List ℕ). Puts w bytes r y) is put
 
 -- the same fields, grouped in two ways, with a line feed at the end
 two_fields : (a b c d : List ℕ) → ((a ++ b) ++ (c ++ d)) ++ 10 ∷ [] ≡ (a ++ (b ++ (c ++ (d ++ [])))) ++ 10 ∷ []

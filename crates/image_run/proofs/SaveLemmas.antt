@@ -1,50 +1,53 @@
 -- For `save_script`, which runs a script and writes an image: from how the script ended, its settings kept, and what was written of the image to its
 -- contract `EndsSave`, for each status.
-use Rattle.std.proofs.Common.{◌≡◌, ◌≢◌, ◌∙◌, ◌++◌, ℕ, List, [], false, true, Option, Some, None, refl, ap, sym, subst}
+use Rattle.std.proofs.Common.{◌≡◌, ◌≢◌, ◌∙◌, ◌++◌, ℕ, Bool, List, [], false, true, Option, Some, None, refl, ap, sym, subst}
 use Rattle.std.specs.Prelude.{Err, option_map, if◌then◌else◌}
 use Rattle.cf_base.specs.Settings.{profile_of}
 use Rattle.cf_base.specs.declared.answers.Failed.{Failed}
 use Rattle.cf_base.specs.declared.settings.Settings.{Settings}
 use Rattle.cf_base.specs.declared.status.Status.{Status}
 use Rattle.cf_base.specs.declared.status.Status.TheVariants.{Done, Words, BadScript, ReadFault, WriteFault, OutOfMemory, TooLong, BadImage}
-use Rattle.cf_io.specs.Feeds.{FailsLast, Puts, appended}
+use Rattle.cf_io.specs.Feeds.{FailsIf, SinkFailsIf, SinkState, SourceState, WritesPrefix, appended}
 use Rattle.heap_image.specs.Heaps.{heap_image}
 use Rattle.image_run.specs.Saves.{CanBeSaved, EndsSave, saved}
 use Rattle.run_model.specs.Sessions.{IsGoing, RunState}
 use Rattle.script_loop.proofs.CallerLemmas.{whole_run, wrote_settled}
 use Rattle.cf_io.proofs.CallerLemmas.{appended_none}
 use Rattle.script_loop.specs.OneManager.{one_manager}
-use Rattle.script_loop.specs.ScriptOutcome.{Effects, HasCauses, IsStatusRow, MeetsOutcome, SinkState, SourceState, EndsAt}
+use Rattle.script_loop.specs.ScriptOutcome.{Effects, EndsAt, HasCauses, IsStatusRow, MeetsOutcome, is_read_fault, is_write_fault}
 use Rattle.script_loop.specs.WithSettings.{GoesWith, Settled, with_settings}
 
 -- the sink that drops the replies of the script never fails
-pub never_cut : (st : Status) → (st ≡ WriteFault → FailsLast 0 0 false) → st ≡ WriteFault → ⊥
-never_cut st cause is = let e : false ≡ true = (cause is).1 in absurd cc
+pub never_cut : (st : Status) → FailsIf (is_write_fault st) 0 0 false → st ≡ WriteFault → ⊥
+never_cut st cause is = let e : false ≡ true = (subst (λ (s : Status). FailsIf (is_write_fault s) 0 0 false) is cause).1 in absurd cc
+
+pub never_faults : (st : Status) (n : ℕ) (last : Bool) → FailsIf (is_write_fault st) 0 0 false → FailsIf (is_write_fault st) n n last
+never_faults st n last cause = go (is_write_fault st) cause
+  where
+    go : (b : Bool) → FailsIf b 0 0 false → FailsIf b n n last
+    go true fails = absurd (let e : false ≡ true = fails.1 in cc)
+    go false same = refl
 
 -- ---- the causes, if the script was run to its end
 
-pub done_same : (st : Status) → st ≡ Done → {a b : ℕ} → (st ≢ ReadFault → a ≡ b) → a ≡ b
-done_same st done same = same (λ is. (let e : Done ≡ ReadFault = sym done ∙ is in absurd cc))
+pub done_same : (st : Status) → st ≡ Done → (a b : ℕ) (last : Bool) → FailsIf (is_read_fault st) a b last → b ≡ a
+done_same st done a b last same = subst (λ (t : Status). FailsIf (is_read_fault t) a b last) done same
 
 pub whole_causes : (s : SourceState) (k : SinkState) (s' : SourceState) (k' : SinkState) → s'.faults ≡ s.faults → k'.faults ≡ k.faults
     → HasCauses s k Done s' k'
 whole_causes s k s' k' source sink = record {
   silent = λ is. absurd (let e : Done ≡ OutOfMemory = is in cc);
-  source_same = λ other. source;
-  read_fault = λ is. absurd (let e : Done ≡ ReadFault = is in cc);
-  sink_same = λ other. sink;
-  write_fault = λ is. absurd (let e : Done ≡ WriteFault = is in cc);
+  source_fault = source;
+  sink_fault = sink;
   too_long = λ is. absurd (let e : Done ≡ TooLong = is in cc);
 }
 
-pub cut_causes : (s : SourceState) (k : SinkState) (s' : SourceState) (k' : SinkState) → s'.faults ≡ s.faults → FailsLast k.faults k'.faults k'.failed
+pub cut_causes : (s : SourceState) (k : SinkState) (s' : SourceState) (k' : SinkState) → s'.faults ≡ s.faults → SinkFailsIf true k k'
     → HasCauses s k WriteFault s' k'
 cut_causes s k s' k' source sink = record {
   silent = λ is. absurd (let e : WriteFault ≡ OutOfMemory = is in cc);
-  source_same = λ other. source;
-  read_fault = λ is. absurd (let e : WriteFault ≡ ReadFault = is in cc);
-  sink_same = λ other. absurd (other refl);
-  write_fault = λ is. sink;
+  source_fault = source;
+  sink_fault = sink;
   too_long = λ is. absurd (let e : WriteFault ≡ TooLong = is in cc);
 }
 
@@ -115,7 +118,7 @@ module _ (from to : Settled RunState) (had left : Option (List ℕ)) (gave given
   script_as st = record { had = had; left = left; given_before = gave; given_after = given; before = None; after = None; status = st }
 
   -- the script was not run to its end
-  pub ends_early : (st : Status) → st ≢ Done → (st ≡ WriteFault → FailsLast 0 0 false) → MeetsOutcome (with_settings one_manager) from (script_as st) to
+  pub ends_early : (st : Status) → st ≢ Done → FailsIf (is_write_fault st) 0 0 false → MeetsOutcome (with_settings one_manager) from (script_as st) to
       → after ≡ before → EndsSave from.state (call_as st) to.state
   ends_early st unfinished cause met same = go st unfinished (outcome_settled from to (script_as st) (never_cut st cause) met) (never_cut st cause)
     where
@@ -155,8 +158,8 @@ module _ (from to : Settled RunState) (had left : Option (List ℕ)) (gave given
       ends_saved put can = record { script = script; written = put ∙ ap (appended before) (sym image); image = λ is opened. can }
 
       -- the image was cut
-      pub ends_cut : (e : Failed) → Puts {T = Unit {0}} before (heap_image to.state) (Err e) after → EndsSave from.state (call_as WriteFault) to.state
-      ends_cut e (front, lost, parts, put) = record {
+      pub ends_cut : WritesPrefix before (heap_image to.state) after → EndsSave from.state (call_as WriteFault) to.state
+      ends_cut (front, lost, parts, put) = record {
         script = script;
         written = (front, lost, image ∙ parts, put);
         image = λ is opened. (let e : WriteFault ≡ Done = is in absurd cc);

@@ -1,11 +1,11 @@
 -- The contract of `save_script`, by status: a script is run, its replies are dropped, and the objects that are live at its end are written as an image,
 -- whole or in part.
-use Rattle.std.specs.Prelude.{◌≡◌, ◌++◌, ℕ, List, [], Option, None, IsTrue, if◌then◌else◌}
+use Rattle.std.specs.Prelude.{◌≡◌, ℕ, List, [], Option, None, IsTrue, if◌then◌else◌}
 use Rattle.cf_base.specs.Settings.{at_bound_one}
 use Rattle.cf_base.specs.declared.kind.Kind.TheVariants.{Moving}
 use Rattle.cf_base.specs.declared.status.Status.{Status}
 use Rattle.cf_base.specs.declared.status.Status.TheVariants.{Done, WriteFault}
-use Rattle.cf_io.specs.Feeds.{appended}
+use Rattle.cf_io.specs.Feeds.{WritesPrefix, appended}
 use Rattle.heap_image.specs.Heaps.{HaveImage, heap_image, live_objects}
 use Rattle.run_model.specs.Sessions.{IsGoing, RunState}
 use Rattle.script_loop.specs.OneManager.{one_manager}
@@ -23,10 +23,6 @@ script_status status = status
 -- the effects of the script alone, from those of the call: its replies are dropped, so its sink isn't observable
 abbrev pub unseen : Effects → Effects
 unseen call = record call { before = None; after = None; status = script_status call.status }
-
--- only `front`, a prefix of `bytes`, was written; `before` and `after` are the bytes of the sink, if it is observable
-abbrev pub WritesPrefix : Option (List ℕ) → List ℕ → Option (List ℕ) → Type 0
-WritesPrefix before bytes after = (front : List ℕ) × (lost : List ℕ) × (bytes ≡ front ++ lost) × (after ≡ appended before front)
 
 -- what was written, by the status: these bytes, a prefix of them, or nothing
 abbrev pub WritesAtEnd : Status → Option (List ℕ) → List ℕ → Option (List ℕ) → Type 0

@@ -1,12 +1,12 @@
 //! Mode `load`: loads an image and writes the script that makes its objects, or a line `bad image` with the
 //! offset of the first field that breaks a rule.
-ghost use Rattle.std.specs.Prelude.{◌≡◌, ◌≤◌, OnErr, OnOk, ◌≢◌};
+ghost use Rattle.std.specs.Prelude.{◌≡◌};
 ghost use Rattle.std.specs.FinMap as map;
 ghost use Rattle.cf_base.specs.declared.kind.Kind.TheVariants.{Moving};
-ghost use Rattle.cf_io.specs.Feeds.{Puts, FailsLast};
+ghost use Rattle.cf_io.specs.Feeds.{SinkFailsIf, SourceFailsIf, Writes};
 ghost use Rattle.cf_session.specs.Apply.{run_at};
 ghost use Rattle.image_run.specs.Loads.{EndsLoad, bad_image};
-ghost use Rattle.script_loop.specs.ScriptOutcome.{effects, sink_at, source_at};
+ghost use Rattle.script_loop.specs.ScriptOutcome.{effects, is_read_fault, is_write_fault};
 
 use crate::print::print_script;
 use cf_base::{Failed, Status};
@@ -31,16 +31,10 @@ pub fn load_script<H: Manager, S: Source, K: Sink>(
     requires moving { (H.state heap.old).kind ≡ Moving }
     requires idle { session.old.ids ≡ map.empty }
     ensures ends { EndsLoad (run_at session.old (H.state heap.old)) (effects
-        (source_at (S.rest source.old) (S.given source.old) (S.faults source.old) (S.last_failed source.old))
-        (sink_at (K.written sink.old) (K.faults sink.old) (K.last_failed sink.old))
-        result
-        (source_at (S.rest source.new) (S.given source.new) (S.faults source.new) (S.last_failed source.new))
-        (sink_at (K.written sink.new) (K.faults sink.new) (K.last_failed sink.new))) (run_at session.new (H.state heap.new)) }
+        (S.state source.old) (K.state sink.old) result (S.state source.new) (K.state sink.new)) (run_at session.new (H.state heap.new)) }
     // The causes of each status, also if the source isn't observable.
-    ensures source_same { result ≢ Status.ReadFault → S.faults source.new ≡ S.faults source.old }
-    ensures read_fault { result ≡ Status.ReadFault → FailsLast (S.faults source.old) (S.faults source.new) (S.last_failed source.new) }
-    ensures sink_same { result ≢ Status.WriteFault → K.faults sink.new ≡ K.faults sink.old }
-    ensures write_fault { result ≡ Status.WriteFault → FailsLast (K.faults sink.old) (K.faults sink.new) (K.last_failed sink.new) }
+    ensures source { SourceFailsIf (is_read_fault result) (S.state source.old) (S.state source.new) }
+    ensures sink { SinkFailsIf (is_write_fault result) (K.state sink.old) (K.state sink.new) }
 {
     match load(source, heap, session) {
         Ok(settings) => {
@@ -62,10 +56,7 @@ pub fn load_script<H: Manager, S: Source, K: Sink>(
 /// Writes the line `bad image` with `at`, the offset in bytes of the first field that breaks a rule. Returns
 /// `Failed` if the sink failed; then a prefix of the line was written.
 fn put_bad_image<K: Sink>(at: u64, sink: &mut K) -> Result<(), Failed>
-    ensures puts { Puts (K.written sink.old) (bad_image at) result (K.written sink.new) }
-    ensures grows { K.faults sink.old ≤ K.faults sink.new }
-    ensures same { OnOk result (K.faults sink.new ≡ K.faults sink.old) }
-    ensures failed { OnErr result (FailsLast (K.faults sink.old) (K.faults sink.new) (K.last_failed sink.new)) }
+    ensures { Writes (K.state sink.old) (bad_image at) result (K.state sink.new) }
 {
     let mut line = Line::new();
     push_field(&mut line, b"bad image ", at);

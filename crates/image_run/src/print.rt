@@ -1,9 +1,9 @@
 //! `print_script`, for mode `load`: writes the script that makes the live objects of a heap.
-ghost use Rattle.std.specs.Prelude.{◌≡◌, ◌≤◌, IsTrue, OnErr, Some, length, OnOk};
+ghost use Rattle.std.specs.Prelude.{◌≡◌, ◌≤◌, IsTrue, Some, length};
 ghost use Rattle.std.specs.FinMap as map;
 ghost use Rattle.cf_base.specs.declared.kind.Kind.TheVariants.{Moving};
 ghost use Rattle.cf_base.specs.Settings.{profile_of};
-ghost use Rattle.cf_io.specs.Feeds.{Puts, FailsLast};
+ghost use Rattle.cf_io.specs.Feeds.{Writes};
 ghost use Rattle.cf_session.specs.Apply.{run_at};
 ghost use Rattle.generator.specs.CommandText.{line_of};
 ghost use Rattle.generator.specs.ReadBack.{lines_of};
@@ -59,10 +59,7 @@ pub fn print_script<H: Manager, K: Sink>(
     requires open { IsTrue (H.state heap.now).is_open }
     requires settings { (H.state heap.now).profile ≡ profile_of s.now }
     requires tied { AreTied session.now (H.state heap.now) }
-    ensures puts { Puts (K.written out.old) (heap_script (run_at session.now (H.state heap.now))) result (K.written out.new) }
-    ensures grows { K.faults out.old ≤ K.faults out.new }
-    ensures same { OnOk result (K.faults out.new ≡ K.faults out.old) }
-    ensures failed { OnErr result (FailsLast (K.faults out.old) (K.faults out.new) (K.last_failed out.new)) }
+    ensures { Writes (K.state out.old) (heap_script (run_at session.now (H.state heap.now))) result (K.state out.new) }
 {
     let mut line = Line::new();
     match put_heap(s, &mut line, out) {
@@ -74,10 +71,7 @@ pub fn print_script<H: Manager, K: Sink>(
 
 /// Writes the `heap` line of the settings `s`, with the bound 1 in place of that of `s`.
 fn put_heap<K: Sink>(s: &Settings, line: &mut Line, out: &mut K) -> Result<(), Failed>
-    ensures puts { Puts (K.written out.old) (opening_line (profile_of s.now)) result (K.written out.new) }
-    ensures grows { K.faults out.old ≤ K.faults out.new }
-    ensures same { OnOk result (K.faults out.new ≡ K.faults out.old) }
-    ensures failed { OnErr result (FailsLast (K.faults out.old) (K.faults out.new) (K.last_failed out.new)) }
+    ensures { Writes (K.state out.old) (opening_line (profile_of s.now)) result (K.state out.new) }
 {
     line.clear();
     push_field(line, b"heap ", s.pages as u64);
@@ -89,10 +83,7 @@ fn put_heap<K: Sink>(s: &Settings, line: &mut Line, out: &mut K) -> Result<(), F
 
 /// Writes the `m` line that makes an object of `n` bytes for `id`.
 fn put_malloc<K: Sink>(id: u16, n: u32, line: &mut Line, out: &mut K) -> Result<(), Failed>
-    ensures puts { Puts (K.written out.old) (line_of (Malloc id n)) result (K.written out.new) }
-    ensures grows { K.faults out.old ≤ K.faults out.new }
-    ensures same { OnOk result (K.faults out.new ≡ K.faults out.old) }
-    ensures failed { OnErr result (FailsLast (K.faults out.old) (K.faults out.new) (K.last_failed out.new)) }
+    ensures { Writes (K.state out.old) (line_of (Malloc id n)) result (K.state out.new) }
 {
     line.clear();
     push_field(line, b"m ", id as u64);
@@ -115,11 +106,8 @@ fn put_writes<H: Manager, K: Sink>(
     requires open { IsTrue (H.state heap.now).is_open }
     requires live { (x : Placed) × (map.get (H.state heap.now).held h.0 ≡ Some x) × (n ≡ length x.bytes) }
     requires buffer { length buffer.old ≡ 4096 }
-    ensures puts { (x : Placed) → map.get (H.state heap.now).held h.0 ≡ Some x
-        → Puts (K.written out.old) (lines_of (writes_of id x.bytes)) result (K.written out.new) }
-    ensures grows { K.faults out.old ≤ K.faults out.new }
-    ensures same { OnOk result (K.faults out.new ≡ K.faults out.old) }
-    ensures failed { OnErr result (FailsLast (K.faults out.old) (K.faults out.new) (K.last_failed out.new)) }
+    ensures { (x : Placed) → map.get (H.state heap.now).held h.0 ≡ Some x
+        → Writes (K.state out.old) (lines_of (writes_of id x.bytes)) result (K.state out.new) }
 {
     let mut at = 0;
     'chunks: while at < n as u64 {
@@ -148,10 +136,7 @@ fn put_write<K: Sink>(
     out: &mut K,
 ) -> Result<(), Failed>
     requires few { length bytes.now ≤ 4096 }
-    ensures puts { Puts (K.written out.old) (line_of (Write id at bytes.now)) result (K.written out.new) }
-    ensures grows { K.faults out.old ≤ K.faults out.new }
-    ensures same { OnOk result (K.faults out.new ≡ K.faults out.old) }
-    ensures failed { OnErr result (FailsLast (K.faults out.old) (K.faults out.new) (K.last_failed out.new)) }
+    ensures { Writes (K.state out.old) (line_of (Write id at bytes.now)) result (K.state out.new) }
 {
     line.clear();
     push_field(line, b"w ", id as u64);

@@ -5,7 +5,7 @@ ghost use Rattle.cf_model.specs.Ordered.{KeepsPromise};
 ghost use Rattle.cf_session.specs.Apply.{run_at};
 ghost use Rattle.image_run.specs.Saves.{EndsSave};
 ghost use Rattle.run_model.specs.Sessions.{fresh_session};
-ghost use Rattle.script_loop.specs.ScriptOutcome.{HasCauses, effects, sink_at, source_at};
+ghost use Rattle.script_loop.specs.ScriptOutcome.{HasCauses, effects};
 
 use cf_base::Status;
 use cf_io::{NullSink, Sink, Source};
@@ -31,19 +31,11 @@ pub fn save_script<H: Manager, S: Source, K: Sink>(
     requires moving { (H.state heap.old).kind ≡ Moving }
     requires closed { (H.state heap.old).is_open ≡ false }
     ensures ends { EndsSave (run_at mode_handler.old.mode_handler (H.state heap.old)) (effects
-        (source_at (S.rest source.old) (S.given source.old) (S.faults source.old) (S.last_failed source.old))
-        (sink_at (K.written sink.old) (K.faults sink.old) (K.last_failed sink.old))
-        result
-        (source_at (S.rest source.new) (S.given source.new) (S.faults source.new) (S.last_failed source.new))
-        (sink_at (K.written sink.new) (K.faults sink.new) (K.last_failed sink.new))) (run_at mode_handler.new.mode_handler (H.state heap.new)) }
+        (S.state source.old) (K.state sink.old) result (S.state source.new) (K.state sink.new)) (run_at mode_handler.new.mode_handler (H.state heap.new)) }
     ensures promise { KeepsPromise (H.state heap.old) (H.state heap.new) }
     // The causes of each status, also if the source isn't observable.
     ensures causes { HasCauses
-        (source_at (S.rest source.old) (S.given source.old) (S.faults source.old) (S.last_failed source.old))
-        (sink_at (K.written sink.old) (K.faults sink.old) (K.last_failed sink.old))
-        result
-        (source_at (S.rest source.new) (S.given source.new) (S.faults source.new) (S.last_failed source.new))
-        (sink_at (K.written sink.new) (K.faults sink.new) (K.last_failed sink.new)) }
+        (S.state source.old) (K.state sink.old) result (S.state source.new) (K.state sink.new) }
 {
     match play_script(mode_handler, heap, source, &mut NullSink) {
         Status::Done => {}

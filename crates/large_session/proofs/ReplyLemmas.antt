@@ -8,7 +8,7 @@ use Rattle.hex.specs.Hex.{encode_lower}
 use Rattle.cf_base.specs.declared.answers.AccessFault.{AccessFault}
 use Rattle.cf_base.specs.declared.answers.AccessFault.TheVariants as access
 use Rattle.cf_base.specs.declared.answers.Failed.{Failed}
-use Rattle.cf_io.specs.Feeds.{Puts}
+use Rattle.cf_io.specs.Feeds.{SinkState, Writes}
 use Rattle.cf_io.specs.Texts.{led}
 use Rattle.cf_lemmas.proofs.Tests.{le_no, le_yes}
 use Rattle.cf_model.specs.State.{HeapState}
@@ -29,30 +29,27 @@ use Rattle.large_objects.specs.LargeSteps.{IsLargeFault, ReadsLarge}
 use Rattle.large_session.specs.Playing.{large_heap}
 use Rattle.large_session.proofs.RunInvariant.{still_going}
 
-abbrev Written : Type 0
-Written = Option (List ℕ)
+abbrev at : LargeRun → SinkState → Snapshot LargeRun
+at run sink = snapshot run sink.written
 
-abbrev at : LargeRun → Written → Snapshot LargeRun
-at = snapshot
-
-pub shown_walk : (old : LargeRun) (inner : HeapState) (c : Command) (w y : Written) (r : Result Unit Failed) (answer : Result Outcome Failed) → c ≡ Walk
-    → inner ≡ old.heap.inner → Puts w (led [] (walk_of inner.kind inner)) r y → IsEnded r Other answer → Applies large_heap (at old w) c answer (at old y)
+pub shown_walk : (old : LargeRun) (inner : HeapState) (c : Command) (w y : SinkState) (r : Result Unit Failed) (answer : Result Outcome Failed) → c ≡ Walk
+    → inner ≡ old.heap.inner → Writes w (led [] (walk_of inner.kind inner)) r y → IsEnded r Other answer → Applies large_heap (at old w) c answer (at old y)
 shown_walk old inner c w y r answer is same put shown =
     subst (λ (k : Command). Applies large_heap (at old w) k answer (at old y)) (sym is)
     (reported large_heap (λ _ _ _ _ turn. turn) old old Walk (walk_of old.heap.inner.kind old.heap.inner) w y r Other answer (refl, refl)
     (walk_other old.heap.inner.kind old.heap.inner)
-    (subst (λ (s : HeapState). Puts w (led [] (walk_of s.kind s)) r y) same put) shown)
+    (subst (λ (s : HeapState). Writes w (led [] (walk_of s.kind s)) r y) same put) shown)
 
-pub shown_frag : (old : LargeRun) (inner : HeapState) (c : Command) (w y : Written) (r : Result Unit Failed) (answer : Result Outcome Failed) → c ≡ Frag
-    → inner ≡ old.heap.inner → Puts w (led [] (frag_of inner)) r y → IsEnded r Other answer → Applies large_heap (at old w) c answer (at old y)
+pub shown_frag : (old : LargeRun) (inner : HeapState) (c : Command) (w y : SinkState) (r : Result Unit Failed) (answer : Result Outcome Failed) → c ≡ Frag
+    → inner ≡ old.heap.inner → Writes w (led [] (frag_of inner)) r y → IsEnded r Other answer → Applies large_heap (at old w) c answer (at old y)
 shown_frag old inner c w y r answer is same put shown =
     subst (λ (k : Command). Applies large_heap (at old w) k answer (at old y)) (sym is)
     (reported large_heap (λ _ _ _ _ turn. turn) old old Frag (frag_of old.heap.inner) w y r Other answer (refl, refl) (frag_other old.heap.inner)
-    (subst (λ (s : HeapState). Puts w (led [] (frag_of s)) r y) same put) shown)
+    (subst (λ (s : HeapState). Writes w (led [] (frag_of s)) r y) same put) shown)
 
 -- a run is in progress after a command, also if the sink cut the reply
-pub applied_going : (old new : LargeRun) (c : Command) (w y : Written) (answer : Result Outcome Failed) → IsGoingLarge old
-    → Applies large_heap (at old w) c answer (at new y) → IsGoingLarge new
+pub applied_going : (old new : LargeRun) (c : Command) (w y : Option (List ℕ)) (answer : Result Outcome Failed) → IsGoingLarge old
+    → Applies large_heap (snapshot old w) c answer (snapshot new y) → IsGoingLarge new
 applied_going old new c w y (Ok outcome) going a = still_going old new going a.0.reply c a.0.turns
 applied_going old new c w y (Err e) going a = still_going old new going a.turns.reply c a.turns.turn
 

@@ -3,7 +3,7 @@ ghost use Rattle.std.specs.Prelude.{◌≡◌, IfOk};
 ghost use Rattle.std.specs.FinMap as map;
 ghost use Rattle.cf_base.specs.declared.kind.Kind.{Kind};
 ghost use Rattle.cf_model.specs.Families.{IsPaged};
-ghost use Rattle.script_loop.specs.ScriptOutcome.{Plays, sink_at, source_at};
+ghost use Rattle.script_loop.specs.ScriptOutcome.{Plays};
 ghost use Rattle.large_session.specs.LargeRun.{LargeRun, large_run};
 ghost use Rattle.large_session.specs.Playing.{large_heap};
 
@@ -93,11 +93,7 @@ pub fn run_large<H: Manager, S: Source, K: Sink>(
     requires fresh { mode_handler.old.session ≡ map.empty }
     requires pages { IsPaged heap.old.inner.kind }
     ensures { Plays large_heap (large_run mode_handler.old.session heap.old)
-        (source_at (S.rest source.old) (S.given source.old) (S.faults source.old) (S.last_failed source.old))
-        (sink_at (K.written sink.old) (K.faults sink.old) (K.last_failed sink.old))
-        result
-        (source_at (S.rest source.new) (S.given source.new) (S.faults source.new) (S.last_failed source.new))
-        (sink_at (K.written sink.new) (K.faults sink.new) (K.last_failed sink.new))
+        (S.state source.old) (K.state sink.old) result (S.state source.new) (K.state sink.new)
         (large_run mode_handler.new.session heap.new) }
 {
     play_script(mode_handler, heap, source, sink)

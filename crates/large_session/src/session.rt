@@ -1,8 +1,8 @@
 //! A session over a heap of long objects: it maps a script's ids to handles, does each command, and writes
 //! its reply.
-ghost use Rattle.std.specs.Prelude.{◌≡◌, ◌<◌, ◌≤◌, [], IsTrue, IfOk, OnErr, length, OnOk};
+ghost use Rattle.std.specs.Prelude.{◌≡◌, ◌<◌, [], IsTrue, IfOk, length};
 ghost use Rattle.std.specs.FinMap as map;
-ghost use Rattle.cf_io.specs.Feeds.{FailsLast};
+ghost use Rattle.cf_io.specs.Feeds.{SinkFailsIf};
 ghost use Rattle.cf_session.specs.Apply.{outcome_in};
 ghost use Rattle.script_reader.specs.Commands.{IsWellFormed};
 ghost use Rattle.script_reader.specs.Owned.{owned_command};
@@ -11,6 +11,7 @@ ghost use Rattle.id_table.specs.Ties.{AreTiedTo};
 ghost use Rattle.large_session.specs.LargeRun.{IsGoingLarge, LargeStep, large_moment, large_run};
 ghost use Rattle.large_session.specs.Playing.{large_heap};
 ghost use Rattle.large_session.specs.Speaking.{IsOneLine};
+ghost use Rattle.std.specs.Result.{is_err};
 
 use crate::commands::{free, malloc, read, write};
 use cf_base::{CHUNK, Failed, OutOfMemory};
@@ -69,12 +70,10 @@ impl LargeSession {
         requires open { IsTrue heap.old.is_open }
         requires tied { AreTiedTo self.old heap.old.objects }
         requires formed { IsWellFormed c.now }
-        ensures step { Applies large_heap (large_moment self.old heap.old (K.written out.old)) c.now result
-            (large_moment self.new heap.new (K.written out.new)) }
+        ensures step { Applies large_heap (large_moment self.old heap.old (K.state out.old).written) c.now result
+            (large_moment self.new heap.new (K.state out.new).written) }
         ensures going { IsGoingLarge (large_run self.new heap.new) }
-        ensures grows { K.faults out.old ≤ K.faults out.new }
-        ensures same { OnOk result (K.faults out.new ≡ K.faults out.old) }
-        ensures failed { OnErr result (FailsLast (K.faults out.old) (K.faults out.new) (K.last_failed out.new)) }
+        ensures sink { SinkFailsIf (is_err result) (K.state out.old) (K.state out.new) }
     {
         self.apply_ref(heap, c.as_ref(), line, out, meter)
     }
@@ -91,12 +90,10 @@ impl LargeSession {
         requires open { IsTrue heap.old.is_open }
         requires tied { AreTiedTo self.old heap.old.objects }
         requires formed { IsWellFormed (owned_command c) }
-        ensures step { Applies large_heap (large_moment self.old heap.old (K.written out.old)) (owned_command c.entry) result
-            (large_moment self.new heap.new (K.written out.new)) }
+        ensures step { Applies large_heap (large_moment self.old heap.old (K.state out.old).written) (owned_command c.entry) result
+            (large_moment self.new heap.new (K.state out.new).written) }
         ensures going { IsGoingLarge (large_run self.new heap.new) }
-        ensures grows { K.faults out.old ≤ K.faults out.new }
-        ensures same { OnOk result (K.faults out.new ≡ K.faults out.old) }
-        ensures failed { OnErr result (FailsLast (K.faults out.old) (K.faults out.new) (K.last_failed out.new)) }
+        ensures sink { SinkFailsIf (is_err result) (K.state out.old) (K.state out.new) }
     {
         // For its contract: an open heap keeps its rules.
         let _open = heap.is_open();
@@ -119,11 +116,9 @@ fn answer<H: Manager, K: Sink>(
     requires going { IsGoingLarge (large_run ids.old heap.old) }
     requires formed { IsWellFormed (owned_command c) }
     requires buffer { length buffer.old ≡ 4096 }
-    ensures step { Applies large_heap (large_moment ids.old heap.old (K.written out.old)) (owned_command c.entry) result
-        (large_moment ids.new heap.new (K.written out.new)) }
-    ensures grows { K.faults out.old ≤ K.faults out.new }
-    ensures same { OnOk result (K.faults out.new ≡ K.faults out.old) }
-    ensures failed { OnErr result (FailsLast (K.faults out.old) (K.faults out.new) (K.last_failed out.new)) }
+    ensures step { Applies large_heap (large_moment ids.old heap.old (K.state out.old).written) (owned_command c.entry) result
+        (large_moment ids.new heap.new (K.state out.new).written) }
+    ensures sink { SinkFailsIf (is_err result) (K.state out.old) (K.state out.new) }
 {
     match c {
         CommandRef::Walk => {

@@ -1,13 +1,13 @@
 -- For each mode: from the contract of the function that it calls (`run_script`, `play_script`, `run_bench`, `save_script`, `load_script`) to
 -- `EndsWithCause`: what the mode did, and the cause of its status.
-use Rattle.std.proofs.Common.{◌≡◌, ◌≢◌, ◌<◌, ◌⊎◌, ◌∙◌, arith, ℕ, Bool, List, Option, Some, None, refl, ap, sym, subst, length, get_or, set, map, inl, inr}
+use Rattle.std.proofs.Common.{◌≡◌, ◌<◌, ◌⊎◌, ◌∙◌, arith, ℕ, Bool, List, Option, Some, None, refl, ap, sym, subst, length, get_or, set, map, inl, inr}
 use Rattle.std.proofs.lemmas.List.{get_or-map, length-map, map-set}
 use Rattle.std.specs.Prelude.{is_some}
 use Rattle.cf_base.specs.declared.kind.Kind.{Kind}
 use Rattle.cf_base.specs.declared.kind.Kind.TheVariants.{Moving}
 use Rattle.cf_base.specs.declared.status.Status.{Status}
 use Rattle.cf_base.specs.declared.status.Status.TheVariants.{Done, Words, BadScript, ReadFault, WriteFault, OutOfMemory, TooLong, BadImage}
-use Rattle.cf_io.specs.Feeds.{FailsLast}
+use Rattle.cf_io.specs.Feeds.{SinkFailsIf, SinkState, SourceFailsIf, SourceState}
 use Rattle.cf_model.specs.Ordered.{KeepsPromise}
 use Rattle.cf_model.specs.State.{HeapState, closed_state}
 use Rattle.cf_session.specs.Apply.{run_at}
@@ -15,7 +15,7 @@ use Rattle.run_model.specs.Sessions.{RunState, SessionState, fresh_session}
 use Rattle.script_loop.specs.OneManager.{one_manager}
 use Rattle.image_run.specs.Loads.{EndsLoad}
 use Rattle.image_run.specs.Saves.{EndsSave}
-use Rattle.script_loop.specs.ScriptOutcome.{Effects, HasCauses, MeetsOutcome, SinkState, SourceState}
+use Rattle.script_loop.specs.ScriptOutcome.{Effects, HasCauses, MeetsOutcome, is_read_fault, is_write_fault}
 use Rattle.script_loop.specs.Semantics.{Semantics}
 use Rattle.manager_modes.proofs.Fresh.{begun_side_by_side}
 use Rattle.manager_modes.proofs.FirstOfKindLemmas.{chosen_first, chosen_kinds, chosen_none, chosen_orders, first_within, with_first, with_none}
@@ -47,11 +47,7 @@ ends_of Does s k hs st s' k' hs' causes kinds orders done = record {
   outcome = or_lacks Does (call_state s k hs) st (call_state s' k' hs') causes.silent done;
   kinds = kinds;
   orders = orders;
-  source_same = causes.source_same;
-  read_fault = causes.read_fault;
-  sink_same = causes.sink_same;
-  write_fault = causes.write_fault;
-  too_long = causes.too_long;
+  causes = causes;
 }
 
 module _ (kind : Kind) (s s' : SourceState) (k k' : SinkState) (st : Status) (causes : HasCauses s k st s' k') (session : SessionState) (end : RunState)
@@ -130,7 +126,7 @@ bench_status BadImage seed count from to before after done = absurd done.written
 -- mode `bench`
 module _ (choice : Choice) (k k' : SinkState) (st : Status) (session : SessionState) (old : HeapState) (end : RunState) (fresh : session ≡ fresh_session)
     (closed : old ≡ closed_state choice.kind) (promise : KeepsPromise old end.heap) (outcome : EndsBench st choice.seed choice.count (run_at session old) end k.written k'.written)
-    (firm : st ≢ WriteFault → k'.faults ≡ k.faults) (fault : st ≡ WriteFault → FailsLast k.faults k'.faults k'.failed) where
+    (fault : SinkFailsIf (is_write_fault st) k k') where
   ended : (st ≡ Done) ⊎ ((st ≡ WriteFault) ⊎ ((st ≡ OutOfMemory) × (k'.written ≡ k.written)))
   ended = bench_status st choice.seed choice.count (run_at session old) end k.written k'.written outcome
 
@@ -139,10 +135,10 @@ module _ (choice : Choice) (k k' : SinkState) (st : Status) (session : SessionSt
   silent (inr (inl w)) is = absurd (let e : WriteFault ≡ OutOfMemory = sym w ∙ is in cc)
   silent (inr (inr o)) is = o.1
 
-  unread : (st ≡ Done) ⊎ ((st ≡ WriteFault) ⊎ ((st ≡ OutOfMemory) × (k'.written ≡ k.written))) → st ≡ ReadFault → ⊥
-  unread (inl d) is = let e : Done ≡ ReadFault = sym d ∙ is in cc
-  unread (inr (inl w)) is = let e : WriteFault ≡ ReadFault = sym w ∙ is in cc
-  unread (inr (inr o)) is = let e : OutOfMemory ≡ ReadFault = sym o.0 ∙ is in cc
+  unread : (st ≡ Done) ⊎ ((st ≡ WriteFault) ⊎ ((st ≡ OutOfMemory) × (k'.written ≡ k.written))) → (s : SourceState) → SourceFailsIf (is_read_fault st) s s
+  unread (inl d) s = subst (λ (t : Status). SourceFailsIf (is_read_fault t) s s) (sym d) refl
+  unread (inr (inl w)) s = subst (λ (t : Status). SourceFailsIf (is_read_fault t) s s) (sym w) refl
+  unread (inr (inr o)) s = subst (λ (t : Status). SourceFailsIf (is_read_fault t) s s) (sym o.0) refl
 
   short : (st ≡ Done) ⊎ ((st ≡ WriteFault) ⊎ ((st ≡ OutOfMemory) × (k'.written ≡ k.written))) → st ≡ TooLong → ⊥
   short (inl d) is = let e : Done ≡ TooLong = sym d ∙ is in cc
@@ -151,7 +147,7 @@ module _ (choice : Choice) (k k' : SinkState) (st : Status) (session : SessionSt
 
   pub bench_done : (s : SourceState) (hs : List HeapState) → EndsWithCause (Benches choice) (call_state s k hs) st (call_state s k' hs)
   bench_done s hs = ends_of (Benches choice) s k hs st s k' hs
-      (record { silent = silent ended; source_same = λ other. refl; read_fault = λ is. absurd (unread ended is); sink_same = firm; write_fault = fault; too_long = λ is. absurd (short ended is) })
+      (record { silent = silent ended; source_fault = unread ended s; sink_fault = fault; too_long = λ is. absurd (short ended is) })
       refl refl
       (record {
         end = end;
@@ -191,16 +187,13 @@ module _ (s s' : SourceState) (k k' : SinkState) (hs : List HeapState) (st : Sta
   call_as st = effects_of (call_state s k hs) st (call_state s' k' hs)
 
   -- mode `load`
-  pub loaded_ends : (st ≢ ReadFault → s'.faults ≡ s.faults) → (st ≡ ReadFault → FailsLast s.faults s'.faults s'.failed)
-      → (st ≢ WriteFault → k'.faults ≡ k.faults) → (st ≡ WriteFault → FailsLast k.faults k'.faults k'.failed) → EndsLoad (run_at session old) call end
+  pub loaded_ends : SourceFailsIf (is_read_fault st) s s' → SinkFailsIf (is_write_fault st) k k' → EndsLoad (run_at session old) call end
       → EndsWithCause Loads (call_state s k hs) st (call_state s' k' hs)
-  loaded_ends source_same read_fault sink_same write_fault ends = ends_of Loads s k hs st s' k' hs
+  loaded_ends source sink ends = ends_of Loads s k hs st s' k' hs
       (record {
         silent = λ is. (subst (λ (st : Status). EndsLoad (run_at session old) (call_as st) end) is ends).1;
-        source_same = source_same;
-        read_fault = read_fault;
-        sink_same = sink_same;
-        write_fault = write_fault;
+        source_fault = source;
+        sink_fault = sink;
         too_long = λ is. absurd (subst (λ (st : Status). EndsLoad (run_at session old) (call_as st) end) is ends);
       }) refl refl
       (record { end = end; outcome = subst (λ (from : RunState). EndsLoad from call end) begun ends; untouched = refl })

@@ -6,7 +6,7 @@ use Rattle.cf_base.specs.declared.kind.Kind.{Kind}
 use Rattle.cf_base.specs.declared.kind.Kind.TheVariants.{Moving}
 use Rattle.cf_base.specs.declared.status.Status.{Status}
 use Rattle.cf_base.specs.declared.status.Status.TheVariants.{Done, Words, BadScript, ReadFault, WriteFault, OutOfMemory, TooLong, BadImage}
-use Rattle.cf_io.specs.Feeds.{FailsLast}
+use Rattle.cf_io.specs.Feeds.{SinkFailsIf, SourceFailsIf}
 use Rattle.cf_model.specs.State.{closed_state}
 use Rattle.cf_session.specs.Apply.{run_at}
 use Rattle.command_line.specs.declared.choice.Choice.{Choice}
@@ -18,7 +18,7 @@ use Rattle.script_laws.specs.Headline.{MeetsHeadline}
 use Rattle.script_loop.proofs.CallerLemmas.{observed_row, some_row, wrote_by, within_all}
 use Rattle.script_loop.specs.Consequences.{AnswersAll}
 use Rattle.script_loop.specs.OneManager.{one_manager}
-use Rattle.script_loop.specs.ScriptOutcome.{Effects, IsClean, IsStatusRow, MeetsOutcome, Wrote, has_bad, items_within}
+use Rattle.script_loop.specs.ScriptOutcome.{Effects, IsClean, IsStatusRow, MeetsOutcome, Wrote, has_bad, is_read_fault, is_write_fault, items_within}
 use Rattle.script_loop.specs.Semantics.{RunBy, Semantics}
 use Rattle.heap_image.proofs.CallerLemmas.{observed_load}
 use Rattle.heap_image.specs.Decoded.{Decoded, decoded}
@@ -40,7 +40,7 @@ use Rattle.manager_modes.specs.Outcomes.{Benches, Compares, EndsWithCause, EndsW
 pub record IsSound (Does : CallState → Status → CallState → Type 0) (IsRight : Option (List ℕ) → Type 0) : Type 0 where
   pub never_words : (old new : CallState) → Does old Words new → ⊥
   pub whole : (old : CallState) (st : Status) (new : CallState) → EndsWithCause Does old st new → IsRight old.source.rest
-      → ¬ FailsLast old.source.faults new.source.faults new.source.failed → ¬ FailsLast old.sink.faults new.sink.faults new.sink.failed → EndsWhole st
+      → ¬ SourceFailsIf true old.source new.source → ¬ SinkFailsIf true old.sink new.sink → EndsWhole st
 
 -- P holds of the status if it holds of `OutOfMemory` and of each status for which the mode's record `Does` holds
 outcome_at : (Does : CallState → Status → CallState → Type 0) (old new : CallState) (P : Status → Type 0) → P OutOfMemory
@@ -56,12 +56,14 @@ outcome_at Does old new P lacks does BadImage done = does BadImage done
 
 -- a call ends by `Done` or `OutOfMemory` if each outcome of its mode does, given the causes of its status
 whole_of : (Does : CallState → Status → CallState → Type 0) (old new : CallState)
-    → ((st : Status) → Does old st new → (st ≡ ReadFault → FailsLast old.source.faults new.source.faults new.source.failed)
-    → (st ≡ WriteFault → FailsLast old.sink.faults new.sink.faults new.sink.failed) → EndsWhole st)
+    → ((st : Status) → Does old st new → (st ≡ ReadFault → SourceFailsIf true old.source new.source)
+    → (st ≡ WriteFault → SinkFailsIf true old.sink new.sink) → EndsWhole st)
     → (st : Status) → EndsWithCause Does old st new → EndsWhole st
 whole_of Does old new does st ends =
-    outcome_at Does old new (λ st. (st ≡ ReadFault → FailsLast old.source.faults new.source.faults new.source.failed)
-    → (st ≡ WriteFault → FailsLast old.sink.faults new.sink.faults new.sink.failed) → EndsWhole st) (λ read wrote. inr refl) does st ends.outcome ends.read_fault ends.write_fault
+    outcome_at Does old new (λ st. (st ≡ ReadFault → SourceFailsIf true old.source new.source)
+    → (st ≡ WriteFault → SinkFailsIf true old.sink new.sink) → EndsWhole st) (λ read wrote. inr refl) does st ends.outcome
+    (λ is. subst (λ (s : Status). SourceFailsIf (is_read_fault s) old.source new.source) is ends.causes.source_fault)
+    (λ is. subst (λ (s : Status). SinkFailsIf (is_write_fault s) old.sink new.sink) is ends.causes.sink_fault)
 
 -- no script ends by `Words`
 never_words : {S P : Type 0} (m : Semantics S P) (from to : S) (call : Effects) → call.status ≡ Words → MeetsOutcome m from call to → ⊥
@@ -154,10 +156,10 @@ compare_shown old st new done is =
 
 -- Mode `bench`.
 module _ (choice : Choice) where
-  bench_whole : (old : CallState) (st : Status) (new : CallState) → EndsWithCause (Benches choice) old st new → ¬ FailsLast old.sink.faults new.sink.faults new.sink.failed → EndsWhole st
+  bench_whole : (old : CallState) (st : Status) (new : CallState) → EndsWithCause (Benches choice) old st new → ¬ SinkFailsIf true old.sink new.sink → EndsWhole st
   bench_whole old Done new ends firm = inl refl
   bench_whole old OutOfMemory new ends firm = inr refl
-  bench_whole old WriteFault new ends firm = absurd (firm (ends.write_fault refl))
+  bench_whole old WriteFault new ends firm = absurd (firm ends.causes.sink_fault)
   bench_whole old Words new ends firm = absurd ends.outcome.outcome.written
   bench_whole old BadScript new ends firm = absurd ends.outcome.outcome.written
   bench_whole old ReadFault new ends firm = absurd ends.outcome.outcome.written
@@ -187,9 +189,9 @@ module _ {S P : Type 0} (m : Semantics S P) (IsMade : S → Type 0) where
       did.outcome is
 
 -- Mode `save`.
-save_whole : (old new : CallState) → IsClean old.source.rest → ¬ FailsLast old.source.faults new.source.faults new.source.failed → ¬ FailsLast old.sink.faults new.sink.faults new.sink.failed
-    → (st : Status) → Saves old st new → (st ≡ ReadFault → FailsLast old.source.faults new.source.faults new.source.failed)
-    → (st ≡ WriteFault → FailsLast old.sink.faults new.sink.faults new.sink.failed) → EndsWhole st
+save_whole : (old new : CallState) → IsClean old.source.rest → ¬ SourceFailsIf true old.source new.source → ¬ SinkFailsIf true old.sink new.sink
+    → (st : Status) → Saves old st new → (st ≡ ReadFault → SourceFailsIf true old.source new.source)
+    → (st ≡ WriteFault → SinkFailsIf true old.sink new.sink) → EndsWhole st
 save_whole old new clean sure firm WriteFault done read wrote = absurd (firm (wrote refl))
 save_whole old new clean sure firm st done read wrote = met_whole one_manager (run_at fresh_session (closed_state Moving)) done.end
     (unseen (effects_of old st new)) done.outcome.script read wrote clean sure firm
@@ -213,9 +215,9 @@ not_broken from to at had left image q = go had.rest refl image
         let e : None ≡ Some at = sym image ∙ ap (λ (b : List ℕ). (decoded b).broken) row.1 ∙ ap (λ (t : Decoded). t.broken) row.2.reads_all ∙ row.2.broken in
         absurd cc
 
-load_whole : (old new : CallState) → HoldsImage old.source.rest → ¬ FailsLast old.source.faults new.source.faults new.source.failed → ¬ FailsLast old.sink.faults new.sink.faults new.sink.failed
-    → (st : Status) → Loads old st new → (st ≡ ReadFault → FailsLast old.source.faults new.source.faults new.source.failed)
-    → (st ≡ WriteFault → FailsLast old.sink.faults new.sink.faults new.sink.failed) → EndsWhole st
+load_whole : (old new : CallState) → HoldsImage old.source.rest → ¬ SourceFailsIf true old.source new.source → ¬ SinkFailsIf true old.sink new.sink
+    → (st : Status) → Loads old st new → (st ≡ ReadFault → SourceFailsIf true old.source new.source)
+    → (st ≡ WriteFault → SinkFailsIf true old.sink new.sink) → EndsWhole st
 load_whole old new image sure firm Done done read wrote = inl refl
 load_whole old new image sure firm OutOfMemory done read wrote = inr refl
 load_whole old new image sure firm WriteFault done read wrote = absurd (firm (wrote refl))

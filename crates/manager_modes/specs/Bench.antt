@@ -7,7 +7,7 @@ use Rattle.cf_base.specs.Settings.{Profile, profile_from}
 use Rattle.cf_base.specs.declared.kind.Kind.{Kind}
 use Rattle.cf_base.specs.declared.status.Status.{Status}
 use Rattle.cf_base.specs.declared.status.Status.TheVariants.{Done, WriteFault, OutOfMemory}
-use Rattle.cf_io.specs.Feeds.{appended}
+use Rattle.cf_io.specs.Feeds.{WritesPrefix, appended}
 use Rattle.cf_io.specs.Texts.{Reply, led, said, with_number}
 use Rattle.cf_model.specs.Answers.{totals_in}
 use Rattle.cf_session.specs.Apply.{outcome_of, LacksOne}
@@ -74,7 +74,7 @@ bench_text count replies end = led [] (said (bench_line (bench_figures count rep
 -- with this status the bytes of the sink went from `before` to `after`: at `Done` the text was added, at `WriteFault` a prefix of it; no other status occurs
 abbrev pub IsWritten : Status → Option (List ℕ) → List ℕ → Option (List ℕ) → Type 0
 IsWritten Done before text after = after ≡ appended before text
-IsWritten WriteFault before text after = (front : List ℕ) × (lost : List ℕ) × (text ≡ front ++ lost) × (after ≡ appended before front)
+IsWritten WriteFault before text after = WritesPrefix before text after
 IsWritten status before text after = ⊥
 
 -- the bench ran from state `from` to state `to`, and its line was added to the sink's bytes, or a prefix of the line if the sink failed

@@ -1,11 +1,11 @@
 -- What a call of each mode of this crate did. A record for each mode relates three things: the source, the sink and the
 -- managers before the call (`old`), its status, and the same devices and managers after it (`new`).
-use Rattle.std.specs.Prelude.{◌≡◌, ◌≢◌, ◌<◌, ◌+◌, ◌⊎◌, Bool, IsSome, List, None, is_some, map}
+use Rattle.std.specs.Prelude.{◌≡◌, ◌⊎◌, Bool, IsSome, List, None, is_some, map}
 use Rattle.cf_base.specs.declared.kind.Kind.{Kind}
 use Rattle.cf_base.specs.declared.kind.Kind.TheVariants.{Moving}
 use Rattle.cf_base.specs.declared.status.Status.{Status}
-use Rattle.cf_base.specs.declared.status.Status.TheVariants.{Done, ReadFault, WriteFault, OutOfMemory, TooLong}
-use Rattle.cf_io.specs.Feeds.{FailsLast, last_count}
+use Rattle.cf_base.specs.declared.status.Status.TheVariants.{Done, OutOfMemory}
+use Rattle.cf_io.specs.Feeds.{SinkState, SourceState}
 use Rattle.cf_io.specs.declared.sink.Sink as sink
 use Rattle.cf_io.specs.declared.source.Source as source
 use Rattle.cf_model.specs.Ordered.{KeepsPromise}
@@ -15,7 +15,7 @@ use Rattle.run_model.specs.Sessions.{RunState, fresh_session}
 use Rattle.manager_modes.specs.Bench.{EndsBench}
 use Rattle.cf_session.specs.Apply.{run_at}
 use Rattle.script_loop.specs.OneManager.{one_manager}
-use Rattle.script_loop.specs.ScriptOutcome.{Effects, MOST_BYTES, MeetsOutcome, SinkState, SourceState, effects, sink_at, source_at}
+use Rattle.script_loop.specs.ScriptOutcome.{Effects, HasCauses, MeetsOutcome, effects}
 use Rattle.script_loop.specs.Semantics.{Semantics}
 use Rattle.image_run.specs.Loads.{EndsLoad}
 use Rattle.image_run.specs.Saves.{EndsSave}
@@ -34,18 +34,10 @@ pub record CallState : Type 0 where
 abbrev pub call_state : SourceState → SinkState → List HeapState → CallState
 call_state source sink managers = record { source = source; sink = sink; managers = managers }
 
--- what contracts see of a source `s`; the first argument has the functions that show it for the type of `s`
-abbrev pub source_seen : {S : Type 0} → source.Ghosts S → S → SourceState
-source_seen S s = source_at (S.rest s) (S.given s) (S.faults s) (S.last_failed s)
-
--- what contracts see of a sink `k`; the first argument has the functions that show it for the type of `k`
-abbrev pub sink_seen : {K : Type 0} → sink.Ghosts K → K → SinkState
-sink_seen K k = sink_at (K.written k) (K.faults k) (K.last_failed k)
-
 -- what contracts see of a source `s`, a sink `k` and managers `hs`; the first two arguments have the functions that show it for the types of `s` and `k`, and
 -- `state` is the state of a manager
 abbrev pub seen : {S K H : Type 0} → source.Ghosts S → sink.Ghosts K → (H → HeapState) → S → K → List H → CallState
-seen S K state s k hs = call_state (source_seen S s) (sink_seen K k) (map (λ h. state h) hs)
+seen S K state s k hs = call_state (S.state s) (K.state k) (map (λ h. state h) hs)
 
 -- the status of a call, and what it did to the bytes of its source and its sink
 abbrev pub effects_of : CallState → Status → CallState → Effects
@@ -121,18 +113,12 @@ kinds_in h = map (λ m. m.kind) h.managers
 abbrev pub orders_in : CallState → List Bool
 orders_in h = map (λ m. is_some m.order) h.managers
 
--- A call did what its mode asks (`Does`), and kept the managers' kinds and promises of an order. The other fields are the causes of its status: `ReadFault`
--- means that the last call of the source failed, `WriteFault` the same of the sink, and with any other status neither failed. `TooLong` means that the source
--- returned more than the limit, or that its count of bytes saturated.
+-- A call did what its mode asks (`Does`), kept the managers' kinds and promises of an order, and its status has its causes.
 pub record EndsWithCause (Does : CallState → Status → CallState → Type 0) (old : CallState) (status : Status) (new : CallState) : Type 0 where
   pub outcome : OrLacks Does old status new
   pub kinds : kinds_in new ≡ kinds_in old
   pub orders : orders_in new ≡ orders_in old
-  pub source_same : status ≢ ReadFault → new.source.faults ≡ old.source.faults
-  pub read_fault : status ≡ ReadFault → FailsLast old.source.faults new.source.faults new.source.failed
-  pub sink_same : status ≢ WriteFault → new.sink.faults ≡ old.sink.faults
-  pub write_fault : status ≡ WriteFault → FailsLast old.sink.faults new.sink.faults new.sink.failed
-  pub too_long : status ≡ TooLong → (old.source.given + MOST_BYTES < new.source.given) ⊎ (new.source.given ≡ last_count)
+  pub causes : HasCauses old.source old.sink status new.source new.sink
 
 -- `EndsWithCause` for a mode that is given no managers, with any list of managers that the call doesn't touch; `source'` and `sink'` are the states after the call
 abbrev pub EndsBeside : (CallState → Status → CallState → Type 0) → SourceState → SinkState → Status → SourceState → SinkState → Type 0

@@ -1,8 +1,8 @@
 //! `answer_each`: does one command of a script on each manager in order, and writes their replies, each
 //! line after the name of the manager's kind.
-ghost use Rattle.std.specs.Prelude.{◌≡◌, ◌≤◌, OnErr, is_some, length, map, OnOk};
+ghost use Rattle.std.specs.Prelude.{◌≡◌, ◌≤◌, is_some, length, map};
 ghost use Rattle.std.specs.List.{All};
-ghost use Rattle.cf_io.specs.Feeds.{FailsLast};
+ghost use Rattle.cf_io.specs.Feeds.{SinkFailsIf};
 ghost use Rattle.cf_model.specs.Ordered.{KeepsPromise};
 ghost use Rattle.cf_session.specs.Apply.{run_at};
 ghost use Rattle.script_reader.specs.Commands.{IsWellFormed};
@@ -10,6 +10,7 @@ ghost use Rattle.script_reader.specs.Owned.{owned_command};
 ghost use Rattle.run_model.specs.Sessions.{IsGoing};
 ghost use Rattle.manager_modes.specs.SideBySide.{EachInPart, EachTurn, lead_of, zipped};
 ghost use Rattle.manager_modes.specs.Progress.{AnswersNamed, AnswersWith};
+ghost use Rattle.std.specs.Result.{is_err};
 
 use cf_base::{Failed, Kind};
 use cf_io::Sink;
@@ -29,16 +30,14 @@ pub fn answer_each<H: Manager, K: Sink>(
     requires count { length sessions.old.items ≡ length managers.old.items }
     requires formed { IsWellFormed (owned_command command) }
     requires going { All IsGoing (zipped sessions.old.items (map (λ m. H.state m) managers.old.items)) }
-    ensures step { AnswersWith EachTurn EachInPart (zipped sessions.old.items (map (λ m. H.state m) managers.old.items)) (K.written sink.old)
+    ensures step { AnswersWith EachTurn EachInPart (zipped sessions.old.items (map (λ m. H.state m) managers.old.items)) (K.state sink.old).written
         (owned_command command.entry)
-        result (zipped sessions.new.items (map (λ m. H.state m) managers.new.items)) (K.written sink.new) }
+        result (zipped sessions.new.items (map (λ m. H.state m) managers.new.items)) (K.state sink.new).written }
     ensures count { length sessions.new.items ≡ length managers.new.items }
     ensures going { All IsGoing (zipped sessions.new.items (map (λ m. H.state m) managers.new.items)) }
     ensures kinds { map (λ m. (H.state m).kind) managers.new.items ≡ map (λ m. (H.state m).kind) managers.old.items }
     ensures promise { map (λ m. is_some (H.state m).order) managers.new.items ≡ map (λ m. is_some (H.state m).order) managers.old.items }
-    ensures grows { K.faults sink.old ≤ K.faults sink.new }
-    ensures same { OnOk result (K.faults sink.new ≡ K.faults sink.old) }
-    ensures failed { OnErr result (FailsLast (K.faults sink.old) (K.faults sink.new) (K.last_failed sink.new)) }
+    ensures sink { SinkFailsIf (is_err result) (K.state sink.old) (K.state sink.new) }
 {
     for i in 0..managers.len() {
         match answer_one(&mut sessions[i], &mut managers[i], command, sink) {
@@ -60,14 +59,12 @@ fn answer_one<H: Manager, K: Sink>(
 ) -> Result<(), Failed>
     requires going { IsGoing (run_at session.old (H.state manager.old)) }
     requires formed { IsWellFormed (owned_command command) }
-    ensures step { AnswersNamed (run_at session.old (H.state manager.old)) (K.written sink.old) (owned_command command.entry)
-        result (run_at session.new (H.state manager.new)) (K.written sink.new) }
+    ensures step { AnswersNamed (run_at session.old (H.state manager.old)) (K.state sink.old).written (owned_command command.entry)
+        result (run_at session.new (H.state manager.new)) (K.state sink.new).written }
     ensures going { IsGoing (run_at session.new (H.state manager.new)) }
     ensures kind { (H.state manager.new).kind ≡ (H.state manager.old).kind }
     ensures promise { KeepsPromise (H.state manager.old) (H.state manager.new) }
-    ensures grows { K.faults sink.old ≤ K.faults sink.new }
-    ensures same { OnOk result (K.faults sink.new ≡ K.faults sink.old) }
-    ensures failed { OnErr result (FailsLast (K.faults sink.old) (K.faults sink.new) (K.last_failed sink.new)) }
+    ensures sink { SinkFailsIf (is_err result) (K.state sink.old) (K.state sink.new) }
 {
     session.apply_ref(manager, command, lead_bytes(manager.kind()), sink)?;
     Ok(())

@@ -1,10 +1,10 @@
 //! Mode `bench`: runs generated commands on one manager of the chosen kind. It prints no replies, but one line
 //! that counts them, the live objects, the pages or blocks in use and the objects that moved.
-ghost use Rattle.script_loop.specs.ScriptOutcome.{SourceState};
-ghost use Rattle.manager_modes.specs.Outcomes.{Benches, EndsBeside, sink_seen};
-ghost use Rattle.std.specs.Prelude.{◌≡◌, ◌≤◌, ◌≢◌};
+ghost use Rattle.script_loop.specs.ScriptOutcome.{is_write_fault};
+ghost use Rattle.manager_modes.specs.Outcomes.{Benches, EndsBeside};
+ghost use Rattle.std.specs.Prelude.{◌≡◌};
 ghost use Rattle.manager_modes.specs.Bench.{EndsBench, IsAppliedTo};
-ghost use Rattle.cf_io.specs.Feeds.{FailsLast};
+ghost use Rattle.cf_io.specs.Feeds.{SinkFailsIf, SourceState};
 ghost use Rattle.cf_model.specs.Ordered.{KeepsPromise};
 ghost use Rattle.cf_session.specs.Apply.{run_at};
 ghost use Rattle.generator.specs.Generated.{generated};
@@ -31,7 +31,7 @@ use tlsf_heap::TlsfHeap;
 /// status, `OutOfMemory` also if the session can't be allocated.
 pub fn bench_seed<K: Sink>(rt: &HostRuntime, alloc: Global, choice: Choice, sink: &mut K) -> Status
     ensures { (source : SourceState) → EndsBeside (Benches choice)
-        source (sink_seen K.Sink sink.old) result source (sink_seen K.Sink sink.new) }
+        source (K.state sink.old) result source (K.state sink.new) }
 {
     let Ok(mut session) = Session::start(rt, alloc) else {
         return Status::OutOfMemory;
@@ -71,12 +71,10 @@ fn run_bench<H: Manager, K: Sink>(
 ) -> Status
     requires { session.old ≡ fresh_session }
     ensures outcome { EndsBench result seed count (run_at session.old (H.state heap.old)) (run_at session.new (H.state heap.new))
-        (K.written sink.old) (K.written sink.new) }
+        (K.state sink.old).written (K.state sink.new).written }
     ensures kind { (H.state heap.new).kind ≡ (H.state heap.old).kind }
     ensures promise { KeepsPromise (H.state heap.old) (H.state heap.new) }
-    ensures grows { K.faults sink.old ≤ K.faults sink.new }
-    ensures sink_same { result ≢ Status.WriteFault → K.faults sink.new ≡ K.faults sink.old }
-    ensures write_fault { result ≡ Status.WriteFault → FailsLast (K.faults sink.old) (K.faults sink.new) (K.last_failed sink.new) }
+    ensures sink { SinkFailsIf (is_write_fault result) (K.state sink.old) (K.state sink.new) }
 {
     let settings = Settings {
         pages: 64,

@@ -1,8 +1,9 @@
 //! The numbers that mode `bench` prints, and the line in which it prints them.
-ghost use Rattle.std.specs.Prelude.{◌≡◌, ◌≤◌, [], ◌≢◌};
+ghost use Rattle.std.specs.Prelude.{◌≡◌, []};
 ghost use Rattle.manager_modes.specs.Bench.{IsWritten, bench_line};
-ghost use Rattle.cf_io.specs.Feeds.{FailsLast};
+ghost use Rattle.cf_io.specs.Feeds.{SinkFailsIf};
 ghost use Rattle.cf_io.specs.Texts.{led, said};
+ghost use Rattle.script_loop.specs.ScriptOutcome.{is_write_fault};
 
 use cf_base::Status;
 use cf_io::{Line, Sink, push_field, put_line};
@@ -24,10 +25,8 @@ impl BenchFigures {
     /// Writes the line of the numbers in one call of the sink. Returns `Done`, or `WriteFault` if the sink
     /// failed.
     pub(crate) fn put<K: Sink>(&self, sink: &mut K) -> Status
-        ensures written { IsWritten result (K.written sink.old) (led [] (said (bench_line self.now))) (K.written sink.new) }
-        ensures grows { K.faults sink.old ≤ K.faults sink.new }
-        ensures sink_same { result ≢ Status.WriteFault → K.faults sink.new ≡ K.faults sink.old }
-        ensures write_fault { result ≡ Status.WriteFault → FailsLast (K.faults sink.old) (K.faults sink.new) (K.last_failed sink.new) }
+        ensures written { IsWritten result (K.state sink.old).written (led [] (said (bench_line self.now))) (K.state sink.new).written }
+        ensures sink { SinkFailsIf (is_write_fault result) (K.state sink.old) (K.state sink.new) }
     {
         let mut line = Line::new();
         push_field(&mut line, b"bench commands ", self.commands);

@@ -5,7 +5,7 @@
 ghost use Rattle.std.specs.Prelude.{◌≡◌};
 ghost use Rattle.cf_base.specs.declared.kind.Kind.TheVariants.{Moving};
 ghost use Rattle.cf_model.specs.State.{closed_state};
-ghost use Rattle.manager_modes.specs.Outcomes.{EndsBeside, Loads, Saves, sink_seen, source_seen};
+ghost use Rattle.manager_modes.specs.Outcomes.{EndsBeside, Loads, Saves};
 
 use boxed_managers::Boxed;
 use cf_base::Status;
@@ -26,8 +26,8 @@ pub fn save_image<S: Source, K: Sink>(
     source: &mut S,
     sink: &mut K,
 ) -> Status
-    ensures { EndsBeside Saves (source_seen S.Source source.old) (sink_seen K.Sink sink.old) result
-        (source_seen S.Source source.new) (sink_seen K.Sink sink.new) }
+    ensures { EndsBeside Saves (S.state source.old) (K.state sink.old) result
+        (S.state source.new) (K.state sink.new) }
 {
     let Ok(inner) = Box::new(alloc, MovingHeap::closed(alloc)) else {
         return Status::OutOfMemory;
@@ -45,8 +45,8 @@ fn save_on<H: Manager, S: Source, K: Sink>(
     sink: &mut K,
 ) -> Status
     requires { H.state heap.old ≡ closed_state Moving }
-    ensures { EndsBeside Saves (source_seen S.Source source.old) (sink_seen K.Sink sink.old) result
-        (source_seen S.Source source.new) (sink_seen K.Sink sink.new) }
+    ensures { EndsBeside Saves (S.state source.old) (K.state sink.old) result
+        (S.state source.new) (K.state sink.new) }
 {
     let Ok(session) = Session::start(rt, alloc) else {
         return Status::OutOfMemory;
@@ -66,8 +66,8 @@ pub fn load_image<S: Source, K: Sink>(
     source: &mut S,
     sink: &mut K,
 ) -> Status
-    ensures { EndsBeside Loads (source_seen S.Source source.old) (sink_seen K.Sink sink.old) result
-        (source_seen S.Source source.new) (sink_seen K.Sink sink.new) }
+    ensures { EndsBeside Loads (S.state source.old) (K.state sink.old) result
+        (S.state source.new) (K.state sink.new) }
 {
     let Ok(inner) = Box::new(alloc, MovingHeap::closed(alloc)) else {
         return Status::OutOfMemory;
@@ -85,8 +85,8 @@ fn load_on<H: Manager, S: Source, K: Sink>(
     sink: &mut K,
 ) -> Status
     requires { H.state heap.old ≡ closed_state Moving }
-    ensures { EndsBeside Loads (source_seen S.Source source.old) (sink_seen K.Sink sink.old) result
-        (source_seen S.Source source.new) (sink_seen K.Sink sink.new) }
+    ensures { EndsBeside Loads (S.state source.old) (K.state sink.old) result
+        (S.state source.new) (K.state sink.new) }
 {
     let Ok(mut session) = Session::start(rt, alloc) else {
         return Status::OutOfMemory;

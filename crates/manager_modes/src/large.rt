@@ -1,5 +1,5 @@
 //! Mode `large`: runs a script whose objects may be larger than a page.
-ghost use Rattle.manager_modes.specs.Outcomes.{EndsBeside, PlaysLarge, sink_seen, source_seen};
+ghost use Rattle.manager_modes.specs.Outcomes.{EndsBeside, PlaysLarge};
 
 use cf_base::Status;
 use cf_io::{Sink, Source};
@@ -16,8 +16,8 @@ pub fn play_large<S: Source, K: Sink>(
     source: &mut S,
     sink: &mut K,
 ) -> Status
-    ensures { EndsBeside PlaysLarge (source_seen S.Source source.old) (sink_seen K.Sink sink.old) result
-        (source_seen S.Source source.new) (sink_seen K.Sink sink.new) }
+    ensures { EndsBeside PlaysLarge (S.state source.old) (K.state sink.old) result
+        (S.state source.new) (K.state sink.new) }
 {
     let Ok(mut mode_handler) = LargeHandler::start(rt, alloc) else {
         return Status::OutOfMemory;

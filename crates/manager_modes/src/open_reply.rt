@@ -1,6 +1,6 @@
 //! Writes the reply of many managers to the `heap` line: a line with `ok` for each.
-ghost use Rattle.std.specs.Prelude.{◌≤◌, ◌++◌, [], OnErr, codes, map, OnOk, ◌≡◌};
-ghost use Rattle.cf_io.specs.Feeds.{Puts, FailsLast};
+ghost use Rattle.std.specs.Prelude.{◌++◌, [], codes, map, ◌≡◌};
+ghost use Rattle.cf_io.specs.Feeds.{Writes};
 ghost use Rattle.run_model.specs.Texts.{led};
 ghost use Rattle.manager_modes.specs.SideBySide.{lead_of, opened_reply};
 
@@ -12,10 +12,7 @@ use cf_model::Manager;
 /// Writes a line for each manager in order: the name of its kind, and `ok`. Returns `Failed` if the sink
 /// failed; then a prefix of these lines was written.
 pub fn put_opened<H: Manager, K: Sink>(managers: &Vec<H>, sink: &mut K) -> Result<(), Failed>
-    ensures puts { Puts (K.written sink.old) (led [] (opened_reply (map (λ m. (H.state m).kind) managers.now.items))) result (K.written sink.new) }
-    ensures grows { K.faults sink.old ≤ K.faults sink.new }
-    ensures same { OnOk result (K.faults sink.new ≡ K.faults sink.old) }
-    ensures failed { OnErr result (FailsLast (K.faults sink.old) (K.faults sink.new) (K.last_failed sink.new)) }
+    ensures { Writes (K.state sink.old) (led [] (opened_reply (map (λ m. (H.state m).kind) managers.now.items))) result (K.state sink.new) }
 {
     for i in 0..managers.len() {
         match show_one(managers[i].kind(), sink) {
@@ -29,10 +26,7 @@ pub fn put_opened<H: Manager, K: Sink>(managers: &Vec<H>, sink: &mut K) -> Resul
 /// Writes the line of one manager: the name of its kind, and `ok`. Returns `Failed` if the sink failed; then a
 /// prefix of the line was written.
 fn show_one<K: Sink>(kind: Kind, sink: &mut K) -> Result<(), Failed>
-    ensures puts { Puts (K.written sink.old) (lead_of kind ++ codes "ok\n") result (K.written sink.new) }
-    ensures grows { K.faults sink.old ≤ K.faults sink.new }
-    ensures same { OnOk result (K.faults sink.new ≡ K.faults sink.old) }
-    ensures failed { OnErr result (FailsLast (K.faults sink.old) (K.faults sink.new) (K.last_failed sink.new)) }
+    ensures { Writes (K.state sink.old) (lead_of kind ++ codes "ok\n") result (K.state sink.new) }
 {
     let mut line = Line::new();
     line.push(lead_bytes(kind)).unwrap();

@@ -2,7 +2,7 @@
 ghost use Rattle.std.specs.Prelude.{◌≡◌};
 ghost use Rattle.cf_model.specs.State.{closed_state};
 ghost use Rattle.run_model.specs.Sessions.{fresh_session};
-ghost use Rattle.manager_modes.specs.Outcomes.{EndsWithCause, RunsChosen, RunsOwn, seen, sink_seen, source_seen};
+ghost use Rattle.manager_modes.specs.Outcomes.{EndsWithCause, RunsChosen, RunsOwn, seen};
 
 use crate::first_of_kind::first_of;
 use boxed_managers::Boxed;
@@ -52,8 +52,8 @@ fn run_own<S: Source, K: Sink>(
     sink: &mut K,
 ) -> Status
     requires { session.old ≡ fresh_session }
-    ensures { RunsOwn kind (source_seen S.Source source.old) (sink_seen K.Sink sink.old) result
-        (source_seen S.Source source.new) (sink_seen K.Sink sink.new) }
+    ensures { RunsOwn kind (S.state source.old) (K.state sink.old) result
+        (S.state source.new) (K.state sink.new) }
 {
     match kind {
         Kind::Moving => {
@@ -94,8 +94,8 @@ fn run_on<H: Manager, S: Source, K: Sink>(
 ) -> Status
     requires fresh { session.old ≡ fresh_session }
     requires closed { H.state heap.old ≡ closed_state kind }
-    ensures { RunsOwn kind (source_seen S.Source source.old) (sink_seen K.Sink sink.old) result
-        (source_seen S.Source source.new) (sink_seen K.Sink sink.new) }
+    ensures { RunsOwn kind (S.state source.old) (K.state sink.old) result
+        (S.state source.new) (K.state sink.new) }
 {
     run_script(session, heap, source, sink)
 }

@@ -9,7 +9,7 @@ use Rattle.cf_base.specs.Settings.{Profile}
 use Rattle.cf_base.specs.declared.answers.AccessFault.{AccessFault}
 use Rattle.cf_base.specs.declared.answers.AccessFault.TheVariants as access
 use Rattle.cf_base.specs.declared.answers.Failed.{Failed}
-use Rattle.cf_io.specs.Feeds.{Puts}
+use Rattle.cf_io.specs.Feeds.{SinkState, Writes}
 use Rattle.cf_io.specs.Texts.{Reply, led}
 use Rattle.cf_lemmas.proofs.Values.{len-map_values}
 use Rattle.cf_session.specs.Apply.{IsEnded, outcome_of}
@@ -49,11 +49,11 @@ report_other s task = pages_other (λ c. figures_of (task_paging s.profile) (hel
 pub same_ids : (s : TaskSession) → with_ids s (ids_of s s.present) ≡ s
 same_ids s = ap (λ (all : List Ids). record s { ids = all }) (set-get_or s.ids s.present empty)
 
-pub shown_walk : (old : QuotaRun) (c : Command) (w y : Option (List ℕ)) (r : Result Unit Failed) (answer : Result Outcome Failed) → c ≡ Walk
-    → Puts w (led [] (task_report old.heap old.session.present)) r y → IsEnded r Other answer
-    → Applies quota_tasks (snapshot old w) c answer (snapshot old y)
+pub shown_walk : (old : QuotaRun) (c : Command) (w y : SinkState) (r : Result Unit Failed) (answer : Result Outcome Failed) → c ≡ Walk
+    → Writes w (led [] (task_report old.heap old.session.present)) r y → IsEnded r Other answer
+    → Applies quota_tasks (snapshot old w.written) c answer (snapshot old y.written)
 shown_walk old c w y r answer is put shown =
-    subst (λ (k : Command). Applies quota_tasks (snapshot old w) k answer (snapshot old y)) (sym is)
+    subst (λ (k : Command). Applies quota_tasks (snapshot old w.written) k answer (snapshot old y.written)) (sym is)
     (reported quota_tasks (λ _ _ _ _ turn. turn) old old Walk (task_report old.heap old.session.present) w y r Other answer
     (record {
       ids = ids_of old.session old.session.present;

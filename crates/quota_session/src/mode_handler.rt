@@ -2,7 +2,7 @@
 //! `heap` line; and `run_quotas`, which runs a script with it.
 ghost use Rattle.std.specs.Prelude.{◌≡◌, ⊤, IfOk, None, option_map};
 ghost use Rattle.cf_base.specs.Settings.{profile_of};
-ghost use Rattle.script_loop.specs.ScriptOutcome.{Plays, sink_at, source_at};
+ghost use Rattle.script_loop.specs.ScriptOutcome.{Plays};
 ghost use Rattle.quota_session.specs.Playing.{quota_tasks};
 ghost use Rattle.quota_session.specs.QuotaRun.{QuotaRun, first_session, quota_run};
 
@@ -97,11 +97,7 @@ pub fn run_quotas<S: Source, K: Sink>(
 ) -> Status
     requires { mode_handler.old.session ≡ first_session }
     ensures { Plays quota_tasks (quota_run (option_map profile_of mode_handler.old.settings) mode_handler.old.session heap.old)
-        (source_at (S.rest source.old) (S.given source.old) (S.faults source.old) (S.last_failed source.old))
-        (sink_at (K.written sink.old) (K.faults sink.old) (K.last_failed sink.old))
-        result
-        (source_at (S.rest source.new) (S.given source.new) (S.faults source.new) (S.last_failed source.new))
-        (sink_at (K.written sink.new) (K.faults sink.new) (K.last_failed sink.new))
+        (S.state source.old) (K.state sink.old) result (S.state source.new) (K.state sink.new)
         (quota_run (option_map profile_of mode_handler.new.settings) mode_handler.new.session heap.new) }
 {
     play_script(mode_handler, heap, source, sink)

@@ -1,6 +1,6 @@
 //! `walk` for one task: a line for each class with live objects of the task, and a line with its totals.
-ghost use Rattle.std.specs.Prelude.{◌≡◌, ◌<◌, ◌≤◌, [], IfOk, IsTrue, OnErr, OnOk};
-ghost use Rattle.cf_io.specs.Feeds.{Puts, FailsLast};
+ghost use Rattle.std.specs.Prelude.{◌≡◌, ◌<◌, [], IfOk, IsTrue};
+ghost use Rattle.cf_io.specs.Feeds.{Writes};
 ghost use Rattle.cf_io.specs.Texts.{led};
 ghost use Rattle.page_model.specs.Arrangement.{used_pages};
 ghost use Rattle.quota_heap.specs.State.{held_by, objects_by};
@@ -30,10 +30,7 @@ pub(crate) fn walk<K: Sink>(
     requires opened { IsTrue heap.now.is_open }
     requires sixteen { task < 16 }
     requires tied { AreTiedTo ids.now (objects_by heap.now task) }
-    ensures puts { Puts (K.written out.old) (led [] (task_report heap.now task)) result (K.written out.new) }
-    ensures grows { K.faults out.old ≤ K.faults out.new }
-    ensures same { OnOk result (K.faults out.new ≡ K.faults out.old) }
-    ensures failed { OnErr result (FailsLast (K.faults out.old) (K.faults out.new) (K.last_failed out.new)) }
+    ensures { Writes (K.state out.old) (led [] (task_report heap.now task)) result (K.state out.new) }
 {
     let quota = heap.quota(task) as u64;
     match put_classes(heap, task, line, out) {
@@ -53,12 +50,9 @@ fn put_classes<K: Sink>(
 ) -> Result<u64, Failed>
     requires opened { IsTrue heap.now.is_open }
     requires sixteen { task < 16 }
-    ensures puts { Puts (K.written out.old) (led [] (class_lines heap.now task (task_classes heap.now task))) result
-        (K.written out.new) }
+    ensures puts { Writes (K.state out.old) (led [] (class_lines heap.now task (task_classes heap.now task))) result
+        (K.state out.new) }
     ensures used { IfOk result (λ used. used ≡ used_pages (task_paging heap.now.profile) (held_by heap.now task)) }
-    ensures grows { K.faults out.old ≤ K.faults out.new }
-    ensures same { OnOk result (K.faults out.new ≡ K.faults out.old) }
-    ensures failed { OnErr result (FailsLast (K.faults out.old) (K.faults out.new) (K.last_failed out.new)) }
 {
     // For its contract: an open heap has at most 67 classes.
     let _open = heap.is_open();

@@ -1,9 +1,9 @@
 //! A session over a heap that sixteen tasks share: it does each command, on the present task or on the one
 //! that the command names, and writes its reply.
-ghost use Rattle.std.specs.Prelude.{◌≡◌, ◌<◌, ◌^◌, ◌≤◌, [], IfOk, IsTrue, OnErr, Option, Some, length, OnOk};
+ghost use Rattle.std.specs.Prelude.{◌≡◌, ◌<◌, ◌^◌, ◌≤◌, [], IfOk, IsTrue, Option, Some, length};
 ghost use Rattle.step_ledger.specs.Counting.{RoseAtMost};
 ghost use Rattle.cf_base.specs.Settings.{Profile, profile_of};
-ghost use Rattle.cf_io.specs.Feeds.{FailsLast};
+ghost use Rattle.cf_io.specs.Feeds.{SinkFailsIf};
 ghost use Rattle.cf_io.specs.Lines.{line_capacity};
 ghost use Rattle.cf_io.specs.Texts.{said};
 ghost use Rattle.cf_session.specs.Apply.{outcome_in};
@@ -17,6 +17,7 @@ ghost use Rattle.quota_session.specs.Layout.{IsOfTask, IsNoWalk, tasks_session};
 ghost use Rattle.quota_session.specs.Playing.{quota_tasks};
 ghost use Rattle.quota_session.specs.QuotaRun.{AreTasksTied, HasSixteen, IsGoingQuotas, QuotaStep, first_session, present_run, quota_moment, quota_run};
 ghost use Rattle.quota_session.specs.TaskRun.{TaskStep, task_run};
+ghost use Rattle.std.specs.Result.{is_err};
 
 use crate::changes::{free, malloc, read, write};
 use crate::records::Records;
@@ -84,14 +85,12 @@ impl QuotaSession {
         requires settings { heap.old.profile ≡ profile_of s.now }
         requires tied { AreTasksTied self.old heap.old }
         requires formed { IsWellFormed c.now }
-        ensures step { Applies quota_tasks (quota_moment (Some (profile_of s.now)) self.old heap.old (K.written out.old)) c.now result
-            (quota_moment (Some (profile_of s.now)) self.new heap.new (K.written out.new)) }
+        ensures step { Applies quota_tasks (quota_moment (Some (profile_of s.now)) self.old heap.old (K.state out.old).written) c.now result
+            (quota_moment (Some (profile_of s.now)) self.new heap.new (K.state out.new).written) }
         ensures going { IsGoingQuotas (quota_run (Some (profile_of s.now)) self.new heap.new) }
         // The ledger counts from 0 in each command.
         ensures steps { meter.new ≤ most_tasks_steps (quota_run (Some (profile_of s.now)) self.old heap.old) c.now }
-        ensures grows { K.faults out.old ≤ K.faults out.new }
-        ensures same { OnOk result (K.faults out.new ≡ K.faults out.old) }
-        ensures failed { OnErr result (FailsLast (K.faults out.old) (K.faults out.new) (K.last_failed out.new)) }
+        ensures sink { SinkFailsIf (is_err result) (K.state out.old) (K.state out.new) }
     {
         self.apply_ref(heap, s, c.as_ref(), out, meter)
     }
@@ -109,13 +108,11 @@ impl QuotaSession {
         requires settings { heap.old.profile ≡ profile_of s.now }
         requires tied { AreTasksTied self.old heap.old }
         requires formed { IsWellFormed (owned_command c) }
-        ensures step { Applies quota_tasks (quota_moment (Some (profile_of s.now)) self.old heap.old (K.written out.old))
-            (owned_command c.entry) result (quota_moment (Some (profile_of s.now)) self.new heap.new (K.written out.new)) }
+        ensures step { Applies quota_tasks (quota_moment (Some (profile_of s.now)) self.old heap.old (K.state out.old).written)
+            (owned_command c.entry) result (quota_moment (Some (profile_of s.now)) self.new heap.new (K.state out.new).written) }
         ensures going { IsGoingQuotas (quota_run (Some (profile_of s.now)) self.new heap.new) }
         ensures steps { meter.new ≤ most_tasks_steps (quota_run (Some (profile_of s.now)) self.old heap.old) (owned_command c.entry) }
-        ensures grows { K.faults out.old ≤ K.faults out.new }
-        ensures same { OnOk result (K.faults out.new ≡ K.faults out.old) }
-        ensures failed { OnErr result (FailsLast (K.faults out.old) (K.faults out.new) (K.last_failed out.new)) }
+        ensures sink { SinkFailsIf (is_err result) (K.state out.old) (K.state out.new) }
     {
         meter.lap();
         self.answer_ref(heap, s, c, out, meter.steps())
@@ -136,14 +133,12 @@ impl QuotaSession {
         requires tied { AreTasksTied self.old heap.old }
         requires formed { IsWellFormed (owned_command c) }
         requires count { steps.old ≤ 2 ^ 63 }
-        ensures step { Applies quota_tasks (quota_moment (Some (profile_of s.now)) self.old heap.old (K.written out.old))
-            (owned_command c.entry) result (quota_moment (Some (profile_of s.now)) self.new heap.new (K.written out.new)) }
+        ensures step { Applies quota_tasks (quota_moment (Some (profile_of s.now)) self.old heap.old (K.state out.old).written)
+            (owned_command c.entry) result (quota_moment (Some (profile_of s.now)) self.new heap.new (K.state out.new).written) }
         ensures going { IsGoingQuotas (quota_run (Some (profile_of s.now)) self.new heap.new) }
         ensures steps { RoseAtMost steps.old steps.new
             (most_tasks_steps (quota_run (Some (profile_of s.now)) self.old heap.old) (owned_command c.entry)) }
-        ensures grows { K.faults out.old ≤ K.faults out.new }
-        ensures same { OnOk result (K.faults out.new ≡ K.faults out.old) }
-        ensures failed { OnErr result (FailsLast (K.faults out.old) (K.faults out.new) (K.last_failed out.new)) }
+        ensures sink { SinkFailsIf (is_err result) (K.state out.old) (K.state out.new) }
     {
         // For its contract: an open heap keeps its tasks apart.
         let _open = heap.is_open();
@@ -178,13 +173,11 @@ fn answer<K: Sink>(
     requires formed { IsWellFormed (owned_command c) }
     requires buffer { length buffer.old ≡ 4096 }
     requires count { steps.old ≤ 2 ^ 63 }
-    ensures step { Applies quota_tasks (quota_moment (Some (profile_of s.now)) (tasks_session records.old) heap.old (K.written out.old))
-        (owned_command c.entry) result (quota_moment (Some (profile_of s.now)) (tasks_session records.new) heap.new (K.written out.new)) }
+    ensures step { Applies quota_tasks (quota_moment (Some (profile_of s.now)) (tasks_session records.old) heap.old (K.state out.old).written)
+        (owned_command c.entry) result (quota_moment (Some (profile_of s.now)) (tasks_session records.new) heap.new (K.state out.new).written) }
     ensures steps { RoseAtMost steps.old steps.new
         (most_tasks_steps (quota_run (Some (profile_of s.now)) (tasks_session records.old) heap.old) (owned_command c.entry)) }
-    ensures grows { K.faults out.old ≤ K.faults out.new }
-    ensures same { OnOk result (K.faults out.new ≡ K.faults out.old) }
-    ensures failed { OnErr result (FailsLast (K.faults out.old) (K.faults out.new) (K.last_failed out.new)) }
+    ensures sink { SinkFailsIf (is_err result) (K.state out.old) (K.state out.new) }
 {
     match c {
         CommandRef::Walk => {

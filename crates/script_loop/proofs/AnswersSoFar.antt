@@ -302,9 +302,9 @@ module _ {S P : Type 0} (m : Semantics S P) where
     over = (line, h.stopped);
   }
   named old r r' s w w' line text Cut a wrote h names = record {
-    out = text ++ names.front;
-    cut = cut_then a (cut_bad r r' s line names.front names.lost h names.cut);
-    wrote = appended_after _ _ _ _ _ wrote names.wrote;
+    out = text ++ names.0;
+    cut = cut_then a (cut_bad r r' s line names.0 names.1 h names.2);
+    wrote = appended_after _ _ _ _ _ wrote names.3;
   }
   named old r r' s w w' line text GoesOn a wrote h names = absurd names
   named old r r' s w w' line text LacksMemory a wrote h names = absurd names

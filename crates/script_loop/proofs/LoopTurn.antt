@@ -1,16 +1,16 @@
 -- For `play_script` and `Script::turn`, one turn of its loop: what a turn takes (a chunk) and answers, what all turns so far did, and the loop's contract
 -- (`Plays`) once a turn ends the script.
-use Rattle.std.proofs.Common.{◌≡◌, ◌≢◌, ◌≤◌, ◌<◌, ◌+◌, ◌⊎◌, ◌++◌, ◌∙◌, false, true, List, [], ℕ, Option, refl, ap, sym, subst, length, inl, inr, arith}
+use Rattle.std.proofs.Common.{◌≡◌, ◌≤◌, ◌<◌, ◌+◌, ◌⊎◌, ◌++◌, ◌∙◌, false, true, List, [], ℕ, Option, refl, ap, sym, subst, length, inl, inr, arith}
 use Rattle.std.proofs.Common.{take, drop, append_assoc, append-nil, length-append, length-drop, take-append-drop, min}
 use Rattle.std.proofs.lemmas.List.{length-take-le, take-take}
 use Rattle.cf_base.specs.declared.status.Status.{Status}
 use Rattle.cf_base.specs.declared.status.Status.TheVariants.{Done, Words, BadScript, ReadFault, WriteFault, OutOfMemory, TooLong, BadImage}
-use Rattle.cf_io.specs.Feeds.{FailsLast, HasGiven, IsSpent, appended, last_count, preceded}
+use Rattle.cf_io.specs.Feeds.{HasGiven, IsSpent, SinkFailsIf, SinkState, SourceFailsIf, SourceState, appended, last_count, preceded}
 use Rattle.script_reader.specs.Items.{items}
 use Rattle.script_reader.specs.Reading.{Reading, fresh}
 use Rattle.script_loop.specs.AnswersSoFar.{Answered, HasStopped, WasCut, LackedMemory, WentOn}
 use Rattle.script_loop.specs.Progress.{Progress, playing, progress}
-use Rattle.script_loop.specs.ScriptOutcome.{Effects, IsStatusRow, MOST_BYTES, MOST_CHUNK, MeetsOutcome, Plays, SinkState, SourceState, effects, items_within}
+use Rattle.script_loop.specs.ScriptOutcome.{Effects, IsStatusRow, MOST_BYTES, MOST_CHUNK, MeetsOutcome, Plays, effects, is_read_fault, is_write_fault, items_within}
 use Rattle.script_loop.specs.Semantics.{Semantics}
 use Rattle.script_loop.specs.LoopTurn.{AnswersChunk, AwaitsChunk, BetweenTurns, Chunk, StopsBy, TakesNothing, between, left_in, reading_in}
 use Rattle.script_loop.specs.declared.running.Script.{Script}
@@ -68,20 +68,11 @@ pub record HasEnded {S P : Type 0} (m : Semantics S P) (from : S) (call : Effect
 
 -- `Plays`, from `HasEnded` and from the causes of faults
 pub plays_of : {S P : Type 0} (m : Semantics S P) (from : S) (s : SourceState) (k : SinkState) (st : Status) (s' : SourceState) (k' : SinkState) (to : S)
-    → HasEnded m from (effects s k st s' k') to → (st ≢ ReadFault → s'.faults ≡ s.faults)
-    → (st ≡ ReadFault → FailsLast s.faults s'.faults s'.failed) → (st ≢ WriteFault → k'.faults ≡ k.faults) → (st ≡ WriteFault → FailsLast k.faults k'.faults k'.failed)
-    → Plays m from s k st s' k' to
-plays_of m from s k st s' k' to ended source_same read_fault sink_same write_fault = record {
+    → HasEnded m from (effects s k st s' k') to → SourceFailsIf (is_read_fault st) s s' → SinkFailsIf (is_write_fault st) k k' → Plays m from s k st s' k' to
+plays_of m from s k st s' k' to ended source sink = record {
   outcome = ended.outcome;
   plan = ended.plan;
-  causes = record {
-    silent = ended.silent;
-    source_same = source_same;
-    read_fault = read_fault;
-    sink_same = sink_same;
-    write_fault = write_fault;
-    too_long = ended.too_long;
-  };
+  causes = record { silent = ended.silent; source_fault = source; sink_fault = sink; too_long = ended.too_long };
 }
 
 -- the end of the input completed items; how answering them ended, for each status

@@ -1,7 +1,7 @@
 -- The contracts of the inner loops of the script loop: bytes were fed to the reader, and the items that they complete were answered; four ways in which that
 -- may end (`MeetsChunkOutcome`). `m` is the semantics of the mode handler.
 use Rattle.std.specs.Prelude.{◌≡◌, ◌≤◌, ◌+◌, ◌++◌, ℕ, Bool, true, false, List, [], ◌∷◌, length, Option, Some, None}
-use Rattle.cf_io.specs.Feeds.{appended}
+use Rattle.cf_io.specs.Feeds.{WritesPrefix, appended}
 use Rattle.script_reader.specs.Items.{Item}
 use Rattle.script_reader.specs.Lines.{LONGEST}
 use Rattle.script_reader.specs.Reading.{Reading, items_left}
@@ -85,16 +85,16 @@ MeetsChunkOutcome m old chunk Stopped new = HasStopped m old chunk new
 MeetsChunkOutcome m old chunk Cut new = WasCut m old chunk new
 MeetsChunkOutcome m old chunk LacksMemory new = LackedMemory m old new
 
--- `front`, a prefix of `text`, was written
-pub record WrotePrefix (old : Option (List ℕ)) (text : List ℕ) (new : Option (List ℕ)) : Type 0 where
-  pub front : List ℕ
-  pub lost : List ℕ
-  pub cut : text ≡ front ++ lost
-  pub wrote : new ≡ appended old front
+-- whether the sink failed
+abbrev pub is_cut : ChunkOutcome → Bool
+is_cut GoesOn = false
+is_cut Stopped = false
+is_cut Cut = true
+is_cut LacksMemory = false
 
 -- the number of a bad line was written, or if the sink failed, a prefix of that reply
 abbrev pub PrintsBadLine : Option (List ℕ) → ℕ → ChunkOutcome → Option (List ℕ) → Type 0
 PrintsBadLine old line Stopped new = new ≡ appended old (led [] (said (bad_line line)))
-PrintsBadLine old line Cut new = WrotePrefix old (led [] (said (bad_line line))) new
+PrintsBadLine old line Cut new = WritesPrefix old (led [] (said (bad_line line))) new
 PrintsBadLine old line GoesOn new = ⊥
 PrintsBadLine old line LacksMemory new = ⊥

@@ -1,6 +1,6 @@
 -- The contract of `Script::turn`, one turn of the loop: it takes one chunk, and answers the items that the chunk completes. `m` is the semantics of the mode
 -- handler; `old` and `new` are the script before and after the turn.
-use Rattle.std.specs.Prelude.{◌≡◌, ◌<◌, ◌≤◌, ◌+◌, ◌++◌, ℕ, false, List, [], length, Option}
+use Rattle.std.specs.Prelude.{◌≡◌, ◌<◌, ◌≤◌, ◌+◌, ◌++◌, ℕ, Bool, false, List, [], length, Option}
 use Rattle.cf_base.specs.declared.status.Status.{Status}
 use Rattle.cf_base.specs.declared.status.Status.TheVariants.{BadScript, ReadFault, WriteFault, OutOfMemory, TooLong}
 use Rattle.cf_io.specs.Feeds.{HasGiven, IsSpent, preceded}
@@ -8,7 +8,7 @@ use Rattle.cf_io.specs.Sources.{more_given}
 use Rattle.script_reader.specs.Reading.{Reading}
 use Rattle.script_loop.specs.AnswersSoFar.{HasStopped, IsWaiting, WasCut, LackedMemory, WentOn}
 use Rattle.script_loop.specs.Progress.{IsReady, Progress, playing, progress}
-use Rattle.script_loop.specs.ScriptOutcome.{MOST_BYTES, MOST_CHUNK}
+use Rattle.script_loop.specs.ScriptOutcome.{MOST_BYTES, MOST_CHUNK, is_read_fault, is_write_fault}
 use Rattle.script_loop.specs.Semantics.{Semantics}
 use Rattle.script_loop.specs.declared.running.Script.{Script}
 use Rattle.script_loop.specs.declared.running.TurnEnd.{TurnEnd}
@@ -87,3 +87,15 @@ abbrev pub TakesTurn : {S P : Type 0} → Semantics S P → BetweenTurns S → T
 TakesTurn m old Answered new = AnswersChunk m old new
 TakesTurn m old Ended new = TakesNothing old new × IsSpent old.rest
 TakesTurn m old (Stopped status) new = StopsBy m status old new
+
+-- whether the source failed in the turn
+abbrev pub is_read_end : TurnEnd → Bool
+is_read_end Answered = false
+is_read_end Ended = false
+is_read_end (Stopped status) = is_read_fault status
+
+-- whether the sink failed in the turn
+abbrev pub is_write_end : TurnEnd → Bool
+is_write_end Answered = false
+is_write_end Ended = false
+is_write_end (Stopped status) = is_write_fault status

@@ -1,10 +1,10 @@
 -- How the run of a whole script may end: for each status, which bytes were read, which items were answered, and what was written. `m` is the semantics of the
 -- mode handler; its run goes from the state `from` to the state `to`.
-use Rattle.std.specs.Prelude.{◌≡◌, ◌≢◌, ◌<◌, ◌≤◌, ◌+◌, ◌⊎◌, ◌++◌, ⊤, ℕ, Bool, true, false, List, [], ◌∷◌, length, take, nat_le, Option, Some, None}
+use Rattle.std.specs.Prelude.{◌≡◌, ◌<◌, ◌≤◌, ◌+◌, ◌⊎◌, ◌++◌, ⊤, ℕ, Bool, true, false, List, [], ◌∷◌, length, take, nat_le, Option, Some, None}
 use Rattle.std.specs.List.{list_any}
 use Rattle.cf_base.specs.declared.status.Status.{Status}
 use Rattle.cf_base.specs.declared.status.Status.TheVariants.{Done, Words, BadScript, ReadFault, WriteFault, OutOfMemory, TooLong, BadImage}
-use Rattle.cf_io.specs.Feeds.{FailsLast, HasGiven, MayFollow, appended, last_count, preceded}
+use Rattle.cf_io.specs.Feeds.{HasGiven, MayFollow, SinkFailsIf, SinkState, SourceFailsIf, SourceState, appended, last_count, preceded}
 use Rattle.script_reader.specs.Items.{AreFirstOf, Item, asks, bad, items, starts}
 use Rattle.run_model.specs.Texts.{Reply, text_of}
 use Rattle.script_loop.specs.Semantics.{PartBy, RunBy, Semantics}
@@ -30,27 +30,6 @@ has_bad = list_any is_bad
 -- the items of the first 268,435,455 bytes of `all`; if there are no more bytes, the last line needs no line feed
 abbrev pub items_within : List ℕ → List Item
 items_within all = items (take MOST_BYTES all) (nat_le (length all) MOST_BYTES)
-
--- a source: the bytes left, if it is observable, how many it returned, how often it failed, and whether its last call failed
-pub record SourceState : Type 0 where
-  pub rest : Option (List ℕ)
-  pub given : ℕ
-  pub faults : ℕ
-  pub failed : Bool
-
--- the record `SourceState` of these values: bytes left, number returned, number of faults, and whether the last call failed
-abbrev pub source_at : Option (List ℕ) → ℕ → ℕ → Bool → SourceState
-source_at rest given faults failed = record { rest = rest; given = given; faults = faults; failed = failed }
-
--- a sink: the bytes written, if it is observable, how often it failed, and whether its last call failed
-pub record SinkState : Type 0 where
-  pub written : Option (List ℕ)
-  pub faults : ℕ
-  pub failed : Bool
-
--- the record `SinkState` of these values: bytes written, number of faults, and whether the last call failed
-abbrev pub sink_at : Option (List ℕ) → ℕ → Bool → SinkState
-sink_at written faults failed = record { written = written; faults = faults; failed = failed }
 
 -- What a call did to the bytes of its source and sink. `had` and `left`: the bytes in the source before and after the call. `given_before` and `given_after`:
 -- how many bytes the source had returned by then. `before` and `after`: the bytes in the sink. A list is `None` if the device isn't observable.
@@ -141,15 +120,23 @@ pub record MeetsOutcome {S P : Type 0} (m : Semantics S P) (from : S) (call : Ef
   pub counted : HasGiven call.given_before (length taken) call.given_after
   pub row : (more : List ℕ) → MayFollow call.left ended more → IsStatusRow m call.status from (taken ++ more) more call to
 
+-- whether the status says that the source failed
+abbrev pub is_read_fault : Status → Bool
+is_read_fault ReadFault = true
+is_read_fault status = false
+
+-- whether the status says that the sink failed
+abbrev pub is_write_fault : Status → Bool
+is_write_fault WriteFault = true
+is_write_fault status = false
+
 -- The cause of each status, over every source and sink; `source'` and `sink'` are their states after the call. `ReadFault` means that the last call of the
 -- source failed, `WriteFault` the same of the sink; with any other status neither failed. With `OutOfMemory` nothing was written. `TooLong` means that the
 -- source returned more than the limit, or that its count of bytes saturated.
 pub record HasCauses (source : SourceState) (sink : SinkState) (status : Status) (source' : SourceState) (sink' : SinkState) : Type 0 where
   pub silent : status ≡ OutOfMemory → sink'.written ≡ sink.written
-  pub source_same : status ≢ ReadFault → source'.faults ≡ source.faults
-  pub read_fault : status ≡ ReadFault → FailsLast source.faults source'.faults source'.failed
-  pub sink_same : status ≢ WriteFault → sink'.faults ≡ sink.faults
-  pub write_fault : status ≡ WriteFault → FailsLast sink.faults sink'.faults sink'.failed
+  pub source_fault : SourceFailsIf (is_read_fault status) source source'
+  pub sink_fault : SinkFailsIf (is_write_fault status) sink sink'
   pub too_long : status ≡ TooLong → (source.given + MOST_BYTES < source'.given) ⊎ (source'.given ≡ last_count)
 
 -- The contract of `play_script`, which led from the state `from` to the state `to`: the outcome of the script, that the plan is unchanged, and the causes of

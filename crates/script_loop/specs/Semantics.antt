@@ -1,5 +1,5 @@
 -- The semantics of a mode handler, `m` below: a record of relations that fixes which reply each item may get, and to which state it leads.
-use Rattle.std.specs.Prelude.{◌≡◌, ◌++◌, ℕ, List, [], Option, Result, Ok, Err}
+use Rattle.std.specs.Prelude.{◌≡◌, ◌++◌, ℕ, Bool, true, false, List, [], Option, Result, Ok, Err}
 use Rattle.cf_base.specs.Settings.{Profile, profile_of}
 use Rattle.cf_base.specs.declared.answers.Failed.{Failed}
 use Rattle.cf_base.specs.declared.settings.Settings.{Settings}
@@ -65,6 +65,12 @@ abbrev pub OpensBy : {S P T : Type 0} → Semantics S P → Snapshot S → Setti
 OpensBy m old settings (Ok u) new = IsOpened m old (profile_of settings) new
 OpensBy m old settings (Err fault.Failed) new = IsOpenedInPart m old (profile_of settings) new
 OpensBy m old settings (Err fault.OutOfMemory) new = m.lacks old.state new.state × (new.written ≡ old.written)
+
+-- whether the sink failed at the reply to a `heap` line
+abbrev pub is_cut_reply : {T : Type 0} → Result T OpenFault → Bool
+is_cut_reply (Ok u) = false
+is_cut_reply (Err fault.Failed) = true
+is_cut_reply (Err fault.OutOfMemory) = false
 
 -- a command took effect, and its whole reply was written
 pub record HasTurn {S P : Type 0} (m : Semantics S P) (old : Snapshot S) (command : Command) (new : Snapshot S) : Type 0 where

@@ -1,9 +1,9 @@
 //! Two inner loops. `answer_chunk` feeds a chunk to the reader in one call of `feed` or more. After each it calls
 //! `answer_pending_items`, which passes each whole item that the reader holds to the mode handler.
-ghost use Rattle.std.specs.Prelude.{◌≡◌, ◌≤◌, ◌+◌, [], length, false, None, ◌≢◌};
-ghost use Rattle.cf_io.specs.Feeds.{FailsLast};
+ghost use Rattle.std.specs.Prelude.{◌≡◌, ◌≤◌, ◌+◌, [], length, false, None};
+ghost use Rattle.cf_io.specs.Feeds.{SinkFailsIf};
 ghost use Rattle.script_reader.specs.Reading.{MOST_FED};
-ghost use Rattle.script_loop.specs.AnswersSoFar.{MeetsChunkOutcome, IsWaiting, PrintsBadLine};
+ghost use Rattle.script_loop.specs.AnswersSoFar.{MeetsChunkOutcome, IsWaiting, PrintsBadLine, is_cut};
 ghost use Rattle.script_loop.specs.Progress.{IsReady, playing, progress};
 
 use crate::mode_handler::{ModeHandler, OpenFault};
@@ -26,10 +26,8 @@ pub enum ChunkOutcome {
 /// Writes the reply `bad line` with this number, counted from 1, and returns `Stopped`, or `Cut` if the sink
 /// failed.
 fn name_bad<K: Sink>(number: u32, sink: &mut K) -> ChunkOutcome
-    ensures names { PrintsBadLine (K.written sink.old) number result (K.written sink.new) }
-    ensures grows { K.faults sink.old ≤ K.faults sink.new }
-    ensures same { result ≢ ChunkOutcome.Cut → K.faults sink.new ≡ K.faults sink.old }
-    ensures failed { result ≡ ChunkOutcome.Cut → FailsLast (K.faults sink.old) (K.faults sink.new) (K.last_failed sink.new) }
+    ensures names { PrintsBadLine (K.state sink.old).written number result (K.state sink.new).written }
+    ensures sink { SinkFailsIf (is_cut result) (K.state sink.old) (K.state sink.new) }
 {
     let mut line = Line::new();
     push_field(&mut line, b"bad line ", number as u64);
@@ -50,11 +48,9 @@ pub fn answer_pending_items<H, A: ModeHandler<H>, K: Sink>(
 ) -> ChunkOutcome
     requires going { reader.old.stopped ≡ None }
     requires ready { IsReady A.semantics (playing reader.old (A.state mode_handler.old heap.old)) }
-    ensures goes { MeetsChunkOutcome A.semantics (progress (playing reader.old (A.state mode_handler.old heap.old)) (K.written sink.old)) [] result
-        (progress (playing reader.new (A.state mode_handler.new heap.new)) (K.written sink.new)) }
-    ensures grows { K.faults sink.old ≤ K.faults sink.new }
-    ensures same { result ≢ ChunkOutcome.Cut → K.faults sink.new ≡ K.faults sink.old }
-    ensures failed { result ≡ ChunkOutcome.Cut → FailsLast (K.faults sink.old) (K.faults sink.new) (K.last_failed sink.new) }
+    ensures goes { MeetsChunkOutcome A.semantics (progress (playing reader.old (A.state mode_handler.old heap.old)) (K.state sink.old).written) [] result
+        (progress (playing reader.new (A.state mode_handler.new heap.new)) (K.state sink.new).written) }
+    ensures sink { SinkFailsIf (is_cut result) (K.state sink.old) (K.state sink.new) }
 {
     'replies: loop {
         let mut next = NextRef::NeedMore;
@@ -89,11 +85,9 @@ pub fn answer_chunk<H, A: ModeHandler<H>, K: Sink>(
     requires open { reader.old.ended ≡ false }
     requires few { reader.old.fed + length chunk.now ≤ MOST_FED }
     requires ready { IsReady A.semantics (playing reader.old (A.state mode_handler.old heap.old)) }
-    ensures goes { MeetsChunkOutcome A.semantics (progress (playing reader.old (A.state mode_handler.old heap.old)) (K.written sink.old)) chunk.now result
-        (progress (playing reader.new (A.state mode_handler.new heap.new)) (K.written sink.new)) }
-    ensures grows { K.faults sink.old ≤ K.faults sink.new }
-    ensures same { result ≢ ChunkOutcome.Cut → K.faults sink.new ≡ K.faults sink.old }
-    ensures failed { result ≡ ChunkOutcome.Cut → FailsLast (K.faults sink.old) (K.faults sink.new) (K.last_failed sink.new) }
+    ensures goes { MeetsChunkOutcome A.semantics (progress (playing reader.old (A.state mode_handler.old heap.old)) (K.state sink.old).written) chunk.now result
+        (progress (playing reader.new (A.state mode_handler.new heap.new)) (K.state sink.new).written) }
+    ensures sink { SinkFailsIf (is_cut result) (K.state sink.old) (K.state sink.new) }
 {
     let mut at = 0;
     'feeds: while at < chunk.len() {

@@ -1,11 +1,12 @@
 //! The trait `ModeHandler`: the script loop calls `open` of its handler for the `heap` line, and `answer`
 //! for each later command. The trait also names the handler's states and its semantics, for contracts.
-ghost use Rattle.std.specs.Prelude.{◌≡◌, ◌≤◌, Err, OnErr, OnOk, ◌≢◌};
-ghost use Rattle.cf_io.specs.Feeds.{FailsLast};
+ghost use Rattle.std.specs.Prelude.{◌≡◌, OnOk};
+ghost use Rattle.cf_io.specs.Feeds.{SinkFailsIf};
 ghost use Rattle.script_reader.specs.Commands.{IsWellFormed};
 ghost use Rattle.script_reader.specs.Owned.{owned_command};
 ghost use Rattle.script_loop.specs.declared.mode_handler.OpenFault.TheVariants as fault;
-ghost use Rattle.script_loop.specs.Semantics.{AnswersBy, OpensBy, Semantics, snapshot};
+ghost use Rattle.script_loop.specs.Semantics.{AnswersBy, OpensBy, Semantics, snapshot, is_cut_reply};
+ghost use Rattle.std.specs.Result.{is_err};
 
 use cf_base::{Failed, OutOfMemory, Settings};
 use cf_io::Sink;
@@ -60,13 +61,11 @@ pub trait ModeHandler<H> {
         sink: &mut K,
     ) -> Result<(), OpenFault>
         requires { semantics.is_fresh (state self.old heap.old) }
-        ensures opens { OpensBy semantics (snapshot (state self.old heap.old) (K.written sink.old)) settings.now
-            result (snapshot (state self.new heap.new) (K.written sink.new)) }
+        ensures opens { OpensBy semantics (snapshot (state self.old heap.old) (K.state sink.old).written) settings.now
+            result (snapshot (state self.new heap.new) (K.state sink.new).written) }
         ensures going { OnOk result (semantics.is_going (state self.new heap.new)) }
         ensures plan { semantics.plan (state self.new heap.new) ≡ semantics.plan (state self.old heap.old) }
-        ensures grows { K.faults sink.old ≤ K.faults sink.new }
-        ensures same { result ≢ Err OpenFault.Failed → K.faults sink.new ≡ K.faults sink.old }
-        ensures failed { result ≡ Err OpenFault.Failed → FailsLast (K.faults sink.old) (K.faults sink.new) (K.last_failed sink.new) };
+        ensures sink { SinkFailsIf (is_cut_reply result) (K.state sink.old) (K.state sink.new) };
 
     /// Does a command on the open heap and writes its reply. If the sink fails, the command has taken effect,
     /// and a prefix of its reply was written.
@@ -78,11 +77,9 @@ pub trait ModeHandler<H> {
     ) -> Result<(), Failed>
         requires going { semantics.is_going (state self.old heap.old) }
         requires formed { IsWellFormed (owned_command command) }
-        ensures step { AnswersBy semantics (snapshot (state self.old heap.old) (K.written sink.old)) (owned_command command.entry)
-            result (snapshot (state self.new heap.new) (K.written sink.new)) }
+        ensures step { AnswersBy semantics (snapshot (state self.old heap.old) (K.state sink.old).written) (owned_command command.entry)
+            result (snapshot (state self.new heap.new) (K.state sink.new).written) }
         ensures going { semantics.is_going (state self.new heap.new) }
         ensures plan { semantics.plan (state self.new heap.new) ≡ semantics.plan (state self.old heap.old) }
-        ensures grows { K.faults sink.old ≤ K.faults sink.new }
-        ensures same { OnOk result (K.faults sink.new ≡ K.faults sink.old) }
-        ensures failed { OnErr result (FailsLast (K.faults sink.old) (K.faults sink.new) (K.last_failed sink.new)) };
+        ensures sink { SinkFailsIf (is_err result) (K.state sink.old) (K.state sink.new) };
 }

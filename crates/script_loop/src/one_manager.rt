@@ -4,7 +4,7 @@ ghost use Rattle.cf_base.specs.declared.kind.Kind.{Kind};
 ghost use Rattle.cf_session.specs.Apply.{run_at};
 ghost use Rattle.run_model.specs.Sessions.{RunState, fresh_session};
 ghost use Rattle.script_loop.specs.OneManager.{one_manager};
-ghost use Rattle.script_loop.specs.ScriptOutcome.{Plays, sink_at, source_at};
+ghost use Rattle.script_loop.specs.ScriptOutcome.{Plays};
 
 use crate::mode_handler::{ModeHandler, OpenFault};
 use crate::running::play_script;
@@ -58,11 +58,7 @@ pub fn run_script<H: Manager, S: Source, K: Sink>(
 ) -> Status
     requires { session.old ≡ fresh_session }
     ensures { Plays one_manager (run_at session.old (H.state heap.old))
-        (source_at (S.rest source.old) (S.given source.old) (S.faults source.old) (S.last_failed source.old))
-        (sink_at (K.written sink.old) (K.faults sink.old) (K.last_failed sink.old))
-        result
-        (source_at (S.rest source.new) (S.given source.new) (S.faults source.new) (S.last_failed source.new))
-        (sink_at (K.written sink.new) (K.faults sink.new) (K.last_failed sink.new))
+        (S.state source.old) (K.state sink.old) result (S.state source.new) (K.state sink.new)
         (run_at session.new (H.state heap.new)) }
 {
     play_script(session, heap, source, sink)

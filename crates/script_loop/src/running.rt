@@ -1,10 +1,10 @@
 //! `play_script`, the loop of every mode that reads a script, and `Script::turn`, one turn of it, which takes one
 //! chunk.
-ghost use Rattle.std.specs.Prelude.{◌≡◌, ◌≤◌, ◌+◌, ◌≢◌};
-ghost use Rattle.cf_io.specs.Feeds.{FailsLast, one_more};
+ghost use Rattle.std.specs.Prelude.{◌≡◌, ◌≤◌, ◌+◌};
+ghost use Rattle.cf_io.specs.Feeds.{one_more, SinkFailsIf, SourceFailsIf};
 ghost use Rattle.script_reader.specs.Reading.{fresh};
-ghost use Rattle.script_loop.specs.ScriptOutcome.{MOST_BYTES, Plays, sink_at, source_at};
-ghost use Rattle.script_loop.specs.LoopTurn.{AwaitsChunk, TakesTurn, between, left_in, reading_in};
+ghost use Rattle.script_loop.specs.ScriptOutcome.{MOST_BYTES, Plays};
+ghost use Rattle.script_loop.specs.LoopTurn.{AwaitsChunk, TakesTurn, between, left_in, reading_in, is_read_end, is_write_end};
 
 use crate::answering::{ChunkOutcome, answer_chunk, answer_pending_items};
 use crate::mode_handler::ModeHandler;
@@ -58,16 +58,14 @@ impl Script {
         source: &mut S,
         sink: &mut K,
     ) -> TurnEnd
-        requires { AwaitsChunk A.semantics (between self.old (A.state mode_handler.old heap.old) (K.written sink.old) (S.rest source.old) (S.given source.old)) }
-        ensures once { S.calls source.new ≡ one_more (S.calls source.old) }
-        ensures few { S.given source.new ≤ S.given source.old + CHUNK }
+        requires { AwaitsChunk A.semantics (between self.old (A.state mode_handler.old heap.old) (K.state sink.old).written (S.state source.old).rest (S.state source.old).given) }
+        ensures once { (S.state source.new).calls ≡ one_more (S.state source.old).calls }
+        ensures few { (S.state source.new).given ≤ (S.state source.old).given + CHUNK }
         ensures turn { TakesTurn A.semantics
-            (between self.old (A.state mode_handler.old heap.old) (K.written sink.old) (S.rest source.old) (S.given source.old)) result
-            (between self.new (A.state mode_handler.new heap.new) (K.written sink.new) (S.rest source.new) (S.given source.new)) }
-        ensures source_same { result ≢ TurnEnd.Stopped Status.ReadFault → S.faults source.new ≡ S.faults source.old }
-        ensures read_fault { result ≡ TurnEnd.Stopped Status.ReadFault → FailsLast (S.faults source.old) (S.faults source.new) (S.last_failed source.new) }
-        ensures sink_same { result ≢ TurnEnd.Stopped Status.WriteFault → K.faults sink.new ≡ K.faults sink.old }
-        ensures write_fault { result ≡ TurnEnd.Stopped Status.WriteFault → FailsLast (K.faults sink.old) (K.faults sink.new) (K.last_failed sink.new) }
+            (between self.old (A.state mode_handler.old heap.old) (K.state sink.old).written (S.state source.old).rest (S.state source.old).given) result
+            (between self.new (A.state mode_handler.new heap.new) (K.state sink.new).written (S.state source.new).rest (S.state source.new).given) }
+        ensures source { SourceFailsIf (is_read_end result) (S.state source.old) (S.state source.new) }
+        ensures sink { SinkFailsIf (is_write_end result) (K.state sink.old) (K.state sink.new) }
     {
         let mut buffer = [0; CHUNK];
         let n = match source.take(&mut buffer) {
@@ -110,11 +108,7 @@ pub fn play_script<H, A: ModeHandler<H>, S: Source, K: Sink>(
 ) -> Status
     requires { A.semantics.is_fresh (A.state mode_handler.old heap.old) }
     ensures { Plays A.semantics (A.state mode_handler.old heap.old)
-        (source_at (S.rest source.old) (S.given source.old) (S.faults source.old) (S.last_failed source.old))
-        (sink_at (K.written sink.old) (K.faults sink.old) (K.last_failed sink.old))
-        result
-        (source_at (S.rest source.new) (S.given source.new) (S.faults source.new) (S.last_failed source.new))
-        (sink_at (K.written sink.new) (K.faults sink.new) (K.last_failed sink.new))
+        (S.state source.old) (K.state sink.old) result (S.state source.new) (K.state sink.new)
         (A.state mode_handler.new heap.new) }
 {
     let mut script = Script::new();

@@ -2,7 +2,7 @@
 //! opens the heap; and `run_slices`, which runs a script with it.
 ghost use Rattle.std.specs.Prelude.{◌≡◌, ℕ, IfOk};
 ghost use Rattle.std.specs.FinMap as map;
-ghost use Rattle.script_loop.specs.ScriptOutcome.{Plays, sink_at, source_at};
+ghost use Rattle.script_loop.specs.ScriptOutcome.{Plays};
 ghost use Rattle.slice_session.specs.Playing.{IsQuantum, SlicePlay, slice_play, slices};
 
 use crate::session::SliceSession;
@@ -89,11 +89,7 @@ pub fn run_slices<S: Source, K: Sink>(
     requires fresh { mode_handler.old.session ≡ map.empty }
     requires quantum { IsQuantum mode_handler.old.quantum }
     ensures { Plays slices (slice_play mode_handler.old.session mode_handler.old.quantum heap.old)
-        (source_at (S.rest source.old) (S.given source.old) (S.faults source.old) (S.last_failed source.old))
-        (sink_at (K.written sink.old) (K.faults sink.old) (K.last_failed sink.old))
-        result
-        (source_at (S.rest source.new) (S.given source.new) (S.faults source.new) (S.last_failed source.new))
-        (sink_at (K.written sink.new) (K.faults sink.new) (K.last_failed sink.new))
+        (S.state source.old) (K.state sink.old) result (S.state source.new) (K.state sink.new)
         (slice_play mode_handler.new.session mode_handler.new.quantum heap.new) }
 {
     play_script(mode_handler, heap, source, sink)

@@ -1,7 +1,7 @@
 //! A session over a sliced heap: it maps a script's ids to handles, does each command, and writes its reply.
-ghost use Rattle.std.specs.Prelude.{◌≡◌, ◌<◌, ◌≤◌, [], IsTrue, IfOk, OnErr, length, OnOk};
+ghost use Rattle.std.specs.Prelude.{◌≡◌, ◌<◌, ◌≤◌, [], IsTrue, IfOk, length};
 ghost use Rattle.std.specs.FinMap as map;
-ghost use Rattle.cf_io.specs.Feeds.{FailsLast};
+ghost use Rattle.cf_io.specs.Feeds.{SinkFailsIf};
 ghost use Rattle.cf_io.specs.Lines.{line_capacity};
 ghost use Rattle.cf_session.specs.Apply.{outcome_in};
 ghost use Rattle.page_model.specs.Held.{objects};
@@ -13,6 +13,7 @@ ghost use Rattle.script_loop.specs.Applying.{Applies, BuildsReply};
 ghost use Rattle.id_table.specs.Ties.{AreTiedTo};
 ghost use Rattle.slice_session.specs.SliceRun.{IsGoingSliced, SliceStep, most_steps, slice_run};
 ghost use Rattle.slice_session.specs.Playing.{sliced};
+ghost use Rattle.std.specs.Result.{is_err};
 
 use crate::commands::{free, malloc, peek, read, step, write};
 use cf_base::{CHUNK, Failed, OutOfMemory};
@@ -71,14 +72,12 @@ impl SliceSession {
         requires open { IsTrue heap.old.is_open }
         requires tied { AreTiedTo self.old (objects heap.old.held) }
         requires formed { IsWellFormed c.now }
-        ensures step { Applies sliced (snapshot (slice_run self.old heap.old) (K.written out.old)) c.now result
-            (snapshot (slice_run self.new heap.new) (K.written out.new)) }
+        ensures step { Applies sliced (snapshot (slice_run self.old heap.old) (K.state out.old).written) c.now result
+            (snapshot (slice_run self.new heap.new) (K.state out.new).written) }
         ensures going { IsGoingSliced (slice_run self.new heap.new) }
         // The ledger counts from 0 in each command.
         ensures steps { meter.new ≤ most_steps heap.old.quantum c.now }
-        ensures grows { K.faults out.old ≤ K.faults out.new }
-        ensures same { OnOk result (K.faults out.new ≡ K.faults out.old) }
-        ensures failed { OnErr result (FailsLast (K.faults out.old) (K.faults out.new) (K.last_failed out.new)) }
+        ensures sink { SinkFailsIf (is_err result) (K.state out.old) (K.state out.new) }
     {
         self.apply_ref(heap, c.as_ref(), out, meter)
     }
@@ -94,13 +93,11 @@ impl SliceSession {
         requires open { IsTrue heap.old.is_open }
         requires tied { AreTiedTo self.old (objects heap.old.held) }
         requires formed { IsWellFormed (owned_command c) }
-        ensures step { Applies sliced (snapshot (slice_run self.old heap.old) (K.written out.old)) (owned_command c.entry) result
-            (snapshot (slice_run self.new heap.new) (K.written out.new)) }
+        ensures step { Applies sliced (snapshot (slice_run self.old heap.old) (K.state out.old).written) (owned_command c.entry) result
+            (snapshot (slice_run self.new heap.new) (K.state out.new).written) }
         ensures going { IsGoingSliced (slice_run self.new heap.new) }
         ensures steps { meter.new ≤ most_steps heap.old.quantum (owned_command c.entry) }
-        ensures grows { K.faults out.old ≤ K.faults out.new }
-        ensures same { OnOk result (K.faults out.new ≡ K.faults out.old) }
-        ensures failed { OnErr result (FailsLast (K.faults out.old) (K.faults out.new) (K.last_failed out.new)) }
+        ensures sink { SinkFailsIf (is_err result) (K.state out.old) (K.state out.new) }
     {
         meter.lap();
         self.answer_ref(heap, c, out, meter.steps())
@@ -118,13 +115,11 @@ impl SliceSession {
         requires open { IsTrue heap.old.is_open }
         requires tied { AreTiedTo self.old (objects heap.old.held) }
         requires formed { IsWellFormed (owned_command c) }
-        ensures step { Applies sliced (snapshot (slice_run self.old heap.old) (K.written out.old)) (owned_command c.entry) result
-            (snapshot (slice_run self.new heap.new) (K.written out.new)) }
+        ensures step { Applies sliced (snapshot (slice_run self.old heap.old) (K.state out.old).written) (owned_command c.entry) result
+            (snapshot (slice_run self.new heap.new) (K.state out.new).written) }
         ensures going { IsGoingSliced (slice_run self.new heap.new) }
         ensures steps { RoseAtMost steps.old steps.new (most_steps heap.old.quantum (owned_command c.entry)) }
-        ensures grows { K.faults out.old ≤ K.faults out.new }
-        ensures same { OnOk result (K.faults out.new ≡ K.faults out.old) }
-        ensures failed { OnErr result (FailsLast (K.faults out.old) (K.faults out.new) (K.last_failed out.new)) }
+        ensures sink { SinkFailsIf (is_err result) (K.state out.old) (K.state out.new) }
     {
         // For its contract: an open heap keeps its rules.
         let _open = heap.is_open();
@@ -155,12 +150,10 @@ fn answer<K: Sink>(
     requires going { IsGoingSliced (slice_run ids.old heap.old) }
     requires formed { IsWellFormed (owned_command c) }
     requires buffer { length buffer.old ≡ 4096 }
-    ensures step { Applies sliced (snapshot (slice_run ids.old heap.old) (K.written out.old)) (owned_command c.entry) result
-        (snapshot (slice_run ids.new heap.new) (K.written out.new)) }
+    ensures step { Applies sliced (snapshot (slice_run ids.old heap.old) (K.state out.old).written) (owned_command c.entry) result
+        (snapshot (slice_run ids.new heap.new) (K.state out.new).written) }
     ensures steps { RoseAtMost steps.old steps.new (most_steps heap.old.quantum (owned_command c.entry)) }
-    ensures grows { K.faults out.old ≤ K.faults out.new }
-    ensures same { OnOk result (K.faults out.new ≡ K.faults out.old) }
-    ensures failed { OnErr result (FailsLast (K.faults out.old) (K.faults out.new) (K.last_failed out.new)) }
+    ensures sink { SinkFailsIf (is_err result) (K.state out.old) (K.state out.new) }
 {
     let outcome = build_reply(ids, heap, c, buffer, line, steps);
     ended(put_line(line, out), outcome)

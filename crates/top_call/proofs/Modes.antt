@@ -1,11 +1,11 @@
 -- For `cf_main` and `run_mode`, which runs the chosen mode: from what that mode did and the cause of its status (`EndsWithCause`) to each clause of
 -- `cf_main`.
-use Rattle.std.proofs.Common.{◌≡◌, ◌≢◌, ℕ, List, Option, Some, None, ap, inl, inr, refl, subst, sym}
+use Rattle.std.proofs.Common.{◌≡◌, ◌≢◌, ℕ, List, Option, Some, None, true, ap, inl, inr, refl, subst, sym}
 use Rattle.clap.specs.Words.{Text}
 use Rattle.cf_base.specs.declared.kind.Kind.TheVariants.{Moving}
 use Rattle.cf_base.specs.declared.status.Status.{Status}
 use Rattle.cf_base.specs.declared.status.Status.TheVariants.{Done, Words, BadScript, ReadFault, WriteFault, OutOfMemory, TooLong, BadImage}
-use Rattle.cf_io.specs.Feeds.{FailsLast}
+use Rattle.cf_io.specs.Feeds.{SinkFailsIf, SourceFailsIf}
 use Rattle.cf_model.specs.State.{HeapState, closed_state}
 use Rattle.cf_session.specs.Apply.{run_at}
 use Rattle.run_model.specs.Sessions.{fresh_session}
@@ -135,6 +135,6 @@ module _ (words : List Text) (choice : Choice) (chosen : Chooses words choice) (
   pub chosen_shows : PrintsAsClaimed words old st new
   chosen_shows is = record { choice = choice; chosen = chosen; shows = shown_at choice.mode choice old st new ends.outcome is }
 
-  pub chosen_whole : HasRightInput words old.source.rest → ¬ FailsLast old.source.faults new.source.faults new.source.failed → ¬ FailsLast old.sink.faults new.sink.faults new.sink.failed → EndsWhole st
+  pub chosen_whole : HasRightInput words old.source.rest → ¬ SourceFailsIf true old.source new.source → ¬ SinkFailsIf true old.sink new.sink → EndsWhole st
   chosen_whole have = (sound choice.mode choice).whole old st new ends
       (subst (λ (c : Choice). IsRightInput c.mode old.source.rest) (one_choice words choice have.choice chosen have.chosen) have.right)

@@ -1,5 +1,5 @@
 //! Mode `quota`: runs a script of sixteen tasks that share the pages of one heap.
-ghost use Rattle.manager_modes.specs.Outcomes.{EndsBeside, sink_seen, source_seen};
+ghost use Rattle.manager_modes.specs.Outcomes.{EndsBeside};
 ghost use Rattle.top_call.specs.TopOutcome.{PlaysQuotas};
 
 use cf_base::Status;
@@ -16,8 +16,8 @@ pub fn play_quotas<S: Source, K: Sink>(
     source: &mut S,
     sink: &mut K,
 ) -> Status
-    ensures { EndsBeside PlaysQuotas (source_seen S.Source source.old) (sink_seen K.Sink sink.old) result
-        (source_seen S.Source source.new) (sink_seen K.Sink sink.new) }
+    ensures { EndsBeside PlaysQuotas (S.state source.old) (K.state sink.old) result
+        (S.state source.new) (K.state sink.new) }
 {
     let Ok(mut mode_handler) = QuotaHandler::start(rt, alloc) else {
         return Status::OutOfMemory;

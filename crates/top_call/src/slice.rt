@@ -1,6 +1,6 @@
 //! Mode `slice`: runs a script on a sliced heap, whose frees leave work to later calls.
 ghost use Rattle.std.specs.Prelude.{◌≤◌};
-ghost use Rattle.manager_modes.specs.Outcomes.{EndsBeside, sink_seen, source_seen};
+ghost use Rattle.manager_modes.specs.Outcomes.{EndsBeside};
 ghost use Rattle.top_call.specs.TopOutcome.{PlaysSlices};
 
 use cf_base::Status;
@@ -20,8 +20,8 @@ pub fn play_slices<S: Source, K: Sink>(
 ) -> Status
     requires least { 1 ≤ quantum }
     requires most { quantum ≤ 16384 }
-    ensures { EndsBeside (PlaysSlices quantum) (source_seen S.Source source.old) (sink_seen K.Sink sink.old) result
-        (source_seen S.Source source.new) (sink_seen K.Sink sink.new) }
+    ensures { EndsBeside (PlaysSlices quantum) (S.state source.old) (K.state sink.old) result
+        (S.state source.new) (K.state sink.new) }
 {
     let Ok(mut mode_handler) = SliceHandler::start(rt, alloc, quantum) else {
         return Status::OutOfMemory;

@@ -1,7 +1,7 @@
 //! `cf_main`, the top call: parses the arguments and runs the chosen mode.
-ghost use Rattle.std.specs.Prelude.{◌≡◌, ◌<◌, ◌≤◌, ◌+◌, ◌⊎◌, is_some, map, string_bytes, ◌≢◌};
-ghost use Rattle.cf_io.specs.Feeds.{FailsLast, last_count};
-ghost use Rattle.script_loop.specs.ScriptOutcome.{MOST_BYTES};
+ghost use Rattle.std.specs.Prelude.{◌≡◌, ◌<◌, ◌≤◌, ◌+◌, ◌⊎◌, is_some, map, string_bytes, true};
+ghost use Rattle.cf_io.specs.Feeds.{SinkFailsIf, SourceFailsIf, last_count};
+ghost use Rattle.script_loop.specs.ScriptOutcome.{MOST_BYTES, is_read_fault, is_write_fault};
 ghost use Rattle.manager_modes.specs.Outcomes.{EndsWithCause, EndsWhole, seen};
 ghost use Rattle.top_call.specs.TopOutcome.{EndsWell, HasRightInput, InMode, PrintsAsClaimed};
 
@@ -51,16 +51,13 @@ pub fn cf_main<H: Manager, S: Source, K: Sink>(
         ≡ map (λ h. is_some h.order) (map (λ m. H.state m) managers.old.items) }
     // If the arguments choose a mode, the input is right for it, and neither device fails, the call returns `Done`
     // or `OutOfMemory`.
-    ensures complete { HasRightInput (map (λ word. string_bytes word) words.now) (S.rest source.old)
-        → ¬ FailsLast (S.faults source.old) (S.faults source.new) (S.last_failed source.new)
-        → ¬ FailsLast (K.faults sink.old) (K.faults sink.new) (K.last_failed sink.new) → EndsWhole result }
+    ensures complete { HasRightInput (map (λ word. string_bytes word) words.now) (S.state source.old).rest
+        → ¬ SourceFailsIf true (S.state source.old) (S.state source.new) → ¬ SinkFailsIf true (K.state sink.old) (K.state sink.new) → EndsWhole result }
     // The causes of each status, over every source and sink.
-    ensures source_same { result ≢ Status.ReadFault → S.faults source.new ≡ S.faults source.old }
-    ensures read_fault { result ≡ Status.ReadFault → FailsLast (S.faults source.old) (S.faults source.new) (S.last_failed source.new) }
-    ensures sink_same { result ≢ Status.WriteFault → K.faults sink.new ≡ K.faults sink.old }
-    ensures write_fault { result ≡ Status.WriteFault → FailsLast (K.faults sink.old) (K.faults sink.new) (K.last_failed sink.new) }
+    ensures source { SourceFailsIf (is_read_fault result) (S.state source.old) (S.state source.new) }
+    ensures sink { SinkFailsIf (is_write_fault result) (K.state sink.old) (K.state sink.new) }
     ensures too_long { result ≡ Status.TooLong
-        → (S.given source.old + MOST_BYTES < S.given source.new) ⊎ (S.given source.new ≡ last_count) }
+        → ((S.state source.old).given + MOST_BYTES < (S.state source.new).given) ⊎ ((S.state source.new).given ≡ last_count) }
 {
     match read_arguments(alloc, words) {
         Ok(choice) => run_mode(rt, alloc, choice, source, sink, managers),

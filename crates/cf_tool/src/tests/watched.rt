@@ -59,15 +59,7 @@ pub struct WatchedSource<'a, S> {
 }
 
 impl<'a, S: Source> Source for WatchedSource<'a, S> {
-    ghost rest = { λ w. S.rest w.source };
-
-    ghost given = { λ w. S.given w.source };
-
-    ghost calls = { λ w. S.calls w.source };
-
-    ghost faults = { λ w. S.faults w.source };
-
-    ghost last_failed = { λ w. S.last_failed w.source };
+    ghost state = { λ w. S.state w.source };
 
     fn take(&mut self, buf: &mut [u8]) -> Result<usize, Failed> {
         self.log.note_call();
@@ -91,11 +83,7 @@ pub struct WatchedSink<'a, K> {
 }
 
 impl<'a, K: Sink> Sink for WatchedSink<'a, K> {
-    ghost written = { λ w. K.written w.sink };
-
-    ghost faults = { λ w. K.faults w.sink };
-
-    ghost last_failed = { λ w. K.last_failed w.sink };
+    ghost state = { λ w. K.state w.sink };
 
     fn put(&mut self, bytes: &[u8]) -> Result<usize, Failed> {
         self.log.note_call();

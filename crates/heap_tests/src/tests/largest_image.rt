@@ -45,15 +45,7 @@ struct Stream {
 }
 
 impl Source for Stream {
-    ghost rest = { λ _. None };
-
-    ghost given = { λ s. s.at };
-
-    ghost calls = { λ s. s.calls };
-
-    ghost faults = { λ _. 0 };
-
-    ghost last_failed = { λ _. false };
+    ghost state = { λ s. record { rest = None; given = s.at; calls = s.calls; faults = 0; last_failed = false } };
 
     // Fills the buffer with the next bytes of the image, or with those that are left, and returns how many.
     fn take(&mut self, buf: &mut [u8]) -> Result<usize, Failed> {
@@ -83,11 +75,7 @@ struct Comparison {
 }
 
 impl Sink for Comparison {
-    ghost written = { λ _. None };
-
-    ghost faults = { λ _. 0 };
-
-    ghost last_failed = { λ _. false };
+    ghost state = { λ _. record { written = None; faults = 0; last_failed = false } };
 
     // Compares the bytes with the next ones of the image, and returns their number.
     fn put(&mut self, bytes: &[u8]) -> Result<usize, Failed>

@@ -1,12 +1,11 @@
-use Rattle.std.proofs.Common.{length, ◌-◌, ◌≡◌, ◌≤◌, take}
-use Rattle.cf_io.specs.Feeds.{appended}
+use Rattle.std.proofs.Common.{length, ◌-◌, ◌≤◌, take}
+use Rattle.cf_io.specs.Feeds.{WritesAll}
 use Rattle.cf_io.proofs.writing.put_all.Given as goal
 
 abbrev pub invariant-rest : goal.invariant-rest
 invariant-rest g l = record {
   within : l.at ≤ length l.bytes;
-  same : g.K.Sink.faults l.sink ≡ g.K.Sink.faults l.initial.sink;
-  wrote : g.K.Sink.written l.sink ≡ appended (g.K.Sink.written l.initial.sink) (take l.at l.bytes);
+  wrote : WritesAll (g.K.Sink.state l.initial.sink) (take l.at l.bytes) (g.K.Sink.state l.sink);
 }
 
 abbrev pub decreases-rest : goal.decreases-rest

@@ -14,4 +14,4 @@ returns-clause-puts g c =
     let held : totals.held ≡ c.usage-usage.result.held = ap (λ (u : Usage). u.held) is in
     rw (asked, taken, held) (puts_line _ _ c.args.lead.now _ _ c.put_line.result
     (three c.args.lead.now _ _ _ _ _ _ _ c.begin_line.ensures c.push_field.ensures.text c.push_field-2.ensures.text c.push_field-3.ensures.text)
-    c.put_line.ensures.puts)
+    c.put_line.ensures)

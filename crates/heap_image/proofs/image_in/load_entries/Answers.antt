@@ -50,7 +50,7 @@ entries-preserved g c =
       counts = mallocs_then c.args.session.now c.entries.session c.read_entry.new.session (nat_lt 0 c.entries.i) inv.counts c.in-Ok.ensures.counts
           ∙ ap (λ b. after_mallocs c.args.session.now b c.read_entry.new.session.ids) (let lt : nat_lt 0 (c.entries.i + 1) ≡ true = grind (arith, nat_tests) in sym lt);
       at = first_of (omega (arith, at), omega (arith, at, c.read_entry.type_inv), grind (arith, at), search rules);
-      same = c.in-Ok.ensures.same (λ e. cc) ∙ inv.same;
+      same = c.in-Ok.ensures.source ∙ inv.same;
     }
 
 pub returns-clause-ends : goal.returns-clause-ends

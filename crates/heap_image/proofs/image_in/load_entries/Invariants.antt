@@ -5,7 +5,7 @@ use Rattle.cf_session.specs.Apply.{run_at}
 use Rattle.heap_image.specs.Decoded.{at_first, entries_decoded}
 use Rattle.heap_image.specs.Entries.{reached_in}
 use Rattle.heap_image.specs.Counts.{after_mallocs}
-use Rattle.heap_image.specs.Feed.{feed_at}
+use Rattle.heap_image.specs.Feed.{feed_of}
 use Rattle.heap_image.specs.Heaps.{live_objects}
 use Rattle.heap_image.specs.Load.{IsLoading}
 use Rattle.heap_image.specs.Stages.{WholeFields}
@@ -15,12 +15,12 @@ abbrev pub invariant-entries : goal.invariant-entries
 invariant-entries g l = record {
   loading : IsLoading (run_at l.session (g.H.Manager.state l.heap));
   profile : (g.H.Manager.state l.heap).profile ≡ (g.H.Manager.state l.initial.heap).profile;
-  passed : WholeFields (entries_decoded (g.H.Manager.state l.initial.heap).profile l.count at_first) (feed_at (g.S.Source.rest l.initial.source) (g.S.Source.given l.initial.source))
-      (feed_at (g.S.Source.rest l.source) (g.S.Source.given l.source))
+  passed : WholeFields (entries_decoded (g.H.Manager.state l.initial.heap).profile l.count at_first) (feed_of (g.S.Source.state l.initial.source))
+      (feed_of (g.S.Source.state l.source))
       (entries_decoded (g.H.Manager.state l.initial.heap).profile (l.count - l.i) (reached_in (run_at l.session (g.H.Manager.state l.heap)) l.next l.at));
   fresh : (id : ℕ) → l.next ≤ id → map.get (live_objects (run_at l.session (g.H.Manager.state l.heap))) id ≡ None;
   count : map.len (live_objects (run_at l.session (g.H.Manager.state l.heap))) ≡ l.i;
   counts : l.session ≡ after_mallocs l.initial.session (nat_lt 0 l.i) l.session.ids;
   at : l.at ≤ 20 + l.i * 2 ^ 33;
-  same : g.S.Source.faults l.source ≡ g.S.Source.faults l.initial.source;
+  same : (g.S.Source.state l.source).faults ≡ (g.S.Source.state l.initial.source).faults;
 }

@@ -1,5 +1,5 @@
 use Rattle.std.proofs.Common.{List, ℕ, get_or, refl, subst}
-use Rattle.heap_image.specs.Feed.{TakesBytes, feed_at}
+use Rattle.heap_image.specs.Feed.{TakesBytes, feed_of}
 use Rattle.heap_image.proofs.FillLemmas.{one_byte}
 use Rattle.heap_image.proofs.image_in.read_end.Goals as goal
 
@@ -8,8 +8,8 @@ returns-in-Whole-clause-end g c = (
   refl,
   (
     get_or c.fill.new.buffer 0 0,
-    subst (λ (b : List ℕ). TakesBytes b (feed_at (g.S.Source.rest c.args.source.now) (g.S.Source.given c.args.source.now))
-        (feed_at (g.S.Source.rest c.fill.new.source) (g.S.Source.given c.fill.new.source))) (one_byte c.fill.new.buffer c.fill.auto.buffer)
+    subst (λ (b : List ℕ). TakesBytes b (feed_of (g.S.Source.state c.args.source.now))
+        (feed_of (g.S.Source.state c.fill.new.source))) (one_byte c.fill.new.buffer c.fill.auto.buffer)
         c.in-Whole.ensures.fills,
   ),
 )

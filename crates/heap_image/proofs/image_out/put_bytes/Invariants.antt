@@ -1,6 +1,6 @@
 use Rattle.std.proofs.Common.{◌-◌, ◌≡◌, ◌≤◌, Some, take}
 use Rattle.std.specs.FinMap as map
-use Rattle.cf_io.specs.Feeds.{appended}
+use Rattle.cf_io.specs.Feeds.{WritesAll}
 use Rattle.page_model.specs.Held.{Placed}
 use Rattle.heap_image.proofs.image_out.put_bytes.Given as goal
 
@@ -8,8 +8,7 @@ abbrev pub invariant-chunks : goal.invariant-chunks
 invariant-chunks g l = record {
   within : l.at ≤ l.n;
   written : (x : Placed) → map.get (g.H.Manager.state l.heap).held l.h.0 ≡ Some x
-      → g.K.Sink.written l.out ≡ appended (g.K.Sink.written l.initial.out) (take l.at x.bytes);
-  same : g.K.Sink.faults l.out ≡ g.K.Sink.faults l.initial.out;
+      → WritesAll (g.K.Sink.state l.initial.out) (take l.at x.bytes) (g.K.Sink.state l.out);
 }
 
 abbrev pub decreases-chunks : goal.decreases-chunks

@@ -4,7 +4,7 @@ use Rattle.run_model.specs.Sessions.{SessionState}
 use Rattle.std.proofs.lemmas.List.{length-take-le}
 use Rattle.cf_session.specs.Apply.{run_at}
 use Rattle.heap_image.specs.Counts.{CountsFree}
-use Rattle.heap_image.specs.Feed.{feed_at}
+use Rattle.heap_image.specs.Feed.{feed_of}
 use Rattle.heap_image.specs.Stages.{TakesFewer}
 use Rattle.heap_image.proofs.FillObjectLemmas.{falls_more, held_in, leads_first, leads_removed, leads_written, part_fits, written_next}
 use Rattle.heap_image.proofs.StageLemmas.{takes_nothing, takes_then}
@@ -43,8 +43,8 @@ returns-in-Cut-clause-fills g c =
     let size : length c.fill.new.buffer ≡ c.min-count.result = c.fill.auto.buffer ∙ length-take-le c.min-count.result c.chunks.buffer
     (omega (arith, c.min-count.ensures, c.requires.buffer, c.chunks.auto.buffer)) in
     let fits : c.chunks.done + c.min-count.result ≤ c.args.n = omega (arith, c.min-count.ensures) in
-    let falls = subst (λ k. TakesFewer k (feed_at (g.S.Source.rest c.chunks.source) (g.S.Source.given c.chunks.source))
-    (feed_at (g.S.Source.rest c.fill.new.source) (g.S.Source.given c.fill.new.source))) size c.in-Cut.ensures.fills.0 in (
+    let falls = subst (λ k. TakesFewer k (feed_of (g.S.Source.state c.chunks.source))
+    (feed_of (g.S.Source.state c.fill.new.source))) size c.in-Cut.ensures.fills.0 in (
       (refl, falls_more so_far.bytes c.args.n c.chunks.done c.min-count.result _ _ _ so_far.count fits so_far.took falls, c.in-Cut.ensures.fills.1),
       leads_removed (run_at c.args.session.now (g.H.Manager.state c.args.heap.now)) (run_at c.chunks.session (g.H.Manager.state c.chunks.heap))
           (run_at c.free_object.new.session (g.H.Manager.state c.free_object.new.heap)) c.args.id _ so_far.leads c.free_object.ensures.frees,
@@ -56,8 +56,8 @@ returns-in-Failed-clause-fills g c =
     let size : length c.fill.new.buffer ≡ c.min-count.result = c.fill.auto.buffer ∙ length-take-le c.min-count.result c.chunks.buffer
     (omega (arith, c.min-count.ensures, c.requires.buffer, c.chunks.auto.buffer)) in
     let fits : c.chunks.done + c.min-count.result ≤ c.args.n = omega (arith, c.min-count.ensures) in
-    let falls = subst (λ k. TakesFewer k (feed_at (g.S.Source.rest c.chunks.source) (g.S.Source.given c.chunks.source))
-    (feed_at (g.S.Source.rest c.fill.new.source) (g.S.Source.given c.fill.new.source))) size c.in-Failed.ensures.fills in (
+    let falls = subst (λ k. TakesFewer k (feed_of (g.S.Source.state c.chunks.source))
+    (feed_of (g.S.Source.state c.fill.new.source))) size c.in-Failed.ensures.fills in (
       falls_more so_far.bytes c.args.n c.chunks.done c.min-count.result _ _ _ so_far.count fits so_far.took falls,
       leads_removed (run_at c.args.session.now (g.H.Manager.state c.args.heap.now)) (run_at c.chunks.session (g.H.Manager.state c.chunks.heap))
           (run_at c.free_object-in-Failed.new.session (g.H.Manager.state c.free_object-in-Failed.new.heap)) c.args.id _ so_far.leads
@@ -93,7 +93,7 @@ chunks-preserved g c =
           (c.write_object_bytes.ensures.writes (so_far.bytes ++ replicate (c.args.n - c.chunks.done) 0) (held_in old mid c.args.id _ so_far.leads))
           (written_next so_far.bytes c.fill.new.buffer c.args.n c.chunks.done c.min-count.result so_far.count size fits);
       counts = c.write_object_bytes.ensures.counts ∙ so_far.counts;
-      same = c.in-Whole.ensures.same (λ e. cc) ∙ so_far.same;
+      same = c.in-Whole.ensures.source ∙ so_far.same;
     }
 
 pub returns-in-Cut-clause-freed : goal.returns-in-Cut-clause-freed

@@ -9,22 +9,20 @@ put_object-requires-clause-live g c = c.requires.tied.ids.named c.ids.id c.in-So
 pub ids-init : goal.ids-init
 ids-init g c = record {
   came = came_first g.W.ObjectWriter.text (run_at c.args.session.now (g.H.Manager.state c.args.heap.now)) _ c.handle-first.ensures.within;
-  same = omega arith;
 }
 
 pub ids-preserved-in_default : goal.ids-preserved-in_default
 ids-preserved-in_default g c = record {
   came = came_past g.W.ObjectWriter.text (run_at c.args.session.now (g.H.Manager.state c.args.heap.now)) _ _ c.ids.id (65535 - c.ids.id) (omega arith)
       (omega arith) c.ids.invariant.came (sym c.in_default.ensures.found);
-  same = c.ids.invariant.same;
 }
 
-pub returns-in-Err-clause-puts : goal.returns-in-Err-clause-puts
-returns-in-Err-clause-puts g c =
+pub returns-in-Err : goal.returns-in-Err
+returns-in-Err g c =
     let named = sym c.in-Some.ensures.found in
     let x = c.requires.tied.ids.named c.ids.id c.in-Some.h.0 named in
     came_short g.W.ObjectWriter.text (run_at c.args.session.now (g.H.Manager.state c.args.heap.now)) _ _ c.ids.id (65535 - c.ids.id) (omega arith)
-    (omega arith) c.ids.invariant.came c.in-Some.h.0 named x.0 x.1 _ c.in-Err.failed (c.in-Err.ensures.puts x.0 x.1)
+    (omega arith) c.ids.invariant.came c.in-Some.h.0 named x.0 x.1 _ c.in-Err.failed (c.in-Err.ensures x.0 x.1)
 
 pub ids-preserved : goal.ids-preserved
 ids-preserved g c =
@@ -32,12 +30,11 @@ ids-preserved g c =
     let x = c.requires.tied.ids.named c.ids.id c.in-Some.h.0 named in
     record {
       came = came_on g.W.ObjectWriter.text (run_at c.args.session.now (g.H.Manager.state c.args.heap.now)) _ _ c.ids.id (65535 - c.ids.id) (omega arith)
-          (omega arith) c.ids.invariant.came c.in-Some.h.0 named x.0 x.1 _ (c.in-Ok.ensures.puts x.0 x.1);
-      same = c.in-Ok.ensures.same ∙ c.ids.invariant.same;
+          (omega arith) c.ids.invariant.came c.in-Some.h.0 named x.0 x.1 _ (c.in-Ok.ensures x.0 x.1);
     }
 
-pub returns-clause-puts : goal.returns-clause-puts
-returns-clause-puts g c = came_last g.W.ObjectWriter.text (run_at c.args.session.now (g.H.Manager.state c.args.heap.now)) _ _
+pub returns : goal.returns
+returns g c = came_last g.W.ObjectWriter.text (run_at c.args.session.now (g.H.Manager.state c.args.heap.now)) _ _
     (let end : c.ids.id ≡ 65536 = omega (arith, c.ids-test.false, c.ids.auto.id-end) in
-    subst (CameTo g.W.ObjectWriter.text (run_at c.args.session.now (g.H.Manager.state c.args.heap.now)) (g.K.Sink.written c.args.out.now)
-    (g.K.Sink.written c.ids.out)) end c.ids.invariant.came)
+    subst (CameTo g.W.ObjectWriter.text (run_at c.args.session.now (g.H.Manager.state c.args.heap.now)) (g.K.Sink.state c.args.out.now)
+    (g.K.Sink.state c.ids.out)) end c.ids.invariant.came)

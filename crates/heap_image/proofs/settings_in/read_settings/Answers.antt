@@ -1,5 +1,5 @@
 use Rattle.std.proofs.Common.{refl, subst, sym, ◌∙◌}
-use Rattle.heap_image.specs.Feed.{feed_at}
+use Rattle.heap_image.specs.Feed.{feed_of}
 use Rattle.heap_image.specs.Stages.{TakesFewer}
 use Rattle.heap_image.specs.declared.fault.LoadFault.TheVariants as fault
 use Rattle.heap_image.proofs.MarkLemmas.{mark_bad, mark_stops, mark_then}
@@ -7,14 +7,14 @@ use Rattle.heap_image.proofs.settings_in.read_settings.Goals as goal
 
 pub returns-in-Cut-clause-settings : goal.returns-in-Cut-clause-settings
 returns-in-Cut-clause-settings g c =
-    let falls = subst (λ n. TakesFewer n (feed_at (g.S.Source.rest c.args.source.now) (g.S.Source.given c.args.source.now))
-    (feed_at (g.S.Source.rest c.fill.new.source) (g.S.Source.given c.fill.new.source))) c.fill.auto.buffer c.in-Cut.ensures.fills.0 in
+    let falls = subst (λ n. TakesFewer n (feed_of (g.S.Source.state c.args.source.now))
+    (feed_of (g.S.Source.state c.fill.new.source))) c.fill.auto.buffer c.in-Cut.ensures.fills.0 in
     mark_stops 16 _ _ (fault.Bad 0) (refl, falls, c.in-Cut.ensures.fills.1)
 
 pub returns-in-Failed-clause-settings : goal.returns-in-Failed-clause-settings
 returns-in-Failed-clause-settings g c =
-    let falls = subst (λ n. TakesFewer n (feed_at (g.S.Source.rest c.args.source.now) (g.S.Source.given c.args.source.now))
-    (feed_at (g.S.Source.rest c.fill.new.source) (g.S.Source.given c.fill.new.source))) c.fill.auto.buffer c.in-Failed.ensures.fills in
+    let falls = subst (λ n. TakesFewer n (feed_of (g.S.Source.state c.args.source.now))
+    (feed_of (g.S.Source.state c.fill.new.source))) c.fill.auto.buffer c.in-Failed.ensures.fills in
     mark_stops 16 _ _ fault.Read falls
 
 pub returns-then-not-is_mark-clause-settings : goal.returns-then-not-is_mark-clause-settings

@@ -3,7 +3,7 @@ use Rattle.heap_image.proofs.CallerLemmas.{some_load}
 use Rattle.image_run.proofs.load.load_script.Goals as goal
 
 pub returns-in-Ok-print_script-clause-ends : goal.returns-in-Ok-print_script-clause-ends
-returns-in-Ok-print_script-clause-ends g c = (c.in-Ok.settings, c.in-Ok.ensures.loads, c.in-Ok-print_script.ensures.puts)
+returns-in-Ok-print_script-clause-ends g c = (c.in-Ok.settings, c.in-Ok.ensures.loads, c.in-Ok-print_script.ensures.wrote)
 
 pub print_script-requires-clause-open : goal.print_script-requires-clause-open
 print_script-requires-clause-open g c =

@@ -7,8 +7,7 @@ use Rattle.image_run.proofs.print.put_writes.Given as goal
 abbrev pub invariant-chunks : goal.invariant-chunks
 invariant-chunks g l = record {
   came : (x : Placed) → map.get (g.H.Manager.state l.heap).held l.h.0 ≡ Some x
-      → WroteTo l.id x.bytes (g.K.Sink.written l.initial.out) (g.K.Sink.written l.out) l.at;
-  same : g.K.Sink.faults l.out ≡ g.K.Sink.faults l.initial.out;
+      → WroteTo l.id x.bytes (g.K.Sink.state l.initial.out) (g.K.Sink.state l.out) l.at;
 }
 
 abbrev pub decreases-chunks : goal.decreases-chunks

@@ -3,7 +3,7 @@ use Rattle.cf_base.specs.declared.kind.Kind.{Kind}
 use Rattle.cf_base.specs.declared.kind.Kind.TheVariants.{Moving}
 use Rattle.cf_session.specs.Apply.{run_at}
 use Rattle.script_loop.specs.WithSettings.{settled}
-use Rattle.image_run.proofs.SaveLemmas.{cut_causes, done_same, ends_cut, ends_early, ends_saved, ends_unopened, never_cut, opened, saved_going, unopened, whole_causes}
+use Rattle.image_run.proofs.SaveLemmas.{cut_causes, done_same, ends_cut, ends_early, ends_saved, ends_unopened, never_faults, opened, saved_going, unopened, whole_causes}
 use Rattle.image_run.proofs.save.save_script.Goals as goal
 
 pub returns-in_default : goal.returns-in_default
@@ -12,14 +12,12 @@ returns-in_default g c =
     record {
       ends = ends_early (settled (run_at c.args.mode_handler.now.mode_handler (g.H.Manager.state c.args.heap.now)) c.args.mode_handler.now.settings)
           (settled (run_at c.play_script.new.mode_handler.mode_handler (g.H.Manager.state c.play_script.new.heap)) c.play_script.new.mode_handler.settings) _ _ _ _ _ _
-          c.play_script.result c.in_default.not-Done by.causes.write_fault by.outcome refl;
+          c.play_script.result c.in_default.not-Done by.causes.sink_fault by.outcome refl;
       promise = ap (λ (p : Kind × Bool). p.1) by.plan;
       causes = record {
         silent = λ is. refl;
-        source_same = by.causes.source_same;
-        read_fault = by.causes.read_fault;
-        sink_same = λ other. refl;
-        write_fault = λ is. absurd (never_cut c.play_script.result by.causes.write_fault is);
+        source_fault = by.causes.source_fault;
+        sink_fault = never_faults c.play_script.result _ _ by.causes.sink_fault;
         too_long = by.causes.too_long;
       };
     }
@@ -59,7 +57,7 @@ returns-in-Ok-clause-ends g c =
     let to = settled (run_at c.play_script.new.mode_handler.mode_handler (g.H.Manager.state c.play_script.new.heap)) c.play_script.new.mode_handler.settings in
     let going = (opened from to _ c.in-Some.settings by.outcome c.in-Done.is c.in-Some.is c.requires.unset).0 in
     let moving : (g.H.Manager.state c.play_script.new.heap).kind ≡ Moving = ap (λ (p : Kind × Bool). p.0) by.plan ∙ c.requires.moving in
-    ends_saved from to _ _ _ _ _ _ c.play_script.result c.in-Done.is by.outcome (saved_going to.state going) c.in-Ok.ensures.puts
+    ends_saved from to _ _ _ _ _ _ c.play_script.result c.in-Done.is by.outcome (saved_going to.state going) c.in-Ok.ensures.wrote
     (record {
       going = going;
       kind = moving;
@@ -72,18 +70,18 @@ returns-in-Err-clause-ends g c =
     let from = settled (run_at c.args.mode_handler.now.mode_handler (g.H.Manager.state c.args.heap.now)) c.args.mode_handler.now.settings in
     let to = settled (run_at c.play_script.new.mode_handler.mode_handler (g.H.Manager.state c.play_script.new.heap)) c.play_script.new.mode_handler.settings in
     let going = (opened from to _ c.in-Some.settings by.outcome c.in-Done.is c.in-Some.is c.requires.unset).0 in
-    ends_cut from to _ _ _ _ _ _ c.play_script.result c.in-Done.is by.outcome (saved_going to.state going) c.in-Err.field-0 c.in-Err.ensures.puts
+    ends_cut from to _ _ _ _ _ _ c.play_script.result c.in-Done.is by.outcome (saved_going to.state going) c.in-Err.ensures.part
 
 pub returns-in_default-settings-clause-causes : goal.returns-in_default-settings-clause-causes
-returns-in_default-settings-clause-causes g c = whole_causes _ _ _ _ (done_same c.play_script.result c.in-Done.is c.play_script.ensures.causes.source_same) refl
+returns-in_default-settings-clause-causes g c = whole_causes _ _ _ _ (done_same c.play_script.result c.in-Done.is _ _ _ c.play_script.ensures.causes.source_fault) refl
 
 pub returns-in-Ok-clause-causes : goal.returns-in-Ok-clause-causes
 returns-in-Ok-clause-causes g c =
-    whole_causes _ _ _ _ (done_same c.play_script.result c.in-Done.is c.play_script.ensures.causes.source_same) c.in-Ok.ensures.same
+    whole_causes _ _ _ _ (done_same c.play_script.result c.in-Done.is _ _ _ c.play_script.ensures.causes.source_fault) c.in-Ok.ensures.same
 
 pub returns-in-Err-clause-causes : goal.returns-in-Err-clause-causes
 returns-in-Err-clause-causes g c =
-    cut_causes _ _ _ _ (done_same c.play_script.result c.in-Done.is c.play_script.ensures.causes.source_same) c.in-Err.ensures.failed
+    cut_causes _ _ _ _ (done_same c.play_script.result c.in-Done.is _ _ _ c.play_script.ensures.causes.source_fault) c.in-Err.ensures.fails
 
 pub returns-in_default-settings-clause-promise : goal.returns-in_default-settings-clause-promise
 returns-in_default-settings-clause-promise g c = ap (λ (p : Kind × Bool). p.1) c.play_script.ensures.plan

@@ -20,4 +20,4 @@ pub returns-in_default-clause-step : goal.returns-in_default-clause-step
 returns-in_default-clause-step g c = shown_line large_heap (λ _ _ _ _ turn. turn) (large_run c.args.ids.now c.args.heap.now) (large_run c.build_reply-outcome.new.ids c.build_reply-outcome.new.heap)
     (owned_command c.args.c)
     c.build_reply-outcome.new.line _ _ c.put_line.result c.build_reply-outcome.result c.ended-in_default.result c.build_reply-outcome.ensures.speaks
-    c.build_reply-outcome.ensures.outcome c.put_line.ensures.puts c.ended-in_default.ensures
+    c.build_reply-outcome.ensures.outcome c.put_line.ensures c.ended-in_default.ensures

@@ -1,7 +1,7 @@
 use Rattle.std.proofs.Common.{◌∙◌, ◌++◌, [], refl, sym, ap, arith}
 use Rattle.std.proofs.lemmas.List.{length-set}
 use Rattle.std.specs.Prelude.{is_some}
-use Rattle.cf_io.proofs.CallerLemmas.{appended_then, led-append, appended_none}
+use Rattle.cf_io.proofs.CallerLemmas.{appended_after, led-append, writes_none}
 use Rattle.cf_io.specs.Feeds.{appended}
 use Rattle.run_model.specs.Texts.{led}
 use Rattle.script_reader.specs.Owned.{owned_command}
@@ -18,8 +18,7 @@ loop-i-init g c = record {
   going = c.requires.going;
   kinds = refl;
   promise = refl;
-  wrote = appended_none _;
-  same = omega arith;
+  wrote = writes_none _;
 }
 
 pub answer_one-requires-clause-going : goal.answer_one-requires-clause-going
@@ -38,7 +37,7 @@ returns-in-Err-clause-step g c =
           c.index_mut.result.now c.answer_one.new.session c.index_mut-in-loop-i.result.now c.answer_one.new.manager
           (so_far.sessions ∙ c.requires.count ∙ sym so_far.managers)
           (omega arith) c.index_mut.ensures.value c.index_mut-in-loop-i.ensures.value so_far.swept answer.0 answer.1,
-      answer.2 ∙ ap (λ w. appended w answer.0) so_far.wrote ∙ appended_then _ (led [] so_far.reply) answer.0,
+      appended_after _ _ _ (led [] so_far.reply) answer.0 so_far.wrote.wrote answer.2,
     )
 
 pub returns-in-Err-clause-going : goal.returns-in-Err-clause-going
@@ -79,9 +78,11 @@ loop-i-preserved g c =
           (omega arith) c.index_mut-in-loop-i.ensures.value c.in-Ok.ensures.kind ∙ so_far.kinds;
       promise = same_seen (λ m. is_some (g.H.Manager.state m).order) c.loop-i.managers.items c.loop-i.i c.index_mut-in-loop-i.result.now
           c.answer_one.new.manager (omega arith) c.index_mut-in-loop-i.ensures.value c.in-Ok.ensures.promise ∙ so_far.promise;
-      wrote = answer.2 ∙ ap (λ w. appended w (led [] answer.0)) so_far.wrote ∙ appended_then _ (led [] so_far.reply) (led [] answer.0)
-          ∙ ap (λ t. appended (g.K.Sink.written c.args.sink.now) t) (sym (led-append [] so_far.reply answer.0));
-      same = c.in-Ok.ensures.same ∙ so_far.same;
+      wrote = record {
+        wrote = appended_after _ _ _ (led [] so_far.reply) (led [] answer.0) so_far.wrote.wrote answer.2
+            ∙ ap (λ t. appended (g.K.Sink.state c.args.sink.now).written t) (sym (led-append [] so_far.reply answer.0));
+        same = c.in-Ok.ensures.sink ∙ so_far.wrote.same;
+      };
     }
 
 pub returns-clause-step : goal.returns-clause-step
@@ -90,5 +91,5 @@ returns-clause-step g c =
       so_far.reply,
       seats_whole (λ m. g.H.Manager.state m) _ c.loop-i.sessions.items c.loop-i.managers.items c.loop-i.i (owned_command c.args.command) so_far.reply
           (so_far.sessions ∙ c.requires.count ∙ sym so_far.managers) (omega arith) so_far.swept,
-      so_far.wrote,
+      so_far.wrote.wrote,
     )

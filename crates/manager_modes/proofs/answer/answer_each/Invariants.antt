@@ -1,7 +1,7 @@
 use Rattle.std.proofs.Common.{◌≡◌, map, length, []}
 use Rattle.std.specs.List.{All}
 use Rattle.std.specs.Prelude.{is_some}
-use Rattle.cf_io.specs.Feeds.{appended}
+use Rattle.cf_io.specs.Feeds.{WritesAll}
 use Rattle.script_reader.specs.Owned.{owned_command}
 use Rattle.run_model.specs.Texts.{Reply, led}
 use Rattle.run_model.specs.Sessions.{IsGoing}
@@ -19,6 +19,5 @@ invariant-loop-i g l = record {
   going : All IsGoing (zipped l.sessions.items (map (λ m. g.H.Manager.state m) l.managers.items));
   kinds : map (λ m. (g.H.Manager.state m).kind) l.managers.items ≡ map (λ m. (g.H.Manager.state m).kind) l.initial.managers.items;
   promise : map (λ m. is_some (g.H.Manager.state m).order) l.managers.items ≡ map (λ m. is_some (g.H.Manager.state m).order) l.initial.managers.items;
-  wrote : g.K.Sink.written l.sink ≡ appended (g.K.Sink.written l.initial.sink) (led [] reply);
-  same : g.K.Sink.faults l.sink ≡ g.K.Sink.faults l.initial.sink;
+  wrote : WritesAll (g.K.Sink.state l.initial.sink) (led [] reply) (g.K.Sink.state l.sink);
 }

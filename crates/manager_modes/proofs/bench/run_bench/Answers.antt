@@ -21,7 +21,7 @@ returns-clause-outcome g c =
     let to = run_at c.apply_commands-tally.new.session (g.H.Manager.state c.apply_commands-tally.new.heap) in
     let shown = shown_figures c.args.count _ _ _ _ applied.replies to applied.ok_are applied.refused_are c.totals-totals.ensures.value c.moves.ensures in
     ends_bench c.put.result c.args.seed c.args.count _ _ _ _ (record { replies = applied.replies; run = run })
-    (subst (λ (f : BenchFigures). IsWritten c.put.result (g.K.Sink.written c.args.sink.now) (led [] (said (bench_line f))) (g.K.Sink.written c.put.new.sink))
+    (subst (λ (f : BenchFigures). IsWritten c.put.result (g.K.Sink.state c.args.sink.now).written (led [] (said (bench_line f))) (g.K.Sink.state c.put.new.sink).written)
     shown c.put.ensures.written)
 
 pub returns-clause-kind : goal.returns-clause-kind

@@ -16,4 +16,4 @@ returns g c = λ managers.
     let by = c.load_script.ensures in
     loaded_ends _ _ _ _ managers c.load_script.result c.in-Ok.session (g.H.Manager.state c.args.heap.now)
     (run_at c.load_script.new.session (g.H.Manager.state c.load_script.new.heap)) c.in-Ok.ensures c.requires
-    by.source_same by.read_fault by.sink_same by.write_fault by.ends
+    by.source by.sink by.ends

@@ -1,12 +1,11 @@
-use Rattle.std.proofs.Common.{◌≡◌, map, take, []}
-use Rattle.cf_io.specs.Feeds.{appended}
+use Rattle.std.proofs.Common.{map, take, []}
+use Rattle.cf_io.specs.Feeds.{WritesAll}
 use Rattle.run_model.specs.Texts.{led}
 use Rattle.manager_modes.specs.SideBySide.{opened_reply}
 use Rattle.manager_modes.proofs.open_reply.put_opened.Given as goal
 
 abbrev pub invariant-loop-i : goal.invariant-loop-i
 invariant-loop-i g l = record {
-  wrote : g.K.Sink.written l.sink ≡ appended (g.K.Sink.written l.initial.sink)
-      (led [] (opened_reply (take l.i (map (λ m. (g.H.Manager.state m).kind) l.managers.items))));
-  same : g.K.Sink.faults l.sink ≡ g.K.Sink.faults l.initial.sink;
+  wrote : WritesAll (g.K.Sink.state l.initial.sink) (led [] (opened_reply (take l.i (map (λ m. (g.H.Manager.state m).kind) l.managers.items))))
+      (g.K.Sink.state l.sink);
 }

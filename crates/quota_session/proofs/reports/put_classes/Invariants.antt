@@ -1,7 +1,7 @@
 use Rattle.std.proofs.Common.{◌≡◌, ◌≤◌, ◌*◌, ◌^◌, []}
 use Rattle.std.specs.Prelude.{sum_by}
 use Rattle.std.specs.List.{range_with_len}
-use Rattle.cf_io.specs.Feeds.{appended}
+use Rattle.cf_io.specs.Feeds.{WritesAll}
 use Rattle.cf_io.specs.Texts.{led}
 use Rattle.frag_report.specs.Classes.{classes_below}
 use Rattle.page_model.specs.Arrangement.{pages_of_class}
@@ -12,8 +12,7 @@ use Rattle.quota_session.proofs.reports.put_classes.Given as goal
 
 abbrev pub invariant-loop-c : goal.invariant-loop-c
 invariant-loop-c g l = record {
-  put : g.K.Sink.written l.out ≡ appended (g.K.Sink.written l.initial.out) (led [] (classes_below (task_paging l.heap.profile) (held_by l.heap l.task) l.c));
-  same : g.K.Sink.faults l.out ≡ g.K.Sink.faults l.initial.out;
+  put : WritesAll (g.K.Sink.state l.initial.out) (led [] (classes_below (task_paging l.heap.profile) (held_by l.heap l.task) l.c)) (g.K.Sink.state l.out);
   used : l.used ≡ sum_by (pages_of_class (task_paging l.heap.profile) (held_by l.heap l.task)) (range_with_len 0 l.c);
   within : l.c ≤ classes (task_paging l.heap.profile);
   few : l.used ≤ l.c * 2 ^ 32;

@@ -14,8 +14,8 @@ returns-in_default-clause-step g c = shown_line quota_tasks (λ _ _ _ _ turn. tu
     (quota_run (Some (profile_of c.args.s.now)) (tasks_session c.build_reply-outcome.new.records) c.build_reply-outcome.new.heap)
     (owned_command c.args.c)
     c.build_reply-outcome.new.line _ _ c.put_line.result c.build_reply-outcome.result c.ended-in_default.result c.build_reply-outcome.ensures.speaks
-    c.build_reply-outcome.ensures.outcome c.put_line.ensures.puts c.ended-in_default.ensures
+    c.build_reply-outcome.ensures.outcome c.put_line.ensures c.ended-in_default.ensures
 
 pub returns-in-Walk-clause-step : goal.returns-in-Walk-clause-step
 returns-in-Walk-clause-step g c = shown_walk (quota_run (Some (profile_of c.args.s.now)) (tasks_session c.args.records.now) c.args.heap.now)
-    (owned_command c.args.c) _ _ c.walk-written.result c.ended.result (ap owned_command c.in-Walk.is) c.walk-written.ensures.puts c.ended.ensures
+    (owned_command c.args.c) _ _ c.walk-written.result c.ended.result (ap owned_command c.in-Walk.is) c.walk-written.ensures c.ended.ensures

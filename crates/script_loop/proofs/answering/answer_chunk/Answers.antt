@@ -1,6 +1,6 @@
 use Rattle.std.proofs.Common.{◌≤◌, ◌∙◌, ◌++◌, [], arith, ap, drop, length, length-drop}
 use Rattle.std.proofs.lemmas.List.{length-take-le, take_rest}
-use Rattle.cf_io.proofs.CallerLemmas.{appended_after, appended_none}
+use Rattle.cf_io.proofs.CallerLemmas.{appended_after, writes_none}
 use Rattle.script_loop.proofs.AnswersSoFar.{answered_fed, answered_next, answered_none, answered_over, cut_next, cut_over}
 use Rattle.script_loop.proofs.answering.answer_chunk.Goals as goal
 
@@ -13,8 +13,7 @@ feeds-init g c = record {
   same_end = c.requires.open;
   fed = omega arith;
   within = omega arith;
-  wrote = appended_none _;
-  same = omega arith;
+  wrote = writes_none _;
 }
 
 pub feeds-preserved : goal.feeds-preserved
@@ -34,8 +33,7 @@ feeds-preserved g c =
       same_end = kept.same_end ∙ ap (λ r. r.ended) took.fed ∙ so_far.same_end;
       fed = omega (arith, kept.fed, count, long, so_far.fed);
       within = omega (arith, some, length-drop c.feeds.at c.args.chunk.now);
-      wrote = appended_after _ _ _ _ _ so_far.wrote kept.wrote;
-      same = c.in-GoesOn.ensures.same (λ e. cc) ∙ so_far.same;
+      wrote = record { wrote = appended_after _ _ _ _ _ so_far.wrote.wrote kept.wrote; same = c.in-GoesOn.ensures.sink ∙ so_far.wrote.same };
     }
 
 pub returns-in-Stopped-clause-goes : goal.returns-in-Stopped-clause-goes
@@ -49,7 +47,7 @@ returns-in-Stopped-clause-goes g c =
           (answered_next g.A.ModeHandler.semantics
           (answered_fed g.A.ModeHandler.semantics _ c.args.chunk.now c.feeds.at c.feed-at.result so_far.answered so_far.same_end took.fed) kept.answered)
           kept.over.1;
-      wrote = appended_after _ _ _ _ _ so_far.wrote kept.wrote;
+      wrote = appended_after _ _ _ _ _ so_far.wrote.wrote kept.wrote;
       over = kept.over;
     }
 
@@ -63,5 +61,5 @@ returns-in-Cut-clause-goes g c =
       cut = cut_over g.A.ModeHandler.semantics c.args.chunk.now _
           (cut_next g.A.ModeHandler.semantics (answered_fed g.A.ModeHandler.semantics _ c.args.chunk.now c.feeds.at c.feed-at.result so_far.answered so_far.same_end
           took.fed) kept.cut);
-      wrote = appended_after _ _ _ _ _ so_far.wrote kept.wrote;
+      wrote = appended_after _ _ _ _ _ so_far.wrote.wrote kept.wrote;
     }

@@ -1,5 +1,5 @@
 use Rattle.std.proofs.Common.{◌≡◌, ◌≤◌, ◌+◌, ◌-◌, List, ℕ, false, length, take}
-use Rattle.cf_io.specs.Feeds.{appended}
+use Rattle.cf_io.specs.Feeds.{WritesAll}
 use Rattle.script_loop.specs.AnswersSoFar.{Answered, IsWaiting}
 use Rattle.script_loop.specs.Progress.{IsReady, playing}
 use Rattle.script_loop.proofs.answering.answer_chunk.Given as goal
@@ -14,8 +14,7 @@ invariant-feeds g l = record {
   same_end : l.reader.ended ≡ false;
   fed : l.reader.fed ≡ l.initial.reader.fed + l.at;
   within : l.at ≤ length l.chunk;
-  wrote : g.K.Sink.written l.sink ≡ appended (g.K.Sink.written l.initial.sink) text;
-  same : g.K.Sink.faults l.sink ≡ g.K.Sink.faults l.initial.sink;
+  wrote : WritesAll (g.K.Sink.state l.initial.sink) text (g.K.Sink.state l.sink);
 }
 
 abbrev pub decreases-feeds : goal.decreases-feeds

@@ -1,6 +1,6 @@
 use Rattle.std.proofs.Common.{◌∙◌, ◌++◌, [], arith, refl}
 use Rattle.run_model.specs.Texts.{led}
-use Rattle.cf_io.proofs.CallerLemmas.{appended_after, appended_none}
+use Rattle.cf_io.proofs.CallerLemmas.{appended_after, writes_none}
 use Rattle.script_loop.proofs.AnswersSoFar.{answered_command, answered_none, answered_open, answered_then, bad_at, cut_command, cut_open, cut_then, named}
 use Rattle.script_loop.proofs.AnswersSoFar.{ready_command, ready_open}
 use Rattle.script_loop.proofs.answering.answer_pending_items.Goals as goal
@@ -13,8 +13,7 @@ replies-init g c = record {
   going = c.requires.going;
   same_end = refl;
   fed = refl;
-  wrote = appended_none _;
-  same = omega arith;
+  wrote = writes_none _;
 }
 
 pub replies-preserved-in-Ok : goal.replies-preserved-in-Ok
@@ -30,8 +29,7 @@ replies-preserved-in-Ok g c =
       going = next.still;
       same_end = next.reads.same_end ∙ so_far.same_end;
       fed = next.reads.same_fed ∙ so_far.fed;
-      wrote = appended_after _ _ _ _ _ so_far.wrote opened.written;
-      same = c.in-Ok.ensures.same (λ e. cc) ∙ so_far.same;
+      wrote = record { wrote = appended_after _ _ _ _ _ so_far.wrote.wrote opened.written; same = c.in-Ok.ensures.sink ∙ so_far.wrote.same };
     }
 
 pub returns-in-Err-Failed-clause-goes : goal.returns-in-Err-Failed-clause-goes
@@ -43,7 +41,7 @@ returns-in-Err-Failed-clause-goes g c =
     record {
       out = so_far.text ++ opened.front;
       cut = cut_then m so_far.answered (cut_open m _ _ c.in-Start.settings _ _ next opened c.in-Err-Failed.ensures.plan);
-      wrote = appended_after _ _ _ _ _ so_far.wrote opened.written;
+      wrote = appended_after _ _ _ _ _ so_far.wrote.wrote opened.written;
     }
 
 pub replies-preserved : goal.replies-preserved
@@ -59,8 +57,7 @@ replies-preserved g c =
       going = next.still;
       same_end = next.reads.same_end ∙ so_far.same_end;
       fed = next.reads.same_fed ∙ so_far.fed;
-      wrote = appended_after _ _ _ _ _ so_far.wrote answer.written;
-      same = c.in-Ok-answer.ensures.same ∙ so_far.same;
+      wrote = record { wrote = appended_after _ _ _ _ _ so_far.wrote.wrote answer.written; same = c.in-Ok-answer.ensures.sink ∙ so_far.wrote.same };
     }
 
 pub returns-in-Err-clause-goes : goal.returns-in-Err-clause-goes
@@ -72,11 +69,11 @@ returns-in-Err-clause-goes g c =
     record {
       out = so_far.text ++ answer.out;
       cut = cut_then m so_far.answered (cut_command m _ _ _ answer.out next answer.turns c.in-Err.ensures.plan);
-      wrote = appended_after _ _ _ _ _ so_far.wrote answer.written;
+      wrote = appended_after _ _ _ _ _ so_far.wrote.wrote answer.written;
     }
 
 pub returns-in-Bad-clause-goes : goal.returns-in-Bad-clause-goes
 returns-in-Bad-clause-goes g c =
     let so_far = c.replies.invariant in
-    named g.A.ModeHandler.semantics _ _ _ _ _ _ _ so_far.text _ so_far.answered so_far.wrote
+    named g.A.ModeHandler.semantics _ _ _ _ _ _ _ so_far.text _ so_far.answered so_far.wrote.wrote
     (bad_at _ _ _ so_far.going (rw c.in-Bad.is at c.read_next.ensures)) c.name_bad.ensures.names

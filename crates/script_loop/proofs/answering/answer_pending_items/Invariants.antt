@@ -1,5 +1,5 @@
 use Rattle.std.proofs.Common.{◌≡◌, List, ℕ, [], false, length, None}
-use Rattle.cf_io.specs.Feeds.{appended}
+use Rattle.cf_io.specs.Feeds.{WritesAll}
 use Rattle.script_loop.specs.AnswersSoFar.{Answered}
 use Rattle.script_loop.specs.Progress.{IsReady, playing}
 use Rattle.script_loop.proofs.answering.answer_pending_items.Given as goal
@@ -13,8 +13,7 @@ invariant-replies g l = record {
   going : l.reader.stopped ≡ None;
   same_end : l.reader.ended ≡ l.initial.reader.ended;
   fed : l.reader.fed ≡ l.initial.reader.fed;
-  wrote : g.K.Sink.written l.sink ≡ appended (g.K.Sink.written l.initial.sink) text;
-  same : g.K.Sink.faults l.sink ≡ g.K.Sink.faults l.initial.sink;
+  wrote : WritesAll (g.K.Sink.state l.initial.sink) text (g.K.Sink.state l.sink);
 }
 
 abbrev pub decreases-replies : goal.decreases-replies

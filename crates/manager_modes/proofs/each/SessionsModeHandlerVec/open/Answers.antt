@@ -28,7 +28,7 @@ returns-clause-opens g c = record {
   reply = _;
   begins = all_begin (λ m. g.H.Manager.state m) c.args.settings.now c.args.self.now.each.items c.args.heap.now.items c.open_all.new.managers.items c.requires
       c.in_ok-open_all.ensures.ok;
-  written = c.in_ok-put_opened.ensures.puts ∙ ap (λ r. appended (g.K.Sink.written c.args.sink.now) (led [] r))
+  written = c.in_ok-put_opened.ensures.wrote ∙ ap (λ r. appended (g.K.Sink.state c.args.sink.now).written (led [] r))
       (shown (λ m. g.H.Manager.state m) c.args.settings.now c.args.self.now.each.items c.args.heap.now.items c.open_all.new.managers.items c.requires
       c.in_ok-open_all.ensures.ok);
 }
@@ -48,7 +48,7 @@ returns-clause-plan g c =
 
 pub returns-in_err-put_opened-clause-opens : goal.returns-in_err-put_opened-clause-opens
 returns-in_err-put_opened-clause-opens g c =
-    let puts = c.in_err-put_opened.ensures.puts in
+    let puts = c.in_err-put_opened.ensures.part in
     let p = err_from_is_err_and c.from_residual-in_err-put_opened.result c.from_residual-in_err-put_opened.ensures.1 in rw (p.1, p.2) record {
       reply = _;
       front = puts.0;

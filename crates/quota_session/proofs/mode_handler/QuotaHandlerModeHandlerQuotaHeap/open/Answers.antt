@@ -10,5 +10,5 @@ pub returns-clause-opens : goal.returns-clause-opens
 returns-clause-opens g c = record {
   reply = _;
   begins = (opened_begins _ _ _ c.requires c.in_ok-open_heap.ensures.opened c.in_ok-open_heap.ensures.kept (profile_of c.args.settings.now) refl, refl);
-  written = c.in_ok-put_all.ensures.puts;
+  written = c.in_ok-put_all.ensures.wrote;
 }

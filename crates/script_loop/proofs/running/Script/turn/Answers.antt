@@ -8,8 +8,8 @@ use Rattle.script_loop.proofs.running.Script.turn.Goals as goal
 pub returns-in-Err-clause-turn : goal.returns-in-Err-clause-turn
 returns-in-Err-clause-turn g c = record {
   progress = refl;
-  rest = c.in-Err.ensures.failed.1;
-  counted = inl (omega (arith, c.in-Err.ensures.failed.2));
+  rest = c.in-Err.ensures.0;
+  counted = inl (omega (arith, c.in-Err.ensures.1));
   left = refl;
 }
 
@@ -18,31 +18,31 @@ returns-then-n-eq0-clause-turn g c =
     let took = c.in-Ok.ensures in (
       record {
         progress = refl;
-        rest = sym (nothing_taken _ _ c.take.new.buf c.in-Ok.n c.if-n-eq0.true took.chunk);
-        counted = given_min _ _ 0 (took.counted ∙ ap (λ n. min (g.S.Source.given c.args.source.now + n) last_count) c.if-n-eq0.true);
+        rest = sym (nothing_taken _ _ c.take.new.buf c.in-Ok.n c.if-n-eq0.true took.0);
+        counted = given_min _ _ 0 (took.1 ∙ ap (λ n. min ((g.S.Source.state c.args.source.now).given + n) last_count) c.if-n-eq0.true);
         left = refl;
       },
-      took.end (omega arith) c.if-n-eq0.true,
+      took.3 (omega arith) c.if-n-eq0.true,
     )
 
 pub returns-in-Stopped-clause-turn : goal.returns-in-Stopped-clause-turn
 returns-in-Stopped-clause-turn g c =
     let took = c.in-Ok.ensures in (
-      chunk_of _ _ c.take.new.buf c.min-within.result c.in-Ok.n (omega (arith, c.min-within.ensures)) (omega (arith, c.min-within.ensures)) took.within (omega arith) took.chunk took.counted,
+      chunk_of _ _ c.take.new.buf c.min-within.result c.in-Ok.n (omega (arith, c.min-within.ensures)) (omega (arith, c.min-within.ensures)) took.2 (omega arith) took.0 took.1,
       c.in-Stopped.ensures.goes,
     )
 
 pub returns-in-Cut-clause-turn : goal.returns-in-Cut-clause-turn
 returns-in-Cut-clause-turn g c =
     let took = c.in-Ok.ensures in (
-      chunk_of _ _ c.take.new.buf c.min-within.result c.in-Ok.n (omega (arith, c.min-within.ensures)) (omega (arith, c.min-within.ensures)) took.within (omega arith) took.chunk took.counted,
+      chunk_of _ _ c.take.new.buf c.min-within.result c.in-Ok.n (omega (arith, c.min-within.ensures)) (omega (arith, c.min-within.ensures)) took.2 (omega arith) took.0 took.1,
       c.in-Cut.ensures.goes,
     )
 
 pub returns-in-LacksMemory-clause-turn : goal.returns-in-LacksMemory-clause-turn
 returns-in-LacksMemory-clause-turn g c =
     let took = c.in-Ok.ensures in (
-      chunk_of _ _ c.take.new.buf c.min-within.result c.in-Ok.n (omega (arith, c.min-within.ensures)) (omega (arith, c.min-within.ensures)) took.within (omega arith) took.chunk took.counted,
+      chunk_of _ _ c.take.new.buf c.min-within.result c.in-Ok.n (omega (arith, c.min-within.ensures)) (omega (arith, c.min-within.ensures)) took.2 (omega arith) took.0 took.1,
       c.in-LacksMemory.ensures.goes,
     )
 
@@ -51,9 +51,9 @@ returns-then-n-self-clause-turn g c =
     let took = c.in-Ok.ensures in
     let below : c.min-within.result < c.in-Ok.n = omega (arith, c.min-within.ensures) in
     record {
-      chunk = chunk_of _ _ c.take.new.buf c.min-within.result c.in-Ok.n (omega (arith, below)) (omega (arith, c.min-within.ensures)) took.within (omega arith) took.chunk took.counted;
-      some = some_past c.take.new.buf c.min-within.result c.in-Ok.n below took.within;
-      full = length-take-le c.min-within.result c.take.new.buf (omega (arith, below, took.within)) ∙ (omega (arith, c.min-within.ensures, below));
+      chunk = chunk_of _ _ c.take.new.buf c.min-within.result c.in-Ok.n (omega (arith, below)) (omega (arith, c.min-within.ensures)) took.2 (omega arith) took.0 took.1;
+      some = some_past c.take.new.buf c.min-within.result c.in-Ok.n below took.2;
+      full = length-take-le c.min-within.result c.take.new.buf (omega (arith, below, took.2)) ∙ (omega (arith, c.min-within.ensures, below));
       went = c.in-GoesOn.ensures.goes;
     }
 
@@ -61,9 +61,9 @@ pub returns-clause-turn : goal.returns-clause-turn
 returns-clause-turn g c =
     let took = c.in-Ok.ensures in
     let whole : c.min-within.result ≡ c.in-Ok.n = omega (arith, c.min-within.ensures) in
-    let long = length-take-le c.in-Ok.n c.take.new.buf took.within in
+    let long = length-take-le c.in-Ok.n c.take.new.buf took.2 in
     record {
-      chunk = whole_chunk _ _ c.take.new.buf c.in-Ok.n (omega arith) took.within (omega arith) took.chunk took.counted;
+      chunk = whole_chunk _ _ c.take.new.buf c.in-Ok.n (omega arith) took.2 (omega arith) took.0 took.1;
       whole = refl;
       some = omega (arith, long);
       left = omega (arith, long);

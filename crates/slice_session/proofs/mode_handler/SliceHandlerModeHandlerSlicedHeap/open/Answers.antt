@@ -11,5 +11,5 @@ pub returns-clause-opens : goal.returns-clause-opens
 returns-clause-opens g c = record {
   reply = _;
   begins = (opened_begins _ _ c.args.settings.now _ c.requires.ids c.in_ok-open_heap.ensures.ok c.in_ok-open_heap.ensures.rules, refl);
-  written = c.in_ok-put_all.ensures.puts;
+  written = c.in_ok-put_all.ensures.wrote;
 }
