@@ -59,12 +59,12 @@ class heap {
 // Lends the heap from its construction to its end, if its status is NPH_OK: then `auto &[x, y] = scope;` names the objects.
 // Each call on the heap returns NPH_LENT meanwhile. Else the status is that of a failed nph_length, nph_place or nph_lend,
 // or NPH_RANGE if an object is shorter than its type. No reference to an object is used after the scope's end.
-template <class... T> class [[nodiscard]] scope {
+template <class... T> class scope {
     static_assert((std::is_trivially_copyable_v<T> && ...), "the library moves objects by copying their bytes");
     static_assert(((alignof(T) <= 8) && ...), "objects are aligned to 8 bytes");
 
   public:
-    explicit scope(heap &lent, object<T>... objects) : heap_(lent.raw()) {
+    [[nodiscard]] explicit scope(heap &lent, object<T>... objects) : heap_(lent.raw()) {
         uint32_t *place = places_;
         (find(objects.handle, sizeof(T), place++), ...);
         if (status_ == NPH_OK) status_ = nph_lend(heap_, &words_);
