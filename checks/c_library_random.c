@@ -158,7 +158,7 @@ int main(int argc, char **argv) {
     nph_heap_totals t;
     state = argc > 2 ? strtoull(argv[2], NULL, 10) : 1;
     all_refused(NPH_CLOSED, 0);
-    CHECK(nph_return(&heap) == NPH_NOT_LENT && nph_open(&heap, PAGES, PAGE, 1, MOST) == NPH_OK);
+    CHECK(nph_open(&heap, PAGES, PAGE, 1, MOST) == NPH_OK && nph_open(&heap, 1, 512, 1, 1) == NPH_OPEN);
     for (long i = 0; i < calls; i++) {
         object *o = &objects[live > 0 ? draw(live) : 0];
         uint32_t kind = draw(9), handle;
@@ -184,6 +184,6 @@ int main(int argc, char **argv) {
     }
     nph_close(&heap);
     all_refused(NPH_CLOSED, 0);
-    CHECK(nph_return(&heap) == NPH_NOT_LENT);
+    CHECK(nph_return(&heap) == NPH_CLOSED);
     return 0;
 }

@@ -102,8 +102,8 @@ static inline const char *nph_text(nph_status status) {
     case NPH_PROXIES: return "proxies out of range";
     case NPH_REGION: return "the region is too large";
     case NPH_NOT_LENT: return "the heap is not lent";
+    default: return "no status";
     }
-    return "no status";
 }
 
 /* In place of a handle in nph_freed and nph_resized: no object moved. */
@@ -187,8 +187,8 @@ NPH_CALL nph_status nph_last_steps(nph_heap *heap, uint64_t *steps);
  * nph_bytes(words, place), aligned to 8, and the program reads and writes them there. Each other call but nph_close
  * returns NPH_LENT until then. libnorphuen_nonmoving.a does not have these calls. */
 
-/* Writes the place of an object: the word in front of its bytes, counted from the first word of the region. The place stays
- * the same until the object is freed, resized, or named as `moved`. Fails with NPH_UNKNOWN. */
+/* Writes the place of an object: the word in front of its bytes, counted from the first word of the region. It stays the
+ * same until the object is freed, resized, or named as `moved`. Fails with NPH_UNKNOWN. */
 NPH_CALL nph_status nph_place(nph_heap *heap, uint32_t handle, uint32_t *place);
 
 /* Lends the heap, and writes the address of the first word of the region. */
@@ -204,13 +204,13 @@ static inline void *nph_bytes(uint64_t *words, uint32_t place) { return words + 
 NPH_CALL_OR_NULL
 static inline nph_status nph_free_or_null(nph_heap *heap, uint32_t handle, nph_freed *freed) {
     nph_freed ignored;
-    return nph_free(heap, handle, freed != NULL ? freed : &ignored);
+    return nph_free(heap, handle, freed ? freed : &ignored);
 }
 
 NPH_CALL_OR_NULL
 static inline nph_status nph_resize_or_null(nph_heap *heap, uint32_t handle, uint32_t bytes, nph_resized *resized) {
     nph_resized ignored;
-    return nph_resize(heap, handle, bytes, resized != NULL ? resized : &ignored);
+    return nph_resize(heap, handle, bytes, resized ? resized : &ignored);
 }
 
 #define nph_free(heap, handle, freed) nph_free_or_null(heap, handle, freed)
