@@ -1,6 +1,6 @@
 // Norphuen for C++17, over include/norphuen.h, whose comments hold here too. A `heap` closes itself, an `object<T>` is the
 // handle of a T, and a `scope` lends the heap while it lives and has a reference to each object asked for. Nothing here
-// throws or allocates. A scope needs libnorphuen.a or libnorphuen_tlsf.a.
+// throws or allocates. A scope needs a library that lends, as the header says.
 #ifndef NORPHUEN_HPP
 #define NORPHUEN_HPP
 

@@ -2,7 +2,7 @@
 //! libraries, and define the three allocator functions that `include/norphuen.h` describes.
 //!
 //! A `Heap` closes itself when it is dropped. It is `Send` and not `Sync`: one caller at a time, in any thread.
-//! `Heap::objects` lends the bytes of objects in place; it needs libnorphuen.a or libnorphuen_tlsf.a.
+//! `Heap::objects` lends the bytes of objects in place; it needs a library that lends, as the header says.
 // A program need not use each call.
 #![allow(dead_code)]
 

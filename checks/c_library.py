@@ -62,6 +62,11 @@ def lends(crate):
     return bool(found)
 
 
+# The names in C of the parameters of an export; a slice is a pointer and a count.
+def c_names(parameters):
+    return [part for word, _, rust in parameters for part in [IN_C.get(word, word)] + ['count'] * (rust[0] == '[')]
+
+
 # The C types of the parameters of an export; a slice of bytes is a pointer to anything and a count.
 def c_parameters(parameters):
     for _, reference, rust in parameters:
@@ -140,9 +145,8 @@ def header(crate):
     if set(declared) - (set() if lends(crate) else LOAN) != {name for name, _, _ in exported}:
         fail(f'the header declares {sorted(declared)}, {crate} exports {sorted(name for name, _, _ in exported)}')
     for name, parameters, _ in exported:
-        wanted = [part for word, _, rust in parameters for part in [IN_C.get(word, word)] + ['count'] * (rust[0] == '[')]
-        if declared[name] != wanted:
-            fail(f'the header declares {name} with {declared[name]}, {crate} with {wanted}')
+        if declared[name] != c_names(parameters):
+            fail(f'the header declares {name} with {declared[name]}, {crate} with {c_names(parameters)}')
     said = re.search(rf'^ \*   lib{crate}\.a (.*?)^ \*(?:   lib|$)', text, re.S | re.M) or fail(f'the header does not describe lib{crate}.a')
     if bool(LOAN - set(re.findall(r'\w+', said[1]))) != lends(crate):
         fail(f'the header does not say whether lib{crate}.a has {sorted(LOAN)}')
@@ -178,7 +182,8 @@ def bindings(crate):
             kinds.append(pointer + (RUST.get(rust) or rust.strip('[]')))
             kinds += ['usize'] if rust[0] == '[' else []
         inside = re.search(rf'fn {name}\((.*?)\)(?: -> (\w+))?;', rust_text)
-        if [part.split(': ')[1] for part in inside[1].split(', ')] != kinds or (inside[2] or '') != result:
+        kinds = [f'{part}: {kind}' for part, kind in zip(c_names(parameters), kinds)]
+        if inside[1].split(', ') != kinds or (inside[2] or '') != result:
             fail(f'bindings/norphuen.rs: {name}({inside[1]}) is not the export, which takes {kinds}')
         wanted = []
         for _, reference, rust in parameters:

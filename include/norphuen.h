@@ -185,7 +185,7 @@ NPH_CALL nph_status nph_last_steps(nph_heap *heap, uint64_t *steps);
 
 /* Pointers to objects. Call nph_place for each object, then nph_lend. Until nph_return the bytes of an object are at
  * nph_bytes(words, place), aligned to 8, and the program reads and writes them there. Each other call but nph_close
- * returns NPH_LENT until then. libnorphuen_nonmoving.a does not have these calls. */
+ * returns NPH_LENT until then. */
 
 /* Writes the place of an object: the word in front of its bytes, counted from the first word of the region. It stays the
  * same until the object is freed, resized, or named as `moved`. Fails with NPH_UNKNOWN. */
