@@ -1,16 +1,19 @@
 --  Norphuen for Ada: the calls of include/norphuen.h, whose comments hold here too. Link one of the libraries, and define
---  the three allocator functions that the header describes.
+--  the three allocator functions that the header describes. Here Freed and Resized are always given. An object's bytes
+--  are reached in place by a variable at its address: X : T with Import, Address => Nph_Bytes (Words, Place).
 
 with Interfaces; use Interfaces;
 with Interfaces.C; use Interfaces.C;
-with System;
+with System; use System;
+with System.Storage_Elements; use System.Storage_Elements;
 
 package Norphuen is
 
-   --  A heap, open or not. Its fields are the library's own. A limited record is never copied.
+   --  A heap: closed, open or lent. Its fields are the library's own. A limited record is never copied.
    type Heap is limited record
       At_Address : System.Address := System.Null_Address;
       Is_Open    : Unsigned_8     := 0;
+      Is_Lent    : Unsigned_8     := 0;
    end record
    with Convention => C;
 
@@ -26,12 +29,14 @@ package Norphuen is
    Kind       : constant Code := 6;
    Closed     : constant Code := 7;
    Is_Open    : constant Code := 8;
+   Lent       : constant Code := 9;
    Memory     : constant Code := 10;
    Pages      : constant Code := 11;
    Page_Bytes : constant Code := 12;
    Bound      : constant Code := 13;
    Proxies    : constant Code := 14;
    Region     : constant Code := 15;
+   Not_Lent   : constant Code := 16;
 
    --  In place of a handle in Freed and Resized: no object moved.
    None : constant Unsigned_32 := Unsigned_32'Last;
@@ -135,5 +140,22 @@ package Norphuen is
    function Nph_Last_Steps
      (H : in out Heap; Steps : in out Unsigned_64) return Code
    with Import, Convention => C, External_Name => "nph_last_steps";
+
+   function Nph_Place
+     (H : in out Heap; Handle : Unsigned_32; Place : in out Unsigned_32)
+      return Code
+   with Import, Convention => C, External_Name => "nph_place";
+
+   function Nph_Lend
+     (H : in out Heap; Words : in out System.Address) return Code
+   with Import, Convention => C, External_Name => "nph_lend";
+
+   function Nph_Return (H : in out Heap) return Code
+   with Import, Convention => C, External_Name => "nph_return";
+
+   --  The address of the bytes of an object, while the heap is lent.
+   function Nph_Bytes
+     (Words : System.Address; Place : Unsigned_32) return System.Address
+   is (Words + 8 * (Storage_Offset (Place) + 1));
 
 end Norphuen;

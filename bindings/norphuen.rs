@@ -2,15 +2,18 @@
 //! libraries, and define the three allocator functions that `include/norphuen.h` describes.
 //!
 //! A `Heap` closes itself when it is dropped. It is `Send` and not `Sync`: one caller at a time, in any thread.
+//! `Heap::objects` lends the bytes of objects in place; it needs a library that lends, as the header says.
+// A program need not use each call.
+#![allow(dead_code)]
 
-/// The number of an object. It stays the same wherever the object moves.
+/// Names an object. It stays the same wherever the object moves.
 #[derive(Clone, Copy, Debug, PartialEq, Eq)]
 pub struct Handle(pub u32);
 
 /// Why a call fails; the header explains each, `Size` under the name NPH_SIZE.
 #[derive(Clone, Copy, Debug, PartialEq, Eq)]
 #[rustfmt::skip]
-pub enum Error { Size, Proxy, Space, Unknown, Range, Kind, Closed, Open, Memory, Pages, PageBytes, Bound, Proxies, Region }
+pub enum Error { Size, Proxy, Space, Unknown, Range, Kind, Closed, Open, Lent, Memory, Pages, PageBytes, Bound, Proxies, Region, NotLent }
 
 /// The header's nph_freed.
 #[repr(C)]
@@ -46,27 +49,38 @@ pub struct Class { pub slot_words: u32, pub slots: u32, pub live: u32, pub pages
 #[rustfmt::skip]
 pub struct HeapTotals { pub asked: u64, pub taken: u64, pub held: u64, pub live: u32, pub used: u32, pub free: u32, pub largest: u32 }
 
-/// An open heap.
+/// The header's nph_heap.
 #[repr(C)]
-pub struct Heap {
+struct RawHeap {
     at: *mut u8,
     is_open: bool,
+    is_lent: bool,
+}
+
+/// An open heap. `objects` lends it, and the next call ends the loan first.
+pub struct Heap {
+    raw: RawHeap,
+    /// `nph_return` if the heap is lent. A pointer, so that a program without `objects` links to every library.
+    end_loan: Option<unsafe extern "C" fn(*mut RawHeap) -> i32>,
 }
 
 #[rustfmt::skip]
 unsafe extern "C" {
-    fn nph_open(heap: *mut Heap, pages: u32, page_bytes: u32, k: u32, proxies: u32) -> i32;
-    fn nph_close(heap: *mut Heap);
-    fn nph_malloc(heap: *mut Heap, bytes: u32, handle: *mut u32) -> i32;
-    fn nph_free(heap: *mut Heap, handle: u32, freed: *mut RawFreed) -> i32;
-    fn nph_resize(heap: *mut Heap, handle: u32, bytes: u32, resized: *mut RawResized) -> i32;
-    fn nph_write(heap: *mut Heap, handle: u32, at: u32, bytes: *const u8, count: usize) -> i32;
-    fn nph_read(heap: *mut Heap, handle: u32, at: u32, bytes: *mut u8, count: usize) -> i32;
-    fn nph_length(heap: *mut Heap, handle: u32, bytes: *mut u32) -> i32;
-    fn nph_has_room(heap: *mut Heap, bytes: u32) -> i32;
-    fn nph_figures(heap: *mut Heap, size_class: u32, figures: *mut Class) -> i32;
-    fn nph_totals(heap: *mut Heap, totals: *mut HeapTotals) -> i32;
-    fn nph_last_steps(heap: *mut Heap, steps: *mut u64) -> i32;
+    fn nph_open(heap: *mut RawHeap, pages: u32, page_bytes: u32, k: u32, proxies: u32) -> i32;
+    fn nph_close(heap: *mut RawHeap);
+    fn nph_malloc(heap: *mut RawHeap, bytes: u32, handle: *mut u32) -> i32;
+    fn nph_free(heap: *mut RawHeap, handle: u32, freed: *mut RawFreed) -> i32;
+    fn nph_resize(heap: *mut RawHeap, handle: u32, bytes: u32, resized: *mut RawResized) -> i32;
+    fn nph_write(heap: *mut RawHeap, handle: u32, at: u32, bytes: *const u8, count: usize) -> i32;
+    fn nph_read(heap: *mut RawHeap, handle: u32, at: u32, bytes: *mut u8, count: usize) -> i32;
+    fn nph_length(heap: *mut RawHeap, handle: u32, bytes: *mut u32) -> i32;
+    fn nph_has_room(heap: *mut RawHeap, bytes: u32) -> i32;
+    fn nph_figures(heap: *mut RawHeap, size_class: u32, figures: *mut Class) -> i32;
+    fn nph_totals(heap: *mut RawHeap, totals: *mut HeapTotals) -> i32;
+    fn nph_last_steps(heap: *mut RawHeap, steps: *mut u64) -> i32;
+    fn nph_place(heap: *mut RawHeap, handle: u32, place: *mut u32) -> i32;
+    fn nph_lend(heap: *mut RawHeap, words: *mut *mut u64) -> i32;
+    fn nph_return(heap: *mut RawHeap) -> i32;
 }
 
 /// The value if the code is that of success, else the error of the code.
@@ -82,12 +96,14 @@ fn result_of<T>(code: i32, value: T) -> Result<T, Error> {
         6 => Kind,
         7 => Closed,
         8 => Open,
+        9 => Lent,
         10 => Memory,
         11 => Pages,
         12 => PageBytes,
         13 => Bound,
         14 => Proxies,
-        _ => Region,
+        15 => Region,
+        _ => NotLent,
     })
 }
 
@@ -96,77 +112,103 @@ fn handle_of(number: u32) -> Option<Handle> {
     (number != u32::MAX).then_some(Handle(number))
 }
 
-// Why the calls are safe: each gets an open heap, references that do not overlap, and slices with their lengths.
+// Why the calls are safe: each gets an open heap, references that do not overlap, and slices with their lengths. The slices of
+// `objects` borrow the heap, so none is left when a later call ends the loan. They belong to objects that differ.
 impl Heap {
+    /// The heap for a call. Ends the loan.
+    fn raw(&mut self) -> *mut RawHeap {
+        if let Some(end_loan) = self.end_loan.take() {
+            unsafe { end_loan(&mut self.raw) };
+        }
+        &mut self.raw
+    }
+
     /// Opens a heap without objects; `page_bytes` are the bytes of a page, `k` bounds the partly full pages of a class.
     pub fn open(pages: u32, page_bytes: u32, k: u32, proxies: u32) -> Result<Heap, Error> {
-        let mut heap = Heap { at: core::ptr::null_mut(), is_open: false };
-        let code = unsafe { nph_open(&mut heap, pages, page_bytes, k, proxies) };
+        let raw = RawHeap { at: core::ptr::null_mut(), is_open: false, is_lent: false };
+        let mut heap = Heap { raw, end_loan: None };
+        let code = unsafe { nph_open(&mut heap.raw, pages, page_bytes, k, proxies) };
         result_of(code, heap)
     }
 
     /// Makes an object of `bytes` zeros.
     pub fn malloc(&mut self, bytes: u32) -> Result<Handle, Error> {
         let mut handle = 0;
-        let code = unsafe { nph_malloc(self, bytes, &mut handle) };
+        let code = unsafe { nph_malloc(self.raw(), bytes, &mut handle) };
         result_of(code, Handle(handle))
     }
 
     /// Frees an object.
     pub fn free(&mut self, object: Handle) -> Result<Freed, Error> {
         let mut raw = RawFreed::default();
-        let code = unsafe { nph_free(self, object.0, &mut raw) };
+        let code = unsafe { nph_free(self.raw(), object.0, &mut raw) };
         result_of(code, Freed { slot_words: raw.slot_words, moved: handle_of(raw.moved) })
     }
 
     /// Changes an object's length to `bytes` bytes: its first bytes stay, and added bytes are zero.
     pub fn resize(&mut self, object: Handle, bytes: u32) -> Result<Resized, Error> {
         let mut raw = RawResized::default();
-        let code = unsafe { nph_resize(self, object.0, bytes, &mut raw) };
+        let code = unsafe { nph_resize(self.raw(), object.0, bytes, &mut raw) };
         let RawResized { old_slot_words, slot_words, moved } = raw;
         result_of(code, Resized { old_slot_words, slot_words, moved: handle_of(moved) })
     }
 
     /// Writes the bytes into an object, from its byte `at` on.
     pub fn write(&mut self, object: Handle, at: u32, bytes: &[u8]) -> Result<(), Error> {
-        result_of(unsafe { nph_write(self, object.0, at, bytes.as_ptr(), bytes.len()) }, ())
+        result_of(unsafe { nph_write(self.raw(), object.0, at, bytes.as_ptr(), bytes.len()) }, ())
     }
 
     /// Fills `bytes` with the bytes of an object, from its byte `at` on.
     pub fn read(&mut self, object: Handle, at: u32, bytes: &mut [u8]) -> Result<(), Error> {
-        result_of(unsafe { nph_read(self, object.0, at, bytes.as_mut_ptr(), bytes.len()) }, ())
+        result_of(unsafe { nph_read(self.raw(), object.0, at, bytes.as_mut_ptr(), bytes.len()) }, ())
+    }
+
+    /// The bytes of N objects, in place. Fails with `Unknown` also if a handle occurs twice.
+    pub fn objects<const N: usize>(&mut self, objects: [Handle; N]) -> Result<[&mut [u8]; N], Error> {
+        let (mut places, mut lengths, mut words) = ([0; N], [0; N], core::ptr::null_mut());
+        for (i, object) in objects.iter().enumerate() {
+            if objects[..i].contains(object) {
+                return Err(Error::Unknown);
+            }
+            lengths[i] = self.length(*object)? as usize;
+            result_of(unsafe { nph_place(self.raw(), object.0, &mut places[i]) }, ())?;
+        }
+        result_of(unsafe { nph_lend(self.raw(), &mut words) }, ())?;
+        self.end_loan = Some(nph_return);
+        let bytes = |i: usize| unsafe { words.add(places[i] as usize + 1) }.cast::<u8>();
+        Ok(core::array::from_fn(|i| unsafe { core::slice::from_raw_parts_mut(bytes(i), lengths[i]) }))
     }
 
     /// The length of an object in bytes.
     pub fn length(&mut self, object: Handle) -> Result<u32, Error> {
         let mut bytes = 0;
-        let code = unsafe { nph_length(self, object.0, &mut bytes) };
+        let code = unsafe { nph_length(self.raw(), object.0, &mut bytes) };
         result_of(code, bytes)
     }
 
     /// Whether `malloc` would succeed now, else its error.
     pub fn has_room(&mut self, bytes: u32) -> Result<(), Error> {
-        result_of(unsafe { nph_has_room(self, bytes) }, ())
+        result_of(unsafe { nph_has_room(self.raw(), bytes) }, ())
     }
 
     /// The figures of a size class, numbered from 0; none if there is no such class.
     pub fn figures(&mut self, size_class: u32) -> Option<Class> {
         let mut figures = Class::default();
-        let code = unsafe { nph_figures(self, size_class, &mut figures) };
+        let code = unsafe { nph_figures(self.raw(), size_class, &mut figures) };
         result_of(code, figures).ok()
     }
 
     /// The figures of the whole heap.
     pub fn totals(&mut self) -> HeapTotals {
         let mut totals = HeapTotals::default();
-        unsafe { nph_totals(self, &mut totals) };
+        unsafe { nph_totals(self.raw(), &mut totals) };
         totals
     }
 
     /// The steps of the last call.
     pub fn last_steps(&mut self) -> u64 {
         let mut steps = 0;
-        unsafe { nph_last_steps(self, &mut steps) };
+        unsafe { nph_last_steps(self.raw(), &mut steps) };
         steps
     }
 }
@@ -176,6 +218,6 @@ unsafe impl Send for Heap {}
 
 impl Drop for Heap {
     fn drop(&mut self) {
-        unsafe { nph_close(self) }
+        unsafe { nph_close(&mut self.raw) }
     }
 }

@@ -2,6 +2,7 @@
 with Ada.Text_IO; use Ada.Text_IO;
 with Interfaces;  use Interfaces;
 with Norphuen;    use Norphuen;
+with System;
 
 procedure Session is
    H       : Heap;
@@ -14,6 +15,8 @@ procedure Session is
    C       : Class;
    Number  : Unsigned_32 := 0;
    Steps   : Unsigned_64 := 0;
+   Places  : array (1 .. 2) of Unsigned_32 := (others => 0);
+   Words   : System.Address := System.Null_Address;
 
    procedure Show (What : String; Result : Code) is
    begin
@@ -36,6 +39,22 @@ begin
    Put_Line (Steps'Image);
    Show ("read", Nph_Read (H, Handles (2), 0, Got, 2));
    Put_Line (Got (0)'Image & Got (1)'Image);
+   Show ("place", Nph_Place (H, Handles (2), Places (1)));
+   Show ("place", Nph_Place (H, Handles (4), Places (2)));
+   Show ("place of a", Nph_Place (H, Handles (1), Number));
+   Show ("lend", Nph_Lend (H, Words));
+   declare
+      X : Bytes (1 .. 176)
+      with Import, Address => Nph_Bytes (Words, Places (1));
+      Y : Bytes (1 .. 176)
+      with Import, Address => Nph_Bytes (Words, Places (2));
+   begin
+      Y := X;
+      Put_Line (Y (1)'Image & Y (2)'Image);
+   end;
+   Show ("free while lent", Nph_Free (H, Handles (2), F));
+   Show ("return", Nph_Return (H));
+   Show ("return", Nph_Return (H));
    Show ("resize", Nph_Resize (H, Handles (2), 20, R));
    Put_Line (R.Old_Slot_Words'Image & R.Slot_Words'Image);
    Show ("length", Nph_Length (H, Handles (2), Number));

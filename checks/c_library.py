@@ -10,10 +10,14 @@ import re, sys
 from pathlib import Path
 
 HEADER, HELD = Path('include/norphuen.h'), Path('crates/held_heap/src')
-NUMBERS = {'u8': 'uint8_t', 'u32': 'uint32_t', 'u64': 'uint64_t', 'i32': 'int32_t', 'usize': 'size_t', 'bool': 'bool', '': 'void'}
-RUST = {'NphHeap': 'Heap', 'NphFreed': 'RawFreed', 'NphResized': 'RawResized', 'NphClass': 'Class', 'NphHeapTotals': 'HeapTotals'}
-ADA = {'u8': 'Unsigned_8', 'u32': 'Unsigned_32', 'u64': 'Unsigned_64', 'bool': 'Unsigned_8',
+NUMBERS = {'u8': 'uint8_t', 'u32': 'uint32_t', 'u64': 'uint64_t', 'i32': 'nph_status', 'usize': 'size_t', 'bool': 'bool', '': 'void'}
+RUST = {'NphHeap': 'RawHeap', 'NphFreed': 'RawFreed', 'NphResized': 'RawResized', 'NphClass': 'Class', 'NphHeapTotals': 'HeapTotals'}
+ADA = {'u8': 'Unsigned_8', 'u32': 'Unsigned_32', 'u64': 'Unsigned_64', 'bool': 'Unsigned_8', '*mut u64': 'System.Address',
        'NphHeap': 'Heap', 'NphFreed': 'Freed', 'NphResized': 'Resized', 'NphClass': 'Class', 'NphHeapTotals': 'Heap_Totals'}
+# The exports that a library may lack, if an object's words are not side by side there.
+LOAN = {'nph_place', 'nph_lend', 'nph_return'}
+# Parameters with another name in C: `class` is a word of C++.
+IN_C = {'out': 'bytes', 'class': 'size_class'}
 
 
 # Ends the check with this text.
@@ -27,8 +31,8 @@ def snake(name):
 
 
 def c_type(rust):
-    """The C type of a number or of a struct of the header."""
-    return NUMBERS.get(rust) or snake(rust)
+    """The C type of a number, a pointer to numbers, or a struct of the header."""
+    return c_type(rust[5:]) + ' *' if rust.startswith('*mut ') else NUMBERS.get(rust) or snake(rust)
 
 
 def exports(crate):
@@ -41,7 +45,7 @@ def exports(crate):
             fail(f'{crate}: {name} is not exported under its name')
         parameters = []
         for part in filter(None, (part.strip() for part in inside.split(','))):
-            match = re.fullmatch(r'(\w+): (&mut |&)?(\[\w+\]|\w+)', part) or fail(f'{crate}: cannot read the parameter {part} of {name}')
+            match = re.fullmatch(r'(\w+): (&mut |&)?(\[\w+\]|\*mut \w+|\w+)', part) or fail(f'{crate}: cannot read the parameter {part} of {name}')
             if match[3] != 'Memory':
                 parameters.append(match.groups())
         found.append((name, parameters, result))
@@ -50,21 +54,38 @@ def exports(crate):
     return found
 
 
-# The C types of the parameters of an export; a slice is a pointer and a count.
+# Whether the library has the calls of a loan: all of them or none.
+def lends(crate):
+    found = LOAN & {name for name, _, _ in exports(crate)}
+    if found not in (set(), LOAN):
+        fail(f'{crate} exports {sorted(found)} alone')
+    return bool(found)
+
+
+# The names in C of the parameters of an export; a slice is a pointer and a count.
+def c_names(parameters):
+    return [part for word, _, rust in parameters for part in [IN_C.get(word, word)] + ['count'] * (rust[0] == '[')]
+
+
+# The C types of the parameters of an export; a slice of bytes is a pointer to anything and a count.
 def c_parameters(parameters):
     for _, reference, rust in parameters:
         const = 'const ' if reference == '&' else ''
-        if rust.startswith('['):
-            yield f'{const}{c_type(rust[1:-1])} *'
+        if rust == '[u8]':
+            yield f'{const}void *'
             yield 'size_t'
         else:
             yield f'{const}{c_type(rust)} *' if reference else c_type(rust)
 
 
-def structs():
-    """Each #[repr(C)] struct: its fields in their order; a ghost field is none."""
+def structs(crate):
+    """Each #[repr(C)] struct that the crate uses: its fields in their order; a ghost field is none."""
+    text = Path('crates', crate, 'src/lib.rt').read_text()
+    module = (re.search(r'use held_heap::(\w+)::(?:NphHeap|\{[^}]*\bNphHeap\b)', text) or fail(f'{crate}: no NphHeap'))[1]
     found = {}
     for file in sorted(HELD.glob('*.rt')):
+        if 'pub struct NphHeap {' in file.read_text() and file.stem != module:
+            continue
         for name, inside in re.findall(r'#\[repr\(C\)\]\n(?:#\[[^\n]*\]\n)*pub struct (\w+) \{\n(.*?)\n\}', file.read_text(), re.S):
             fields = re.findall(r'^ +(?:pub(?:\(crate\))? )?(\w+): ([^,{]+),$', inside, re.M)
             lines = [line for line in inside.split('\n') if line.strip() and 'ghost ' not in line and '//' not in line]
@@ -80,10 +101,27 @@ def twin_field(name, rust):
     return f'    void *{name};' if rust.startswith('*mut ') else f'    {"struct twin_" + rust if rust[0].isupper() else c_type(rust)} {name};'
 
 
+# Ends the check unless these are the fields of the struct. The heap of a library that doesn't lend may lack the last ones.
+def compare_fields(crate, where, name, given, wanted):
+    if given[:len(wanted)] != wanted or len(given) > len(wanted) and (name != 'NphHeap' or lends(crate)):
+        fail(f'{where} has {given}, {name} of {crate} has {wanted}')
+
+
+# The declarations of the header: each name with its parameters' names. A comment is above each, and an attribute in front.
+def declarations(exported, text):
+    found = {}
+    for above, attribute, kind, name, inside in re.findall(r'(.*)\n(NPH_\w+ )?(nph_status|void|int32_t) (nph_\w+)\(([^)]*)\);', text):
+        if not above.endswith('*/') or attribute != {'nph_status': 'NPH_CALL ', 'void': 'NPH_NONNULL '}.get(kind):
+            fail(f'the header declares {name} without a comment above or with another attribute')
+        found[name] = [re.search(r'(\w+)$', part)[1] for part in inside.split(', ')]
+    return found
+
+
 def header(crate):
     """Twins of the structs and static assertions on each of them, each prototype and each code."""
-    text, all_structs = HEADER.read_text(), structs()
+    text, all_structs = HEADER.read_text(), structs(crate)
     print('#include "norphuen.h"\n#include <stdbool.h>\n#define SAME(test, text) _Static_assert(test, text)')
+    print('SAME(sizeof(nph_status) == sizeof(int32_t), "size of a status");')
     exported = exports(crate)
     named = {rust for _, parameters, _ in exported for _, _, rust in parameters if rust[0] == 'N'}
     order = ['Sealed', 'HeapBlock'] + sorted(named)
@@ -94,8 +132,7 @@ def header(crate):
         match = re.search(rf'typedef struct {c} \{{\n(.*?)\n\}} {c};', text, re.S) or fail(f'the header has no {c}')
         written = re.findall(r'(\w+);', match[1])
         inner = ['at' if rust == 'HeapBlock' else field for field, rust in fields]
-        if written != inner:
-            fail(f'{c} has the fields {written}, and {name} {inner}')
+        compare_fields(crate, f'{c} of the header', name, written, inner)
         print(f'SAME(sizeof({c}) == sizeof(struct twin_{name}) && _Alignof({c}) == _Alignof(struct twin_{name}), "size of {c}");')
         for field, (twin, rust) in zip(inner, fields):
             print(f'SAME(offsetof({c}, {field}) == offsetof(struct twin_{name}, {twin}), "offset of {field} in {c}");')
@@ -104,9 +141,15 @@ def header(crate):
     for name, parameters, result in exported:
         kind = f'{c_type(result)} (*)({", ".join(c_parameters(parameters))})'
         print(f'SAME(_Generic(&{name}, {kind}: 1, default: 0), "prototype of {name}");')
-    declared = set(re.findall(r'^\w[\w ]*\b(nph_\w+)\(', text, re.M))
-    if declared != {name for name, _, _ in exported}:
+    declared = declarations(exported, text)
+    if set(declared) - (set() if lends(crate) else LOAN) != {name for name, _, _ in exported}:
         fail(f'the header declares {sorted(declared)}, {crate} exports {sorted(name for name, _, _ in exported)}')
+    for name, parameters, _ in exported:
+        if declared[name] != c_names(parameters):
+            fail(f'the header declares {name} with {declared[name]}, {crate} with {c_names(parameters)}')
+    said = re.search(rf'^ \*   lib{crate}\.a (.*?)^ \*(?:   lib|$)', text, re.S | re.M) or fail(f'the header does not describe lib{crate}.a')
+    if bool(LOAN - set(re.findall(r'\w+', said[1]))) != lends(crate):
+        fail(f'the header does not say whether lib{crate}.a has {sorted(LOAN)}')
     codes = {('NPH_OK' if name == 'DONE' else 'NPH_' + name): value
              for name, value in re.findall(r'pub const (\w+): i32 = (\d+);', (HELD / 'codes.rt').read_text())}
     for name, value in codes.items():
@@ -114,6 +157,9 @@ def header(crate):
     written = set(re.findall(r'^    (NPH_\w+) = ', text, re.M))
     if written != set(codes):
         fail(f'the header has the codes {sorted(written)}, held_heap {sorted(codes)}')
+    texts = dict(re.findall(r'^    case (NPH_\w+): return "(.+)";$', text, re.M))
+    if set(texts) != set(codes) or len(set(texts.values())) != len(codes):
+        fail('nph_text does not return a text of its own for each code')
     none = re.search(r'pub const NONE: u32 = (\w+);', (HELD / 'codes.rt').read_text())[1].replace('_', '')
     print(f'SAME(NPH_NONE == {none}u, "NPH_NONE");')
     print('nph_block (*const takes)(size_t, size_t) = rattle_alloc;')
@@ -124,7 +170,7 @@ def bindings(crate):
     rust_text, ada_text = Path('bindings/norphuen.rs').read_text(), Path('bindings/norphuen.ads').read_text()
     rust_names = re.findall(r'fn (nph_\w+)\(', rust_text.split('unsafe extern "C" {')[1].split('\n}')[0])
     ada_names = re.findall(r'External_Name => "(\w+)"', ada_text)
-    names = [name for name, _, _ in exports(crate)]
+    names = {name for name, _, _ in exports(crate)} | LOAN
     for where, found in (('rs', rust_names), ('ads', ada_names)):
         if sorted(found) != sorted(names):
             fail(f'bindings/norphuen.{where} declares {sorted(found)}, {crate} exports {sorted(names)}')
@@ -136,7 +182,8 @@ def bindings(crate):
             kinds.append(pointer + (RUST.get(rust) or rust.strip('[]')))
             kinds += ['usize'] if rust[0] == '[' else []
         inside = re.search(rf'fn {name}\((.*?)\)(?: -> (\w+))?;', rust_text)
-        if [part.split(': ')[1] for part in inside[1].split(', ')] != kinds or (inside[2] or '') != result:
+        kinds = [f'{part}: {kind}' for part, kind in zip(c_names(parameters), kinds)]
+        if inside[1].split(', ') != kinds or (inside[2] or '') != result:
             fail(f'bindings/norphuen.rs: {name}({inside[1]}) is not the export, which takes {kinds}')
         wanted = []
         for _, reference, rust in parameters:
@@ -150,26 +197,27 @@ def bindings(crate):
             given += [kind.strip()] * len(left.split(','))
         if given != wanted or (profile[2] or '') != ('Code' if result else ''):
             fail(f'bindings/norphuen.ads: {name} takes {given}, the export {wanted}')
-    all_structs = structs()
+    all_structs = structs(crate)
     for name, rust_name in RUST.items():
         fields = [('at' if kind == 'HeapBlock' else field, kind) for field, kind in all_structs[name]]
         inside = re.search(rf'#\[repr\(C\)\]\n(?:#\[[^\n]*\]\n)*(?:pub )?struct {rust_name} \{{(.*?)\}}', rust_text, re.S) or fail(f'bindings/norphuen.rs: no {rust_name}')
         given = re.findall(r'(\w+): ([^,}]+?)\s*(?:,|$)', inside[1].strip())
-        if given != [(field, '*mut u8' if kind == 'HeapBlock' else kind) for field, kind in fields]:
-            fail(f'bindings/norphuen.rs: {rust_name} has {given}, {name} has {fields}')
+        wanted = [(field, '*mut u8' if kind == 'HeapBlock' else kind) for field, kind in fields]
+        compare_fields(crate, f'bindings/norphuen.rs: {rust_name}', name, given, wanted)
         inside = re.search(rf'type {ADA[name]} is (?:limited )?record (.*?) end record with Convention => C;', ada_flat) or fail(f'bindings/norphuen.ads: no {ADA[name]}')
         given = re.findall(r'(\w+) : (\S+) :=', inside[1])
         wanted = [('At_Address' if field == 'at' else field.title(), 'System.Address' if kind == 'HeapBlock' else ADA[kind]) for field, kind in fields]
-        if given != wanted:
-            fail(f'bindings/norphuen.ads: {ADA[name]} has {given}, {name} has {wanted}')
+        compare_fields(crate, f'bindings/norphuen.ads: {ADA[name]}', name, given, wanted)
     codes = re.findall(r'pub const (\w+): i32 = (\d+);', (HELD / 'codes.rt').read_text())
     given = dict(re.findall(r'(\w+) +: constant Code := (\d+);', ada_text))
     ada_code = {'DONE': 'Ok', 'RANGE': 'Bad_Range', 'OPEN': 'Is_Open'}
     if given != {ada_code.get(name, name.title()): value for name, value in codes}:
         fail('bindings/norphuen.ads: the codes differ')
     given = dict((name, value) for value, name in re.findall(r'(\d+) => (\w+),', rust_text.split('fn result_of')[1].split('\n}')[0]))
-    wanted = {name.title().replace('_', ''): value for name, value in codes if name not in ('DONE', 'REGION')}
-    if given != wanted or 'pub enum Error { ' + ', '.join([*sorted(wanted, key=lambda name: int(wanted[name])), 'Region']) + ' }' not in rust_text:
+    last = max(codes, key=lambda code: int(code[1]))[0]
+    wanted = {name.title().replace('_', ''): value for name, value in codes if name not in ('DONE', last)}
+    in_order = [*sorted(wanted, key=lambda name: int(wanted[name])), last.title().replace('_', '')]
+    if given != wanted or 'pub enum Error { ' + ', '.join(in_order) + ' }' not in rust_text:
         fail('bindings/norphuen.rs: the codes differ')
 
 

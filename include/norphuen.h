@@ -1,10 +1,12 @@
-/* Norphuen: a verified memory manager for real-time programs. It is no drop-in malloc: objects are reached by handles.
+/* Norphuen: a verified memory manager for real-time programs. It is no drop-in malloc: a program names an object by its
+ * handle, and asks for the object's address.
  *
  * A heap has one region. nph_open takes all memory, so that later calls take none. Each call on an open heap takes a
  * bounded number of steps (docs/C.md); nph_last_steps returns the steps of the last one. Link one of three libraries:
  *
  *   libnorphuen.a            Compact-fit, moving: a free may move one object, whose handle stays the same
- *   libnorphuen_nonmoving.a  Compact-fit, non-moving: a free may exchange entries of a block table
+ *   libnorphuen_nonmoving.a  Compact-fit, non-moving: a free may exchange entries of a block table. An object's words are
+ *                            not side by side, so this library alone lacks nph_place, nph_lend and nph_return
  *   libnorphuen_tlsf.a       TLSF, for comparison: blocks in place of pages. No object moves or changes its length
  *
  * The program defines the three functions rattle_alloc, rattle_realloc and rattle_dealloc, by which the library takes
@@ -12,13 +14,17 @@
  *
  * A caller has these duties, which the library cannot test:
  *
- *   - A heap begins as NPH_HEAP. Only these calls change it, and only one copy of it is used.
+ *   - A heap begins as NPH_HEAP. Only these calls change it, and it stays in one struct: no call gets a copy.
  *   - Other pointers are not null and point to what their types say. No two pointers of a call overlap.
  *   - A buffer has `count` bytes. With a count of 0 its pointer is not null either.
- *   - One call at a time runs on a heap, in any thread. A lock, a join or a start of a thread orders the calls.
+ *   - While a heap is lent, the program writes only bytes of live objects, and none beyond an object's length. After
+ *     nph_return or nph_close it uses no pointer that it got from the loan.
+ *   - One call at a time runs on a heap, in any thread. A lock, a join or a start of a thread orders the calls, and the
+ *     uses of a lent heap's bytes.
  *
  * The library tests all else: every number may be passed as a setting, handle, length, offset or class, and every call
- * may be made on a heap that is not open. docs/C.md says what is proved.
+ * may be made on a heap that is not open or is lent. No call takes a const heap, since even a read writes the count of
+ * steps. docs/C.md says what is proved, and what becomes of a handle after its object is freed.
  */
 #ifndef NORPHUEN_H
 #define NORPHUEN_H
@@ -27,20 +33,36 @@
 #include <stddef.h>
 #include <stdint.h>
 
+#ifdef __GNUC__
+#define NPH_NONNULL __attribute__((nonnull))
+#define NPH_CALL __attribute__((nonnull, warn_unused_result))
+#define NPH_CALL_OR_NULL __attribute__((nonnull(1), warn_unused_result))
+#else
+#define NPH_NONNULL
+#define NPH_CALL
+#define NPH_CALL_OR_NULL
+#endif
+
 #ifdef __cplusplus
 extern "C" {
 #endif
 
-/* A heap, open or not. Its fields are the library's own. */
+/* A heap: closed, open or lent. Its fields are the library's own. */
 typedef struct nph_heap {
     void *at;
     bool is_open;
+    bool is_lent;
 } nph_heap;
 
-#define NPH_HEAP { NULL, false }
+/* A closed heap, for an initializer or an assignment. A static heap is closed without it too. */
+#ifdef __cplusplus
+#define NPH_HEAP nph_heap{}
+#else
+#define NPH_HEAP (nph_heap){ NULL, false, false }
+#endif
 
 /* What a call returns. A call that does not return NPH_OK writes nothing through its pointers. */
-enum {
+typedef enum nph_status {
     NPH_OK = 0,
     NPH_SIZE = 1,    /* the object with its header needs more words than a page has */
     NPH_PROXY = 2,   /* every proxy is in use */
@@ -50,13 +72,39 @@ enum {
     NPH_KIND = 6,    /* nph_resize: TLSF does not resize */
     NPH_CLOSED = 7,  /* the heap is not open */
     NPH_OPEN = 8,    /* nph_open: the heap is open already */
+    NPH_LENT = 9,    /* the heap is lent: only nph_return and nph_close are allowed */
     NPH_MEMORY = 10, /* nph_open: out of memory; the heap is not open */
     NPH_PAGES = 11,      /* nph_open: pages are 1 to 4096 */
     NPH_PAGE_BYTES = 12, /* nph_open: a page has 512, 1024, and so on by powers of two to 131072 bytes */
     NPH_BOUND = 13,      /* nph_open: k is 1 to 64 */
     NPH_PROXIES = 14,    /* nph_open: proxies are 1 to 65536 */
-    NPH_REGION = 15      /* nph_open: pages * page_bytes is at most 67108864 */
-};
+    NPH_REGION = 15,     /* nph_open: pages * page_bytes is at most 67108864 */
+    NPH_NOT_LENT = 16    /* nph_return: the heap is not lent */
+} nph_status;
+
+/* A text for a message. */
+static inline const char *nph_text(nph_status status) {
+    switch (status) {
+    case NPH_OK: return "ok";
+    case NPH_SIZE: return "larger than a page";
+    case NPH_PROXY: return "every proxy is in use";
+    case NPH_SPACE: return "no space";
+    case NPH_UNKNOWN: return "no such object or class";
+    case NPH_RANGE: return "past the end of the object";
+    case NPH_KIND: return "TLSF does not resize";
+    case NPH_CLOSED: return "the heap is not open";
+    case NPH_OPEN: return "the heap is open already";
+    case NPH_LENT: return "the heap is lent";
+    case NPH_MEMORY: return "out of memory";
+    case NPH_PAGES: return "pages out of range";
+    case NPH_PAGE_BYTES: return "bytes of a page out of range";
+    case NPH_BOUND: return "k out of range";
+    case NPH_PROXIES: return "proxies out of range";
+    case NPH_REGION: return "the region is too large";
+    case NPH_NOT_LENT: return "the heap is not lent";
+    default: return "no status";
+    }
+}
 
 /* In place of a handle in nph_freed and nph_resized: no object moved. */
 #define NPH_NONE UINT32_MAX
@@ -98,42 +146,75 @@ typedef struct nph_heap_totals {
 
 /* Opens a heap without objects, of `pages` pages of `page_bytes` bytes. At most `proxies` objects are live at a time, and each
  * size class has at most `k` partly full pages. With TLSF the pages are one region without classes, and k means nothing. */
-int32_t nph_open(nph_heap *heap, uint32_t pages, uint32_t page_bytes, uint32_t k, uint32_t proxies);
+NPH_CALL nph_status nph_open(nph_heap *heap, uint32_t pages, uint32_t page_bytes, uint32_t k, uint32_t proxies);
 
-/* Returns the memory. The heap is not open afterwards, and may be opened again. May be called twice. */
-void nph_close(nph_heap *heap);
+/* Returns the memory, of a lent heap too. The heap is closed afterwards, and may be opened again. May be called twice. */
+NPH_NONNULL void nph_close(nph_heap *heap);
 
 /* Makes an object of `bytes` bytes, all zero, and writes its handle. Fails with NPH_SIZE, NPH_PROXY or NPH_SPACE. */
-int32_t nph_malloc(nph_heap *heap, uint32_t bytes, uint32_t *handle);
+NPH_CALL nph_status nph_malloc(nph_heap *heap, uint32_t bytes, uint32_t *handle);
 
-/* Frees an object, and writes into `freed` what was freed and moved. Fails with NPH_UNKNOWN. */
-int32_t nph_free(nph_heap *heap, uint32_t handle, nph_freed *freed);
+/* Frees an object, and writes into `freed`, which may be NULL, what was freed and moved. Fails with NPH_UNKNOWN. */
+NPH_CALL nph_status nph_free(nph_heap *heap, uint32_t handle, nph_freed *freed);
 
 /* Changes the length of an object to `bytes` bytes: its first bytes stay, and added bytes are zero. Writes into
- * `resized` the words of its slots and what moved. Fails with NPH_UNKNOWN, NPH_KIND, NPH_SIZE or NPH_SPACE; the object
- * then stays as it was. */
-int32_t nph_resize(nph_heap *heap, uint32_t handle, uint32_t bytes, nph_resized *resized);
+ * `resized`, which may be NULL, the words of its slots and what moved. Fails with NPH_UNKNOWN, NPH_KIND, NPH_SIZE or
+ * NPH_SPACE; the object then stays as it was. */
+NPH_CALL nph_status nph_resize(nph_heap *heap, uint32_t handle, uint32_t bytes, nph_resized *resized);
 
 /* Writes `count` bytes into an object, from its byte `at` on. Fails with NPH_UNKNOWN or NPH_RANGE. */
-int32_t nph_write(nph_heap *heap, uint32_t handle, uint32_t at, const uint8_t *bytes, size_t count);
+NPH_CALL nph_status nph_write(nph_heap *heap, uint32_t handle, uint32_t at, const void *bytes, size_t count);
 
 /* Reads `count` bytes of an object, from its byte `at` on, into `bytes`. Fails with NPH_UNKNOWN or NPH_RANGE. */
-int32_t nph_read(nph_heap *heap, uint32_t handle, uint32_t at, uint8_t *bytes, size_t count);
+NPH_CALL nph_status nph_read(nph_heap *heap, uint32_t handle, uint32_t at, void *bytes, size_t count);
 
 /* Writes the length of an object in bytes. Fails with NPH_UNKNOWN. */
-int32_t nph_length(nph_heap *heap, uint32_t handle, uint32_t *bytes);
+NPH_CALL nph_status nph_length(nph_heap *heap, uint32_t handle, uint32_t *bytes);
 
 /* Returns what nph_malloc of `bytes` bytes would return now. Makes no object. */
-int32_t nph_has_room(nph_heap *heap, uint32_t bytes);
+NPH_CALL nph_status nph_has_room(nph_heap *heap, uint32_t bytes);
 
 /* Writes the figures of a size class; the classes are numbered from 0. Fails with NPH_UNKNOWN if there is no such class. */
-int32_t nph_figures(nph_heap *heap, uint32_t size_class, nph_class *figures);
+NPH_CALL nph_status nph_figures(nph_heap *heap, uint32_t size_class, nph_class *figures);
 
 /* Writes the figures of the whole heap. With TLSF this visits each free block. */
-int32_t nph_totals(nph_heap *heap, nph_heap_totals *totals);
+NPH_CALL nph_status nph_totals(nph_heap *heap, nph_heap_totals *totals);
 
 /* Writes the steps of the last call on the heap. nph_figures and this call take none, and leave the count as it was. */
-int32_t nph_last_steps(nph_heap *heap, uint64_t *steps);
+NPH_CALL nph_status nph_last_steps(nph_heap *heap, uint64_t *steps);
+
+/* Pointers to objects. Call nph_place for each object, then nph_lend. Until nph_return the bytes of an object are at
+ * nph_bytes(words, place), aligned to 8, and the program reads and writes them there. Each other call but nph_close
+ * returns NPH_LENT until then. */
+
+/* Writes the place of an object: the word in front of its bytes, counted from the first word of the region. It stays the
+ * same until the object is freed, resized, or named as `moved`. Fails with NPH_UNKNOWN. */
+NPH_CALL nph_status nph_place(nph_heap *heap, uint32_t handle, uint32_t *place);
+
+/* Lends the heap, and writes the address of the first word of the region. */
+NPH_CALL nph_status nph_lend(nph_heap *heap, uint64_t **words);
+
+/* Ends the loan: the heap is open again, and its objects have the bytes that the program wrote. Fails with NPH_NOT_LENT. */
+NPH_CALL nph_status nph_return(nph_heap *heap);
+
+/* The address of the bytes of an object. */
+static inline void *nph_bytes(uint64_t *words, uint32_t place) { return words + place + 1; }
+
+/* These let `freed` and `resized` be NULL. The library's own functions need a pointer. */
+NPH_CALL_OR_NULL
+static inline nph_status nph_free_or_null(nph_heap *heap, uint32_t handle, nph_freed *freed) {
+    nph_freed ignored;
+    return nph_free(heap, handle, freed ? freed : &ignored);
+}
+
+NPH_CALL_OR_NULL
+static inline nph_status nph_resize_or_null(nph_heap *heap, uint32_t handle, uint32_t bytes, nph_resized *resized) {
+    nph_resized ignored;
+    return nph_resize(heap, handle, bytes, resized ? resized : &ignored);
+}
+
+#define nph_free(heap, handle, freed) nph_free_or_null(heap, handle, freed)
+#define nph_resize(heap, handle, bytes, resized) nph_resize_or_null(heap, handle, bytes, resized)
 
 /* A block of memory at the address `at`. If out of memory, `ok` is false and `at` is any address but null. */
 typedef struct nph_block {

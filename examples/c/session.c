@@ -17,7 +17,7 @@ static void release(const char *name, uint32_t handle) {
     nph_freed freed = {0, NPH_NONE};
     uint64_t steps = 0;
     int code = nph_free(&heap, handle, &freed);
-    nph_last_steps(&heap, &steps);
+    if (nph_last_steps(&heap, &steps) != NPH_OK) steps = 0;
     printf("free %s: %d, %u words, moved %d, %u steps\n", name, code, freed.slot_words, (int)freed.moved, (unsigned)steps);
 }
 
@@ -30,7 +30,8 @@ static void read_two(uint32_t handle) {
 
 int main(void) {
     uint8_t bytes[8] = {0xca, 0xfe, 0, 0, 0, 0, 0, 0};
-    uint32_t length = 0;
+    uint32_t length = 0, place = 0;
+    uint64_t *words = NULL;
     nph_resized resized = {0, 0, NPH_NONE};
     nph_class figures = {0, 0, 0, 0, 0};
     nph_heap_totals totals = {0, 0, 0, 0, 0, 0, 0};
@@ -51,6 +52,15 @@ int main(void) {
     release("a", a);
     release("c", c);
     read_two(b);
+
+    printf("place of b: %d", (int)nph_place(&heap, b, &place));
+    printf(", %u; of a: %d\n", place, (int)nph_place(&heap, a, &place));
+    printf("lend: %d", (int)nph_lend(&heap, &words));
+    uint8_t *in_place = (uint8_t *)nph_bytes(words, place);
+    printf(", %02x%02x; free of b: %d, open: %d, lend: %d\n", in_place[0], in_place[1], (int)nph_free(&heap, b, NULL),
+           (int)nph_open(&heap, 2, 512, 1, 4), (int)nph_lend(&heap, &words));
+    printf("return: %d", (int)nph_return(&heap));
+    printf(" %d, %s\n", (int)nph_return(&heap), nph_text(NPH_NOT_LENT));
 
     printf("length: %d", (int)nph_length(&heap, b, &length));
     printf(", %u; of a: %d\n", length, (int)nph_length(&heap, a, &length));

@@ -1,0 +1,111 @@
+// Norphuen for C++17, over include/norphuen.h, whose comments hold here too. A `heap` closes itself, an `object<T>` is the
+// handle of a T, and a `scope` lends the heap while it lives and has a reference to each object asked for. Nothing here
+// throws or allocates. A scope needs a library that lends, as the header says.
+#ifndef NORPHUEN_HPP
+#define NORPHUEN_HPP
+
+#include "norphuen.h"
+
+#include <cassert>
+#include <cstddef>
+#include <tuple>
+#include <type_traits>
+
+namespace norphuen {
+
+// The handle of an object that holds a T, or of none. An object may hold handles, its own type's too.
+template <class T> struct object {
+    uint32_t handle = NPH_NONE;
+
+    explicit operator bool() const { return handle != NPH_NONE; }
+    friend bool operator==(object a, object b) { return a.handle == b.handle; }
+    friend bool operator!=(object a, object b) { return a.handle != b.handle; }
+};
+
+// A heap, closed at first. It can't be copied.
+class heap {
+  public:
+    heap() = default;
+    heap(const heap &) = delete;
+    heap &operator=(const heap &) = delete;
+    ~heap() { nph_close(&raw_); }
+
+    // As nph_open.
+    [[nodiscard]] nph_status open(uint32_t pages, uint32_t page_bytes, uint32_t k, uint32_t proxies) {
+        return nph_open(&raw_, pages, page_bytes, k, proxies);
+    }
+
+    // Makes an object that holds a copy of `value`, as nph_malloc and nph_write.
+    template <class T> [[nodiscard]] nph_status make(object<T> &made, const T &value) {
+        static_assert(std::is_trivially_copyable_v<T>, "the library moves objects by copying their bytes");
+        nph_status status = nph_malloc(&raw_, sizeof(T), &made.handle);
+        return status == NPH_OK ? nph_write(&raw_, made.handle, 0, &value, sizeof(T)) : status;
+    }
+
+    // Frees the object, whose handle is none afterwards, as nph_free.
+    template <class T> [[nodiscard]] nph_status drop(object<T> &dropped, nph_freed *freed = nullptr) {
+        nph_status status = nph_free(&raw_, dropped.handle, freed);
+        if (status == NPH_OK) dropped = {};
+        return status;
+    }
+
+    // For the other calls of norphuen.h.
+    nph_heap *raw() { return &raw_; }
+
+  private:
+    nph_heap raw_ = NPH_HEAP;
+};
+
+// Lends the heap from its construction to its end, if its status is NPH_OK: then `auto &[x, y] = scope;` names the objects.
+// Each call on the heap returns NPH_LENT meanwhile. Else the status is that of a failed nph_length, nph_place or nph_lend,
+// or NPH_RANGE if an object is shorter than its type. No reference to an object is used after the scope's end.
+template <class... T> class scope {
+    static_assert((std::is_trivially_copyable_v<T> && ...), "the library moves objects by copying their bytes");
+    static_assert(((alignof(T) <= 8) && ...), "objects are aligned to 8 bytes");
+
+  public:
+    [[nodiscard]] explicit scope(heap &lent, object<T>... objects) : heap_(lent.raw()) {
+        uint32_t *place = places_;
+        (find(objects.handle, sizeof(T), place++), ...);
+        if (status_ == NPH_OK) status_ = nph_lend(heap_, &words_);
+    }
+    scope(const scope &) = delete;
+    scope &operator=(const scope &) = delete;
+    ~scope() {
+        nph_status returned = status_ == NPH_OK ? nph_return(heap_) : NPH_OK;
+        assert(returned == NPH_OK);
+        (void)returned;
+    }
+
+    nph_status status() const { return status_; }
+
+    // The object number I. A reference would outlive a temporary scope, so that has none.
+    template <size_t I> auto &get() & {
+        assert(status_ == NPH_OK);
+        return *static_cast<std::tuple_element_t<I, std::tuple<T...>> *>(nph_bytes(words_, places_[I]));
+    }
+    template <size_t I> auto &get() && = delete;
+
+  private:
+    // Finds the place of an object of at least `bytes` bytes, if nothing failed before.
+    void find(uint32_t handle, size_t bytes, uint32_t *place) {
+        uint32_t length = 0;
+        if (status_ == NPH_OK) status_ = nph_length(heap_, handle, &length);
+        if (status_ == NPH_OK && length < bytes) status_ = NPH_RANGE;
+        if (status_ == NPH_OK) status_ = nph_place(heap_, handle, place);
+    }
+
+    nph_heap *heap_;
+    nph_status status_ = NPH_OK;
+    uint32_t places_[sizeof...(T)] = {};
+    uint64_t *words_ = nullptr;
+};
+
+} // namespace norphuen
+
+template <class... T> struct std::tuple_size<norphuen::scope<T...>> : std::integral_constant<size_t, sizeof...(T)> {};
+template <size_t I, class... T> struct std::tuple_element<I, norphuen::scope<T...>> {
+    using type = std::tuple_element_t<I, std::tuple<T...>> &;
+};
+
+#endif

@@ -1,0 +1,48 @@
+// What g++ and clang++ must refuse with -Wall -Wextra -Werror. A line `misuse N: TEXT` stands before each; the message has
+// TEXT. Without MISUSE all compiles.
+#include "../bindings/norphuen.hpp"
+
+using norphuen::object;
+using norphuen::scope;
+
+struct alignas(16) wide { long a, b; };
+struct text { ~text() {} };
+struct node { int key; object<node> next; };
+
+int main() {
+    norphuen::heap heap;
+    object<int> a;
+    object<long> b;
+    object<node> n;
+    if (heap.open(64, 4096, 1, 1000) != NPH_OK || heap.make(a, 1) != NPH_OK || heap.make(b, 2L) != NPH_OK) return 1;
+    if (heap.make(n, {1, {}}) != NPH_OK) return 1;
+    scope s(heap, a, b);
+    if (s.status() != NPH_OK) return 1;
+    auto &[x, y] = s;
+    x = static_cast<int>(y);
+#if MISUSE == 1 // misuse 1: deleted
+    int &z = scope(heap, a).get<0>();
+    z = 1;
+#elif MISUSE == 2 // misuse 2: deleted
+    auto [p, q] = scope(heap, a, b);
+    p = static_cast<int>(q);
+#elif MISUSE == 3 // misuse 3: deleted
+    norphuen::heap copy = heap;
+#elif MISUSE == 4 // misuse 4: deleted
+    norphuen::heap moved = static_cast<norphuen::heap &&>(heap);
+#elif MISUSE == 5 // misuse 5: deleted
+    auto copy = s;
+#elif MISUSE == 6 // misuse 6: the library moves objects by copying their bytes
+    object<text> t;
+    if (heap.make(t, text()) != NPH_OK) return 1;
+#elif MISUSE == 7 // misuse 7: objects are aligned to 8 bytes
+    scope t(heap, object<wide>{});
+#elif MISUSE == 8 // misuse 8: object<
+    a = b;
+#elif MISUSE == 9 // misuse 9: unused-
+    heap.drop(a);
+#elif MISUSE == 10 // misuse 10: unused-
+    scope<int>(heap, a);
+#endif
+    return x == 2 ? 0 : 1;
+}

@@ -1,0 +1,189 @@
+/* Drawn calls beside a plain model: each object's handle, bytes and place. Bytes are written and read by copies and in place,
+ * two objects at once. Handles of freed objects and drawn numbers must be refused, a lent heap refuses each call, and no call
+ * that fails writes anything. Ends with 1 at the first difference. Arguments: the number of calls, and the seed. */
+#include "norphuen.h"
+#include <stdio.h>
+#include <stdlib.h>
+#include <string.h>
+
+enum { MOST = 200, PAGES = 32, PAGE = 2048, STALE = 64 };
+
+typedef struct object {
+    uint32_t handle;
+    uint32_t length;
+    uint32_t place;
+    uint8_t bytes[PAGE];
+} object;
+
+static nph_heap heap = NPH_HEAP;
+static object objects[MOST];
+static uint32_t live, stale[STALE], freed;
+static uint64_t state, asked, moves, loans, refused, full;
+
+#define CHECK(x) do { if (!(x)) { printf("line %d: not %s\n", __LINE__, #x); exit(1); } } while (0)
+
+/* A drawn number below `n`. */
+static uint32_t draw(uint32_t n) {
+    state = state * 6364136223846793005u + 1442695040888963407u;
+    return (uint32_t)(state >> 33) % n;
+}
+
+static uint32_t draw_length(void) { return draw(draw(8) ? 120 : 1800); }
+
+/* The object with this handle, NULL if none has it. */
+static object *with(uint32_t handle) {
+    for (uint32_t i = 0; i < live; i++)
+        if (objects[i].handle == handle) return &objects[i];
+    return NULL;
+}
+
+/* The place of an object that was made or moved. */
+static void find_place(object *o) { CHECK(nph_place(&heap, o->handle, &o->place) == NPH_OK); }
+
+/* Notes that an object moved, if one did. */
+static void note_move(uint32_t handle) {
+    if (handle == NPH_NONE) return;
+    object *o = with(handle);
+    CHECK(o != NULL);
+    find_place(o);
+    moves++;
+}
+
+static void make(void) {
+    object *o = &objects[live];
+    uint32_t length = draw_length(), handle = 77;
+    nph_status room = nph_has_room(&heap, length), status = nph_malloc(&heap, length, &handle);
+    CHECK(room == status && (status == NPH_OK || status == NPH_SPACE));
+    if (status != NPH_OK) { CHECK(handle == 77); full++; return; }
+    CHECK(with(handle) == NULL && handle != NPH_NONE);
+    o->handle = handle;
+    o->length = length;
+    memset(o->bytes, 0, PAGE);
+    find_place(o);
+    asked += length;
+    live++;
+}
+
+static void release(object *o) {
+    nph_freed f = {0, NPH_NONE};
+    CHECK(nph_free(&heap, o->handle, draw(2) ? &f : NULL) == NPH_OK);
+    stale[freed++ % STALE] = o->handle;
+    asked -= o->length;
+    uint32_t moved = f.moved;
+    *o = objects[--live];
+    if (f.slot_words > 0) { note_move(moved); return; }
+    for (uint32_t i = 0; i < live; i++) find_place(&objects[i]); /* it is not known what moved */
+}
+
+static void resize(object *o) {
+    uint32_t length = draw_length();
+    nph_resized r = {0, 0, 77};
+    nph_status status = nph_resize(&heap, o->handle, length, &r);
+    if (status != NPH_OK) { CHECK((status == NPH_SPACE || status == NPH_KIND) && r.moved == 77); full++; return; }
+    if (length < o->length) memset(o->bytes + length, 0, PAGE - length);
+    asked = asked - o->length + length;
+    o->length = length;
+    find_place(o);
+    note_move(r.moved);
+}
+
+/* Writes and reads a range by copies, which may pass the end of the object. */
+static void copy(object *o) {
+    uint8_t bytes[16], back[16];
+    uint32_t n = draw(17), at = draw(o->length + 1);
+    for (uint32_t i = 0; i < n; i++) bytes[i] = (uint8_t)draw(256);
+    memset(back, 7, 16);
+    nph_status wanted = n <= o->length - at ? NPH_OK : NPH_RANGE;
+    CHECK(nph_write(&heap, o->handle, at, bytes, n) == wanted && nph_read(&heap, o->handle, at, back, n) == wanted);
+    if (wanted == NPH_OK) memcpy(o->bytes + at, bytes, n);
+    for (uint32_t i = 0; i < 16; i++) CHECK(back[i] == (wanted == NPH_OK && i < n ? bytes[i] : 7));
+}
+
+/* Each call on a heap that is not open returns this code, and writes nothing. */
+static void all_refused(nph_status code, uint32_t handle) {
+    uint32_t number = 77;
+    uint64_t steps = 77, *words = NULL;
+    uint8_t byte = 77;
+    nph_freed f = {77, 77};
+    nph_resized r = {77, 77, 77};
+    nph_class c = {77, 77, 77, 77, 77};
+    nph_heap_totals t = {77, 77, 77, 77, 77, 77, 77};
+    CHECK(nph_malloc(&heap, 1, &number) == code && nph_free(&heap, handle, &f) == code && nph_free(&heap, handle, NULL) == code);
+    CHECK(nph_resize(&heap, handle, 1, &r) == code && nph_resize(&heap, handle, 1, NULL) == code);
+    CHECK(nph_read(&heap, handle, 0, &byte, 1) == code && nph_write(&heap, handle, 0, &byte, 1) == code);
+    CHECK(nph_length(&heap, handle, &number) == code && nph_has_room(&heap, 1) == code && nph_figures(&heap, 0, &c) == code);
+    CHECK(nph_totals(&heap, &t) == code && nph_last_steps(&heap, &steps) == code && nph_place(&heap, handle, &number) == code);
+    CHECK(nph_lend(&heap, &words) == code);
+    CHECK(number == 77 && steps == 77 && words == NULL && byte == 77 && f.slot_words == 77 && f.moved == 77);
+    CHECK(r.old_slot_words == 77 && r.moved == 77 && c.slot_words == 77 && c.not_full == 77 && t.asked == 77 && t.largest == 77);
+}
+
+/* Changes two objects in place, which may be one. */
+static void in_place(object *o, object *p) {
+    uint64_t *words;
+    uint32_t place;
+    CHECK(nph_place(&heap, o->handle, &place) == NPH_OK && place == o->place);
+    CHECK(nph_place(&heap, p->handle, &place) == NPH_OK && place == p->place);
+    CHECK(nph_lend(&heap, &words) == NPH_OK);
+    uint8_t *x = (uint8_t *)nph_bytes(words, o->place), *y = (uint8_t *)nph_bytes(words, p->place);
+    CHECK((uintptr_t)x % 8 == 0 && memcmp(x, o->bytes, o->length) == 0 && memcmp(y, p->bytes, p->length) == 0);
+    for (int i = 0; i < 8; i++) {
+        uint8_t byte = (uint8_t)draw(256);
+        uint32_t at = o->length > 0 ? draw(o->length) : 0, other = p->length > 0 ? draw(p->length) : 0;
+        if (o->length > 0) x[at] = o->bytes[at] = byte;
+        if (p->length > 0) y[other] = p->bytes[other] = (uint8_t)~byte;
+    }
+    if (loans++ % 64 == 0) all_refused(NPH_LENT, o->handle);
+    if (loans % 64 == 1) CHECK(nph_open(&heap, 1, 512, 1, 1) == NPH_LENT);
+    CHECK(nph_return(&heap) == NPH_OK && nph_return(&heap) == NPH_NOT_LENT);
+    uint8_t back[PAGE];
+    CHECK(nph_read(&heap, o->handle, 0, back, o->length) == NPH_OK && memcmp(back, o->bytes, o->length) == 0);
+}
+
+/* No call takes a handle that no live object has. */
+static void refuse(uint32_t handle) {
+    uint32_t number = 77;
+    uint8_t byte = 77;
+    nph_freed f = {77, 77};
+    CHECK(nph_free(&heap, handle, &f) == NPH_UNKNOWN && nph_free(&heap, handle, NULL) == NPH_UNKNOWN);
+    CHECK(nph_resize(&heap, handle, 1, NULL) == NPH_UNKNOWN || nph_resize(&heap, handle, 1, NULL) == NPH_KIND);
+    CHECK(nph_read(&heap, handle, 0, &byte, 1) == NPH_UNKNOWN && nph_write(&heap, handle, 0, &byte, 1) == NPH_UNKNOWN);
+    CHECK(nph_length(&heap, handle, &number) == NPH_UNKNOWN && nph_place(&heap, handle, &number) == NPH_UNKNOWN);
+    CHECK(number == 77 && byte == 77 && f.slot_words == 77 && f.moved == 77);
+    refused++;
+}
+
+int main(int argc, char **argv) {
+    long calls = argc > 1 ? atol(argv[1]) : 100000;
+    nph_heap_totals t;
+    state = argc > 2 ? strtoull(argv[2], NULL, 10) : 1;
+    all_refused(NPH_CLOSED, 0);
+    CHECK(nph_open(&heap, PAGES, PAGE, 1, MOST) == NPH_OK && nph_open(&heap, 1, 512, 1, 1) == NPH_OPEN);
+    for (long i = 0; i < calls; i++) {
+        object *o = &objects[live > 0 ? draw(live) : 0];
+        uint32_t kind = draw(9), handle;
+        switch (live == 0 ? 0 : kind) {
+        case 0: if (live < MOST) make(); break;
+        case 1: release(o); break;
+        case 2: resize(o); break;
+        case 3: case 4: copy(o); break;
+        case 5: case 6: in_place(o, &objects[draw(live)]); break;
+        default:
+            if (freed == 0) break;
+            handle = kind == 7 ? stale[draw(freed < STALE ? freed : STALE)] : (uint32_t)(state >> 16);
+            if (kind == 7) CHECK(with(handle) == NULL); /* numbers are used again, handles are not so soon */
+            if (with(handle) == NULL) refuse(handle);
+        }
+        if (i % 1024 == 0) CHECK(nph_totals(&heap, &t) == NPH_OK && t.live == live && t.asked == asked);
+    }
+    printf("%ld calls: %lu moves, %lu loans, %lu handles refused, %lu times no room\n", calls, (unsigned long)moves,
+           (unsigned long)loans, (unsigned long)refused, (unsigned long)full);
+    if (calls % 2 == 0) {
+        uint64_t *words;
+        CHECK(nph_lend(&heap, &words) == NPH_OK); /* a lent heap is closed too */
+    }
+    nph_close(&heap);
+    all_refused(NPH_CLOSED, 0);
+    CHECK(nph_return(&heap) == NPH_CLOSED);
+    return 0;
+}
