@@ -34,13 +34,16 @@ returns-clause-taken c =
       page = c.in_ok-page.page;
       slot = 0;
       address = c.address_of.ensures;
-      taken = inr (refl, record {
-        none = c.requires.none;
-        front = c.in_ok-page.ensures.taken;
-        maps = rw (← c.slots-slots.ensures.value) (written_twice _ _ _ _ _ _ _ c.renew.ensures.value inside c.set.ensures.value);
-        filled = rw (← c.slots-slots.ensures.value) c.join_with_one.ensures.filled;
-        not_filled = rw (← c.slots-slots.ensures.value) c.join_with_one.ensures.not_filled;
-      });
+      taken = inr (
+        refl,
+        record {
+          none = c.requires.none;
+          front = c.in_ok-page.ensures.taken;
+          maps = rw (← c.slots-slots.ensures.value) (written_twice _ _ _ _ _ _ _ c.renew.ensures.value inside c.set.ensures.value);
+          filled = rw (← c.slots-slots.ensures.value) c.join_with_one.ensures.filled;
+          not_filled = rw (← c.slots-slots.ensures.value) c.join_with_one.ensures.not_filled;
+        },
+      );
     }
 
 pub returns-clause-others : goal.returns-clause-others
