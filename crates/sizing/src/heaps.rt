@@ -19,8 +19,8 @@ ghost use Rattle.sizing.specs.Demands.{KeepsTo, KeepsToOne, count_in, spread_of_
 ghost use Rattle.sizing.specs.Heaps.{Answered, HeapRun, IsFresh};
 
 /// A manager with pages, moving or not, with any bounds, has as many pages as the declared objects
-/// need. While the program keeps to its `needs`, no malloc with which it still does is refused for
-/// space (`mallocs`), and no resize (`resizes`), whatever it called before and in whatever order.
+/// need. The program keeps to its `needs`. Whatever it called before, in whatever order, no malloc
+/// with which it still keeps to them is refused for space (`mallocs`), and no such resize (`resizes`).
 pub fn no_call_within_the_needs_is_refused_space()
     ensures mallocs { (needs : List Need) (s : HeapState) (calls : List Answered) (last new : HeapState) (n : ℕ)
         → IsFresh s → pages_needed_by (paging_in s) (in_order needs) ≤ s.profile.pages
@@ -35,8 +35,8 @@ pub fn no_call_within_the_needs_is_refused_space()
         → ¬ IsResizeStep last asked (Err resize.Space) new }
 {}
 
-/// The same of the mallocs of a program with `modes`, with as many pages as it may spread over
-/// (`spread`), or with pages that have a certificate (`certified`).
+/// The same of the mallocs of a program with `modes`, if there are `spread_of_modes` pages (`spread`),
+/// or if the pages have a certificate (`certified`).
 pub fn no_malloc_within_the_modes_is_refused_space()
     ensures spread { (modes : List (List Need)) (s : HeapState) (calls : List Answered) (last new : HeapState) (n : ℕ)
         → IsFresh s → spread_of_modes (paging_in s) modes ≤ s.profile.pages

@@ -15,7 +15,7 @@ ghost use Rattle.sizing.specs.Runs.{CanBeRefused, HeapCall, IsServed, Run};
 
 /// A run begins without objects, and never has more than `most c` live objects of a class `c`. Then
 /// the class never has more pages than that many objects fill, rounded up: whatever its bound, the
-/// order of mallocs, frees and resizes, and the manager's choices.
+/// order of mallocs, frees, resizes and writes, and the manager's choices.
 pub fn pages_follow_the_most_live()
     ensures { (p : Paging) (most : ℕ → ℕ) (calls : List HeapCall) (m : Held) (c : ℕ) → IsPaging p
         → Run p (HasAtMost p most) empty calls m → c < classes p
@@ -31,16 +31,17 @@ pub fn enough_pages_serve()
         → pages_needed_by p (in_order needs) ≤ p.pages → IsServed p (KeepsTo needs) }
 {}
 
-/// With fewer pages some run within the needs `needs`, begun without objects, has a malloc that is
-/// refused for space: the declared objects are allocated in order.
+/// With fewer pages some run within the `needs`, begun without objects, has a malloc that is refused
+/// for space: one of the declared objects, which are allocated in order. None of them is larger than
+/// a page, which has the words of the settings `s`.
 pub fn fewer_pages_refuse()
     ensures { (p : Paging) (s : Profile) (needs : List Need) → IsPaging p
         → s.page_words ≡ p.page_words → first_large s needs ≡ None
         → p.pages < pages_needed_by p (in_order needs) → CanBeRefused p (KeepsTo needs) empty }
 {}
 
-/// If each class has at least as high a bound as the pages that `most c` of its objects fill, no free
-/// of such a run moves an object.
+/// If the bound of each class is at least the pages that `most c` of its objects fill, no free of such
+/// a run moves an object.
 pub fn nothing_must_move()
     ensures { (p : Paging) (most : ℕ → ℕ) (calls : List HeapCall) (m : Held) (h : ℕ) (x : Placed) → IsPaging p
         → ((c : ℕ) → c < classes p → ceil_div (most c) (slots_of p c) ≤ bound_of p c)

@@ -17,15 +17,15 @@ use quota_model::{Need, count_in_all, first_large};
 
 /// The least number of pages with which no malloc and no resize of a program is refused for space
 /// while it keeps to its `needs`: for each length in bytes, how many objects of that length are live
-/// at most at one time. Entries of the same length add up. `p` is a heap with pages of this size,
-/// with slots of this layout (`Words` moves objects, `Blocks` does not), and with any bounds.
+/// at most at one time. There are at most 64 entries; those of the same length add up. `p` is a heap
+/// with pages of this size and any bounds. Its slots have this layout: `Words` if its manager moves
+/// words, `Blocks` if it exchanges blocks. The pages and the bound of the settings don't matter.
 ///
 /// `value`: for each class the objects over the slots of a page, rounded up, summed. `enough`: with
 /// so many pages none is refused, whatever the calls were and in whatever order. `least`: with fewer
 /// pages some run within the needs has a malloc that is refused for space. `quota`: for a task it is
 /// the least quota for which `admit` returns `Yes`. `some`: the result is None if and only if an
-/// object is larger than a page, or the counts sum to more than the proxies. The pages and the
-/// bound of the settings don't matter.
+/// object is larger than a page, or the counts sum to more than the proxies.
 pub fn least_pages(s: &Settings, layout: Layout, needs: &[Need]) -> Option<u32>
     requires few { length needs.now ≤ 64 }
     ensures value { IfSome result (λ pages. (p : Paging)

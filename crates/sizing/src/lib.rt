@@ -1,5 +1,7 @@
 //! Sizing: how many pages a program needs so that no malloc is refused for space, whatever the order
-//! of its calls, and whatever the bounds on partly full pages.
+//! of its calls. The program declares what it has live at most: objects by length, in one or several
+//! modes, or bytes. `least_pages` and `pages_with_mode` compute the number; the other public functions
+//! do nothing, and their contracts are laws.
 #![tactic(auto)]
 
 mod budget;

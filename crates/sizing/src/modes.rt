@@ -1,6 +1,6 @@
 //! Laws of a program with several modes, as start, work and stop: its live objects are always within
 //! the needs of at least one of them. `p` holds the pages and the classes.
-ghost use Rattle.std.specs.Prelude.{ℕ, ◌≡◌, ◌<◌, ◌≤◌, Contains, List, None, sum_by};
+ghost use Rattle.std.specs.Prelude.{◌≡◌, ◌<◌, ◌≤◌, Contains, List, None, sum_by};
 ghost use Rattle.std.specs.List.{range_with_len};
 ghost use Rattle.std.specs.FinMap.{empty};
 ghost use Rattle.cf_base.specs.Settings.{Profile};
