@@ -12,7 +12,7 @@ use denote.Steps.{nothing}
 use denote.Struct.Struct.{within}
 use denote.Struct.Declared.{shape, fields}
 use Rattle.cf_base.specs.declared.kind.Kind.TheVariants.{Moving}
-use Rattle.paged_heap.specs.Layout.{IsValidIn, state_in}
+use Rattle.paged_heap.specs.Layout.{IsValidIn}
 use Rattle.paged_heap.specs.PagedState.{PagedState, paged_in}
 use Rattle.paged_heap.specs.contracts.manager.PagedHeap.{the_row as paged_heap}
 use Rattle.paged_heap.specs.contracts.manager.PagedHeap.TheInside as inside_manager
@@ -80,10 +80,10 @@ module _ {M : Type 1} {𝓤 : Ura M} {𝓛 : Logic 𝓤} {K : Type 0} {Γ : List
       let inner : PagedState = paged_in Moving a.heap.inner in
       let i : held_fields.Inside PagedState = record { heap = inner; steps = a.steps; memory = a.memory } in
       let held_type = inside_held.the_type
-          (paged_heap direct.the_row mapping.ghosts)
-          (of_kind.ghosts direct.the_row page_kind.ghosts of_kind.no_dict mapping.ghosts of_kind.no_dict)
-          (manager.ghosts direct.the_row page_kind.ghosts manager.no_dict mapping.ghosts manager.no_dict)
-          (step_bounds.ghosts direct.the_row page_kind.ghosts step_bounds.no_dict mapping.ghosts step_bounds.no_dict) in
+      (paged_heap direct.the_row mapping.ghosts)
+      (of_kind.ghosts direct.the_row page_kind.ghosts of_kind.no_dict mapping.ghosts of_kind.no_dict)
+      (manager.ghosts direct.the_row page_kind.ghosts manager.no_dict mapping.ghosts manager.no_dict)
+      (step_bounds.ghosts direct.the_row page_kind.ghosts step_bounds.no_dict mapping.ghosts step_bounds.no_dict) in
       fpick t (λ vs. fsplit t $ move t (1 ∷ []) $ fpick t (λ vss. fsplit t $ feq_l t (λ whole. fsplit t $
       -- [what the manager's fields own; what the other fields own; the cell]
       nothing t $ move t (1 ∷ 0 ∷ []) $ fjoin t $
