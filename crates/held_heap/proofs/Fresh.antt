@@ -1,15 +1,14 @@
 -- For `Held::open`: a closed manager that is opened has no objects, uses all in the opening order, and has counted 0 steps (`IsFreshHeap`). Also, how a fact
 -- about a `Result` passes through `ok()` and `?`.
-use Rattle.std.proofs.Common.{◌≡◌, Some, None, refl, sym, ◌∙◌, ap, subst}
+use Rattle.std.proofs.Common.{◌≡◌, Some, None, refl, sym, ◌∙◌, subst}
 use Rattle.std.specs.Prelude.{IfOk, IfSome, IsSome, OnOk, Option, Result, Ok, Err}
 use Rattle.core.specs.Result.{result_ok}
 use Rattle.cf_base.specs.Settings.{profile_of}
-use Rattle.cf_base.specs.declared.kind.Kind.{Kind}
 use Rattle.cf_base.specs.declared.settings.Settings.{Settings}
 use Rattle.cf_model.specs.Ordered.{KeepsPromise}
 use Rattle.cf_model.specs.Rules.{KeepsRules}
-use Rattle.cf_model.specs.State.{HeapState, closed_state}
-use Rattle.cf_model.specs.Steps.{IsEmptyHeap, IsOpeningWords, opening_order, ordered_heap}
+use Rattle.cf_model.specs.State.{HeapState}
+use Rattle.cf_model.specs.Steps.{IsEmptyHeap}
 use Rattle.cf_model.proofs.CallerLemmas.{opened_in_order}
 use Rattle.held_heap.specs.Calls.{IsFreshHeap}
 

@@ -1,6 +1,10 @@
 pub mod Fresh
 pub mod Parts
+pub mod Loosen
 pub mod MovingPlaces
+pub mod WholeWords
+pub mod MovingCrosses
+pub mod Rights
 pub mod NonMovingPlaces
 pub mod TlsfPlaces
 pub mod Crosses

@@ -12,7 +12,7 @@ use Rattle.cf_base.specs.declared.answers.ResizeFault.{ResizeFault}
 use Rattle.cf_base.specs.declared.answers.Figures.{Figures}
 use Rattle.cf_base.specs.declared.answers.Totals.{Totals}
 use Rattle.cf_base.specs.declared.kind.Kind.{Kind}
-use Rattle.cf_model.specs.Answers.{figures_in, totals_in}
+use Rattle.cf_model.specs.Answers.{figures_in, place_of, totals_in}
 use Rattle.cf_model.specs.Bounds.{Bounds, ByOwn}
 use Rattle.cf_model.specs.Costs.{RoseByCost, length_steps}
 use Rattle.cf_model.specs.Ordered.{IsOrderedFree, IsOrderedMalloc, IsOrderedResize}
@@ -101,12 +101,12 @@ pub record IsReadCall (most : Option Bounds) (old : HeldState) (number from : �
   pub exact : ByOwn most (λ b. RoseBy 0 new.steps (b.access from (length before) answer))
   pub kept : new.heap ≡ old.heap
 
--- the code of a call for a length: 0, or 4 (`UNKNOWN`) if the handle is not live and there is no length
+-- the code of a call for a length or an address: 0, or 4 (`UNKNOWN`) if the handle is not live and there is none
 abbrev pub found_code : Option ℕ → ℤ
 found_code (Some n) = pos 0
 found_code None = pos 4
 
--- the caller's number after a call for a length: the length, or the number before the call if there is none
+-- the caller's number after a call for a length or an address: this, or the number before the call if there is none
 abbrev pub found_number : Option ℕ → ℕ → ℕ
 found_number (Some n) before = n
 found_number None before = before
@@ -118,6 +118,13 @@ pub record IsLengthCall (of_kind : Kind) (old : HeldState) (number before : ℕ)
   pub by_length : after ≡ found_number (length_of old.heap number) before
   pub kept : new.heap ≡ old.heap
   pub exact : RoseBy 0 new.steps (length_steps old.heap.kind (length_of old.heap number))
+
+-- a call for the address of object `number`, in words from the start of the region; the heap is unchanged
+pub record IsPlaceCall (old : HeldState) (number before : ℕ) (code : ℤ) (after : ℕ) (new : HeldState) : Type 0 where
+  pub by_code : code ≡ found_code (place_of old.heap number)
+  pub by_place : after ≡ found_number (place_of old.heap number) before
+  pub kept : new.heap ≡ old.heap
+  pub exact : RoseBy 0 new.steps 1
 
 -- the code of `has_room` with this result: 0, or the code of a malloc with this refusal
 abbrev pub room_code : Result (Unit {0}) Refusal → ℤ

@@ -1,9 +1,13 @@
 pub mod Codes
 pub mod HeldState
 pub mod Calls
+pub mod CallerHeap
 pub mod AtPlace
 pub mod HeapBlock
+pub mod Loose
+pub mod LooseLoan
 pub mod Moving
+pub mod MovingBlock
 pub mod MovingLoan
 pub mod MovingPlace
 pub mod NonMoving

@@ -1,18 +1,24 @@
--- For `NphHeap` of `moving.rt`, the struct that a caller in C has for its heap: the open heap that it owns, if any, and the struct when a borrow of that heap
--- ends.
-use Rattle.std.specs.Prelude.{Option, refl, true}
+-- For `NphHeap` of `moving.rt`, the struct that a caller in C has for its heap: the heap that it owns, and the struct when a borrow of that heap ends.
+use Rattle.std.specs.Prelude.{refl, true, false}
 use Rattle.std.specs.Borrow.{Fml, Lends, MutBor}
+use Rattle.held_heap.specs.CallerHeap.{CallerHeap, heap_of}
 use Rattle.held_heap.specs.HeldState.{HeldState}
 use Rattle.held_heap.specs.Moving.{open_heap}
 use Rattle.held_heap.specs.MovingLoan.{with_heap}
 use Rattle.held_heap.specs.declared.moving.NphHeap.{NphHeap}
 use Rattle.held_heap.specs.contracts.moving.NphHeap.{the_row}
 
--- the state of the open heap; `None` if the heap is closed
-abbrev pub held_in : NphHeap → Option HeldState
-held_in n = n.place.held
+-- the heap of the struct: closed, open or lent
+abbrev pub held_in : NphHeap → CallerHeap
+held_in n = heap_of n.place.held n.place.words
 
 -- s is the borrow of the struct, r that of its heap: when r ends, the struct is open, and has the heap as r leaves it. `Lends` of the standard library states
 -- this: its last argument computes the struct from the state h in which r leaves the heap. `the_row` is the type of the struct.
 abbrev pub LendsHeap : MutBor NphHeap → MutBor HeldState → Fml
-LendsHeap s r = Lends the_row open_heap s r (λ h. record { place = with_heap s.now.place h; is_open = true; shown = refl })
+LendsHeap s r = Lends the_row open_heap s r (λ h. record {
+  place = with_heap s.now.place h;
+  is_open = true;
+  is_lent = false;
+  shown = refl;
+  lent_shown = refl;
+})

@@ -1,16 +1,16 @@
--- For `NphHeap` of `tlsf.rt`, the struct that a caller in C has for its heap: the open heap that it owns, if any, and the struct when a borrow of that heap
--- ends.
-use Rattle.std.specs.Prelude.{Option, refl, true}
+-- For `NphHeap` of `tlsf.rt`, the struct that a caller in C has for its heap: the heap that it owns, and the struct when a borrow of that heap ends.
+use Rattle.std.specs.Prelude.{None, refl, true}
 use Rattle.std.specs.Borrow.{Fml, Lends, MutBor}
+use Rattle.held_heap.specs.CallerHeap.{CallerHeap, heap_of}
 use Rattle.held_heap.specs.HeldState.{HeldState}
 use Rattle.held_heap.specs.Tlsf.{open_heap}
 use Rattle.held_heap.specs.TlsfLoan.{with_heap}
 use Rattle.held_heap.specs.declared.tlsf.NphHeap.{NphHeap}
 use Rattle.held_heap.specs.contracts.tlsf.NphHeap.{the_row}
 
--- the state of the open heap; `None` if the heap is closed
-abbrev pub held_in : NphHeap → Option HeldState
-held_in n = n.place.held
+-- the heap of the struct: closed or open; it is never lent
+abbrev pub held_in : NphHeap → CallerHeap
+held_in n = heap_of n.place.held None
 
 -- s is the borrow of the struct, r that of its heap: when r ends, the struct is open, and has the heap as r leaves it. `Lends` of the standard library states
 -- this: its last argument computes the struct from the state h in which r leaves the heap. `the_row` is the type of the struct.

@@ -17,9 +17,9 @@ use step_ledger::Meter;
 /// count in a register.
 #[derive(Drop)]
 pub struct Held<H: OfKind> {
-    heap: H,
-    steps: u64,
-    memory: Memory,
+    pub(crate) heap: H,
+    pub(crate) steps: u64,
+    pub(crate) memory: Memory,
 }
 
 impl<H: OfKind> Model for Held<H> {
@@ -35,7 +35,7 @@ impl<H: OfKind> Model for Held<H> {
 }
 
 impl<H: OfKind> Held<H> {
-    ghost use Rattle.held_heap.specs.Calls.{IsFiguresCall, IsFreeCall, IsFreshHeap, IsLengthCall, IsMallocCall, IsReadCall, IsResizeCall, IsRoomCall, IsStepsCall, IsTotalsCall, IsWriteCall};
+    ghost use Rattle.held_heap.specs.Calls.{IsFiguresCall, IsFreeCall, IsFreshHeap, IsLengthCall, IsMallocCall, IsPlaceCall, IsReadCall, IsResizeCall, IsRoomCall, IsStepsCall, IsTotalsCall, IsWriteCall};
 
     /// Opens `heap`, a manager of its type's kind that promises an order, without objects and in a block of its own. Returns
     /// `None` if out of memory.
@@ -152,6 +152,23 @@ impl<H: OfKind> Held<H> {
         match answer {
             Some(n) => {
                 *bytes = n;
+                DONE
+            }
+            None => UNKNOWN,
+        }
+    }
+
+    /// Writes the address of an object into `place`, in words from the start of the region. Returns `DONE`, or
+    /// `UNKNOWN` if the handle isn't live; then `place` is unchanged.
+    pub fn place(&mut self, handle: u32, place: &mut u32) -> i32
+        ensures { IsPlaceCall self.old handle place.old result place.new self.new }
+    {
+        let mut meter = Meter::for_library(self.memory);
+        let answer = self.heap.place(Handle(handle), meter.steps());
+        self.steps = meter.lap();
+        match answer {
+            Some(at) => {
+                *place = at;
                 DONE
             }
             None => UNKNOWN,

@@ -5,6 +5,7 @@
 mod answers;
 mod codes;
 mod held;
+mod loose;
 pub mod moving;
 pub mod nonmoving;
 mod of_kind;

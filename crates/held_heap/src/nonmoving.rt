@@ -108,22 +108,24 @@ pub struct NphHeap {
 }
 
 impl NphHeap {
+    ghost use Rattle.std.specs.Prelude.{IsTrue};
     ghost use Rattle.cf_base.specs.declared.kind.Kind.TheVariants.{NonMoving};
     ghost use Rattle.held_heap.specs.AtPlace.{IsOpenCall};
+    ghost use Rattle.held_heap.specs.CallerHeap.{Closed, Opened, opened_now};
     ghost use Rattle.held_heap.specs.NonMovingPlace.{LendsHeap, held_in};
 
     /// Returns whether the heap is open.
     pub fn is_open(&self) -> bool
-        ensures { result ≡ is_some (held_in self.now) }
+        ensures { result ≡ opened_now (held_in self.now) }
     {
         self.is_open
     }
 
     /// Borrows the open heap. When the borrow ends, the heap as it then is belongs to this struct again.
     pub fn held(&mut self) -> &mut Open
-        requires { IsSome (held_in self.old) }
+        requires { IsTrue (opened_now (held_in self.old)) }
         ensures* writes_back { sem 𝓛 (LendsHeap self.entry result) }
-        ensures value { held_in self.old ≡ Some result.now }
+        ensures value { held_in self.old ≡ Opened result.now }
     {
         self.place.lend()
     }
@@ -152,7 +154,7 @@ impl NphHeap {
 
     /// Closes the heap and frees its memory; does nothing if the heap isn't open.
     pub fn close(&mut self, memory: Memory)
-        ensures { held_in self.new ≡ None }
+        ensures { held_in self.new ≡ Closed }
     {
         if !self.is_open {
             return;

@@ -1,19 +1,20 @@
 //! The moving manager as a library for C. `include/norphuen.h` describes each export for C. An export calls the
 //! function of `held_heap` that its comment names, and its contract is that function's. Each export but
 //! `nph_close` returns a code: 0 (`DONE`) if the call is done, else the cause (`held_heap`, file `codes`).
-//! While the heap is closed, each export but `nph_open` and `nph_close` returns `CLOSED` and changes nothing
-//! (`IsCallOnOpen`).
+//! While the heap is closed, each export but `nph_open` and `nph_close` returns `CLOSED` and changes nothing; while
+//! it is lent, each but `nph_return` and `nph_close` returns `LENT` and changes nothing (`IsCallOnOpen`).
 #![tactic(auto)]
 
-ghost use Rattle.std.specs.Prelude.{◌≡◌, None};
+ghost use Rattle.std.specs.Prelude.{◌≡◌};
 ghost use Rattle.cf_base.specs.declared.kind.Kind.TheVariants.{Moving};
-ghost use Rattle.held_heap.specs.Calls.{IsFiguresCall, IsFreeCall, IsLengthCall, IsMallocCall, IsReadCall, IsResizeCall, IsRoomCall, IsStepsCall, IsTotalsCall, IsWriteCall};
-ghost use Rattle.held_heap.specs.AtPlace.{IsOpenCall, IsCallOnOpen};
+ghost use Rattle.held_heap.specs.Calls.{IsFiguresCall, IsFreeCall, IsLengthCall, IsMallocCall, IsPlaceCall, IsReadCall, IsResizeCall, IsRoomCall, IsStepsCall, IsTotalsCall, IsWriteCall};
+ghost use Rattle.held_heap.specs.AtPlace.{IsCallOnOpen, IsLendCall, IsOpenCall, IsReturnCall};
+ghost use Rattle.held_heap.specs.CallerHeap.{Closed};
 ghost use Rattle.held_heap.specs.MovingPlace.{held_in};
 ghost use Rattle.held_heap.specs.Moving.{bounds};
 
 use held_heap::moving::NphHeap;
-use held_heap::{CLOSED, NphClass, NphFreed, NphHeapTotals, NphResized};
+use held_heap::{NphClass, NphFreed, NphHeapTotals, NphResized};
 use std::rt::Memory;
 
 /// Opens the heap with these settings: `pages` pages of `page_bytes` bytes, at most `k` partly full pages in
@@ -33,10 +34,10 @@ pub extern "C" fn nph_open(
     heap.open(memory, pages, page_bytes, k, proxies)
 }
 
-/// Closes the heap and frees its memory; does nothing if it is closed (`NphHeap::close`).
+/// Closes the heap and frees its memory, also if it is lent; does nothing if it is closed (`NphHeap::close`).
 #[unsafe(no_mangle)]
 pub extern "C" fn nph_close(heap: &mut NphHeap, memory: Memory)
-    ensures { held_in heap.new ≡ None }
+    ensures { held_in heap.new ≡ Closed }
 {
     heap.close(memory);
 }
@@ -50,7 +51,7 @@ pub extern "C" fn nph_malloc(heap: &mut NphHeap, bytes: u32, handle: &mut u32) -
     if heap.is_open() {
         heap.held().malloc(bytes, handle)
     } else {
-        CLOSED
+        heap.refusal()
     }
 }
 
@@ -64,7 +65,7 @@ pub extern "C" fn nph_free(heap: &mut NphHeap, handle: u32, freed: &mut NphFreed
     if heap.is_open() {
         heap.held().free(handle, freed)
     } else {
-        CLOSED
+        heap.refusal()
     }
 }
 
@@ -83,7 +84,7 @@ pub extern "C" fn nph_resize(
     if heap.is_open() {
         heap.held().resize(handle, bytes, resized)
     } else {
-        CLOSED
+        heap.refusal()
     }
 }
 
@@ -96,7 +97,7 @@ pub extern "C" fn nph_write(heap: &mut NphHeap, handle: u32, at: u32, bytes: &[u
     if heap.is_open() {
         heap.held().write(handle, at, bytes)
     } else {
-        CLOSED
+        heap.refusal()
     }
 }
 
@@ -109,7 +110,7 @@ pub extern "C" fn nph_read(heap: &mut NphHeap, handle: u32, at: u32, out: &mut [
     if heap.is_open() {
         heap.held().read(handle, at, out)
     } else {
-        CLOSED
+        heap.refusal()
     }
 }
 
@@ -122,7 +123,7 @@ pub extern "C" fn nph_length(heap: &mut NphHeap, handle: u32, bytes: &mut u32) -
     if heap.is_open() {
         heap.held().length(handle, bytes)
     } else {
-        CLOSED
+        heap.refusal()
     }
 }
 
@@ -135,7 +136,7 @@ pub extern "C" fn nph_has_room(heap: &mut NphHeap, bytes: u32) -> i32
     if heap.is_open() {
         heap.held().has_room(bytes)
     } else {
-        CLOSED
+        heap.refusal()
     }
 }
 
@@ -148,7 +149,7 @@ pub extern "C" fn nph_figures(heap: &mut NphHeap, class: u32, figures: &mut NphC
     if heap.is_open() {
         heap.held().figures(class, figures)
     } else {
-        CLOSED
+        heap.refusal()
     }
 }
 
@@ -161,7 +162,7 @@ pub extern "C" fn nph_totals(heap: &mut NphHeap, totals: &mut NphHeapTotals) -> 
     if heap.is_open() {
         heap.held().totals(totals)
     } else {
-        CLOSED
+        heap.refusal()
     }
 }
 
@@ -175,6 +176,37 @@ pub extern "C" fn nph_last_steps(heap: &mut NphHeap, steps: &mut u64) -> i32
     if heap.is_open() {
         heap.held().last_steps(steps)
     } else {
-        CLOSED
+        heap.refusal()
     }
+}
+
+/// Writes the address of an object into `place`, in words from the start of the region (`Held::place`). The word there
+/// is the object's header, and its bytes begin at the next word.
+#[unsafe(no_mangle)]
+pub extern "C" fn nph_place(heap: &mut NphHeap, handle: u32, place: &mut u32) -> i32
+    ensures { IsCallOnOpen (held_in heap.old) result (held_in heap.new) (place.new ≡ place.old)
+        (λ h h2. IsPlaceCall h handle place.old result place.new h2) }
+{
+    if heap.is_open() {
+        heap.held().place(handle, place)
+    } else {
+        heap.refusal()
+    }
+}
+
+/// Lends the words of the region to the caller, and writes their address into `words` (`NphHeap::lend`). Until
+/// `nph_return` the caller may read them, and write the bytes of live objects.
+#[unsafe(no_mangle)]
+pub extern "C" fn nph_lend(heap: &mut NphHeap, words: &mut *mut u64) -> i32
+    ensures { IsLendCall (held_in heap.old) result (held_in heap.new) words.old words.new }
+{
+    heap.lend(words)
+}
+
+/// Ends the loan (`NphHeap::end_loan`).
+#[unsafe(no_mangle)]
+pub extern "C" fn nph_return(heap: &mut NphHeap) -> i32
+    ensures { IsReturnCall (held_in heap.old) result (held_in heap.new) }
+{
+    heap.end_loan()
 }
