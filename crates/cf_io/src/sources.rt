@@ -108,11 +108,11 @@ impl MemSource {
 
 impl Source for MemSource {
     ghost state = { λ s. record {
-        rest = Some s.left;
-        given = s.given;
-        calls = s.schedule.call;
-        faults = s.schedule.faults;
-        last_failed = s.schedule.failed;
+      rest = Some s.left;
+      given = s.given;
+      calls = s.schedule.call;
+      faults = s.schedule.faults;
+      last_failed = s.schedule.failed;
     } };
 
     /// Fails if the schedule lists this call; `buf` stays then. Else copies the first bytes left to the
