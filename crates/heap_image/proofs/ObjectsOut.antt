@@ -1,6 +1,6 @@
 -- For `put_objects`, which writes the live objects by rising id: the texts written so far and those still to be written, or a prefix of all of them if the
 -- sink fails.
-use Rattle.std.proofs.Common.{◌≡◌, ◌∙◌, ◌++◌, ◌+◌, ◌-◌, ℕ, suc, List, [], Option, Some, None, refl, ap, sym, subst, arith, append_assoc, append-nil}
+use Rattle.std.proofs.Common.{◌≡◌, ◌∙◌, ◌++◌, ◌+◌, ◌-◌, ℕ, suc, List, [], Some, None, ap, sym, arith, append_assoc, append-nil}
 use Rattle.std.specs.Prelude.{Err, Ok}
 use Rattle.std.specs.FinMap.{entries, get}
 use Rattle.cf_base.specs.declared.answers.Failed.{Failed}

@@ -1,6 +1,6 @@
 -- For `save`: the 20 bytes of the header and then the entries, id, length and bytes of each object, are the image of the live objects, or a prefix of it if
 -- the sink fails.
-use Rattle.std.proofs.Common.{◌≡◌, ◌∙◌, ◌++◌, ◌*◌, ℕ, List, [], Option, length, ap, sym, subst, append_assoc}
+use Rattle.std.proofs.Common.{◌≡◌, ◌∙◌, ◌++◌, ◌*◌, ℕ, List, [], length, ap, sym, append_assoc}
 use Rattle.std.specs.Prelude.{Result, Err, Ok}
 use Rattle.std.specs.FinMap.{entries, len}
 use Rattle.std.specs.Int.{w16, w32}

@@ -7,7 +7,7 @@ use Rattle.cf_base.specs.declared.kind.Kind.TheVariants.{Moving}
 use Rattle.cf_base.specs.declared.status.Status.TheVariants.{Done}
 use Rattle.cf_io.specs.Feeds.{appended}
 use Rattle.page_model.specs.Bytes.{AreBytes}
-use Rattle.page_model.specs.Held.{Objects, objects}
+use Rattle.page_model.specs.Held.{Objects}
 use Rattle.heap_image.specs.Decoded.{decoded, whole}
 use Rattle.heap_image.specs.Heaps.{live_objects}
 use Rattle.heap_image.proofs.CallerLemmas.{objects_of_is}

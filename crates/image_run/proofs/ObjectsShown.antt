@@ -12,7 +12,7 @@ use Rattle.heap_image.specs.Heaps.{heap_image, image_under, live_objects}
 use Rattle.heap_image.proofs.CallerLemmas.{objects_of_is}
 use Rattle.image_run.specs.Claims.{image_shown}
 use Rattle.image_run.specs.Script.{after_items}
-use Rattle.page_model.specs.Held.{Objects, objects}
+use Rattle.page_model.specs.Held.{Objects}
 use Rattle.run_model.specs.Plays.{PlayRun}
 use Rattle.run_model.specs.Sessions.{IsGoing, RunState}
 use Rattle.run_model.specs.Texts.{Reply}

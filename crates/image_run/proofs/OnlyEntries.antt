@@ -1,6 +1,6 @@
 -- For the law `only_images_are_read`: bytes that `Decoded` accepts as entries are, byte for byte, the entries of the objects that they decode to, and a heap
 -- may hold all these objects.
-use Rattle.std.proofs.Common.{◌≡◌, ◌∙◌, ◌++◌, ◌+◌, ◌-◌, ◌≤◌, ◌<◌, ◌^◌, ℕ, zero, suc, Bool, true, false, List, [], ◌∷◌}
+use Rattle.std.proofs.Common.{◌≡◌, ◌∙◌, ◌++◌, ◌+◌, ◌≤◌, ◌<◌, ◌^◌, ℕ, zero, suc, Bool, true, false, List, [], ◌∷◌}
 use Rattle.std.proofs.Common.{Some, None, length, get_or, take, drop, refl, ap, sym, subst, arith}
 use Rattle.std.proofs.Common.{append-nil, append_assoc, inl, inr, lit<}
 use Rattle.std.specs.Prelude.{nat_le, nat_lt, if◌then◌else◌}

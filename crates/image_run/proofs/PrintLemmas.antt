@@ -1,6 +1,6 @@
 -- For `print_script`, of mode `load`: the script that makes the live objects, its `heap` line and then the lines of each object, written one after the
 -- other, or cut by a failed sink.
-use Rattle.std.proofs.Common.{◌≡◌, ◌∙◌, ◌++◌, ℕ, List, [], ◌∷◌, Option, refl, ap, sym, append_assoc}
+use Rattle.std.proofs.Common.{◌≡◌, ◌∙◌, ◌++◌, ℕ, List, [], ◌∷◌, refl, ap, sym, append_assoc}
 use Rattle.std.specs.Prelude.{Result, Err, Ok, length}
 use Rattle.std.specs.FinMap.{entries}
 use Rattle.cf_base.specs.Settings.{Profile}

@@ -1,5 +1,5 @@
 -- For the laws on entries of an image: an object whose id is greater than all others is the last of the map's entries.
-use Rattle.std.proofs.Common.{◌≡◌, ◌∙◌, ◌++◌, ◌+◌, ◌≤◌, ◌<◌, ℕ, false, List, [], ◌∷◌, Some, None, refl, ap, sym, arith}
+use Rattle.std.proofs.Common.{◌≡◌, ◌∙◌, ◌++◌, ◌≤◌, ◌<◌, ℕ, false, List, [], ◌∷◌, Some, None, refl, ap, sym, arith}
 use Rattle.std.specs.Prelude.{⊤, cond}
 use Rattle.std.specs.Ordering.{eq_by_cmp, nat_cmp}
 use Rattle.std.specs.declared.cmp.Ordering.{Ordering}

@@ -1,9 +1,8 @@
 -- For `save_script`, which runs a script and writes an image: from how the script ended, its settings kept, and what was written of the image to its
 -- contract `EndsSave`, for each status.
 use Rattle.std.proofs.Common.{◌≡◌, ◌≢◌, ◌∙◌, ◌++◌, ℕ, Bool, List, [], false, true, Option, Some, None, refl, ap, sym, subst}
-use Rattle.std.specs.Prelude.{Err, option_map, if◌then◌else◌}
+use Rattle.std.specs.Prelude.{option_map, if◌then◌else◌}
 use Rattle.cf_base.specs.Settings.{profile_of}
-use Rattle.cf_base.specs.declared.answers.Failed.{Failed}
 use Rattle.cf_base.specs.declared.settings.Settings.{Settings}
 use Rattle.cf_base.specs.declared.status.Status.{Status}
 use Rattle.cf_base.specs.declared.status.Status.TheVariants.{Done, Words, BadScript, ReadFault, WriteFault, OutOfMemory, TooLong, BadImage}

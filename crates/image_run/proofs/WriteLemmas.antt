@@ -1,5 +1,5 @@
 -- For `put_writes`, of mode `load`: the bytes of an object, written as `w` lines of at most 4,096 bytes each, one after the other, or cut by a failed sink.
-use Rattle.std.proofs.Common.{◌≡◌, ◌∙◌, ◌++◌, ◌+◌, ◌-◌, ◌<◌, ◌≤◌, ℕ, zero, suc, List, [], ◌∷◌, Option, length, take, drop, refl, ap, sym, arith}
+use Rattle.std.proofs.Common.{◌≡◌, ◌∙◌, ◌++◌, ◌+◌, ◌-◌, ◌<◌, ◌≤◌, ℕ, zero, suc, List, [], ◌∷◌, length, take, drop, refl, ap, sym, arith}
 use Rattle.std.proofs.Common.{append_assoc, append-nil, inl, inr, length-drop}
 use Rattle.std.specs.Prelude.{Err, Ok, min}
 use Rattle.std.specs.Int.{div_ceil}

@@ -1,6 +1,6 @@
 -- From a script's outcome (`MeetsOutcome`) to what its status claims of the source's bytes (`IsStatusRow`): of all bytes, if the source is observable; else
 -- of those taken and some that may follow.
-use Rattle.std.proofs.Common.{◌≡◌, ◌++◌, ◌∙◌, ◌≤◌, Bool, true, false, ℕ, List, [], Option, Some, None, length, refl, ap, sym, subst}
+use Rattle.std.proofs.Common.{◌≡◌, ◌++◌, ◌∙◌, ◌≤◌, true, ℕ, List, [], Option, Some, None, length, refl, ap, sym, subst}
 use Rattle.std.proofs.lemmas.Bool.{le-leb}
 use Rattle.std.proofs.lemmas.List.{take_all}
 use Rattle.std.specs.Prelude.{nat_le}

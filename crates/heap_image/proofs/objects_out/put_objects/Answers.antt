@@ -1,4 +1,4 @@
-use Rattle.std.proofs.Common.{◌∙◌, ◌≡◌, ◌-◌, arith, subst, sym}
+use Rattle.std.proofs.Common.{◌≡◌, ◌-◌, arith, subst, sym}
 use Rattle.cf_session.specs.Apply.{run_at}
 use Rattle.heap_image.proofs.ObjectsOut.{CameTo, came_first, came_last, came_on, came_past, came_short}
 use Rattle.heap_image.proofs.objects_out.put_objects.Goals as goal

@@ -1,4 +1,4 @@
-use Rattle.std.proofs.Common.{◌-◌, ◌≡◌, ◌≤◌, Some}
+use Rattle.std.proofs.Common.{◌-◌, ◌≡◌, Some}
 use Rattle.std.specs.FinMap as map
 use Rattle.image_run.proofs.WriteLemmas.{WroteTo}
 use Rattle.page_model.specs.Held.{Placed}

@@ -1,4 +1,4 @@
-use Rattle.std.proofs.Common.{◌∙◌, ◌++◌, [], arith, refl}
+use Rattle.std.proofs.Common.{◌∙◌, ◌++◌, [], refl}
 use Rattle.run_model.specs.Texts.{led}
 use Rattle.cf_io.proofs.CallerLemmas.{appended_after, writes_none}
 use Rattle.script_loop.proofs.AnswersSoFar.{answered_command, answered_none, answered_open, answered_then, bad_at, cut_command, cut_open, cut_then, named}
