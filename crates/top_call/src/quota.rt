@@ -7,11 +7,12 @@ use cf_io::{Sink, Source};
 use quota_heap::QuotaHeap;
 use quota_session::{QuotaHandler, run_quotas};
 use std::alloc::Global;
+use std::rt::Memory;
 
 /// Runs a script of tasks, each with a quota of pages, on a heap of tasks that is made for it. Returns the
 /// status, `OutOfMemory` also if the session can't be allocated.
 pub fn play_quotas<S: Source, K: Sink>(
-    rt: &HostRuntime,
+    memory: Memory,
     alloc: Global,
     source: &mut S,
     sink: &mut K,
@@ -19,7 +20,7 @@ pub fn play_quotas<S: Source, K: Sink>(
     ensures { EndsBeside PlaysQuotas (S.state source.old) (K.state sink.old) result
         (S.state source.new) (K.state sink.new) }
 {
-    let Ok(mut mode_handler) = QuotaHandler::start(rt, alloc) else {
+    let Ok(mut mode_handler) = QuotaHandler::start(memory, alloc) else {
         return Status::OutOfMemory;
     };
     let mut heap = QuotaHeap::closed(alloc);
