@@ -8,9 +8,9 @@ import collections
 import heapq
 import random
 
-MOST_POINTS = 2_000  # vectors of pages that `Modes` keeps before it gives the safe bound
+MOST_COMPARED = 500_000  # vectors of pages that `Modes` compares before it gives the safe bound
 MOST_CHOICES = 20_000  # choices that `Budget` tries before it gives two bounds
-TRIES = 30  # orders of the mallocs that `Modes.script` tries
+TRIES, TRIED_OBJECTS = 30, 100_000  # orders of the mallocs that `Modes.script` tries, and the objects in them
 
 
 # Pages and classes
@@ -99,13 +99,15 @@ class Modes:
         self.sizes = sorted({size for mode in modes for size, count in mode.items() if count})
         self.classes = sorted({layout.class_of(size) for size in self.sizes})
         self.home = [self.classes.index(layout.class_of(size)) for size in self.sizes]
+        self.members = [[i for i, home in enumerate(self.home) if home == c] for c in range(len(self.classes))]
         self.m = [layout.slots[c] for c in self.classes]
         self.counts = [[mode.get(size, 0) for size in self.sizes] for mode in modes]
         self.by_class = [self.of_classes(count) for count in self.counts]
         self.most = [max(column) for column in zip(*self.by_class)]
         self.is_shared = len(self.classes) < len(self.sizes)
         self.starts = [tuple(map(ceil_div, counts, self.m)) for counts in self.by_class]
-        self.switches = [[*self.switches_from(a)] for a in range(len(modes))] if len(modes) > 1 else [[]]
+        self.switches = [[*self.switches_from(a)] for a in range(len(modes))]
+        self.gave_up = False
 
     def of_classes(self, counts):
         """These counts by size, as counts by class."""
@@ -124,17 +126,18 @@ class Modes:
             meet = self.meet_of(a, b)
             yield Switch(b, meet)
             if self.resizes:
-                for c in range(len(self.classes)):
-                    pair = self.resize_within(a, b, c)
+                for c, members in enumerate(self.members):
+                    pair = self.resize_within(a, b, members)
                     if pair:
                         yield Switch(b, (*meet[:c], meet[c] + 1, *meet[c + 1 :]), pair)
 
-    def resize_within(self, a, b, c):
-        """Two sizes of class c such that a resize from the one to the other, as the step from mode a to b, keeps an object more
+    def resize_within(self, a, b, members):
+        """Two sizes of one class such that a resize from the one to the other, as the step from mode a to b, keeps an object more
         than a free and a malloc do; None if there are none."""
-        mine = [i for i, home in enumerate(self.home) if home == c]
-        more = [i for i in mine if self.counts[a][i] > self.counts[b][i]]
-        less = [i for i in mine if self.counts[a][i] < self.counts[b][i]]
+        if len(members) < 2:
+            return None
+        more = [i for i in members if self.counts[a][i] > self.counts[b][i]]
+        less = [i for i in members if self.counts[a][i] < self.counts[b][i]]
         return (more[0], less[0]) if more and less else None
 
     def bound_one(self):
@@ -149,46 +152,48 @@ class Modes:
         )
 
     def points(self, bounds):
-        """For each mode its greatest vectors of pages over all histories; whether these are all."""
+        """For each mode its greatest vectors of pages over all histories. If that takes too long, `gave_up` is set, and they are some."""
         found, waiting = [[] for _ in self.modes], collections.deque()
         caps = [[tuple(map(most_pages, s.meet, self.m, bounds)) for s in switches] for switches in self.switches]
-        total = 0
+        compared = 0
 
         def add(point):
-            nonlocal total
+            nonlocal compared
             mine = found[point.mode]
+            compared += len(mine)
             if any(all(map(int.__ge__, other.pages, point.pages)) for other in mine):
                 return
-            kept = [other for other in mine if not all(map(int.__ge__, point.pages, other.pages))]
-            total += 1 + len(kept) - len(mine)
-            found[point.mode] = [*kept, point]
+            found[point.mode] = [*(other for other in mine if not all(map(int.__ge__, point.pages, other.pages))), point]
             waiting.append(point)
 
         for mode, start in enumerate(self.starts):
             add(Point(mode, start, None, None))
-        while waiting and total <= MOST_POINTS:
+        while waiting and not self.gave_up:
             point = waiting.popleft()
             if point not in found[point.mode]:
                 continue
             for switch, cap in zip(self.switches[point.mode], caps[point.mode]):
                 add(Point(switch.to, tuple(map(max, map(min, point.pages, cap), self.starts[switch.to])), switch, point))
-        return found, not waiting
+            self.gave_up = compared > MOST_COMPARED
+        return [point for mine in found for point in mine]
 
     def need(self, bounds):
         """The pages for these bounds, one for each class."""
         least = self.bound_one()
+        first = next(Point(mode, start, None, None) for mode, start in enumerate(self.starts) if sum(start) == least)
         if len(self.modes) == 1 or not self.resizes and self.safe(bounds) == least:
-            first = next(Point(mode, start, None, None) for mode, start in enumerate(self.starts) if sum(start) == least)
             return Need(least, least, way=(first, None))
-        found, are_all = self.points(bounds)
-        last = max((point for mine in found for point in mine), key=lambda point: sum(point.pages))
+        found = [first] if self.gave_up else self.points(bounds)
+        last = max(found, key=lambda point: sum(point.pages))
         reached, way = sum(last.pages), (last, None)
-        if self.resizes:
-            for point in (point for mine in found for point in mine):
+        if self.resizes and len(found) * len(self.modes) * len(self.sizes) <= MOST_COMPARED:
+            for point in found:
                 more, surplus = self.surplus(point, bounds)
                 if more > reached:
                     reached, way = more, (point, surplus)
-        pages = reached if are_all else self.safe(bounds) + self.resizes
+        elif self.resizes:
+            self.gave_up = True
+        pages = self.safe(bounds) + self.resizes if self.gave_up else reached
         return Need(pages, reached, self.is_shared and reached > least, way)
 
     def surplus(self, point, bounds):
@@ -226,16 +231,14 @@ class Modes:
         """The most live objects."""
         return max(map(sum, self.counts))
 
-    def script(self, bounds, way, draws=TRIES):
-        """The calls of a way. Sizes that share a class are allocated in drawn orders until one reaches the most pages."""
+    def script(self, bounds, way):
+        """The calls of a way. If sizes share a class, they are allocated in drawn orders until one reaches the most pages."""
         last, surplus = way
-        wanted, best = sum(last.pages), None
-        for draw in range(draws if self.is_shared else 1):
-            calls = self.calls_of(last, surplus, bounds, random.Random(draw) if draw else None)
-            if best is None or calls.most > best.most:
-                best = calls
+        wanted, best = sum(last.pages) + (surplus is not None), self.calls_of(last, surplus, bounds, None)
+        for draw in range(min(TRIES, TRIED_OBJECTS // self.objects()) if self.is_shared else 0):
             if best.most >= wanted:
                 break
+            best = max(best, self.calls_of(last, surplus, bounds, random.Random(draw)), key=lambda calls: calls.most)
         return best
 
     def calls_of(self, last, surplus, bounds, draw):
