@@ -227,6 +227,10 @@ class Modes:
         take = max(min(p, most_pages(before, m, k)), ceil_div(before + 1, m)) - held[c] if other else None
         return leave, take
 
+    def is_within(self, bounds, pages):
+        """Whether so many pages are enough for these bounds."""
+        return self.need(bounds).pages <= pages
+
     def objects(self):
         """The most live objects."""
         return max(map(sum, self.counts))
@@ -359,6 +363,10 @@ class Budget:
             way, are_all = self.search(bounds, way)
             pages = sum(way) if are_all else upper
         return Need(pages + self.resizes, sum(way), way=way)
+
+    def is_within(self, bounds, pages):
+        """Whether so many pages are enough for these bounds, by the upper bound, which is quick."""
+        return sum(self.cheapest(self.amount, bounds)) + self.resizes <= pages
 
     def search(self, bounds, best):
         """The most pages that some calls reach, by trying; whether all choices were tried."""
