@@ -27,7 +27,7 @@ DEMANDS = sorted(Path("examples/demands").glob("*.txt"))
 # Demands of other kinds, which are played too.
 KINDS = {
     "long objects": "long\nmode load\n3 of 20000\n50 of 100\nmode work\n1 of 20000\n400 of 60\n",
-    "tasks": "task control\n40 of 100\n8 of 1000\ntask log\nbudget 9000 bytes of 50..500\ntask net\nmode idle\n10 of 64\nmode busy\n50 of 900\n",
+    "tasks": "task one\n40 of 100\n8 of 1000\ntask two\nbudget 9000 bytes of 50..500\ntask three\nmode a\n10 of 64\nmode b\n50 of 900\n",
     "a resize": "resizes\nmode first\n1 of 8\nmode second\n1 of 40\n",
     "resizes in a class": "resizes\nmode first\n7 of 153\n1 of 20\nmode second\n6 of 176\n9 of 20\n",
     "a budget with resizes": "resizes\nbudget 2000 bytes of 60..90\n",
@@ -36,6 +36,13 @@ KINDS = {
 }
 # Lengths of objects on a page of 512 bytes, by the slots of a page: two lengths of each of two classes, and one of three more.
 LENGTHS = [(176, 160), (128, 114), (96,), (140,), (300,)]
+
+# Programs that drawing seldom finds: modes and bounds. Sizes share a class; in the first two a resize changes the mode.
+FIXED = [
+    ([{176: 5}, {176: 1, 160: 1, 300: 3}], [2, 3], True),
+    ([{128: 1, 114: 4, 140: 1}, {128: 2, 140: 4}], [2, 2], True),
+    ([{176: 3}, {160: 2, 300: 3}], [2, 1], False),
+]
 
 
 # All histories of a small program
@@ -78,6 +85,7 @@ def changed(pages, old, new):
 def searched(layout, sizes, bounds, allows, resizes):
     """The most pages in use, over all histories and all choices of the manager."""
     classes = sorted({layout.class_of(size) for size in sizes})
+    bounds = [*bounds, *[1] * len(classes)]  # (a wrong planner may know fewer classes)
     home = {size: classes.index(layout.class_of(size)) for size in sizes}
     slots = [layout.slots[c] for c in classes]
     start, most = ((),) * len(classes), 0
@@ -141,12 +149,16 @@ def keeps(lines, allows):
 
 def drawn_modes(draw, layout):
     """A small program with modes, and what it allows."""
-    kinds = draw.sample(LENGTHS, draw.choice((1, 1, 2)))
-    sizes = [size for kind in kinds for size in kind[: draw.choice((1, 1, 2))]]
-    most = 8 if len(sizes) == 1 else 5 if len(sizes) == 2 else 3
-    modes = [{size: draw.randint(0, most) for size in sizes} for _ in range(draw.choice((1, 2, 2, 3)))]
+    kinds = draw.sample(LENGTHS, draw.choice((1, 2, 2, 2)))
+    sizes = [size for kind in kinds for size in kind[: draw.choice((1, 1, 2))]][:3]
+    most = 8 if len(sizes) == 1 else 5 if len(sizes) == 2 else 4
+    modes = [{size: draw.choice((0, most, draw.randint(0, most))) for size in sizes} for _ in range(draw.choice((1, 2, 3, 3)))]
     modes[0][sizes[0]] = most
-    program = needs.Modes(layout, modes, draw.random() < 0.5)
+    return small(layout, modes, draw.random() < 0.5)
+
+
+def small(layout, modes, resizes):
+    program = needs.Modes(layout, modes, resizes)
     return program, program.sizes, lambda live: any(all(n <= mode.get(s, 0) for s, n in live.items()) for mode in modes)
 
 
@@ -155,18 +167,27 @@ def drawn_budget(draw, layout):
     least = draw.choice((60, 90, 110, 150))
     is_bytes, greatest = draw.random() < 0.7, least + draw.choice((10, 30, 45))
     amount = draw.randint(greatest, 7 * least) if is_bytes else draw.randint(1, 6)
-    budget = needs.Budget(layout, amount, is_bytes, least, greatest, stride=draw.choice((1, 1, 2)))
-    cost = dict(zip(budget.asked, budget.cost))
-    return budget, budget.asked, lambda live: sum(cost[size] * n for size, n in live.items()) <= amount
+    stride, cost = draw.choice((1, 1, 2)), {}
+    budget = needs.Budget(layout, amount, is_bytes, least, greatest, stride=stride)
+    for length in range(least, greatest + 1) if stride == 1 else ():
+        if layout.class_of(length) not in map(layout.class_of, cost):
+            cost[length] = length if is_bytes else 1
+    cost = cost or dict(zip(budget.asked, budget.cost))
+    sizes = [size for size in cost if cost[size] <= amount]
+    return budget, sizes, lambda live: sum(cost.get(size, size) * n for size, n in live.items()) <= amount
 
 
 def differs(seed):
     """How the planner's numbers for a drawn program differ from what the search finds; None if they don't."""
     draw = random.Random(seed)
     layout = needs.Layout(512, "cf")
-    program, sizes, allows = draw.choice((drawn_modes, drawn_modes, drawn_budget))(draw, layout)
-    bounds = [draw.choice((1, 1, 2, 3)) for _ in program.classes]
-    need, most = program.need(bounds), searched(layout, sizes, bounds, allows, getattr(program, "resizes", False))
+    if seed < len(FIXED):
+        modes, bounds, resizes = FIXED[seed]
+        program, sizes, allows = small(layout, modes, resizes)
+    else:
+        program, sizes, allows = draw.choice((drawn_modes, drawn_modes, drawn_budget))(draw, layout)
+        bounds = [draw.choice((1, 2, 2, 3)) for _ in program.classes]
+    need, most = program.need(bounds), searched(layout, sizes, bounds, allows, program.resizes)
     what = f"seed {seed}, bounds {bounds}"
     if not need.least == need.pages == most:
         return f"{what}: {need.least} to {need.pages} pages, and the search finds {most}"
@@ -320,9 +341,11 @@ WRONG = {
     "a meet by class": lambda: replaced(needs.Modes, "meet_of", lambda right: lambda self, a, b: tuple(map(min, self.by_class[a], self.by_class[b]))),
     "no surplus of a resize": lambda: replaced(needs.Modes, "surplus", lambda right: lambda *_: (0, None)),
     "no resize within a class": lambda: replaced(needs.Modes, "resize_within", lambda right: lambda *_: None),
-    "an object more to open": lambda: replaced(needs, "objects_to_open", lambda right: lambda pages, m: pages * m),
+    "an object less to open": lambda: replaced(needs, "objects_to_open", lambda right: lambda pages, m: max(pages, right(pages, m) - 1)),
     "an object less to hold": lambda: replaced(needs, "objects_to_hold", lambda right: lambda pages, m, k: max(1, right(pages, m, k) - 1)),
-    "a class of a budget forgotten": lambda: replaced(needs.Layout, "class_of", lambda right: lambda self, length: min(right(self, length), 7)),
+    "a class of a budget forgotten": lambda: replaced(
+        needs.Budget, "__init__", lambda right: lambda self, layout, amount, is_bytes, least, greatest, **more: right(
+            self, layout, amount, is_bytes, min(least + 20, greatest), greatest, **more)),
     "bounds that cost pages": lambda: replaced(plan.Planner, "by_class", lambda right: lambda self, layout, programs, row: self.row(layout, programs, [9] * len(row.bounds), "by class")),
     "no moves": lambda: replaced(plan, "most_moved", lambda right: lambda *_: 0),
     "fewer steps": lambda: mock.patch.dict(plan.study.BOUNDS["cf"], free=lambda s: s),
