@@ -1,10 +1,11 @@
 """The cases of checks/plan. `differences` compares the planner with
 
  - a search that tries all histories of small drawn programs, with all choices of a manager with pages: the most pages in use;
- - the tool: it serves the calls of each row of each demand with the row's pages, and refuses one with a page less; on a drawn history
-   within the demand it refuses nothing, and no free takes more steps or moves more than the row says.
+ - the tool: it serves the calls of each row of each demand with the row's pages, and refuses one with a page less; on a drawn
+   history within the demand it refuses nothing, and no free takes more steps or moves more than the row says;
+ - the table of budgets in docs/SIZING.md, and the formula of `pages_for_a_budget_serve`.
 
-Then each planner of `WRONG` must show a difference.
+Each planner of `WRONG` must show a difference.
 """
 import importlib.machinery
 import importlib.util
@@ -147,6 +148,25 @@ def keeps(lines, allows):
     return True
 
 
+def certifies(program, bounds, pages):
+    """Whether the vectors of pages that the planner finds show that so many pages are enough: `IsCertificate` of `certified_pages_serve`,
+    with its definitions written anew."""
+    points = [(point.mode, point.pages) for point in program.points(bounds)]
+    modes = range(len(program.modes))
+
+    def leads_on(mode, held, to):
+        both = map(min, program.by_class[mode], program.by_class[to])
+        kept = [min(p, n, (n + k * (m - 1)) // m) for p, n, m, k in zip(held, both, program.m, bounds)]
+        return any(other == to and all(a <= b for a, b in zip(kept, more)) for other, more in points)
+
+    return (
+        {mode for mode, _ in points} == {*modes}
+        and all(n <= p * m for mode, held in points for n, p, m in zip(program.by_class[mode], held, program.m))
+        and all(leads_on(mode, held, to) for mode, held in points for to in modes)
+        and all(sum(held) <= pages for _, held in points)
+    )
+
+
 def drawn_modes(draw, layout):
     """A small program with modes, and what it allows."""
     kinds = draw.sample(LENGTHS, draw.choice((1, 2, 2, 2)))
@@ -186,11 +206,13 @@ def differs(seed):
         program, sizes, allows = small(layout, modes, resizes)
     else:
         program, sizes, allows = draw.choice((drawn_modes, drawn_modes, drawn_budget))(draw, layout)
-        bounds = [draw.choice((1, 2, 2, 3)) for _ in program.classes]
-    need, most = program.need(bounds), searched(layout, sizes, bounds, allows, program.resizes)
+        bounds, resizes = [draw.choice((1, 2, 2, 3)) for _ in program.classes], program.resizes
+    need, most = program.need(bounds), searched(layout, sizes, bounds, allows, resizes)
     what = f"seed {seed}, bounds {bounds}"
     if not need.least == need.pages == most:
         return f"{what}: {need.least} to {need.pages} pages, and the search finds {most}"
+    if isinstance(program, needs.Modes) and not program.is_shared and not resizes and not certifies(program, bounds, most):
+        return f"{what}: the planner's vectors of pages are no certificate"
     calls = program.script(bounds, need.way)
     if calls.most != most and not need.is_shared:
         return f"{what}: the calls reach {calls.most} pages of {most}"
@@ -269,7 +291,6 @@ def demand_differs(path, name, program, folder, manager="cf", plays=None):
 
 def differences(program, seeds, count):
     """What differs, line by line: of drawn programs, then of the demands."""
-    yield document_differs(Path("docs/SIZING.md").read_text(encoding="utf-8"))
     for seed in range(seeds):
         yield differs(seed)
         count["drawn programs"] += 1
@@ -282,9 +303,19 @@ def differences(program, seeds, count):
         for path, manager in itertools.product(DEMANDS, ("cf", "nm")):
             yield demand_differs(path, path.stem, program, folder, manager, 1 if manager == "cf" else 3)
             count["demands"] += 1
+    yield document_differs(Path("docs/SIZING.md").read_text(encoding="utf-8"))
 
 
 # What docs/SIZING.md says
+
+
+# Budgets and page sizes for which the formula gives the planner's number: bytes, least and greatest request, page sizes.
+SETTINGS = [
+    (262144, 64, 4096, (8192, 16384, 32768)),
+    (262144, 512, 4096, (8192, 16384, 32768)),
+    (65536, 64, 1024, (2048, 4096, 8192, 16384, 32768)),
+    (1048576, 16, 2000, (2048, 4096, 8192, 16384, 32768)),
+]
 
 
 def formula(budget):
@@ -310,8 +341,7 @@ def document_differs(text):
                 return f"docs/SIZING.md: {row[0]} has {row[1:4]} and {row[5]}, not {wanted}"
     if len(rows) != 5:
         return f"docs/SIZING.md has {len(rows)} budgets, not 5"
-    for amount, least, greatest, pages in ((262144, 64, 4096, (8192, 16384, 32768)), (262144, 512, 4096, (8192, 16384, 32768)),
-                                           (65536, 64, 1024, (2048, 4096, 8192, 16384, 32768)), (1048576, 16, 2000, (2048, 4096, 8192, 16384, 32768))):
+    for amount, least, greatest, pages in SETTINGS:
         for page_bytes in pages:
             budget = needs.Budget(needs.Layout(page_bytes, "cf"), amount, True, least, greatest)
             need = budget.need([1] * len(budget.classes))
@@ -332,21 +362,40 @@ def less(need):
     return need._replace(pages=need.pages - 1, least=need.least - 1)
 
 
+def fewer_classes(right):
+    """Leaves out the classes of the least requests."""
+
+    def make(self, layout, amount, is_bytes, least, greatest, **more):
+        right(self, layout, amount, is_bytes, min(least + 20, greatest), greatest, **more)
+
+    return make
+
+
+def bounds_of_nine(right):
+    return lambda self, layout, programs, row: self.row(layout, programs, [9] * len(row.bounds), "by class")
+
+
+def meet_by_class(right):
+    return lambda self, a, b: tuple(map(min, self.by_class[a], self.by_class[b]))
+
+
+def first_mode(right):
+    return lambda self, layout, modes, *rest: right(self, layout, modes[:1], *rest)
+
+
 WRONG = {
     "a page less": lambda: replaced(needs.Modes, "need", lambda right: lambda self, bounds: less(right(self, bounds))),
-    "a mode forgotten": lambda: replaced(needs.Modes, "__init__", lambda right: lambda self, layout, modes, *rest: right(self, layout, modes[:1], *rest)),
+    "modes forgotten": lambda: replaced(needs.Modes, "__init__", first_mode),
     "ceil for floor": lambda: replaced(needs, "most_pages", lambda right: lambda n, m, k: min(n, -(-(n + k * (m - 1)) // m))),
     "floor for ceil": lambda: replaced(needs, "ceil_div", lambda right: lambda n, m: max(1, n // m) if n else 0),
-    "one k for k": lambda: replaced(needs, "most_pages", lambda right: lambda n, m, k: right(n, m, 1)),
-    "a meet by class": lambda: replaced(needs.Modes, "meet_of", lambda right: lambda self, a, b: tuple(map(min, self.by_class[a], self.by_class[b]))),
+    "one for k": lambda: replaced(needs, "most_pages", lambda right: lambda n, m, k: right(n, m, 1)),
+    "a meet by class": lambda: replaced(needs.Modes, "meet_of", meet_by_class),
     "no surplus of a resize": lambda: replaced(needs.Modes, "surplus", lambda right: lambda *_: (0, None)),
     "no resize within a class": lambda: replaced(needs.Modes, "resize_within", lambda right: lambda *_: None),
-    "an object less to open": lambda: replaced(needs, "objects_to_open", lambda right: lambda pages, m: max(pages, right(pages, m) - 1)),
-    "an object less to hold": lambda: replaced(needs, "objects_to_hold", lambda right: lambda pages, m, k: max(1, right(pages, m, k) - 1)),
-    "a class of a budget forgotten": lambda: replaced(
-        needs.Budget, "__init__", lambda right: lambda self, layout, amount, is_bytes, least, greatest, **more: right(
-            self, layout, amount, is_bytes, min(least + 20, greatest), greatest, **more)),
-    "bounds that cost pages": lambda: replaced(plan.Planner, "by_class", lambda right: lambda self, layout, programs, row: self.row(layout, programs, [9] * len(row.bounds), "by class")),
+    "an object less to open": lambda: replaced(needs, "objects_to_open", lambda right: lambda n, m: max(n, right(n, m) - 1)),
+    "an object less to hold": lambda: replaced(needs, "objects_to_hold", lambda right: lambda n, m, k: max(1, right(n, m, k) - 1)),
+    "classes of a budget forgotten": lambda: replaced(needs.Budget, "__init__", fewer_classes),
+    "bounds that cost pages": lambda: replaced(plan.Planner, "by_class", bounds_of_nine),
     "no moves": lambda: replaced(plan, "most_moved", lambda right: lambda *_: 0),
     "fewer steps": lambda: mock.patch.dict(plan.study.BOUNDS["cf"], free=lambda s: s),
 }

@@ -17,7 +17,7 @@ The count of a run of the first line alone is taken off.
 """
 import glob, os, random, re, subprocess, sys, tempfile
 
-sys.dont_write_bytecode = True
+sys.dont_write_bytecode = True  # (in tools/)
 sys.path.append(os.path.join(os.path.dirname(os.path.dirname(os.path.realpath(__file__))), 'tools'))
 from page_needs import class_sizes, payload
 
