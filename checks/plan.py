@@ -3,7 +3,7 @@
  - a search that tries all histories of small drawn programs, with all choices of a manager with pages: the most pages in use;
  - the tool: it serves the calls of each row of each demand with the row's pages, and refuses one with a page less; on a drawn
    history within the demand it refuses nothing, and no free takes more steps or moves more than the row says;
- - the table of budgets in docs/SIZING.md, and the formula of `pages_for_a_budget_serve`.
+ - the table of budgets in docs/SIZING.md, the formula of `pages_for_a_budget_serve`, and Robson's bound in tiny cases.
 
 Each planner of `WRONG` must show a difference.
 """
@@ -304,6 +304,7 @@ def differences(program, seeds, count):
             yield demand_differs(path, path.stem, program, folder, manager, 1 if manager == "cf" else 3)
             count["demands"] += 1
     yield document_differs(Path("docs/SIZING.md").read_text(encoding="utf-8"))
+    yield robson_differs()
 
 
 # What docs/SIZING.md says
@@ -347,6 +348,46 @@ def document_differs(text):
             need = budget.need([1] * len(budget.classes))
             if need.pages != formula(budget):
                 return f"the formula gives {formula(budget)} pages of {page_bytes} bytes for {amount} bytes of {least}..{greatest}, not {need.pages}"
+    return None
+
+
+# Robson's bound
+
+
+def survives(room, most, sizes):
+    """Whether some manager that moves nothing serves each program that has at most `most` units live at once, of these sizes, in
+    `room` units: the states in which it never has to refuse, as sets of blocks (place, size), found by leaving out the others."""
+
+    def places(state, size):
+        used = {place + i for place, length in state for i in range(length)}
+        return [at for at in range(room - size + 1) if not used & {*range(at, at + size)}]
+
+    states, waiting = {frozenset()}, [frozenset()]
+    while waiting:
+        state = waiting.pop()
+        for size in sizes:
+            if sum(length for _, length in state) + size <= most:
+                more = {state | {(at, size)} for at in places(state, size)} - states
+                states |= more
+                waiting += more
+
+    def is_safe(state):
+        left = most - sum(length for _, length in state)
+        return all(state - {block} in states for block in state) and all(
+            any(state | {(at, size)} in states for at in places(state, size)) for size in sizes if size <= left
+        )
+
+    while len(kept := set(filter(is_safe, states))) < len(states):
+        states = kept
+    return frozenset() in states
+
+
+def robson_differs():
+    """The first case in which Robson's bound is not the least room in which a manager survives."""
+    for most, sizes in ((4, (1, 2)), (6, (1, 2)), (4, (1, 2, 4))):
+        bound = needs.robson(most, True, 1, sizes[-1])
+        if survives(bound - 1, most, sizes) or not survives(bound, most, sizes):
+            return f"Robson's bound for {most} units is not {bound}"
     return None
 
 
