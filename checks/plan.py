@@ -412,8 +412,8 @@ def fewer_classes(right):
     return make
 
 
-def bounds_of_nine(right):
-    return lambda self, layout, programs, row: self.row(layout, programs, [9] * len(row.bounds), "by class")
+def high_bounds(right):
+    return lambda self, layout, programs, row: self.row(layout, programs, [1] + [64] * (len(row.bounds) - 1), "by class")
 
 
 def meet_by_class(right):
@@ -436,7 +436,7 @@ WRONG = {
     "an object less to open": lambda: replaced(needs, "objects_to_open", lambda right: lambda n, m: max(n, right(n, m) - 1)),
     "an object less to hold": lambda: replaced(needs, "objects_to_hold", lambda right: lambda n, m, k: max(1, right(n, m, k) - 1)),
     "classes of a budget forgotten": lambda: replaced(needs.Budget, "__init__", fewer_classes),
-    "bounds that cost pages": lambda: replaced(plan.Planner, "by_class", bounds_of_nine),
+    "bounds that cost pages": lambda: replaced(plan.Planner, "by_class", high_bounds),
     "no moves": lambda: replaced(plan, "most_moved", lambda right: lambda *_: 0),
     "fewer steps": lambda: mock.patch.dict(plan.study.BOUNDS["cf"], free=lambda s: s),
 }
