@@ -213,7 +213,7 @@ def differs(seed):
         return f"{what}: {need.least} to {need.pages} pages, and the search finds {most}"
     if isinstance(program, needs.Modes) and not program.is_shared and not resizes and not certifies(program, bounds, most):
         return f"{what}: the planner's vectors of pages are no certificate"
-    calls = program.script(bounds, need.way)
+    calls = program.script(bounds, need)
     if calls.most != most and not need.is_shared:
         return f"{what}: the calls reach {calls.most} pages of {most}"
     return None if keeps(calls.lines, allows) else f"{what}: the calls do not keep to the demand"

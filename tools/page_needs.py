@@ -152,7 +152,7 @@ class Modes:
         )
 
     def points(self, bounds):
-        """For each mode its greatest vectors of pages over all histories. If that takes too long, `gave_up` is set, and they are some."""
+        """For each mode its greatest vectors of pages over all histories; if that takes too long, some, and `gave_up` is set."""
         found, waiting = [[] for _ in self.modes], collections.deque()
         caps = [[tuple(map(most_pages, s.meet, self.m, bounds)) for s in switches] for switches in self.switches]
         compared = 0
@@ -235,17 +235,17 @@ class Modes:
         """The most live objects."""
         return max(map(sum, self.counts))
 
-    def script(self, bounds, way):
-        """The calls of a way. If sizes share a class, they are allocated in drawn orders until one reaches the most pages."""
-        last, surplus = way
-        wanted, best = sum(last.pages) + (surplus is not None), self.calls_of(last, surplus, bounds, None)
+    def script(self, bounds, need):
+        """Calls with the pages `need.least`. If sizes share a class, they are allocated in drawn orders until one has as many."""
+        best = self.calls_of(*need.way, bounds, None)
         for draw in range(min(TRIES, TRIED_OBJECTS // self.objects()) if self.is_shared else 0):
-            if best.most >= wanted:
+            if best.most >= need.least:
                 break
-            best = max(best, self.calls_of(last, surplus, bounds, random.Random(draw)), key=lambda calls: calls.most)
+            best = max(best, self.calls_of(*need.way, bounds, random.Random(draw)), key=lambda calls: calls.most)
         return best
 
     def calls_of(self, last, surplus, bounds, draw):
+        """The calls on the way to a point, and its surplus."""
         path = [last]
         while path[-1].before:
             path.append(path[-1].before)
@@ -391,8 +391,9 @@ class Budget:
         choose(0, [], self.amount)
         return best, tried <= MOST_CHOICES
 
-    def script(self, bounds, way):
-        calls = Calls(self.layout, dict(zip(self.classes, bounds)))
+    def script(self, bounds, need):
+        """Calls with the pages `need.least`."""
+        way, calls = need.way, Calls(self.layout, dict(zip(self.classes, bounds)))
         for i in self.order(way, bounds):
             opened = objects_to_open(way[i], self.m[i])
             for _ in range(opened):
