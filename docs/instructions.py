@@ -17,6 +17,10 @@ The count of a run of the first line alone is taken off.
 """
 import glob, os, random, re, subprocess, sys, tempfile
 
+sys.dont_write_bytecode = True  # (in tools/)
+sys.path.append(os.path.join(os.path.dirname(os.path.dirname(os.path.realpath(__file__))), 'tools'))
+from page_needs import class_sizes, payload
+
 MANAGERS = {'cf': 'c', 'nm': 'n', 'tlsf': 't', 'half': 'h'}
 
 M64 = (1 << 64) - 1
@@ -130,19 +134,6 @@ def calls(program, lines, function, every=False):
         names = [name for name in names if name.endswith(ENDS[kind])] or names
     counts = (callgrind(program, '\n'.join(lines) + '\n', name, every) for name in names)
     return next(count for count in counts if count)
-
-
-def class_sizes(page_words, unit):
-    """The words of the slots, by the rule in units of one word or of one block."""
-    sizes, s = [], 4 // unit
-    while s < page_words // unit:
-        sizes.append(unit * s)
-        s = (9 * s + 7) // 8
-    return sizes + [page_words]
-
-
-def payload(slot):
-    return 8 * (slot - 1)
 
 
 def scrambled(pages, page_bytes):
