@@ -1,6 +1,7 @@
 /* Drawn calls beside a plain model: each object's handle, bytes and place. Bytes are written and read by copies and in place,
  * two objects at once. Handles of freed objects and drawn numbers are refused unless a live object has them, a lent heap
- * refuses each call, and no call that fails writes anything. Ends with 1 at the first difference. Arguments: the number of calls, and the seed. */
+ * refuses each call, and no call that fails writes anything. Ends with 1 at the first difference. Arguments: the number of
+ * calls, and the seed. */
 #include "norphuen.h"
 #include <stdio.h>
 #include <stdlib.h>

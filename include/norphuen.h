@@ -55,7 +55,7 @@ typedef struct nph_heap {
     bool is_lent;
 } nph_heap;
 
-/* A closed heap, for an initializer or an assignment. A static heap is closed without it too. */
+/* A closed heap, to initialize or to assign. A static heap needs none, and with gcc -pedantic may have none. */
 #ifdef __cplusplus
 #define NPH_HEAP nph_heap{}
 #else
