@@ -33,8 +33,8 @@ begin
    Show ("free", Nph_Free (H, Handles (1), F));
    Show ("free", Nph_Free (H, Handles (3), F));
    Put_Line
-     ("words" & F.Slot_Words'Image & ", moved" & F.Moved'Image & ", is"
-      & Handles (2)'Image);
+     ("words" & F.Slot_Words'Image & ", b moved: "
+      & Boolean'Image (F.Moved = Handles (2)));
    Show ("steps", Nph_Last_Steps (H, Steps));
    Put_Line (Steps'Image);
    Show ("read", Nph_Read (H, Handles (2), 0, Got, 2));

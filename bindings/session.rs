@@ -24,5 +24,5 @@ fn main() {
     println!("class 0: {:?}", heap.figures(0));
     println!("class 20: {:?}", heap.figures(20));
     println!("{:?}", heap.totals());
-    println!("read of a: {:?}, of none: {:?}", heap.read(a, 0, &mut bytes), heap.free(Handle(9)));
+    println!("read of a: {:?}, of none: {:?}", heap.read(a, 0, &mut bytes), heap.free(Handle(u32::MAX)));
 }

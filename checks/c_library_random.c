@@ -1,6 +1,7 @@
 /* Drawn calls beside a plain model: each object's handle, bytes and place. Bytes are written and read by copies and in place,
- * two objects at once. Handles of freed objects and drawn numbers must be refused, a lent heap refuses each call, and no call
- * that fails writes anything. Ends with 1 at the first difference. Arguments: the number of calls, and the seed. */
+ * two objects at once. Handles of freed objects and drawn numbers are refused unless a live object has them, a lent heap
+ * refuses each call, and no call that fails writes anything. Ends with 1 at the first difference. Arguments: the number of
+ * calls, and the seed. */
 #include "norphuen.h"
 #include <stdio.h>
 #include <stdlib.h>
@@ -153,12 +154,25 @@ static void refuse(uint32_t handle) {
     refused++;
 }
 
+/* Closes the heap, which may be lent or closed already, and opens it again. All its handles are stale. */
+static void reopen(void) {
+    uint64_t *words;
+    nph_status status = draw(2) ? nph_lend(&heap, &words) : NPH_OK;
+    CHECK(status == NPH_OK || status == NPH_CLOSED);
+    for (uint32_t i = 0; i < live && i < STALE; i++) stale[freed++ % STALE] = objects[i].handle;
+    live = 0;
+    asked = 0;
+    nph_close(&heap);
+    all_refused(NPH_CLOSED, stale[0]);
+    CHECK(nph_return(&heap) == NPH_CLOSED);
+    CHECK(nph_open(&heap, PAGES, PAGE, 1, MOST) == NPH_OK && nph_open(&heap, 1, 512, 1, 1) == NPH_OPEN);
+}
+
 int main(int argc, char **argv) {
     long calls = argc > 1 ? atol(argv[1]) : 100000;
     nph_heap_totals t;
     state = argc > 2 ? strtoull(argv[2], NULL, 10) : 1;
-    all_refused(NPH_CLOSED, 0);
-    CHECK(nph_open(&heap, PAGES, PAGE, 1, MOST) == NPH_OK && nph_open(&heap, 1, 512, 1, 1) == NPH_OPEN);
+    reopen();
     for (long i = 0; i < calls; i++) {
         object *o = &objects[live > 0 ? draw(live) : 0];
         uint32_t kind = draw(9), handle;
@@ -171,19 +185,13 @@ int main(int argc, char **argv) {
         default:
             if (freed == 0) break;
             handle = kind == 7 ? stale[draw(freed < STALE ? freed : STALE)] : (uint32_t)(state >> 16);
-            if (kind == 7) CHECK(with(handle) == NULL); /* numbers are used again, handles are not so soon */
             if (with(handle) == NULL) refuse(handle);
         }
+        if (i % 50000 == 49999) reopen();
         if (i % 1024 == 0) CHECK(nph_totals(&heap, &t) == NPH_OK && t.live == live && t.asked == asked);
     }
     printf("%ld calls: %lu moves, %lu loans, %lu handles refused, %lu times no room\n", calls, (unsigned long)moves,
            (unsigned long)loans, (unsigned long)refused, (unsigned long)full);
-    if (calls % 2 == 0) {
-        uint64_t *words;
-        CHECK(nph_lend(&heap, &words) == NPH_OK); /* a lent heap is closed too */
-    }
     nph_close(&heap);
-    all_refused(NPH_CLOSED, 0);
-    CHECK(nph_return(&heap) == NPH_CLOSED);
     return 0;
 }

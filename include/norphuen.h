@@ -5,9 +5,10 @@
  * bounded number of steps (docs/C.md); nph_last_steps returns the steps of the last one. Link one of three libraries:
  *
  *   libnorphuen.a            Compact-fit, moving: a free may move one object, whose handle stays the same
- *   libnorphuen_nonmoving.a  Compact-fit, non-moving: a free may exchange entries of a block table. An object's words are
- *                            not side by side, so this library alone lacks nph_place, nph_lend and nph_return
- *   libnorphuen_tlsf.a       TLSF, for comparison: blocks in place of pages. No object moves or changes its length
+ *   libnorphuen_nonmoving.a  Compact-fit, non-moving: a free may exchange entries of a block table. Lends nothing, since
+ *                            an object's words are not side by side
+ *   libnorphuen_tlsf.a       TLSF, for comparison: blocks in place of pages. No object moves or changes its length. Lends
+ *                            nothing
  *
  * The program defines the three functions rattle_alloc, rattle_realloc and rattle_dealloc, by which the library takes
  * and returns memory: examples/c/malloc.c does so over malloc, examples/c/arena.c over a static array.
@@ -54,7 +55,7 @@ typedef struct nph_heap {
     bool is_lent;
 } nph_heap;
 
-/* A closed heap, for an initializer or an assignment. A static heap is closed without it too. */
+/* A closed heap, to initialize or to assign. A static heap needs none, and with gcc -pedantic may have none. */
 #ifdef __cplusplus
 #define NPH_HEAP nph_heap{}
 #else
@@ -185,7 +186,7 @@ NPH_CALL nph_status nph_last_steps(nph_heap *heap, uint64_t *steps);
 
 /* Pointers to objects. Call nph_place for each object, then nph_lend. Until nph_return the bytes of an object are at
  * nph_bytes(words, place), aligned to 8, and the program reads and writes them there. Each other call but nph_close
- * returns NPH_LENT until then. */
+ * returns NPH_LENT until then. A library that lends nothing has none of these calls. */
 
 /* Writes the place of an object: the word in front of its bytes, counted from the first word of the region. It stays the
  * same until the object is freed, resized, or named as `moved`. Fails with NPH_UNKNOWN. */

@@ -4,6 +4,7 @@
 #include <stdio.h>
 
 static nph_heap heap = NPH_HEAP;
+static uint32_t b;
 
 /* Makes an object, prints the code, and returns the handle. */
 static uint32_t make(uint32_t bytes) {
@@ -12,13 +13,14 @@ static uint32_t make(uint32_t bytes) {
     return handle;
 }
 
-/* Frees an object, and prints the code, what moved and the steps. */
+/* Frees an object, and prints the code, whether b moved, and the steps. */
 static void release(const char *name, uint32_t handle) {
     nph_freed freed = {0, NPH_NONE};
     uint64_t steps = 0;
     int code = nph_free(&heap, handle, &freed);
     if (nph_last_steps(&heap, &steps) != NPH_OK) steps = 0;
-    printf("free %s: %d, %u words, moved %d, %u steps\n", name, code, freed.slot_words, (int)freed.moved, (unsigned)steps);
+    printf("free %s: %d, %u words, moved %s, %u steps\n", name, code, freed.slot_words,
+           freed.moved == NPH_NONE ? "none" : freed.moved == b ? "b" : "another", (unsigned)steps);
 }
 
 /* Prints the first two bytes of an object. */
@@ -45,7 +47,9 @@ int main(void) {
     printf(" %d", (int)nph_open(&heap, 2, 512, 1, 4));
     printf(" %d\n", (int)nph_open(&heap, 2, 512, 1, 4));
 
-    uint32_t a = make(176), b = make(176), c = make(176), d = make(176);
+    uint32_t a = make(176);
+    b = make(176);
+    uint32_t c = make(176), d = make(176);
     printf("room for 8 bytes: %d, for 505: %d\n", (int)nph_has_room(&heap, 8), (int)nph_has_room(&heap, 505));
     make(8);
     printf("write: %d\n", (int)nph_write(&heap, b, 0, bytes, 2));
