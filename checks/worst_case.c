@@ -7,7 +7,7 @@
  * within the bounds are counted; with PAST 0, and on ARM64, none are counted. A line of output has a call, its code, the
  * instructions, the bytes of stack, the steps, and what its lengths follow from. The calls run on a stack of their own,
  * which is painted before. The functions outside of the library run on the stack of main, without the trap flag. After COUNT drawn
- * calls it makes those that are made to be long, if LONG is 1. */
+ * calls it makes those that are made to be long, if LONG is 1. Lines `ran ADDRESS` come last. */
 #define _GNU_SOURCE
 #include "norphuen.h"
 
@@ -26,6 +26,8 @@ static uint64_t first, past, instructions, state;
 static uint32_t handles[LIVE], lengths[LIVE], live, page_words;
 static uint8_t buffer[1 << 17];
 static int paint;
+/* Whether the instruction at each address of the library's code was run. */
+static char ran[1 << 17];
 /* Calls and bytes of memcpy, memmove and memset, in one call of the library. */
 static uint64_t copied[3][2];
 
@@ -46,7 +48,7 @@ __asm__(".text\ncall_on_stack:\n"
             " mov trampoline+48(%rip), %r11\n pushfq\n or %r11, (%rsp)\n popfq\n mov trampoline+72(%rip), %rsp\n ret\n");
 static void count(int number, siginfo_t *info, void *context) {
     uint64_t at = (uint64_t)((ucontext_t *)context)->uc_mcontext.gregs[REG_RIP];
-    instructions += at >= first && at < past;
+    if (at >= first && at < past) instructions++, ran[(at - first) % sizeof ran] = 1;
     (void)number, (void)info;
 }
 #else
@@ -210,5 +212,7 @@ int main(int argc, char **argv) {
     if (argv[5][0] == '1') long_calls();
     while (live) release(live - 1);
     call("close", (void *)nph_close, 0, 0, 0, 0), puts("");
+    for (uint64_t at = first; at < past && at - first < sizeof ran; at++)
+        if (ran[at - first]) printf("ran %" PRIx64 "\n", at);
     return 0;
 }

@@ -7,7 +7,8 @@ the archives in ROOM, checks/arm64.
            six settings. No call takes more instructions, more bytes of memcpy, memmove or memset, or more stack than its
            bound. The longest of each kind is within NEAR of its bound, and the deepest stack is the computed one, but for
            those of FAR and SHALLOW.
- refused   Wrong notes and a wrong library are refused, by a line that names what to look at.
+ left out  No block ran that the bounds leave out.
+ refused   Wrong notes, and libraries that have no bound, are refused by a line that names what to look at.
  clauses   Each clause that a note trusts is one of the function it names.
  document  The table of docs/SPEED.md has the bounds, and the longest calls that were seen.
 """
@@ -37,9 +38,10 @@ SETTINGS = [(16, 512, 1, 64), (8, 512, 3, 16), (24, 2048, 2, 200), (16, 4096, 1,
 # The setting of the column "longest seen".
 SHOWN = (16, 16384, 1, 4096)
 NEAR = Fraction(11, 10)
-FAR, SHALLOW = set(), set()
+FAR = {("norphuen", "nph_open"), ("norphuen_nonmoving", "nph_open"), ("norphuen", "nph_resize same")}
+SHALLOW = set()
 # Loops of which one turn less is seen: library, function, number.
-TIGHT = set()
+TIGHT = {("norphuen", "virtual_words::direct::DirectMapping::write_bytes", 1)}
 # The lengths that the notes may use (docs/SPEED.md).
 NAMES = "smtcwbfPWQ"
 failed = []
@@ -55,22 +57,38 @@ def build(room, name, library):
     archive = f"{room}/{name}.outside.a"
     outside = [f"--redefine-sym={n}=outside_{n}" for n in sorted(tool.MOVERS | tool.ALLOCATOR)]
     subprocess.run([f"{CROSS}objcopy", *outside, library.path, archive], check=True)
+    # All code of the library in one section, so that it stays together.
+    script, whole = Path(f"{room}/together"), f"{room}/{name}.o"
+    script.write_text("SECTIONS { .text : { *(.text .text.*) } }", encoding="utf-8")
+    subprocess.run([f"{CROSS}ld", "-r", "-T", script, "-o", whole, "--whole-archive", archive], check=True)
     program = f"{room}/{name}.counted"
     words = ["-static"] if ARM else ["-mno-red-zone", "-no-pie"]
-    subprocess.run([f"{CROSS}gcc", "-std=gnu11", "-O2", "-Wall", "-Wextra", "-Werror", *words, "-Iinclude", "-o", program, "checks/worst_case.c", archive],
+    subprocess.run([f"{CROSS}gcc", "-std=gnu11", "-O2", "-Wall", "-Wextra", "-Werror", *words, "-Iinclude", "-o", program, "checks/worst_case.c", whole],
                    check=True)
     places = collections.defaultdict(list)
     printed = subprocess.run([f"{CROSS}nm", "-n", program], capture_output=True, text=True, check=True).stdout
     code = [(int(at, 16), symbol) for at, kind, symbol in (line.split() for line in printed.splitlines() if len(line.split()) == 3) if kind in "tT"]
     for at, symbol in code:
         places[symbol].append(at)
-    first = min(min(places[symbol]) for symbol in library.functions)
-    last = max(max(places[symbol]) for symbol in library.functions)
+    symbols = {function.symbol for function in library.functions.values()}
+    first = min(min(places[symbol]) for symbol in symbols)
+    last = max(max(places[symbol]) for symbol in symbols)
     past = min([at for at, _ in code if at > last], default=last + 1)
-    strangers = {symbol for at, symbol in code if first <= at < past and not symbol.startswith(".")} - set(library.functions)
+    strangers = {symbol for at, symbol in code if first <= at < past and not symbol.startswith(".")} - symbols
     if strangers:
         raise tool.Fault(f"{name}: {sorted(strangers)[0]} stands within the library's code")
-    return program, first, past
+    return program, first, past, {name: places[function.symbol][0] for name, function in library.functions.items()}
+
+
+def never_ran(name, library, notes, starts, ran):
+    """No block ran that the tool leaves out, because its end stops or because a note says so."""
+    for function in library.functions.values():
+        numbers = notes.functions.get(function.name, {"never": {}})["never"]
+        left = function.cut({block for block in function.blocks if block.number in numbers})
+        for block in function.blocks:
+            at = starts[function.name] + block.code[0].at - function.place[2]
+            if block not in left and at in ran:
+                fail(f"{name}: block {block.key} of {function.name} ran, but is left out of the bounds")
 
 
 def lengths(kind, fields, steps):
@@ -105,7 +123,8 @@ class Seen:
     """Of each kind of call the one that is nearest to its bound, the longest one, the deepest stack, and the number of calls."""
 
     def __init__(self, bounds):
-        self.bounds, self.nearest, self.longest, self.deepest, self.count = bounds, {}, {}, collections.Counter(), 0
+        self.bounds, self.succeeds, self.nearest, self.longest = bounds, {}, {}, {}
+        self.deepest, self.count = collections.Counter(), 0
 
     def take(self, line):
         """What is above its bound in this call."""
@@ -121,10 +140,15 @@ class Seen:
         # A refused call has no lengths, and returns before it works on any word.
         at = lengths(kind, fields, steps) if done else dict.fromkeys(NAMES, 0)
         most = max(tool.value_at(poly, at) for poly in own)
-        if done and (row not in self.nearest or most * self.nearest[row][1] < self.nearest[row][0] * counted):
-            self.nearest[row] = (most, counted, line.strip())
-        if done and counted > self.longest.get(row, (0, 0))[0]:
-            self.longest[row] = (counted, most)
+        # TLSF refuses each resize and each class: of a call that never succeeds the refused ones count.
+        if done > self.succeeds.get(row, -1):
+            self.succeeds[row] = done
+            self.nearest.pop(row, None), self.longest.pop(row, None)
+        if done == self.succeeds[row]:
+            if row not in self.nearest or most * self.nearest[row][1] < self.nearest[row][0] * counted:
+                self.nearest[row] = (most, counted, line.strip())
+            if counted > self.longest.get(row, (0, 0))[0]:
+                self.longest[row] = (counted, most)
         if counted > most:
             yield f"{line.strip()} takes more than its bound {float(most):g} = {tool.formula_of(own)}"
         for n, name in enumerate(("memcpy", "memmove", "memset")):
@@ -151,11 +175,12 @@ def with_counts(program, log, lines):
     its steps, which is a call too."""
     printed = subprocess.run(["aarch64-linux-gnu-nm", program], capture_output=True, text=True, check=True).stdout
     exports = {int(line.split()[0], 16): line.split()[2] for line in printed.splitlines() if re.search(r" T nph_\w+$", line)}
-    calls = []
+    calls, ran = [], set()
     with open(log, encoding="utf-8") as file:
         for line in file:
             if line.startswith("Trace"):
                 at = int(line.split("/")[1], 16)
+                ran.add(at)
                 if at in exports:
                     calls.append([exports[at], 0])
                 calls[-1][1] += 1
@@ -169,32 +194,38 @@ def with_counts(program, log, lines):
         found.append(" ".join([kind, code, str(number), *words]))
         if kind != "close" and code != "7":
             next(rest)
-    return found
+    return found + [f"ran {at:x}" for at in sorted(ran)]
 
 
-def counted(name, library, bounds, stacks, room, count):
+def counted(name, library, notes, bounds, stacks, room, count):
     """What was seen in all calls, and the calls of the shown setting."""
-    program, first, past = build(room, name, library)
-    seen = Seen(bounds)
+    program, first, past, starts = build(room, name, library)
+    seen, ran = Seen(bounds), set()
     with concurrent.futures.ThreadPoolExecutor(4) as pool:
         shown = pool.submit(run, program, first, past, SHOWN, 20)
         runs = [pool.submit(run, program, first, past, settings, count, seed) for seed, settings in enumerate(SETTINGS, 1)]
         for done in [shown, *runs]:
             for line in done.result():
+                if line.startswith("ran "):
+                    ran.add(int(line[4:], 16))
+                    continue
                 for text in seen.take(line):
                     fail(f"{name}: {text}")
+    never_ran(name, library, notes, starts, ran)
     for row in bounds:
         most, number, line = seen.nearest.get(row, (0, 0, ""))
-        if not line and not any(other.startswith(row + " ") for other in bounds):
+        if any(other.startswith(row + " ") for other in bounds):
+            continue  # its cases are compared
+        if not line:
             fail(f"{name}: no call of {row} was made")
-        elif line and most > NEAR * number and (name, row) not in FAR:
+        elif most > NEAR * number and (name, row) not in FAR:
             fail(f"{name}: no call of {row} is near its bound; the nearest has {float(most):g}: {line}")
         if "SHOW" in os.environ:
             print(f"{name} {row}: {float(most / number) if number else 0:.3f} {float(most):g} {line}")
     for export, stack in stacks.items():
         if seen.deepest[export] > stack or seen.deepest[export] < stack and (name, export) not in SHALLOW:
             fail(f"{name}: {export} used {seen.deepest[export]} bytes of stack, not {stack}")
-    return seen, shown.result()
+    return seen, [line for line in shown.result() if not line.startswith("ran ")]
 
 
 def refuses(what, words, archive, notes):
@@ -247,6 +278,34 @@ def mutations(name, library, room, lines):
     return count
 
 
+# Libraries that have no bound, in C, and words of the line that says so.
+UNBOUNDED = [
+    ("int nph_malloc(int (*f)(void)) { return f() + 1; }", "nph_malloc: a jump or call through a pointer"),
+    ("int nph_malloc(int (*f)(void)) { return f(); }", "nph_malloc: a jump or call through a pointer"),
+    ("int nph_malloc(int n) { return n < 2 ? n : n * nph_malloc(n - 1) + nph_malloc(n - 2); }", "recursion: nph_malloc calls nph_malloc"),
+    ("void take(char *); int nph_malloc(int n) { char a[n]; take(a); return a[0]; }", "nph_malloc: the frame isn't fixed"),
+    ("void *rattle_alloc(long, long); void *nph_malloc(int n) { return rattle_alloc(n, 8); }", "nph_malloc leads to rattle_alloc: only nph_close and nph_open may"),
+    ("void take(int); int nph_malloc(int n) { take(n); return n; }", "call 1 of take, which is outside and isn't known"),
+    ("int nph_malloc(volatile int *n) { while (*n) ; return 1; }", "loop 1 .* has no note: how often"),
+    ("int nph_malloc(volatile int *n) { if (*n) for (;;) ; return 1; }", "nph_malloc: an endless loop"),
+    ("int nph_malloc(volatile int *n) { if (*n) goto b; a: ++*n; b: *n += 2; if (*n < 9) goto a; return 1; }", "nph_malloc: a loop with two entries|has no note"),
+]
+
+
+def unbounded(room):
+    """A library that has no bound is refused."""
+    notes = Path(room) / "no.notes"
+    notes.write_text("", encoding="utf-8")
+    for number, (text, words) in enumerate(UNBOUNDED):
+        file = f"{room}/unbounded{number}"
+        Path(f"{file}.c").write_text(text, encoding="utf-8")
+        subprocess.run([f"{CROSS}gcc", "-O1", "-fno-optimize-sibling-calls" if "nph_malloc(n - 1)" in text else "-foptimize-sibling-calls", "-w", "-c", "-o",
+                        f"{file}.o", f"{file}.c"], check=True)
+        subprocess.run([f"{CROSS}ar", "rc", f"{file}.a", f"{file}.o"], check=True)
+        refuses(text, words, f"{file}.a", str(notes))
+    return len(UNBOUNDED)
+
+
 def clauses(name, notes):
     """Each clause that a note trusts is one of the function it names."""
     for function, note in notes.functions.items():
@@ -255,6 +314,10 @@ def clauses(name, notes):
             bodies = re.findall(rf"fn {trusted}\b(.*?)\n    \{{\n|fn {trusted}\b(.*?)\n\{{\n", sources, re.S)
             if not any(re.search(rf"(requires|ensures) {label} ", "".join(body)) for body in bodies):
                 fail(f"{name}: block {number} of {function} trusts the clause {label} of {trusted} in {crate}, which is not there")
+        for (number, _), (_, (file, *words)) in note["jump"].items():
+            text = Path(file).read_text(encoding="utf-8").lower() if Path(file).exists() else ""
+            if not all(word in text for word in words):
+                fail(f"{name}: a jump from block {number} of {function} trusts {file} on {' '.join(words)}, which is not there")
 
 
 TABLE = re.compile(r"^\| `(cf|nm|tlsf)` \| ([^|]*) \| ([^|]*) \| ([^|]*) \| ([^|]*) \| ([^|]*) \|$", re.M)
@@ -268,7 +331,7 @@ def rows_of(name, bounds, stacks, lines):
         for _ in seen.take(line):
             pass
     for row, (own, _) in bounds.items():
-        if row in seen.longest:
+        if row in seen.longest and not any(other.startswith(row + " ") for other in bounds):
             number, most = seen.longest[row]
             call = row.removeprefix("nph_").replace(" ", ", ")
             rows.append((SHORT[name], call, tool.formula_of(own).replace("*", ""), f"{number:,} of {most.__floor__():,}", f"{stacks[row.split()[0]]:,}"))
@@ -300,16 +363,17 @@ def main():
         if allocator != tool.MAY_ALLOCATE:
             fail(f"{name}: a path leads to the allocator from {sorted(allocator)}")
         stacks = {export: row["stack"] for export, row in table.items()}
-        seen, lines = counted(name, library, bounds, stacks, room, count)
+        seen, lines = counted(name, library, notes, bounds, stacks, room, count)
         total += seen.count
         rows += rows_of(name, bounds, stacks, lines)
         wrong += mutations(name, library, room, lines)
         clauses(name, notes)
+    wrong += unbounded(room)
     if not ARM:
         document(rows)
     if failed:
         sys.exit(1)
-    print(f"checks/{'arm64' if ARM else 'worst_case'}: of {total:,} counted calls none is above its bound, and {wrong} wrong notes are refused", file=sys.stderr)
+    print(f"checks/{'arm64' if ARM else 'worst_case'}: of {total:,} counted calls none is above its bound, and {wrong} wrong notes and libraries are refused", file=sys.stderr)
 
 
 try:
