@@ -41,7 +41,7 @@ NEAR = Fraction(11, 10)
 FAR = {("norphuen", "nph_open"), ("norphuen_nonmoving", "nph_open"), ("norphuen", "nph_resize same")}
 SHALLOW = set()
 # Loops of which one turn less is seen: library, function, number.
-TIGHT = {("norphuen", "virtual_words::direct::DirectMapping::write_bytes", 1)}
+TIGHT = {("norphuen", "virtual_words::direct::DirectMapping::write_bytes", 1), ("norphuen_tlsf", "nph_totals", 1)}
 # The lengths that the notes may use (docs/SPEED.md).
 NAMES = "smtcwbfPWQ"
 failed = []
@@ -307,17 +307,18 @@ def unbounded(room):
 
 
 def clauses(name, notes):
-    """Each clause that a note trusts is one of the function it names."""
+    """Each clause that a note trusts is one of the function that it names, and each document has the words."""
     for function, note in notes.functions.items():
-        for number, (_, (crate, trusted, label)) in note["never"].items():
-            sources = "\n".join(path.read_text(encoding="utf-8") for path in Path(f"crates/{crate}/src").glob("**/*.rt"))
-            bodies = re.findall(rf"fn {trusted}\b(.*?)\n    \{{\n|fn {trusted}\b(.*?)\n\{{\n", sources, re.S)
-            if not any(re.search(rf"(requires|ensures) {label} ", "".join(body)) for body in bodies):
-                fail(f"{name}: block {number} of {function} trusts the clause {label} of {trusted} in {crate}, which is not there")
-        for (number, _), (_, (file, *words)) in note["jump"].items():
-            text = Path(file).read_text(encoding="utf-8").lower() if Path(file).exists() else ""
-            if not all(word in text for word in words):
-                fail(f"{name}: a jump from block {number} of {function} trusts {file} on {' '.join(words)}, which is not there")
+        for place, (_, (where, *words)) in [*note["never"].items(), *note["jump"].items()]:
+            if where.startswith("docs/"):
+                text = Path(where).read_text(encoding="utf-8")
+                found = all(word in text for word in words)
+            else:
+                trusted, label = words
+                sources = "\n".join(path.read_text(encoding="utf-8") for path in Path(f"crates/{where}/src").glob("**/*.rt"))
+                found = any(re.search(rf"^ *(requires|ensures) {label} ", part.partition("fn ")[0], re.M) for part in re.split(rf"fn {trusted}\b", sources)[1:])
+            if not found:
+                fail(f"{name}: a note of {function}, block {place}, trusts {' '.join(words)} of {where}, which is not there")
 
 
 TABLE = re.compile(r"^\| `(cf|nm|tlsf)` \| ([^|]*) \| ([^|]*) \| ([^|]*) \| ([^|]*) \| ([^|]*) \|$", re.M)
