@@ -183,7 +183,7 @@ static void long_calls(void) {
     /* With blocks: many free blocks, then a malloc that splits one, and frees that join it with both neighbours. */
     while (live < LIVE && make(16) == NPH_OK) ;
     ask(0);
-    for (uint32_t n = 0; n < live; n++) release(n);
+    for (uint32_t n = live; n >= 2; n -= 2) release(n - 2);
     ask(0), make(most), make(8);
     while (live) release(live - 1);
     make(1), make(1), make(1), release(0), release(0), release(0);
