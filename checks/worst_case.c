@@ -1,0 +1,218 @@
+/* Makes calls on a library and prints for each its instructions and its stack. checks/worst_case compares them with the
+ * bounds that tools/worst_case computes.
+ *
+ *   program FIRST PAST SEED COUNT LONG PAGES PAGEBYTES K PROXIES
+ *
+ * FIRST and PAST bound the library's code, in hexadecimal. On x86-64 the trap flag stops after each instruction, and those
+ * within the bounds are counted; with PAST 0, and on ARM64, none are counted. A line of output has a call, its code, the
+ * instructions, the bytes of stack, the steps, and what its lengths follow from. The calls run on a stack of their own,
+ * which is painted before. The functions outside of the library run on the stack of main, without the trap flag. After COUNT drawn
+ * calls it makes those that are made to be long, if LONG is 1. Lines `ran ADDRESS` come last. */
+#define _GNU_SOURCE
+#include "norphuen.h"
+
+#include <inttypes.h>
+#include <signal.h>
+#include <stdio.h>
+#include <stdlib.h>
+#include <string.h>
+#include <ucontext.h>
+
+enum { STACK = 1 << 16, LIVE = 4096 };
+static const unsigned char paints[2] = {0xa5, 0x5a};
+static _Alignas(16) unsigned char stack[STACK];
+static nph_heap heap = NPH_HEAP;
+static uint64_t first, past, instructions, state;
+static uint32_t handles[LIVE], lengths[LIVE], live, page_words;
+static uint8_t buffer[1 << 17];
+static int paint;
+/* Whether the instruction at each address of the library's code was run. */
+static char ran[1 << 17];
+/* Calls and bytes of memcpy, memmove and memset, in one call of the library. */
+static uint64_t copied[3][2];
+
+/* What the trampoline reads and writes: a function, its arguments, the flag to set, and the two stack pointers. */
+struct trampoline { uint64_t function, arguments[5], flag, top, outer, inner; } trampoline;
+int32_t call_on_stack(void);
+
+#ifdef __x86_64__
+__asm__(".text\ncall_on_stack:\n"
+        " push %rbx\n lea trampoline(%rip), %rbx\n mov %rsp, 64(%rbx)\n mov 56(%rbx), %rsp\n"
+        " mov (%rbx), %rax\n mov 8(%rbx), %rdi\n mov 16(%rbx), %rsi\n mov 24(%rbx), %rdx\n mov 32(%rbx), %rcx\n mov 40(%rbx), %r8\n"
+        " mov 48(%rbx), %r11\n pushfq\n or %r11, (%rsp)\n popfq\n call *%rax\n"
+        " pushfq\n andq $~0x100, (%rsp)\n popfq\n mov trampoline+64(%rip), %rsp\n pop %rbx\n ret\n");
+#define OUTSIDE(name) \
+    __asm__(".globl outside_" #name "\noutside_" #name ":\n" \
+            " mov %rsp, trampoline+72(%rip)\n mov trampoline+64(%rip), %rsp\n sub $136, %rsp\n and $-16, %rsp\n" \
+            " pushfq\n andq $~0x100, (%rsp)\n popfq\n call real_" #name "\n" \
+            " mov trampoline+48(%rip), %r11\n pushfq\n or %r11, (%rsp)\n popfq\n mov trampoline+72(%rip), %rsp\n ret\n");
+static void count(int number, siginfo_t *info, void *context) {
+    uint64_t at = (uint64_t)((ucontext_t *)context)->uc_mcontext.gregs[REG_RIP];
+    if (at >= first && at < past) instructions++, ran[(at - first) % sizeof ran] = 1;
+    (void)number, (void)info;
+}
+#else
+__asm__(".text\ncall_on_stack:\n"
+        " stp x29, x30, [sp, #-16]!\n adrp x9, trampoline\n add x9, x9, :lo12:trampoline\n mov x10, sp\n str x10, [x9, #64]\n"
+        " ldr x10, [x9, #56]\n mov sp, x10\n ldr x10, [x9]\n ldp x0, x1, [x9, #8]\n ldp x2, x3, [x9, #24]\n ldr x4, [x9, #40]\n blr x10\n"
+        " adrp x9, trampoline\n add x9, x9, :lo12:trampoline\n ldr x10, [x9, #64]\n mov sp, x10\n ldp x29, x30, [sp], #16\n ret\n");
+#define OUTSIDE(name) \
+    __asm__(".globl outside_" #name "\noutside_" #name ":\n" \
+            " adrp x9, trampoline\n add x9, x9, :lo12:trampoline\n mov x10, sp\n str x10, [x9, #72]\n ldr x10, [x9, #64]\n mov sp, x10\n" \
+            " stp x29, x30, [sp, #-16]!\n bl real_" #name "\n ldp x29, x30, [sp], #16\n" \
+            " adrp x9, trampoline\n add x9, x9, :lo12:trampoline\n ldr x10, [x9, #72]\n mov sp, x10\n ret\n");
+#endif
+OUTSIDE(memcpy) OUTSIDE(memmove) OUTSIDE(memset) OUTSIDE(rattle_alloc) OUTSIDE(rattle_realloc) OUTSIDE(rattle_dealloc)
+
+void *real_memcpy(void *to, const void *from, size_t n) { copied[0][0]++, copied[0][1] += n; return memcpy(to, from, n); }
+void *real_memmove(void *to, const void *from, size_t n) { copied[1][0]++, copied[1][1] += n; return memmove(to, from, n); }
+void *real_memset(void *to, int byte, size_t n) { copied[2][0]++, copied[2][1] += n; return memset(to, byte, n); }
+nph_block real_rattle_alloc(size_t bytes, size_t align) { nph_block b = {true, aligned_alloc(16, (bytes + 16) & ~(size_t)15)}; (void)align; return b; }
+nph_block real_rattle_realloc(void *at, size_t kept, size_t bytes, size_t align) {
+    nph_block b = {true, realloc(at, bytes + 16)};
+    (void)kept, (void)align;
+    return b;
+}
+void real_rattle_dealloc(void *at) { free(at); }
+
+/* Makes a call of the library, and prints the first words of its line. */
+static int32_t call(const char *name, void *function, uint64_t a, uint64_t b, uint64_t c, uint64_t d) {
+    uint64_t steps = 0, counted, moved[3][2];
+    unsigned char *low = stack, *top = stack + STACK - 64;
+    int32_t code;
+    trampoline = (struct trampoline){(uint64_t)function, {(uint64_t)&heap, a, b, c, d}, past ? 0x100 : 0, (uint64_t)top, 0, 0};
+    instructions = 0;
+    memset(copied, 0, sizeof copied);
+    code = call_on_stack();
+    counted = instructions;
+    memcpy(moved, copied, sizeof moved);
+    while (low < top && *low == paints[paint]) low++;
+    paint ^= 1;
+    memset(stack, paints[paint], STACK);
+    if (heap.is_open) nph_last_steps(&heap, &steps);
+    printf("%s %" PRId32 " %" PRIu64 " %d %" PRIu64, name, function == (void *)nph_close ? 0 : code, counted, (int)(top - low), steps);
+    for (int i = 0; i < 3; i++) printf(" %" PRIu64 " %" PRIu64, moved[i][0], moved[i][1]);
+    return code;
+}
+
+static uint64_t drawn(uint64_t below) {
+    uint64_t z = state += 0x9e3779b97f4a7c15u;
+    z = (z ^ (z >> 30)) * 0xbf58476d1ce4e5b9u;
+    z = (z ^ (z >> 27)) * 0x94d049bb133111ebu;
+    return (z ^ (z >> 31)) % below;
+}
+
+static int32_t make(uint32_t bytes) {
+    uint32_t handle = 0;
+    int32_t code = call("malloc", (void *)nph_malloc, bytes, (uint64_t)&handle, 0, 0);
+    printf(" bytes %" PRIu32 "\n", bytes);
+    if (code == NPH_OK) handles[live] = handle, lengths[live++] = bytes;
+    return code;
+}
+
+static void release(uint32_t i) {
+    nph_freed freed = {0, NPH_NONE};
+    call("free", (void *)nph_free, handles[i], (uint64_t)&freed, 0, 0);
+    printf(" s %" PRIu32 " moved %d\n", freed.slot_words, freed.moved != NPH_NONE);
+    handles[i] = handles[--live], lengths[i] = lengths[live];
+}
+
+static void resize(uint32_t i, uint32_t bytes) {
+    nph_resized done = {0, 0, NPH_NONE};
+    uint32_t old = lengths[i];
+    if (call("resize", (void *)nph_resize, handles[i], bytes, (uint64_t)&done, 0) == NPH_OK) lengths[i] = bytes;
+    printf(" s %" PRIu32 " n %" PRIu32 " moved %d old %" PRIu32 " bytes %" PRIu32 "\n", done.old_slot_words, done.slot_words,
+           done.moved != NPH_NONE, old, bytes);
+}
+
+static void read_or_write(bool writes, uint32_t i, uint32_t at, uint32_t n) {
+    call(writes ? "write" : "read", writes ? (void *)nph_write : (void *)nph_read, handles[i], at, (uint64_t)buffer, n);
+    printf(" at %" PRIu32 " n %" PRIu32 "\n", at, n);
+}
+
+static void ask(uint32_t i) {
+    uint32_t bytes;
+    uint64_t steps;
+    nph_class c;
+    nph_heap_totals t;
+    call("length", (void *)nph_length, handles[i], (uint64_t)&bytes, 0, 0), puts("");
+    call("has_room", (void *)nph_has_room, drawn(page_words * 8), 0, 0, 0), puts("");
+    call("figures", (void *)nph_figures, drawn(70), (uint64_t)&c, 0, 0), puts("");
+    call("totals", (void *)nph_totals, (uint64_t)&t, 0, 0, 0), puts("");
+    call("last_steps", (void *)nph_last_steps, (uint64_t)&steps, 0, 0, 0), puts("");
+}
+
+/* A size that often fills a slot of a small or of a large class. */
+static uint32_t size(void) {
+    uint64_t most = page_words * 8 - 8, part = 1 + drawn(16);
+    return (uint32_t)(drawn(4) ? drawn(most / part + 1) : most / part);
+}
+
+static void draw_calls(uint64_t count) {
+    for (uint64_t n = 0; n < count; n++) {
+        uint32_t i = live ? (uint32_t)drawn(live) : 0, bytes = size(), at;
+        if (!live || (drawn(3) == 0 && live < LIVE)) { make(bytes); continue; }
+        at = (uint32_t)drawn(lengths[i] + 1);
+        switch (drawn(8)) {
+        case 0: case 1: case 2: release(i); break;
+        case 3: case 4: resize(i, drawn(2) ? bytes : (uint32_t)drawn(lengths[i] + 9)); break;
+        case 5: read_or_write(true, i, at, (uint32_t)drawn(lengths[i] - at + 1)); break;
+        case 6: read_or_write(false, i, at, (uint32_t)drawn(lengths[i] - at + 1)); break;
+        default: ask(i); n += 4;
+        }
+    }
+}
+
+/* Calls that are made to be long: a page's largest object written and read from each byte of a word, resizes to and from
+ * a page, and frees and resizes that move an object of the largest classes. */
+static void long_calls(void) {
+    uint32_t most = page_words * 8 - 8;
+    while (live) release(live - 1);
+    if (make(most) == NPH_OK) {
+        for (uint32_t at = 0; at < 9; at++) read_or_write(true, 0, at, most - at - at / 2), read_or_write(false, 0, at, most - at - at / 2);
+        resize(0, most - 9), resize(0, most), resize(0, 8), resize(0, most), resize(0, most / 2 - 8), resize(0, most), resize(0, 0), resize(0, most);
+    }
+    while (live) release(live - 1);
+    for (uint32_t part = 2; part < 10; part++) {
+        uint32_t bytes = (most + 8) / part / 32 * 32 - 8;
+        for (uint32_t n = 0; n < 4 * part; n++) make(bytes);
+        for (uint32_t n = 0; n < 3; n++) if (live > 2 * part) release(n), release(live - 1 - n);
+        for (uint32_t n = 0; n < 3 && n < live; n++) resize(n, bytes / 2), resize(n, most), resize(n, bytes - 40), resize(n, bytes);
+        while (live) release((uint32_t)drawn(live));
+    }
+    /* With blocks: many free blocks, then a malloc that splits one, and frees that join it with both neighbours. */
+    while (live < LIVE && make(16) == NPH_OK) ;
+    ask(0);
+    for (uint32_t n = live; n >= 2; n -= 2) release(n - 2);
+    ask(0), make(most), make(8);
+    while (live) release(live - 1);
+    make(1), make(1), make(1), release(0), release(0), release(0);
+}
+
+int main(int argc, char **argv) {
+    static unsigned char spare[1 << 16];
+    if (argc != 10) return 1;
+    first = strtoull(argv[1], NULL, 16), past = strtoull(argv[2], NULL, 16), state = strtoull(argv[3], NULL, 10);
+#ifdef __x86_64__
+    stack_t other = {.ss_sp = spare, .ss_size = sizeof spare};
+    struct sigaction action = {.sa_sigaction = count, .sa_flags = SA_SIGINFO | SA_ONSTACK};
+    if (sigaltstack(&other, NULL) || sigaction(SIGTRAP, &action, NULL)) return 1;
+#else
+    past = 0, (void)spare;
+#endif
+    memset(stack, paints[paint], STACK);
+    uint64_t settings[4];
+    for (int i = 0; i < 4; i++) settings[i] = strtoull(argv[6 + i], NULL, 10);
+    page_words = (uint32_t)settings[1] / 8;
+    call("malloc", (void *)nph_malloc, 8, (uint64_t)buffer, 0, 0), puts("");
+    int32_t code = call("open", (void *)nph_open, settings[0], settings[1], settings[2], settings[3]);
+    printf(" P %" PRIu64 " W %" PRIu32 " Q %" PRIu64 "\n", settings[0], page_words, settings[3]);
+    if (code != NPH_OK) return 1;
+    draw_calls(strtoull(argv[4], NULL, 10));
+    if (argv[5][0] == '1') long_calls();
+    while (live) release(live - 1);
+    call("close", (void *)nph_close, 0, 0, 0, 0), puts("");
+    for (uint64_t at = first; at < past && at - first < sizeof ran; at++)
+        if (ran[at - first]) printf("ran %" PRIx64 "\n", at);
+    return 0;
+}
