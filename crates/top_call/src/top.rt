@@ -75,8 +75,10 @@ pub fn run_arguments<H: Manager, S: Source, K: Sink>(
     managers: &mut Vec<H>,
 ) -> Status
     ensures keeps { KeepsContract (map (λ word. string_bytes word) words.now) (record {
-        old = seen S.Source K.Sink (λ m. H.state m) source.old sink.old managers.old.items; status = result;
-        new = seen S.Source K.Sink (λ m. H.state m) source.new sink.new managers.new.items }) }
+      old = seen S.Source K.Sink (λ m. H.state m) source.old sink.old managers.old.items;
+      status = result;
+      new = seen S.Source K.Sink (λ m. H.state m) source.new sink.new managers.new.items;
+    }) }
     ensures complete { HasRightInput (map (λ word. string_bytes word) words.now) (S.rest source.old)
         → ¬ FailsLast (S.faults source.old) (S.faults source.new) (S.last_failed source.new)
         → ¬ FailsLast (K.faults sink.old) (K.faults sink.new) (K.last_failed sink.new) → EndsWhole result }
