@@ -1,8 +1,8 @@
 -- For `run_bench`: opening the manager and applying the commands is a run of the generated script (`BenchRun`), and the line that is printed, or a prefix of
 -- it, has the numbers of that run.
-use Rattle.std.proofs.Common.{◌≡◌, ◌∙◌, ◌++◌, ℕ, List, [], ◌∷◌, map, Option, Some, None, refl, sym, ap, subst, append_assoc}
+use Rattle.std.proofs.Common.{◌≡◌, ◌++◌, ℕ, List, [], ◌∷◌, map, Option, Some, None, refl, subst, append_assoc}
 use Rattle.std.specs.Prelude.{codes}
-use Rattle.manager_modes.specs.Bench.{BenchRun, EndsBench, IsAppliedTo, IsWritten, bench_items, bench_line, bench_settings, bench_text, bench_figures}
+use Rattle.manager_modes.specs.Bench.{BenchRun, EndsBench, IsAppliedTo, IsWritten, bench_items, bench_settings, bench_text, bench_figures}
 use Rattle.manager_modes.specs.Bench.{good_ones, refusals}
 use Rattle.manager_modes.specs.declared.figures.BenchFigures.{BenchFigures}
 use Rattle.cf_base.specs.Settings.{Profile, profile_of}
@@ -16,11 +16,10 @@ use Rattle.cf_model.specs.Rules.{KeepsRules}
 use Rattle.cf_model.specs.State.{HeapState}
 use Rattle.cf_model.specs.Steps.{IsEmptyHeap}
 use Rattle.cf_session.specs.Apply.{run_at}
-use Rattle.cf_io.specs.Texts.{Reply, led, said}
+use Rattle.cf_io.specs.Texts.{Reply, said}
 use Rattle.generator.specs.Generated.{generated}
-use Rattle.run_model.specs.Runs.{Begins, BeginsOne, Run, IsCommandStep}
+use Rattle.run_model.specs.Runs.{Begins, Run}
 use Rattle.run_model.specs.Sessions.{RunState, SessionState, fresh_session}
-use Rattle.run_model.specs.Steps.{Step}
 use Rattle.script_reader.specs.Items.{asks}
 
 -- six texts that are pushed on a line one by one are the line of all of them

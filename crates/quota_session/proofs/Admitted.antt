@@ -5,7 +5,6 @@ use Rattle.std.proofs.Common.{arith, ap, sym, ◌∙◌, refl, inl, inr, subst}
 use Rattle.std.specs.Prelude.{◌⊎◌, codes, nat_eq, nat_lt}
 use Rattle.std.specs.FinMap.{empty, get}
 use Rattle.std.proofs.lemmas.Bool.{cases_lt}
-use Rattle.cf_base.specs.declared.answers.Refusal.TheVariants as refusal
 use Rattle.cf_lemmas.proofs.Ranges.{one}
 use Rattle.cf_lemmas.proofs.Tests.{eq_yes, lt_no, lt_yes}
 use Rattle.quota_model.proofs.CallerLemmas.{enough_iff, granted_within, live_of-inserted, none_iff, one_answer}

@@ -1,6 +1,6 @@
 -- For `each_command_has_its_turn` and `a_run_of_tasks_can_always_go_on`: a run over tasks can begin with any settings in their ranges, and each command then
 -- has a reply and a state after it.
-use Rattle.std.proofs.Common.{◌≡◌, ℕ, ◌<◌, ◌≤◌, List, Some, None, arith, refl, inl, inr}
+use Rattle.std.proofs.Common.{◌≡◌, ℕ, ◌<◌, List, Some, None, refl, inl, inr}
 use Rattle.std.specs.Prelude.{Option, codes}
 use Rattle.std.specs.Option.{MatchOption}
 use Rattle.std.specs.FinMap.{empty, get, remove}
