@@ -187,6 +187,10 @@ static void long_calls(void) {
     ask(0), make(most), make(8);
     while (live) release(live - 1);
     make(1), make(1), make(1), release(0), release(0), release(0);
+    /* With blocks: a full region, of which each second block is then free. */
+    while (live < LIVE && make(48) == NPH_OK) ;
+    for (uint32_t n = live; n >= 2; n -= 2) release(n - 2);
+    ask(0);
 }
 
 int main(int argc, char **argv) {
