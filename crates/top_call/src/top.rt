@@ -79,15 +79,12 @@ pub fn run_arguments<H: Manager, S: Source, K: Sink>(
       status = result;
       new = seen S.Source K.Sink (λ m. H.state m) source.new sink.new managers.new.items;
     }) }
-    ensures complete { HasRightInput (map (λ word. string_bytes word) words.now) (S.rest source.old)
-        → ¬ FailsLast (S.faults source.old) (S.faults source.new) (S.last_failed source.new)
-        → ¬ FailsLast (K.faults sink.old) (K.faults sink.new) (K.last_failed sink.new) → EndsWhole result }
-    ensures source_same { result ≢ Status.ReadFault → S.faults source.new ≡ S.faults source.old }
-    ensures read_fault { result ≡ Status.ReadFault → FailsLast (S.faults source.old) (S.faults source.new) (S.last_failed source.new) }
-    ensures sink_same { result ≢ Status.WriteFault → K.faults sink.new ≡ K.faults sink.old }
-    ensures write_fault { result ≡ Status.WriteFault → FailsLast (K.faults sink.old) (K.faults sink.new) (K.last_failed sink.new) }
+    ensures complete { HasRightInput (map (λ word. string_bytes word) words.now) (S.state source.old).rest
+        → ¬ SourceFailsIf true (S.state source.old) (S.state source.new) → ¬ SinkFailsIf true (K.state sink.old) (K.state sink.new) → EndsWhole result }
+    ensures source { SourceFailsIf (is_read_fault result) (S.state source.old) (S.state source.new) }
+    ensures sink { SinkFailsIf (is_write_fault result) (K.state sink.old) (K.state sink.new) }
     ensures too_long { result ≡ Status.TooLong
-        → (S.given source.old + MOST_BYTES < S.given source.new) ⊎ (S.given source.new ≡ last_count) }
+        → ((S.state source.old).given + MOST_BYTES < (S.state source.new).given) ⊎ ((S.state source.new).given ≡ last_count) }
 {
     match read_arguments(alloc, words) {
         Ok(choice) => run_mode(memory, alloc, choice, source, sink, managers),
