@@ -19,6 +19,7 @@ use cf_model::Manager;
 use script_reader::{Command, CommandRef};
 use std::alloc::Global;
 use std::marker::Model;
+use std::rt::Memory;
 use step_ledger::Meter;
 
 /// The most bytes of the reply to a read: a lead, `=`, two digits for each byte, and a line feed.
@@ -54,8 +55,16 @@ impl Session {
     pub fn start(rt: &HostRuntime, alloc: Global) -> Result<Session, OutOfMemory>
         ensures { IfOk result (λ s. s ≡ fresh_session) }
     {
+        Session::for_library(rt.memory(), alloc)
+    }
+
+    /// `start` for code that an export calls, which has no runtime value: `memory` makes the meter
+    /// (`Meter::for_library`).
+    pub fn for_library(memory: Memory, alloc: Global) -> Result<Session, OutOfMemory>
+        ensures { IfOk result (λ s. s ≡ fresh_session) }
+    {
         Ok(Session {
-            meter: Meter::new(rt),
+            meter: Meter::for_library(memory),
             records: Records::new(alloc)?,
             line: Line::new(),
             buffer: [0; CHUNK],

@@ -14,6 +14,7 @@ use cf_io::{Line, Sink, Source, push_field, put_line};
 use cf_model::Manager;
 use cf_session::Session;
 use heap_image::{LoadFault, load};
+use std::rt::Memory;
 use step_ledger::Meter;
 
 /// Loads an image into a manager of kind Moving, writes the script that makes its objects, and returns `Done`.
@@ -22,7 +23,7 @@ use step_ledger::Meter;
 /// `ReadFault` or `OutOfMemory`. If the sink failed, returns `WriteFault` after a prefix. The session has no
 /// live id before.
 pub fn load_script<H: Manager, S: Source, K: Sink>(
-    rt: &HostRuntime,
+    memory: Memory,
     session: &mut Session,
     heap: &mut H,
     source: &mut S,
@@ -44,7 +45,7 @@ pub fn load_script<H: Manager, S: Source, K: Sink>(
 {
     match load(source, heap, session) {
         Ok(settings) => {
-            let mut meter = Meter::new(rt);
+            let mut meter = Meter::for_library(memory);
             match print_script(&settings, heap, session, sink, &mut meter) {
                 Ok(()) => Status::Done,
                 Err(_) => Status::WriteFault,

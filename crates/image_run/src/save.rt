@@ -13,6 +13,7 @@ use cf_model::Manager;
 use cf_session::Session;
 use heap_image::{live_objects_have_an_image, save};
 use script_loop::{WithSettings, play_script};
+use std::rt::Memory;
 use step_ledger::Meter;
 
 /// Runs a script on a closed manager of kind Moving, drops its replies, and writes the image of the live
@@ -20,7 +21,7 @@ use step_ledger::Meter;
 /// the sink failed, after a prefix of the image. If the script doesn't end with `Done`, writes nothing and
 /// returns its status.
 pub fn save_script<H: Manager, S: Source, K: Sink>(
-    rt: &HostRuntime,
+    memory: Memory,
     mode_handler: &mut WithSettings<Session>,
     heap: &mut H,
     source: &mut S,
@@ -55,7 +56,7 @@ pub fn save_script<H: Manager, S: Source, K: Sink>(
     // For its contract: each live id has 16 bits. So the objects have an image.
     let _handle = mode_handler.mode_handler.handle(0);
     live_objects_have_an_image();
-    let mut meter = Meter::new(rt);
+    let mut meter = Meter::for_library(memory);
     match save(
         &settings,
         heap,

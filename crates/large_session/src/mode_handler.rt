@@ -15,6 +15,7 @@ use large_objects::LargeHeap;
 use script_loop::{ModeHandler, OpenFault, play_script};
 use script_reader::CommandRef;
 use std::alloc::Global;
+use std::rt::Memory;
 use step_ledger::Meter;
 
 /// The mode handler: a session over long objects, the line in which it builds replies, and its ledger.
@@ -28,13 +29,13 @@ pub struct LargeHandler {
 impl LargeHandler {
     /// A handler with a new session, in which no id is live. Allocates the table of all 65,536 ids, and fails
     /// with `OutOfMemory` if there is no memory for it.
-    pub fn start(rt: &HostRuntime, alloc: Global) -> Result<LargeHandler, OutOfMemory>
+    pub fn start(memory: Memory, alloc: Global) -> Result<LargeHandler, OutOfMemory>
         ensures { IfOk result (λ p. p.session ≡ map.empty) }
     {
         Ok(LargeHandler {
             session: LargeSession::start(alloc)?,
             line: Line::new(),
-            meter: Meter::new(rt),
+            meter: Meter::for_library(memory),
         })
     }
 }

@@ -22,6 +22,7 @@ use half_fit_heap::HalfFitHeap;
 use moving_heap::MovingHeap;
 use nonmoving_heap::NonMovingHeap;
 use std::alloc::Global;
+use std::rt::Memory;
 use step_ledger::Meter;
 use tlsf_heap::TlsfHeap;
 
@@ -29,30 +30,30 @@ use tlsf_heap::TlsfHeap;
 /// chosen seed. Prints a line of six counts: commands, good replies, refusals; and at the end live objects,
 /// pages or blocks in use, and objects moved. It reads nothing and touches no other manager. Returns the
 /// status, `OutOfMemory` also if the session can't be allocated.
-pub fn bench_seed<K: Sink>(rt: &HostRuntime, alloc: Global, choice: Choice, sink: &mut K) -> Status
+pub fn bench_seed<K: Sink>(memory: Memory, alloc: Global, choice: Choice, sink: &mut K) -> Status
     ensures { (source : SourceState) → EndsBeside (Benches choice)
         source (sink_seen K.Sink sink.old) result source (sink_seen K.Sink sink.new) }
 {
-    let Ok(mut session) = Session::start(rt, alloc) else {
+    let Ok(mut session) = Session::for_library(memory, alloc) else {
         return Status::OutOfMemory;
     };
     let (seed, count) = (choice.seed, choice.count);
     match choice.kind {
         Kind::Moving => {
             let mut own = MovingHeap::closed(alloc);
-            run_bench(rt, &mut session, &mut own, seed, count, sink)
+            run_bench(memory, &mut session, &mut own, seed, count, sink)
         }
         Kind::NonMoving => {
             let mut own = NonMovingHeap::closed(alloc);
-            run_bench(rt, &mut session, &mut own, seed, count, sink)
+            run_bench(memory, &mut session, &mut own, seed, count, sink)
         }
         Kind::Tlsf => {
             let mut own = TlsfHeap::closed(alloc);
-            run_bench(rt, &mut session, &mut own, seed, count, sink)
+            run_bench(memory, &mut session, &mut own, seed, count, sink)
         }
         Kind::HalfFit => {
             let mut own = HalfFitHeap::closed(alloc);
-            run_bench(rt, &mut session, &mut own, seed, count, sink)
+            run_bench(memory, &mut session, &mut own, seed, count, sink)
         }
     }
 }
@@ -62,7 +63,7 @@ pub fn bench_seed<K: Sink>(rt: &HostRuntime, alloc: Global, choice: Choice, sink
 /// `session` must be fresh. Returns `Done`; `OutOfMemory` if the manager can't be opened, and then nothing is written; or `WriteFault`
 /// if the sink failed, and then a prefix of the line is written.
 fn run_bench<H: Manager, K: Sink>(
-    rt: &HostRuntime,
+    memory: Memory,
     session: &mut Session,
     heap: &mut H,
     seed: u64,
@@ -89,7 +90,7 @@ fn run_bench<H: Manager, K: Sink>(
         Err(_) => return Status::OutOfMemory,
     }
     let tally = apply_commands(session, heap, seed, count);
-    let mut meter = Meter::new(rt);
+    let mut meter = Meter::for_library(memory);
     let totals = heap.totals(meter.steps());
     let figures = BenchFigures {
         commands: count,

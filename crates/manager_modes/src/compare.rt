@@ -7,12 +7,13 @@ use cf_io::{Sink, Source};
 use cf_model::Manager;
 use script_loop::play_script;
 use std::alloc::Global;
+use std::rt::Memory;
 
 /// Runs a script on all managers. Each has its own session. A command is done on the first manager, then
 /// on the second, and so on, before the next command. Returns the status, `OutOfMemory` also if the sessions
 /// can't be allocated.
 pub fn compare_all<H: Manager, S: Source, K: Sink>(
-    rt: &HostRuntime,
+    memory: Memory,
     alloc: Global,
     managers: &mut Vec<H>,
     source: &mut S,
@@ -22,7 +23,7 @@ pub fn compare_all<H: Manager, S: Source, K: Sink>(
         (seen S.Source K.Sink (λ m. H.state m) source.old sink.old managers.old.items) result
         (seen S.Source K.Sink (λ m. H.state m) source.new sink.new managers.new.items) }
 {
-    let Ok(mut sessions) = Sessions::start(rt, alloc, managers.len()) else {
+    let Ok(mut sessions) = Sessions::start(memory, alloc, managers.len()) else {
         return Status::OutOfMemory;
     };
     play_script(&mut sessions, managers, source, sink)

@@ -12,6 +12,7 @@ use cf_session::Session;
 use script_loop::{ModeHandler, OpenFault};
 use script_reader::CommandRef;
 use std::alloc::Global;
+use std::rt::Memory;
 
 /// A session for each of many managers: the session with index i runs on the manager with index i.
 #[derive(Drop)]
@@ -22,12 +23,12 @@ pub struct Sessions {
 impl Sessions {
     /// `count` new sessions, in which no id is live. Allocates the table of 65,536 ids of each, and fails with
     /// `OutOfMemory` if an allocation fails.
-    pub fn start(rt: &HostRuntime, alloc: Global, count: usize) -> Result<Sessions, OutOfMemory>
+    pub fn start(memory: Memory, alloc: Global, count: usize) -> Result<Sessions, OutOfMemory>
         ensures { IfOk result (λ s. AreFresh count s.each.items) }
     {
         let mut each = Vec::new(alloc);
         for _i in 0..count {
-            let session = Session::start(rt, alloc)?;
+            let session = Session::for_library(memory, alloc)?;
             match each.push(session) {
                 Ok(()) => {}
                 Err(_) => return Err(OutOfMemory),

@@ -16,12 +16,13 @@ use image_run::{load_script, save_script};
 use moving_heap::MovingHeap;
 use script_loop::WithSettings;
 use std::alloc::Global;
+use std::rt::Memory;
 
 /// Runs a script on a moving manager that is made for it, and writes the image of the objects that are
 /// live at its end in place of the replies. Returns the status, `OutOfMemory` also if manager or session
 /// can't be allocated.
 pub fn save_image<S: Source, K: Sink>(
-    rt: &HostRuntime,
+    memory: Memory,
     alloc: Global,
     source: &mut S,
     sink: &mut K,
@@ -33,12 +34,12 @@ pub fn save_image<S: Source, K: Sink>(
         return Status::OutOfMemory;
     };
     let mut heap = Boxed { inner };
-    save_on(rt, alloc, &mut heap, source, sink)
+    save_on(memory, alloc, &mut heap, source, sink)
 }
 
 /// `save_image` on the given heap, a moving manager that was never open.
 fn save_on<H: Manager, S: Source, K: Sink>(
-    rt: &HostRuntime,
+    memory: Memory,
     alloc: Global,
     heap: &mut H,
     source: &mut S,
@@ -48,20 +49,20 @@ fn save_on<H: Manager, S: Source, K: Sink>(
     ensures { EndsBeside Saves (source_seen S.Source source.old) (sink_seen K.Sink sink.old) result
         (source_seen S.Source source.new) (sink_seen K.Sink sink.new) }
 {
-    let Ok(session) = Session::start(rt, alloc) else {
+    let Ok(session) = Session::for_library(memory, alloc) else {
         return Status::OutOfMemory;
     };
     let mut mode_handler = WithSettings {
         mode_handler: session,
         settings: None,
     };
-    save_script(rt, &mut mode_handler, heap, source, sink)
+    save_script(memory, &mut mode_handler, heap, source, sink)
 }
 
 /// Loads an image into a moving manager that is made for it, and writes the script that makes its
 /// objects. Returns the status, `OutOfMemory` also if manager or session can't be allocated.
 pub fn load_image<S: Source, K: Sink>(
-    rt: &HostRuntime,
+    memory: Memory,
     alloc: Global,
     source: &mut S,
     sink: &mut K,
@@ -73,12 +74,12 @@ pub fn load_image<S: Source, K: Sink>(
         return Status::OutOfMemory;
     };
     let mut heap = Boxed { inner };
-    load_on(rt, alloc, &mut heap, source, sink)
+    load_on(memory, alloc, &mut heap, source, sink)
 }
 
 /// `load_image` on the given heap, a moving manager that was never open.
 fn load_on<H: Manager, S: Source, K: Sink>(
-    rt: &HostRuntime,
+    memory: Memory,
     alloc: Global,
     heap: &mut H,
     source: &mut S,
@@ -88,8 +89,8 @@ fn load_on<H: Manager, S: Source, K: Sink>(
     ensures { EndsBeside Loads (source_seen S.Source source.old) (sink_seen K.Sink sink.old) result
         (source_seen S.Source source.new) (sink_seen K.Sink sink.new) }
 {
-    let Ok(mut session) = Session::start(rt, alloc) else {
+    let Ok(mut session) = Session::for_library(memory, alloc) else {
         return Status::OutOfMemory;
     };
-    load_script(rt, &mut session, heap, source, sink)
+    load_script(memory, &mut session, heap, source, sink)
 }

@@ -15,13 +15,14 @@ use moving_heap::MovingHeap;
 use nonmoving_heap::NonMovingHeap;
 use script_loop::run_script;
 use std::alloc::Global;
+use std::rt::Memory;
 use tlsf_heap::TlsfHeap;
 
 /// Runs a script on the first of `managers` that is of the kind; if there is none, on a new one, which is
 /// dropped at the end. Returns the status, `OutOfMemory` also if the session or the new manager can't be
 /// allocated.
 pub fn run_chosen<H: Manager, S: Source, K: Sink>(
-    rt: &HostRuntime,
+    memory: Memory,
     alloc: Global,
     kind: Kind,
     managers: &mut Vec<H>,
@@ -32,7 +33,7 @@ pub fn run_chosen<H: Manager, S: Source, K: Sink>(
         (seen S.Source K.Sink (λ m. H.state m) source.old sink.old managers.old.items) result
         (seen S.Source K.Sink (λ m. H.state m) source.new sink.new managers.new.items) }
 {
-    let Ok(mut session) = Session::start(rt, alloc) else {
+    let Ok(mut session) = Session::for_library(memory, alloc) else {
         return Status::OutOfMemory;
     };
     match first_of(managers, kind) {

@@ -13,6 +13,7 @@ use quota_heap::QuotaHeap;
 use script_loop::{ModeHandler, OpenFault, play_script};
 use script_reader::CommandRef;
 use std::alloc::Global;
+use std::rt::Memory;
 use step_ledger::Meter;
 
 /// The mode handler: a session over sixteen tasks, with the settings of the `heap` line and a ledger.
@@ -27,14 +28,14 @@ pub struct QuotaHandler {
 impl QuotaHandler {
     /// A handler with a new session and without settings. Allocates all memory of the session, and fails with
     /// `OutOfMemory` if an allocation fails.
-    pub fn start(rt: &HostRuntime, alloc: Global) -> Result<QuotaHandler, OutOfMemory>
+    pub fn start(memory: Memory, alloc: Global) -> Result<QuotaHandler, OutOfMemory>
         ensures session { IfOk result (λ p. p.session ≡ first_session) }
         ensures settings { IfOk result (λ p. p.settings ≡ None) }
     {
         Ok(QuotaHandler {
             session: QuotaSession::start(alloc)?,
             settings: None,
-            meter: Meter::new(rt),
+            meter: Meter::for_library(memory),
         })
     }
 }

@@ -12,6 +12,7 @@ use script_loop::{ModeHandler, OpenFault, play_script};
 use script_reader::CommandRef;
 use sliced_heap::SlicedHeap;
 use std::alloc::Global;
+use std::rt::Memory;
 use step_ledger::Meter;
 
 /// The handler of mode `slice`: a session over a sliced heap, with the quantum of the heap and the meter of
@@ -28,7 +29,7 @@ impl SliceHandler {
     /// A handler with a new session, in which no id is live, for a heap with slices of at most `quantum`
     /// words. Allocates the table of all 65,536 ids, and fails with `OutOfMemory` if there is no memory for
     /// it.
-    pub fn start(rt: &HostRuntime, alloc: Global, quantum: u32) -> Result<SliceHandler, OutOfMemory>
+    pub fn start(memory: Memory, alloc: Global, quantum: u32) -> Result<SliceHandler, OutOfMemory>
         requires { IsQuantum quantum }
         ensures session { IfOk result (λ p. p.session ≡ map.empty) }
         ensures quantum { IfOk result (λ p. p.quantum ≡ quantum) }
@@ -36,7 +37,7 @@ impl SliceHandler {
         Ok(SliceHandler {
             session: SliceSession::start(alloc)?,
             quantum,
-            meter: Meter::new(rt),
+            meter: Meter::for_library(memory),
         })
     }
 }

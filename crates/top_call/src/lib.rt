@@ -7,4 +7,4 @@ mod quota;
 mod slice;
 mod top;
 
-pub use top::cf_main;
+pub use top::{cf_main, run_arguments};

@@ -7,11 +7,12 @@ use cf_io::{Sink, Source};
 use quota_heap::QuotaHeap;
 use quota_session::{QuotaHandler, run_quotas};
 use std::alloc::Global;
+use std::rt::Memory;
 
 /// Runs a script of tasks, each with a quota of pages, on a heap of tasks that is made for it. Returns the
 /// status, `OutOfMemory` also if the session can't be allocated.
 pub fn play_quotas<S: Source, K: Sink>(
-    rt: &HostRuntime,
+    memory: Memory,
     alloc: Global,
     source: &mut S,
     sink: &mut K,
@@ -19,7 +20,7 @@ pub fn play_quotas<S: Source, K: Sink>(
     ensures { EndsBeside PlaysQuotas (source_seen S.Source source.old) (sink_seen K.Sink sink.old) result
         (source_seen S.Source source.new) (sink_seen K.Sink sink.new) }
 {
-    let Ok(mut mode_handler) = QuotaHandler::start(rt, alloc) else {
+    let Ok(mut mode_handler) = QuotaHandler::start(memory, alloc) else {
         return Status::OutOfMemory;
     };
     let mut heap = QuotaHeap::closed(alloc);

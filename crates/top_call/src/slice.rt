@@ -8,11 +8,12 @@ use cf_io::{Sink, Source};
 use slice_session::{SliceHandler, run_slices};
 use sliced_heap::SlicedHeap;
 use std::alloc::Global;
+use std::rt::Memory;
 
 /// Runs a script on a sliced heap that is made for it. Each free and each command `s` does at most `quantum`
 /// words of the pending job. Returns the status, `OutOfMemory` also if the session can't be allocated.
 pub fn play_slices<S: Source, K: Sink>(
-    rt: &HostRuntime,
+    memory: Memory,
     alloc: Global,
     quantum: u32,
     source: &mut S,
@@ -23,7 +24,7 @@ pub fn play_slices<S: Source, K: Sink>(
     ensures { EndsBeside (PlaysSlices quantum) (source_seen S.Source source.old) (sink_seen K.Sink sink.old) result
         (source_seen S.Source source.new) (sink_seen K.Sink sink.new) }
 {
-    let Ok(mut mode_handler) = SliceHandler::start(rt, alloc, quantum) else {
+    let Ok(mut mode_handler) = SliceHandler::start(memory, alloc, quantum) else {
         return Status::OutOfMemory;
     };
     let mut heap = SlicedHeap::closed(alloc);

@@ -3,6 +3,7 @@ ghost use Rattle.std.specs.Prelude.{◌≡◌, ◌<◌, ◌≤◌, ◌+◌, ◌�
 ghost use Rattle.cf_io.specs.Feeds.{FailsLast, last_count};
 ghost use Rattle.script_loop.specs.ScriptOutcome.{MOST_BYTES};
 ghost use Rattle.manager_modes.specs.Outcomes.{EndsWithCause, EndsWhole, seen};
+ghost use Rattle.top_call.specs.OneScript.{KeepsContract};
 ghost use Rattle.top_call.specs.TopOutcome.{EndsWell, HasRightInput, InMode, PrintsAsClaimed};
 
 use crate::quota::play_quotas;
@@ -13,6 +14,7 @@ use cf_model::Manager;
 use command_line::{ArgumentsFault, Choice, Mode, read_arguments};
 use manager_modes::{bench_seed, compare_all, load_image, play_large, run_chosen, save_image};
 use std::alloc::Global;
+use std::rt::Memory;
 
 /// Parses the arguments `words` (the first is the program's name), and runs the mode that they choose.
 ///
@@ -62,8 +64,36 @@ pub fn cf_main<H: Manager, S: Source, K: Sink>(
     ensures too_long { result ≡ Status.TooLong
         → (S.given source.old + MOST_BYTES < S.given source.new) ⊎ (S.given source.new ≡ last_count) }
 {
+    run_arguments(rt.memory(), alloc, words, source, sink, managers)
+}
+
+/// `cf_main` for an export, which has no runtime value: `memory` makes the meters (`Meter::for_library`). Clause
+/// `keeps` has the first four clauses of `cf_main`; the others are the same.
+pub fn run_arguments<H: Manager, S: Source, K: Sink>(
+    memory: Memory,
+    alloc: Global,
+    words: &[String],
+    source: &mut S,
+    sink: &mut K,
+    managers: &mut Vec<H>,
+) -> Status
+    ensures keeps { KeepsContract (map (λ word. string_bytes word) words.now) (record {
+      old = seen S.Source K.Sink (λ m. H.state m) source.old sink.old managers.old.items;
+      status = result;
+      new = seen S.Source K.Sink (λ m. H.state m) source.new sink.new managers.new.items;
+    }) }
+    ensures complete { HasRightInput (map (λ word. string_bytes word) words.now) (S.rest source.old)
+        → ¬ FailsLast (S.faults source.old) (S.faults source.new) (S.last_failed source.new)
+        → ¬ FailsLast (K.faults sink.old) (K.faults sink.new) (K.last_failed sink.new) → EndsWhole result }
+    ensures source_same { result ≢ Status.ReadFault → S.faults source.new ≡ S.faults source.old }
+    ensures read_fault { result ≡ Status.ReadFault → FailsLast (S.faults source.old) (S.faults source.new) (S.last_failed source.new) }
+    ensures sink_same { result ≢ Status.WriteFault → K.faults sink.new ≡ K.faults sink.old }
+    ensures write_fault { result ≡ Status.WriteFault → FailsLast (K.faults sink.old) (K.faults sink.new) (K.last_failed sink.new) }
+    ensures too_long { result ≡ Status.TooLong
+        → (S.given source.old + MOST_BYTES < S.given source.new) ⊎ (S.given source.new ≡ last_count) }
+{
     match read_arguments(alloc, words) {
-        Ok(choice) => run_mode(rt, alloc, choice, source, sink, managers),
+        Ok(choice) => run_mode(memory, alloc, choice, source, sink, managers),
         Err(ArgumentsFault::Refused) => Status::Words,
         Err(ArgumentsFault::OutOfMemory) => Status::OutOfMemory,
     }
@@ -71,7 +101,7 @@ pub fn cf_main<H: Manager, S: Source, K: Sink>(
 
 /// Runs the mode of `choice`, which has the values of the arguments.
 fn run_mode<H: Manager, S: Source, K: Sink>(
-    rt: &HostRuntime,
+    memory: Memory,
     alloc: Global,
     choice: Choice,
     source: &mut S,
@@ -85,13 +115,13 @@ fn run_mode<H: Manager, S: Source, K: Sink>(
         (seen S.Source K.Sink (λ m. H.state m) source.new sink.new managers.new.items) }
 {
     match choice.mode {
-        Mode::Run => run_chosen(rt, alloc, choice.kind, managers, source, sink),
-        Mode::Compare => compare_all(rt, alloc, managers, source, sink),
-        Mode::Bench => bench_seed(rt, alloc, choice, sink),
-        Mode::Large => play_large(rt, alloc, source, sink),
-        Mode::Save => save_image(rt, alloc, source, sink),
-        Mode::Load => load_image(rt, alloc, source, sink),
-        Mode::Slice => play_slices(rt, alloc, choice.quantum, source, sink),
-        Mode::Quota => play_quotas(rt, alloc, source, sink),
+        Mode::Run => run_chosen(memory, alloc, choice.kind, managers, source, sink),
+        Mode::Compare => compare_all(memory, alloc, managers, source, sink),
+        Mode::Bench => bench_seed(memory, alloc, choice, sink),
+        Mode::Large => play_large(memory, alloc, source, sink),
+        Mode::Save => save_image(memory, alloc, source, sink),
+        Mode::Load => load_image(memory, alloc, source, sink),
+        Mode::Slice => play_slices(memory, alloc, choice.quantum, source, sink),
+        Mode::Quota => play_quotas(memory, alloc, source, sink),
     }
 }

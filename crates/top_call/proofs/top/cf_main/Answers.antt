@@ -1,16 +1,13 @@
-use Rattle.command_line.proofs.CallerLemmas.{chosen_are_accepted, not_accepted}
-use Rattle.top_call.proofs.Modes.{chosen_ends, chosen_shows, chosen_whole}
 use Rattle.top_call.proofs.top.cf_main.Goals as goal
 
-pub returns-in-Ok-clause-outcome : goal.returns-in-Ok-clause-outcome
-returns-in-Ok-clause-outcome g c = chosen_ends _ c.in-Ok.choice c.in-Ok.ensures.reads _ c.run_mode.result _ c.run_mode.ensures
+pub returns-clause-outcome : goal.returns-clause-outcome
+returns-clause-outcome g c = c.run_arguments.ensures.keeps.outcome
 
-pub returns-in-Ok-clause-claimed : goal.returns-in-Ok-clause-claimed
-returns-in-Ok-clause-claimed g c = chosen_shows _ c.in-Ok.choice c.in-Ok.ensures.reads _ c.run_mode.result _ c.run_mode.ensures
+pub returns-clause-claimed : goal.returns-clause-claimed
+returns-clause-claimed g c = c.run_arguments.ensures.keeps.claimed
 
-pub returns-in-Ok-clause-complete : goal.returns-in-Ok-clause-complete
-returns-in-Ok-clause-complete g c = chosen_whole _ c.in-Ok.choice c.in-Ok.ensures.reads _ c.run_mode.result _ c.run_mode.ensures
+pub returns-clause-kinds : goal.returns-clause-kinds
+returns-clause-kinds g c = c.run_arguments.ensures.keeps.kinds
 
-pub returns-in-Err-Refused-clause-complete : goal.returns-in-Err-Refused-clause-complete
-returns-in-Err-Refused-clause-complete g c = λ have sure firm.
-    absurd (not_accepted _ (rw c.in-Err-Refused.field-0-is at c.in-Err-Refused.ensures.reads) (chosen_are_accepted _ have.choice have.chosen))
+pub returns-clause-orders : goal.returns-clause-orders
+returns-clause-orders g c = c.run_arguments.ensures.keeps.orders
