@@ -6,7 +6,7 @@
              the figures by `walk`, `frag` and `steps`; in mode slice the words by `p`; the pages of tasks, spines and parts.
  claims      Each sentence that the page quotes is in README.md or docs/GUARANTEES.md.
  scripts     A script with a bad line, an empty one, and one of 2,000 commands, made by tools/heap_picture replay.
- use         Keys, the link, both widths in dark and light, titles, the editor with a module; no error on the console.
+ use         Keys, the link, both widths in dark and light, titles, what is said without a module; no error on the console.
  refused     Bad input of tools/heap_picture ends with status 2 and one line.
 """
 import base64
@@ -37,7 +37,7 @@ def case(name, good, found=""):
     if not good:
         failed.append(name)
         if len(failed) <= 12:
-            print(f"checks/page: {name}: {str(found)[:300]}", file=sys.stderr)
+            print(f"{Path(sys.argv[0]).stem}: {name}: {str(found)[:300]}", file=sys.stderr)
 
 
 def ask(arguments, lines):
@@ -340,7 +340,7 @@ def check_use(browser):
         case(f"{where}: titles and names", seen["untitled"] == seen["unnamed"] == 0 and "24 live objects" in seen["label"], seen)
         light = [sum(map(int, re.findall(r"\d+", seen[it])[:3])) for it in ("ink", "paper")]
         case(f"{where}: its colours", (light[0] > light[1]) == dark, light)
-        case(f"{where}: says that it has no module", "recordings" in seen["live"] and "No module" in seen["live"], seen["live"])
+        case(f"{where}: says what is trusted", "x86-64 to wasm64" in seen["live"], seen["live"])
         case(f"{where}: the move is said and drawn", "Object 5 moves from page 1 into the gap on page 2, and page 1 is free again" in seen["said"] and browser.do(f"{SHOWN}(0)")["arrow"] == 1, seen["said"])
     browser.open(PAGE)
     case("opened without a link, it plays", browser.do("row[0] === 'gaps' && !!playing && at > 30"), browser.do("[row[0], at]"))
@@ -359,16 +359,15 @@ def check_use(browser):
 
 
 def check_module(browser):
-    """With a module in the page its scripts can be edited: one that returns what it is given stands in for it."""
-    told = browser.call("Page.addScriptToEvaluateOnNewDocument", source="""window.NorphuenLive = { record: async script => ({ mode: 'run', own: 'cf', arguments: '', script,
-      runs: { cf: [{ line: '1', text: 'heap 2 512 1 8', reply: 'ok' }, { line: '2', text: 'm 7 8', reply: 'ok', at: 'at 60', steps: 'steps last 15 bound 64 moves 0 words 0', frag: 'frag asked 8 taken 32 held 512',
-        walk: 'class 4 slots 16 live 1 pages 1 notfull 1\\ntotal live 1 pages 1 free 1' }] } }) };""")
-    browser.open(f"{PAGE}#example=move&at=0")
-    edited = browser.do("""(async () => { document.getElementById('change').click(); const edit = document.getElementById('edit'); edit.value = 'heap 2 512 1 8\\nm 7 8'; edit.oninput();
-      await new Promise(done => setTimeout(done, 600)); show(1); return document.getElementById('live').textContent; })()""")
-    it = browser.do(f"{SHOWN}(0)")
-    case("the editor shows what the module returns", [one[:3] for one in it["pieces"]] == [["7", 60, 4]] and "module" in edited, it["pieces"])
-    browser.call("Page.removeScriptToEvaluateOnNewDocument", identifier=told["identifier"])
+    """Without a module no script of one's own runs, and the page says what is missing. The page for one script has no button."""
+    browser.open(f"{PAGE}#example=move&at=3")
+    said = browser.do("(async () => { await document.getElementById('change').onclick(); return [document.getElementById('edit').hidden, document.getElementById('fault').textContent]; })()")
+    case("no module", said[0] and "norphuen.wasm" in said[1] and browser.do("row[0] + at") == "move3", said)
+    link = browser.do("packText('heap 2 512 1 8\\n')")
+    browser.open(f"{PAGE}#script={link}")
+    case("no module: a link that holds a script", "norphuen.wasm" in browser.do("document.getElementById('fault').textContent"))
+    browser.open(replay("one.cf", "heap 2 512 1 8\n"))
+    case("the page for one script", browser.do("document.getElementById('change').hidden && document.getElementById('live').hidden"))
 
 
 def check_refused():

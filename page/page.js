@@ -29,9 +29,19 @@ function column(made) {
   });
 }
 
+// A text in a link or a recording: compressed, in base64, of which a link has the two letters that need no escape.
+async function unpackText(data) {
+  const bytes = Uint8Array.from(atob(data.replace(/-/g, '+').replace(/_/g, '/')), c => c.charCodeAt(0));
+  return new Response(new Blob([bytes]).stream().pipeThrough(new DecompressionStream('gzip'))).text();
+}
+
+async function packText(text) {
+  const bytes = new Uint8Array(await new Response(new Blob([text]).stream().pipeThrough(new CompressionStream('gzip'))).arrayBuffer());
+  return btoa(Array.from(bytes, it => String.fromCharCode(it)).join('')).replace(/\+/g, '-').replace(/\//g, '_').replace(/=/g, '');
+}
+
 async function unpack(data) {
-  const bytes = Uint8Array.from(atob(data), c => c.charCodeAt(0));
-  const made = await new Response(new Blob([bytes]).stream().pipeThrough(new DecompressionStream('gzip'))).json();
+  const made = JSON.parse(await unpackText(data));
   for (const [manager, columns] of Object.entries(made.runs)) {
     const names = Object.keys(columns), read = names.map(name => column(columns[name]));
     made.runs[manager] = (read[0] || []).map((_, i) => Object.fromEntries(names.map((name, j) => [name, read[j][i]])));
@@ -421,9 +431,9 @@ function show(i, animate) {
   show.link = setTimeout(link, 300);
 }
 
-// The link to what is shown: the example, the command and the managers.
+// The link to what is shown: the example or the script, the command and the managers.
 function link() {
-  const hash = `#example=${encodeURIComponent(row[0])}&at=${at}&of=${shown.join()}`;
+  const hash = `#${tape.packed ? `script=${tape.packed}` : `example=${encodeURIComponent(row[0])}`}&at=${at}&of=${shown.join()}`;
   if (!playing && location.hash !== hash) try { history.replaceState(null, '', hash); } catch { location.hash = hash; }
 }
 
@@ -465,6 +475,32 @@ async function choose(name, first, managers) {
   document.body.dataset.ready = row[0];
 }
 
+// Runs a script on the module and shows it from command `first` on. If it can't be run, says why, and returns false.
+async function edit(script, first, managers) {
+  let made;
+  try { made = await live.record(script); } catch (fault) {
+    if (!(fault instanceof live.Fault)) throw fault;
+    $('fault').textContent = `✕ ${fault.message}`;
+    return false;
+  }
+  play(false);
+  const kept = made.own === tape?.own && shown.length && shown.every(it => made.runs[it]) ? shown : undefined;
+  tape = Object.assign(prepare(made), { packed: await packText(script) });
+  $('fault').textContent = '';
+  $('about').textContent = `A script that runs in this page.${tape.arguments ? ` Arguments: ${tape.arguments}.` : ''}`;
+  if ($('edit').value !== script) $('edit').value = script;
+  took(first, managers || kept);
+  document.body.dataset.ready = 'script';
+  return true;
+}
+
+// Opens what a link holds.
+async function openLink(hash) {
+  const asked = new URLSearchParams(hash.slice(1)), first = +asked.get('at') || 0, managers = asked.get('of') ? asked.get('of').split(',') : undefined;
+  const script = live && asked.get('script') && await unpackText(asked.get('script')).catch(() => null);
+  if (!script || !await edit(script, first, managers)) await choose(asked.get('example'), first, managers);
+}
+
 // Shows the recording from command `first` on.
 function took(first, managers) {
   $('slide').max = Math.max(0, length() - 1);
@@ -484,19 +520,20 @@ function play(on) {
   playing = setTimeout(go, 250);
 }
 
-// The place of the module: if a script before this one sets NorphuenLive, its method `record` runs a script and returns a
-// recording whose runs are lists of frames, and the page has an editor.
-const live = window.NorphuenLive;
+// What runs scripts here: live.js, with the module. A page that tools/heap_picture made for one script has none.
+const live = typeof NorphuenLive === 'undefined' ? null : NorphuenLive;
 
 async function begin() {
   $('pick').innerHTML = RECORDINGS.map(([name]) => `<option value="${plain(name)}">${plain(name.replace(/_/g, ' '))}</option>`).join('');
-  $('live').innerHTML = live ? 'The examples are recordings of <code>cf_tool</code>; a script that you edit runs on the module of the tool beside this page.'
-    : 'This page plays recordings of <code>cf_tool</code>. No module of the tool is beside it, so a script cannot be changed here: <code>tools/heap_picture replay SCRIPT &gt; FILE.html</code> makes this page for your own.';
-  $('change').hidden = !live;
-  $('change').onclick = () => { $('edit').hidden = !$('edit').hidden; $('lines').hidden = !$('edit').hidden; $('edit').value = tape.script; };
-  $('edit').oninput = () => { clearTimeout(live.later); live.later = setTimeout(async () => { tape = prepare(await live.record($('edit').value)); took(at); }, 300); };
+  $('live').hidden = $('change').hidden = !live;
+  $('change').onclick = async () => {
+    if (!$('edit').hidden || !await edit(tape.script, at)) { $('edit').hidden = true; return; }
+    $('edit').hidden = false;
+    $('edit').focus();
+  };
+  $('edit').oninput = () => { clearTimeout(edit.later); edit.later = setTimeout(() => edit($('edit').value, at), 300); };
   if (!RECORDINGS.length) { $('about').textContent = 'There is no recordings.js beside this page.'; return; }
-  $('pick').onchange = () => choose($('pick').value, 0);
+  $('pick').onchange = () => { $('fault').textContent = ''; choose($('pick').value, 0); };
   $('chart').onchange = () => { drawStrip(); show(at); };
   $('slide').oninput = () => { play(false); show(+$('slide').value); };
   $('strip').onclick = event => { const box = $('strip').getBoundingClientRect(); play(false); show(Math.floor((event.clientX - box.left) / box.width * length())); };
@@ -510,10 +547,9 @@ async function begin() {
     if (id) { event.preventDefault(); if (event.target.blur && event.key === ' ') event.target.blur(); $(id).onclick(); }
   };
   addEventListener('resize', () => tape && shown.forEach((_, n) => drawHeap(n)));
-  const asked = new URLSearchParams(location.hash.slice(1));
-  await choose(asked.get('example'), +asked.get('at') || 0, asked.get('of') ? asked.get('of').split(',') : undefined);
+  await openLink(location.hash);
   // Opened without a link, the page plays from just before the first move.
   if (!location.hash && row[0] === 'gaps' && !matchMedia('(prefers-reduced-motion: reduce)').matches) { show(tape.runs.cf.findIndex(it => it.move) - 3); play(true); }
-  addEventListener('hashchange', () => { const next = new URLSearchParams(location.hash.slice(1)); if (next.get('example') !== row[0] || +next.get('at') !== at) choose(next.get('example'), +next.get('at') || 0, next.get('of') ? next.get('of').split(',') : undefined); });
+  addEventListener('hashchange', () => { const next = new URLSearchParams(location.hash.slice(1)); if ((next.get('script') ? next.get('script') !== tape.packed : tape.packed || next.get('example') !== row[0]) || +next.get('at') !== at) openLink(location.hash); });
 }
 begin();

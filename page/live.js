@@ -1,0 +1,263 @@
+// Runs scripts on the tool itself, norphuen.wasm, which tools/wasm_of makes, and records them as tools/heap_picture does: the
+// comments there say what is asked, and why. checks/page_live compares the two.
+'use strict';
+const NorphuenLive = (() => {
+  class Fault extends Error {}
+
+  // ---- The module. Its addresses have 64 bits. It imports three functions that take and return memory. Here they hand out its
+  // own memory from its heap base on, and return none: a run begins at the heap base again, since each run returns all that it took.
+  class Tool {
+    static async load(bytes) {
+      const tool = new Tool();
+      const env = {
+        rattle_alloc: (to, size, align) => tool.answer(to, tool.block(Number(size), Number(align))),
+        rattle_realloc: (to, at, kept, size, align) => {
+          const next = tool.block(Number(size), Number(align));
+          if (next) new Uint8Array(tool.memory.buffer).copyWithin(next, Number(at), Number(at) + Number(kept));
+          tool.answer(to, next);
+        },
+        rattle_dealloc: () => {},
+      };
+      const { instance } = await WebAssembly.instantiate(bytes, { env }).catch(error => { throw new Fault(`this browser can't run the module: ${error.message}`); });
+      return Object.assign(tool, { call: instance.exports.cf_page_run, memory: instance.exports.memory, base: Number(instance.exports.__heap_base.value) });
+    }
+
+    // The address of a new block; 0 if there is no memory.
+    block(size, align) {
+      const from = Math.ceil(this.free / Math.max(16, align)) * Math.max(16, align), lacks = from + size - this.memory.buffer.byteLength;
+      if (lacks > 0) try { this.memory.grow(BigInt(Math.ceil(Math.max(lacks, 1 << 20) / 65536))); } catch { return 0; }
+      this.free = from + size;
+      return from;
+    }
+
+    // Writes what the function returns in C: whether there is a block, and its address.
+    answer(to, at) {
+      new BigUint64Array(this.memory.buffer, Number(to), 2).set([BigInt(at > 0), BigInt(at || 16)]);
+    }
+
+    put(bytes) {
+      const at = this.block(bytes.length, 16);
+      if (at) new Uint8Array(this.memory.buffer).set(bytes, at);
+      return at;
+    }
+
+    // The status and the output of the program with these arguments; the input and the output are bytes. With status 5 the
+    // output was longer than the room for it, and it runs again.
+    run(words, input, room = 1 << 20) {
+      this.free = this.base;
+      const lines = new TextEncoder().encode(words.join('\n'));
+      const at = [this.put(lines), lines.length, this.put(input), input.length, this.block(room, 16), room, this.block(8, 16)];
+      if (!at[0] || !at[2] || !at[4] || !at[6]) return { status: 6, output: new Uint8Array() };
+      const status = this.call(...at.map(BigInt)), count = Number(new DataView(this.memory.buffer).getBigUint64(at[6], true));
+      return status === 5 ? this.run(words, input, count) : { status, output: new Uint8Array(this.memory.buffer, at[4], count).slice() };
+    }
+  }
+
+  // ---- The recorder
+
+  const MANAGERS = ['cf', 'nm', 'tlsf', 'half'], MODES = ['run', 'compare', 'slice', 'quota', 'large'];
+  const MOST_WORDS = 4000000, WRITTEN = 4096;
+  let tool;
+
+  const ask = (words, script) => { const { status, output } = tool.run(words, new TextEncoder().encode(script)); return { status, output: new TextDecoder().decode(output) }; };
+  const tokens = text => text.split(/\s+/).filter(it => it);
+  const number = reply => Number(reply.split(' ').pop());
+
+  // The replies in an output without names: a line each, but that of `walk` ends with its total.
+  function repliesOf(output) {
+    const replies = [];
+    let walk = [];
+    for (const line of output.split('\n').slice(0, -1)) {
+      walk.push(line);
+      if (!line.startsWith('class ')) { replies.push(walk.join('\n')); walk = []; }
+    }
+    return replies;
+  }
+
+  // Lines with questions between them: each question has what takes its reply.
+  class Asked {
+    lines = [];
+    takers = [];
+    add(line, take = () => {}) { this.lines.push(line); this.takers.push(take); }
+    play(words) {
+      const { status, output } = ask(words, this.lines.map(it => `${it}\n`).join('')), replies = repliesOf(output);
+      if (status || replies.length !== this.lines.length) throw new Fault(`the tool ended with status ${status} in a recording`);
+      this.takers.forEach((take, i) => take(replies[i]));
+    }
+  }
+
+  // A frame for each command that was answered: its line, its words, an id without leading zeros, and its reply.
+  function framesOf(script, replies) {
+    const commands = script.split('\n').map((text, i) => [i + 1, tokens(text)]).filter(([, words]) => words.length && !words[0].startsWith('#'));
+    return replies.map((reply, i) => {
+      const [line, [verb, ...rest]] = commands[i];
+      return { line: String(line), text: [verb, ...rest.slice(0, 1).map(it => String(Number(it))), ...rest.slice(1)].join(' '), reply };
+    });
+  }
+
+  // A question must not change a reply.
+  function same(frame, reply) {
+    if (frame.reply !== reply) throw new Fault(`line ${frame.line}: with questions the tool replies ${reply.slice(0, 40)}, not ${frame.reply.slice(0, 40)}`);
+  }
+
+  function recordReports(words, frames, questions, places) {
+    const asked = new Asked(), before = {};
+    frames.forEach((frame, i) => {
+      const [verb, name] = frame.text.split(' ');
+      if (places && 'fz'.includes(verb)) asked.add(`q ${name}`, reply => { before[i] = reply; });
+      asked.add(frame.text, reply => same(frame, reply));
+      if (places && 'mz'.includes(verb) && frame.reply === 'ok') asked.add(`q ${name}`, reply => { frame.at = reply; });
+      // A `k` needs to stand before all other commands.
+      if (i + 1 === frames.length || !frames[i + 1].text.startsWith('k ')) for (const question of questions) asked.add(question, reply => { frame[question] = reply; });
+    });
+    asked.play(words);
+    return before;
+  }
+
+  function recordPlaces(words, frames) {
+    const gaps = recordReports(words, frames, ['steps', 'frag', 'walk'], true), asked = new Asked(), owners = {};
+    let moves = 0;
+    frames.forEach((frame, i) => {
+      asked.add(frame.text);
+      const [verb, name] = frame.text.split(' ');
+      if (verb === 'm' && frame.at) asked.add(`p ${number(frame.at)}`, reply => { owners[reply.slice(8)] = name; });
+      const found = /moves (\d+)/.exec(frame.steps || '');
+      if (found && Number(found[1]) > moves) {
+        moves = Number(found[1]);
+        asked.add(`p ${number(gaps[i])}`, reply => { frame.moved = `${owners[reply.slice(8)]} ${gaps[i]}`; });
+      }
+    });
+    asked.play(words);
+  }
+
+  function recordTasks(words, frames) {
+    const tasks = [...new Set([0, ...frames.map(it => it.text.split(' ')).filter(([verb]) => ['t', 'quota', 'need', 'admit'].includes(verb)).map(([, task]) => Number(task))])].sort((a, b) => a - b);
+    const asked = new Asked();
+    let present = 0;
+    for (const frame of frames) {
+      asked.add(frame.text, reply => same(frame, reply));
+      if (frame.text.startsWith('t ')) present = Number(frame.text.split(' ')[1]);
+      Object.assign(frame, { task: String(present), tasks: '' });
+      for (const task of tasks) {
+        asked.add(`t ${task}`);
+        asked.add('walk', reply => { frame.tasks += `task ${task}\n${reply}\n`; });
+      }
+      asked.add(`t ${present}`);
+    }
+    asked.play(words);
+  }
+
+  // The word i of an object in the run that records mode `slice`.
+  const filling = (name, i) => 1n << 63n | BigInt(name) << 32n | BigInt(i);
+
+  function hexOf(name, length) {
+    let hex = '';
+    for (let i = 1; i <= Math.ceil(length / 8); i++) hex += filling(name, i).toString(16).match(/../g).reverse().join('');
+    return hex.slice(0, 2 * length);
+  }
+
+  function recordWords(words, frames, region) {
+    if (region * frames.length > MOST_WORDS) throw new Fault(`mode slice: ${frames.length} commands on a region of ${region} words are too many to record`);
+    const asked = new Asked(), seen = [];
+    const show = into => {
+      const all = [];
+      into.push(all);
+      for (let word = 0; word < region; word++) asked.add(`p ${word}`, reply => all.push(BigInt(`0x${reply}`)));
+    };
+    for (const frame of frames) {
+      const [verb, name, size] = frame.text.split(' '), shown = [];
+      if (!'wrp'.includes(verb)) asked.add(frame.text, reply => same(frame, reply));
+      if (verb === 'm' && frame.reply === 'ok') {
+        show(shown);
+        const hex = hexOf(name, Number(size));
+        for (let at = 0; 2 * at < hex.length; at += WRITTEN) asked.add(`w ${name} ${at} ${hex.slice(2 * at, 2 * (at + WRITTEN))}`);
+      }
+      show(shown);
+      seen.push(shown);
+    }
+    asked.play(words);
+    const live = new Map(), headers = {};
+    let before = Array(region).fill(0n);
+    frames.forEach((frame, i) => {
+      const [verb, name, size] = frame.text.split(' '), shown = seen[i];
+      if (verb === 'm' && frame.reply === 'ok') {
+        // Only the header of a new object differs from what was there, since its bytes are zeros.
+        live.set(name, Number(size));
+        headers[name] = shown[0].find((word, at) => word !== before[at]);
+      }
+      if (verb === 'f' && frame.reply === 'ok') live.delete(name);
+      before = shown[shown.length - 1];
+      frame.words = [...live].map(([one, length]) => `${one}${piecesOf(before, one, headers[one], length)}\n`).join('');
+    });
+  }
+
+  // The pieces of an object, as ` WORD INDEX COUNT`: a word of the region, and of the object, whose word 0 is its header.
+  function piecesOf(words, name, header, length) {
+    const pieces = [], last = Math.ceil(length / 8), mine = filling(name, 0) >> 32n;
+    words.forEach((word, at) => {
+      const piece = pieces[pieces.length - 1];
+      let index = word >> 32n === mine ? Number(word & 0xffffffffn) : word === header ? 0 : null;
+      if (index === null && length % 8 && piece && piece[1] + piece[2] === last && piece[0] + piece[2] === at) {
+        // The last word, of which the object has only some bytes.
+        index = word === (filling(name, last) & (1n << BigInt(8 * (length % 8))) - 1n) ? last : null;
+      }
+      if (index === null) return;
+      if (piece && piece[0] + piece[2] === at && piece[1] + piece[2] === index) piece[2]++;
+      else pieces.push([at, index, 1]);
+    });
+    return pieces.map(it => ` ${it.join(' ')}`).join('');
+  }
+
+  function slotsOf(pageBytes, all) {
+    const lengths = [...new Set(all)].filter(it => it <= pageBytes - 8).sort((a, b) => a - b), asked = new Asked(), slots = {};
+    asked.add(`heap 1 ${pageBytes} 1 1`);
+    for (const length of lengths) {
+      asked.add(`m 0 ${length}`);
+      asked.add('frag', reply => { slots[length] = Number(/taken (\d+)/.exec(reply)[1]) / 8; });
+      asked.add('f 0');
+    }
+    asked.play(['run']);
+    return slots;
+  }
+
+  // The recording of a script, whose arguments a comment names as in examples/. Its runs are lists of frames.
+  async function record(script) {
+    tool ||= await Tool.load(await module());
+    const given = tokens((/^# arguments: (.*)$/m.exec(script) || ['', ''])[1]), mode = given[0] && !given[0].startsWith('-') ? given[0] : 'run';
+    if (!MODES.includes(mode)) throw new Fault(`mode ${mode} has no picture: only ${MODES.join(', ')} have one`);
+    const one = given.indexOf('--manager'), made = { mode, own: one < 0 ? 'cf' : given[one + 1], arguments: given.join(' '), script, runs: {} };
+    const many = mode === 'run' || mode === 'compare';
+    for (const manager of many ? MANAGERS : ['cf']) {
+      const words = many ? ['run', '--manager', manager] : given, { status, output } = ask(words, script);
+      if (![0, 3, 7].includes(status)) throw new Fault(`the tool ended with status ${status}`);
+      const replies = repliesOf(output);
+      if (status === 3) made.bad = [number(replies[replies.length - 1]), replies.pop()];
+      const frames = framesOf(script, replies), heap = frames.length && frames[0].text.startsWith('heap ') ? frames[0].text.split(' ').map(Number) : null;
+      if (heap && many) recordPlaces(words, frames);
+      else if (heap && mode === 'quota') recordTasks(words, frames);
+      else if (heap && mode === 'large') recordReports(words, frames, ['walk', 'frag']);
+      else if (heap) recordWords(words, frames, heap[1] * heap[2] / 8);
+      if (heap && (mode === 'slice' || mode === 'large')) {
+        const full = heap[2] - 8, lengths = frames.filter(it => it.text.startsWith('m ')).map(it => Number(it.text.split(' ')[2]));
+        made.slots = slotsOf(heap[2], [...lengths, ...lengths.map(it => 4 * Math.ceil(it / full)), ...lengths.map(it => it % full), full]);
+      }
+      made.runs[manager] = frames;
+    }
+    return made;
+  }
+
+  // The bytes of the module: those that a page in one file has, compressed, or those of the file beside the page.
+  async function module() {
+    if (window.NORPHUEN) {
+      const packed = Uint8Array.from(atob(window.NORPHUEN), c => c.charCodeAt(0));
+      return new Response(new Blob([packed]).stream().pipeThrough(new DecompressionStream('gzip'))).arrayBuffer();
+    }
+    const lacks = new Fault('this page has no module: tools/wasm_of makes norphuen.wasm, which is served beside it, or which tools/heap_picture live puts into it');
+    if (location.protocol === 'file:') throw lacks;
+    const answer = await fetch('norphuen.wasm').catch(() => { throw lacks; });
+    if (!answer.ok) throw lacks;
+    return answer.arrayBuffer();
+  }
+
+  return { Fault, record, run: async (...call) => { tool ||= await Tool.load(await module()); return tool.run(...call); } };
+})();
