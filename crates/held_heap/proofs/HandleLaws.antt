@@ -30,7 +30,7 @@ use Rattle.page_model.specs.Steps.{Request}
 use Rattle.held_heap.specs.Calls.{IsFreeCall, IsFreshHeap, IsLengthCall, IsMallocCall, IsPlaceCall, IsReadCall, IsResizeCall, IsWriteCall, found_code, found_number, freed_shown, malloc_number, resized_shown}
 use Rattle.held_heap.specs.Codes.{access_code, free_code, malloc_code, resize_code}
 use Rattle.held_heap.specs.HandleRules.{AreFirstHandles, AreHandles, IsCount, IsHandleOf, IsNewHandle, KeepsHandles}
-use Rattle.held_heap.specs.Handles.{base_of, first_handles, handle_of, largest, next, none, number_in, raised, raised_by}
+use Rattle.held_heap.specs.Handles.{base_of, handle_of, largest, next, none, number_in, raised, raised_by}
 use Rattle.held_heap.specs.HeldState.{HeldState}
 use Rattle.held_heap.specs.declared.answers.NphFreed.{NphFreed}
 use Rattle.held_heap.specs.declared.answers.NphResized.{NphResized}
@@ -249,28 +249,27 @@ base_is count last c = elim (cases_lt (last + 3 * count) (2 ^ 32)) [
       let split = div-add-mod' last count in
       let g = last / count in
       let one : (g + 1) * count ≡ g * count + count = omega arith in
-      let three : (g + 3) * count ≡ g * count + 3 * count = omega arith in
-      (
+      let three : (g + 3) * count ≡ g * count + 3 * count = omega arith in (
         g + 1,
         cond-true (nat_lt (last + 3 * count) (2 ^ 32)) (last - last % count + count) 0 (lt-ltb (last + 3 * count) (2 ^ 32) lt) ∙ (let e : last - last % count + count ≡ (g + 1) * count = omega (arith, split, one) in e),
-          elim (cases_lt (g + 2) (2 ^ 32 / count)) [
-            | inl less ↦ omega (arith, less)
-            | inr more ↦ absurd (
-                let full : 2 ^ 32 / count * count ≤ (g + 3) * count = mul-le (2 ^ 32 / count) count (g + 3) count (omega (arith, more)) (omega arith) in
-                omega (arith, full, three, whole, split, lt))
-          ],
-      ))
-  | inr ge ↦ (
-      0,
-        cond-false (nat_lt (last + 3 * count) (2 ^ 32)) (last - last % count + count) 0 (le-ltb (last + 3 * count) (2 ^ 32) ge) ∙ (let e : 0 ≡ 0 * count = omega arith in e),
-        elim (cases_lt 1 (2 ^ 32 / count)) [
+        elim (cases_lt (g + 2) (2 ^ 32 / count)) [
           | inl less ↦ omega (arith, less)
           | inr more ↦ absurd (
-              let full : 2 ^ 32 / count * count ≤ 1 * count = mul-le (2 ^ 32 / count) count 1 count more (omega arith) in
-              let one : 1 * count ≡ count = omega arith in
-              (let few = c.few in omega (arith, full, one, whole, few)))
+              let full : 2 ^ 32 / count * count ≤ (g + 3) * count = mul-le (2 ^ 32 / count) count (g + 3) count (omega (arith, more)) (omega arith) in
+              omega (arith, full, three, whole, split, lt))
         ],
-      )
+      ))
+  | inr ge ↦ (
+    0,
+    cond-false (nat_lt (last + 3 * count) (2 ^ 32)) (last - last % count + count) 0 (le-ltb (last + 3 * count) (2 ^ 32) ge) ∙ (let e : 0 ≡ 0 * count = omega arith in e),
+    elim (cases_lt 1 (2 ^ 32 / count)) [
+      | inl less ↦ omega (arith, less)
+      | inr more ↦ absurd (
+          let full : 2 ^ 32 / count * count ≤ 1 * count = mul-le (2 ^ 32 / count) count 1 count more (omega arith) in
+          let one : 1 * count ≡ count = omega arith in
+          (let few = c.few in omega (arith, full, one, whole, few)))
+    ],
+  )
 ]
   where
     whole : 2 ^ 32 / count * count ≡ 2 ^ 32

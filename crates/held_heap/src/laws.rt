@@ -19,16 +19,14 @@ pub fn a_freed_handle_names_nothing()
     ensures names { (handles : List ℕ) (n : ℕ) → AreHandles handles → n < length handles → number_in handles (handle_of handles n) ≡ n }
     ensures freed { (handles ns : List ℕ) (n : ℕ) → AreHandles handles → n < length handles → 1 ≤ times n ns
         → times n ns + 1 < 2 ^ 32 / length handles → number_in (raised_all handles ns) (handle_of handles n) ≡ none }
-{
-}
+{}
 
 /// If no handle has reached the last three generations, a handle of a heap names nothing in the next heap of the same
 /// `nph_heap`, whatever its number of proxies.
 pub fn a_handle_of_an_earlier_heap_names_nothing()
     ensures { (old new : List ℕ) (n proxies : ℕ) → n < length old → AreFirstHandles proxies (largest old) new
         → largest old + 3 * length new < 2 ^ 32 → number_in new (handle_of old n) ≡ none }
-{
-}
+{}
 
 /// An opened heap keeps the rules of the handles, and each call keeps them.
 pub fn every_call_keeps_the_handles()
@@ -42,15 +40,13 @@ pub fn every_call_keeps_the_handles()
     ensures write { (most : Option Bounds) (old new : HeldState) (handle from : ℕ) (bytes : List ℕ) (code : ℤ)
         → IsWriteCall most old handle from bytes code new → KeepsHandles old → KeepsHandles new }
     ensures others { (old new : HeldState) → new.heap ≡ old.heap → new.handles ≡ old.handles → KeepsHandles old → KeepsHandles new }
-{
-}
+{}
 
 /// The handle of a malloc that returns 0 named no object before, names the new one, and is no other object's.
 pub fn a_malloc_gives_a_new_handle()
     ensures { (most : Option Bounds) (old new : HeldState) (bytes before after : ℕ) → IsMallocCall most old bytes before (pos 0) after new
         → KeepsHandles old → IsNewHandle old after new }
-{
-}
+{}
 
 /// A call on a handle that names no object returns 4 (`UNKNOWN`) and changes nothing, but for the cost that a free or a
 /// resize records.
@@ -73,5 +69,4 @@ pub fn a_stale_handle_is_refused()
     ensures place { (old new : HeldState) (handle before after : ℕ) (code : ℤ)
         → IsPlaceCall old handle before code after new → KeepsHandles old → number_in old.handles handle ≡ none
         → (code ≡ pos 4) × (after ≡ before) }
-{
-}
+{}

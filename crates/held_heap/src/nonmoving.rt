@@ -143,7 +143,12 @@ impl NphHeap {
         }
         match Settings::check(pages, page_bytes, k, proxies) {
             Err(fault) => of_setting(fault),
-            Ok(s) => match Held::open(memory, NonMovingHeap::closed(Global::new(memory)), &s, self.last) {
+            Ok(s) => match Held::open(
+                memory,
+                NonMovingHeap::closed(Global::new(memory)),
+                &s,
+                self.last,
+            ) {
                 Some(heap) => {
                     self.place = HeapBlock::of(heap);
                     self.is_open = true;
