@@ -9,3 +9,5 @@ pub mod NonMovingPlaces
 pub mod TlsfPlaces
 pub mod Crosses
 pub mod Sent
+pub mod Generations
+pub mod HandleLaws

@@ -154,6 +154,7 @@ module _ (x : HeldState) (m : Names) (fit : Fits (held_all m.parts x.heap.words)
     open_now = subst (IsOpenOfKind Moving) (sym two.1) open_after;
     heap = two.1;
     steps = fit.steps;
+    handles = fit.handles;
   }
 
 module _ {M : Type 1} {𝓤 : Ura M} (𝓛 : Logic 𝓤) where

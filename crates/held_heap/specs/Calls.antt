@@ -21,85 +21,95 @@ use Rattle.cf_model.specs.Rules.{KeepsRules}
 use Rattle.cf_model.specs.State.{HeapState}
 use Rattle.cf_model.specs.Steps.{IsFreeStep, IsMallocStep, IsOpeningWords, IsReadAnswer, IsResizeStep, IsWriteStep, opening_order, ordered_heap}
 use Rattle.step_ledger.specs.Counting.{RoseAtMost, RoseBy}
-use Rattle.held_heap.specs.Codes.{access_code, free_code, malloc_code, moved_number, resize_code}
+use Rattle.held_heap.specs.Codes.{access_code, free_code, malloc_code, resize_code}
+use Rattle.held_heap.specs.HandleRules.{AreFirstHandles}
+use Rattle.held_heap.specs.Handles.{handle_of, moved_handle, number_in, raised_by}
 use Rattle.held_heap.specs.HeldState.{HeldState}
 use Rattle.held_heap.specs.declared.answers.NphClass.{NphClass}
 use Rattle.held_heap.specs.declared.answers.NphFreed.{NphFreed}
 use Rattle.held_heap.specs.declared.answers.NphResized.{NphResized}
 use Rattle.held_heap.specs.declared.answers.NphHeapTotals.{NphHeapTotals}
 
--- `new` is a heap that was just opened with the settings p: it has no objects, its pages, numbers and blocks are in the opening order, and its count is 0
-pub record IsFreshHeap (kind : Kind) (p : Profile) (new : HeldState) : Type 0 where
+-- `new` is a heap that was just opened with the settings p: it has no objects, its pages, numbers and blocks are in the opening order, its count is 0, and its handles
+-- are larger than `last`
+pub record IsFreshHeap (kind : Kind) (p : Profile) (last : ℕ) (new : HeldState) : Type 0 where
   pub words : IsOpeningWords kind p new.heap.words
   pub whole : new.heap ≡ ordered_heap kind p new.heap.words (Some (opening_order kind p))
   pub rules : KeepsRules new.heap
   pub steps : new.steps ≡ 0
+  pub handles : AreFirstHandles p.proxies last new.handles
 
 -- the caller's number after a malloc: the new handle, or after a refusal the number before the call
-abbrev pub malloc_number : ℕ → Result Handle Refusal → ℕ
-malloc_number before (Ok h) = h.0
-malloc_number before (Err e) = before
+abbrev pub malloc_number : List ℕ → ℕ → Result Handle Refusal → ℕ
+malloc_number handles before (Ok h) = handle_of handles h.0
+malloc_number handles before (Err e) = before
 
 -- A malloc of `bytes` bytes. Its steps are the cost that the new heap records. Here and below `answer` is the result of the manager's call, whose steps, counted
 -- from 0, are `new.steps`, and `most` has the manager's own step bounds.
 pub record IsMallocCall (most : Option Bounds) (old : HeldState) (bytes before : ℕ) (code : ℤ) (after : ℕ) (new : HeldState) : Type 0 where
   pub answer : Result Handle Refusal
   pub by_code : code ≡ malloc_code answer
-  pub by_number : after ≡ malloc_number before answer
+  pub by_number : after ≡ malloc_number old.handles before answer
   pub step : IsMallocStep old.heap bytes answer new.heap
   pub ordered : IsOrderedMalloc old.heap bytes answer new.heap
   pub rules : KeepsRules new.heap
   pub bound : ByOwn most (λ b. RoseAtMost 0 new.steps (b.malloc answer))
   pub cost : new.steps ≡ new.heap.cost
+  pub same : new.handles ≡ old.handles
 
 -- the caller's structure after a free with this result: what was freed and moved, or after a refusal the structure before the call
-abbrev pub freed_shown : NphFreed → Result Freed NotLive → NphFreed
-freed_shown before (Ok f) = record { slot_words = f.slot_words; moved = moved_number f.moved }
-freed_shown before (Err e) = before
+abbrev pub freed_shown : List ℕ → NphFreed → Result Freed NotLive → NphFreed
+freed_shown handles before (Ok f) = record { slot_words = f.slot_words; moved = moved_handle handles f.moved }
+freed_shown handles before (Err e) = before
 
--- a free of the handle `number`; its steps are the cost that the new heap records
-pub record IsFreeCall (most : Option Bounds) (old : HeldState) (number : ℕ) (before : NphFreed) (code : ℤ) (after : NphFreed) (new : HeldState) : Type 0 where
+-- a free of the object that `handle` names, which is given up if the free succeeds; its steps are the cost that the new heap records
+pub record IsFreeCall (most : Option Bounds) (old : HeldState) (handle : ℕ) (before : NphFreed) (code : ℤ) (after : NphFreed) (new : HeldState) : Type 0 where
   pub answer : Result Freed NotLive
   pub by_code : code ≡ free_code answer
-  pub by_freed : after ≡ freed_shown before answer
-  pub step : IsFreeStep old.heap number answer new.heap
-  pub ordered : IsOrderedFree old.heap number answer new.heap
+  pub by_freed : after ≡ freed_shown new.handles before answer
+  pub step : IsFreeStep old.heap (number_in old.handles handle) answer new.heap
+  pub ordered : IsOrderedFree old.heap (number_in old.handles handle) answer new.heap
   pub rules : KeepsRules new.heap
   pub bound : ByOwn most (λ b. RoseAtMost 0 new.steps (b.free answer))
   pub cost : new.steps ≡ new.heap.cost
+  pub raises : new.handles ≡ raised_by old.handles handle answer
 
 -- the caller's structure after a resize with this result: the slots and what moved, or after a refusal the structure before the call
-abbrev pub resized_shown : NphResized → Result Resized ResizeFault → NphResized
-resized_shown before (Ok done) = record { old_slot_words = done.old_slot_words; slot_words = done.slot_words; moved = moved_number done.moved }
-resized_shown before (Err e) = before
+abbrev pub resized_shown : List ℕ → NphResized → Result Resized ResizeFault → NphResized
+resized_shown handles before (Ok done) =
+    record { old_slot_words = done.old_slot_words; slot_words = done.slot_words; moved = moved_handle handles done.moved }
+resized_shown handles before (Err e) = before
 
--- a resize of object `number` to `bytes` bytes; with pages its steps are the cost that the new heap records
-pub record IsResizeCall (most : Option Bounds) (old : HeldState) (number bytes : ℕ) (before : NphResized) (code : ℤ) (after : NphResized) (new : HeldState) : Type 0 where
+-- a resize of the object that `handle` names to `bytes` bytes; with pages its steps are the cost that the new heap records
+pub record IsResizeCall (most : Option Bounds) (old : HeldState) (handle bytes : ℕ) (before : NphResized) (code : ℤ) (after : NphResized) (new : HeldState) : Type 0 where
   pub answer : Result Resized ResizeFault
   pub by_code : code ≡ resize_code answer
-  pub by_resized : after ≡ resized_shown before answer
-  pub step : IsResizeStep old.heap (record { number = number; length = bytes }) answer new.heap
-  pub ordered : IsOrderedResize old.heap (record { number = number; length = bytes }) answer new.heap
+  pub by_resized : after ≡ resized_shown old.handles before answer
+  pub step : IsResizeStep old.heap (record { number = number_in old.handles handle; length = bytes }) answer new.heap
+  pub ordered : IsOrderedResize old.heap (record { number = number_in old.handles handle; length = bytes }) answer new.heap
   pub rules : KeepsRules new.heap
   pub bound : ByOwn most (λ b. RoseAtMost 0 new.steps (b.resize bytes answer))
   pub cost : RoseByCost old.heap.kind 0 new.steps new.heap.cost
+  pub same : new.handles ≡ old.handles
 
--- a write of `bytes` into object `number`, from its byte `from` on
-pub record IsWriteCall (most : Option Bounds) (old : HeldState) (number from : ℕ) (bytes : List ℕ) (code : ℤ) (new : HeldState) : Type 0 where
+-- a write of `bytes` into the object that `handle` names, from its byte `from` on
+pub record IsWriteCall (most : Option Bounds) (old : HeldState) (handle from : ℕ) (bytes : List ℕ) (code : ℤ) (new : HeldState) : Type 0 where
   pub answer : Result (Unit {0}) AccessFault
   pub by_code : code ≡ access_code answer
-  pub step : IsWriteStep old.heap (record { number = number; from = from }) bytes answer new.heap
+  pub step : IsWriteStep old.heap (record { number = number_in old.handles handle; from = from }) bytes answer new.heap
   pub rules : KeepsRules new.heap
   pub exact : ByOwn most (λ b. RoseBy 0 new.steps (b.access from (length bytes) answer))
+  pub same : new.handles ≡ old.handles
 
--- a read of object `number`, from its byte `from` on, into the caller's buffer; the heap is unchanged
-pub record IsReadCall (most : Option Bounds) (old : HeldState) (number from : ℕ) (before : List ℕ) (code : ℤ) (after : List ℕ) (new : HeldState) : Type 0 where
+-- a read of the object that `handle` names, from its byte `from` on, into the caller's buffer; the heap is unchanged
+pub record IsReadCall (most : Option Bounds) (old : HeldState) (handle from : ℕ) (before : List ℕ) (code : ℤ) (after : List ℕ) (new : HeldState) : Type 0 where
   pub answer : Result (Unit {0}) AccessFault
   pub by_code : code ≡ access_code answer
-  pub read : IsReadAnswer old.heap (record { number = number; from = from }) before answer after
+  pub read : IsReadAnswer old.heap (record { number = number_in old.handles handle; from = from }) before answer after
   pub rules : KeepsRules old.heap
   pub exact : ByOwn most (λ b. RoseBy 0 new.steps (b.access from (length before) answer))
   pub kept : new.heap ≡ old.heap
+  pub same : new.handles ≡ old.handles
 
 -- the code of a call for a length or an address: 0, or 4 (`UNKNOWN`) if the handle is not live and there is none
 abbrev pub found_code : Option ℕ → ℤ
@@ -111,19 +121,21 @@ abbrev pub found_number : Option ℕ → ℕ → ℕ
 found_number (Some n) before = n
 found_number None before = before
 
--- a call for the length of object `number` in a heap of the kind `of_kind`; the heap is unchanged
-pub record IsLengthCall (of_kind : Kind) (old : HeldState) (number before : ℕ) (code : ℤ) (after : ℕ) (new : HeldState) : Type 0 where
-  pub by_code : code ≡ found_code (length_of old.heap number)
+-- a call for the length of the object that `handle` names in a heap of the kind `of_kind`; the heap is unchanged
+pub record IsLengthCall (of_kind : Kind) (old : HeldState) (handle before : ℕ) (code : ℤ) (after : ℕ) (new : HeldState) : Type 0 where
+  pub by_code : code ≡ found_code (length_of old.heap (number_in old.handles handle))
   pub by_kind : old.heap.kind ≡ of_kind
-  pub by_length : after ≡ found_number (length_of old.heap number) before
+  pub by_length : after ≡ found_number (length_of old.heap (number_in old.handles handle)) before
   pub kept : new.heap ≡ old.heap
-  pub exact : RoseBy 0 new.steps (length_steps old.heap.kind (length_of old.heap number))
+  pub same : new.handles ≡ old.handles
+  pub exact : RoseBy 0 new.steps (length_steps old.heap.kind (length_of old.heap (number_in old.handles handle)))
 
--- a call for the address of object `number`, in words from the start of the region; the heap is unchanged
-pub record IsPlaceCall (old : HeldState) (number before : ℕ) (code : ℤ) (after : ℕ) (new : HeldState) : Type 0 where
-  pub by_code : code ≡ found_code (place_of old.heap number)
-  pub by_place : after ≡ found_number (place_of old.heap number) before
+-- a call for the address of the object that `handle` names, in words from the start of the region; the heap is unchanged
+pub record IsPlaceCall (old : HeldState) (handle before : ℕ) (code : ℤ) (after : ℕ) (new : HeldState) : Type 0 where
+  pub by_code : code ≡ found_code (place_of old.heap (number_in old.handles handle))
+  pub by_place : after ≡ found_number (place_of old.heap (number_in old.handles handle)) before
   pub kept : new.heap ≡ old.heap
+  pub same : new.handles ≡ old.handles
   pub exact : RoseBy 0 new.steps 1
 
 -- the code of `has_room` with this result: 0, or the code of a malloc with this refusal
@@ -137,6 +149,7 @@ pub record IsRoomCall (most : Option Bounds) (old : HeldState) (bytes : ℕ) (co
   pub by_code : code ≡ room_code answer
   pub room : IsHasRoomAnswer old.heap bytes answer
   pub kept : new.heap ≡ old.heap
+  pub same : new.handles ≡ old.handles
   pub bound : ByOwn most (λ b. RoseAtMost 0 new.steps (b.room answer))
   pub exact : ByOwn most (λ b. RoseBy 0 new.steps (b.room_exact old.heap bytes answer))
 
@@ -174,6 +187,7 @@ pub record IsTotalsCall (most : Option Bounds) (old : HeldState) (code : ℤ) (a
   pub by_code : code ≡ pos 0
   pub by_totals : after ≡ totals_shown old.heap
   pub kept : new.heap ≡ old.heap
+  pub same : new.handles ≡ old.handles
   pub bound : ByOwn most (λ b. RoseAtMost 0 new.steps (b.totals (totals_in old.heap.kind old.heap)))
   pub exact : ByOwn most (λ b. RoseBy 0 new.steps (b.totals_exact old.heap))
 

@@ -1,5 +1,8 @@
 pub mod Codes
+pub mod Handles
+pub mod Frees
 pub mod HeldState
+pub mod HandleRules
 pub mod Calls
 pub mod CallerHeap
 pub mod AtPlace

@@ -29,3 +29,4 @@ pub record Fits (a : LooseHeld) (x : HeldState) : Type 0 where
   pub open_now : IsOpenOfKind Moving (state_in Moving a.heap.inner)
   pub heap : state_in Moving a.heap.inner ≡ x.heap
   pub steps : a.steps ≡ x.steps
+  pub handles : a.handles ≡ x.handles

@@ -10,13 +10,14 @@ use Rattle.held_heap.specs.contracts.moving.NphHeap.{the_row}
 
 -- the heap of the struct: closed, open or lent
 abbrev pub held_in : NphHeap → CallerHeap
-held_in n = heap_of n.place.held n.place.words
+held_in n = heap_of n.place.held n.place.words n.last
 
 -- s is the borrow of the struct, r that of its heap: when r ends, the struct is open, and has the heap as r leaves it. `Lends` of the standard library states
 -- this: its last argument computes the struct from the state h in which r leaves the heap. `the_row` is the type of the struct.
 abbrev pub LendsHeap : MutBor NphHeap → MutBor HeldState → Fml
 LendsHeap s r = Lends the_row open_heap s r (λ h. record {
   place = with_heap s.now.place h;
+  last = s.now.last;
   is_open = true;
   is_lent = false;
   shown = refl;

@@ -1,10 +1,11 @@
-//! `Held`: an open heap with the step count of its last call, for a C library. Each call returns a code, and
+//! `Held`: an open heap with the step count of its last call and the handles that C has, for a C library. Each call returns a code, and
 //! writes its other results through references.
 ghost use Rattle.std.specs.Prelude.{◌≡◌, IfSome, IsSome};
 ghost use Rattle.cf_base.specs.Settings.{profile_of};
 
 use crate::answers::{NphClass, NphFreed, NphHeapTotals, NphResized};
-use crate::codes::{DONE, UNKNOWN, number_of, of_access, of_refusal, of_resize};
+use crate::codes::{DONE, UNKNOWN, of_access, of_refusal, of_resize};
+use crate::handles::Handles;
 use crate::of_kind::OfKind;
 use cf_base::{Handle, Settings};
 use std::alloc::Global;
@@ -12,7 +13,8 @@ use std::marker::Model;
 use std::rt::Memory;
 use step_ledger::Meter;
 
-/// An open heap, and the steps of its last call. Only `figures` and `last_steps` count none, and leave this
+/// An open heap, the steps of its last call, and the handle of each number: what C has for an object. A call on a handle that
+/// its number does not have now is a call on `NONE`, which is never live. Only `figures` and `last_steps` count none, and leave this
 /// number unchanged. Each other call makes a ledger of its own from `memory`, so that the compiler keeps the
 /// count in a register.
 #[derive(Drop)]
@@ -20,6 +22,7 @@ pub struct Held<H: OfKind> {
     pub(crate) heap: H,
     pub(crate) steps: u64,
     pub(crate) memory: Memory,
+    pub(crate) handles: Handles,
 }
 
 impl<H: OfKind> Model for Held<H> {
@@ -29,28 +32,32 @@ impl<H: OfKind> Model for Held<H> {
 
     ghost coded = { held_code };
 
-    ghost view = { λ h. record { heap = H.state h.heap; steps = h.steps } };
+    ghost view = { λ h. record { heap = H.state h.heap; steps = h.steps; handles = h.handles } };
 
     ghost invariant = { λ h. IsOpenOfKind H.of_kind (H.state h.heap) };
 }
 
 impl<H: OfKind> Held<H> {
+    ghost use Rattle.held_heap.specs.Handles.{largest};
     ghost use Rattle.held_heap.specs.Calls.{IsFiguresCall, IsFreeCall, IsFreshHeap, IsLengthCall, IsMallocCall, IsPlaceCall, IsReadCall, IsResizeCall, IsRoomCall, IsStepsCall, IsTotalsCall, IsWriteCall};
 
-    /// Opens `heap`, a manager of its type's kind that promises an order, without objects and in a block of its own. Returns
-    /// `None` if out of memory.
-    pub fn open(memory: Memory, mut heap: H, s: &Settings) -> Option<Box<Held<H>>>
+    /// Opens `heap`, a manager of its type's kind that promises an order, without objects and in a block of its own. Its
+    /// handles are larger than `last`. Returns `None` if out of memory.
+    pub fn open(memory: Memory, mut heap: H, s: &Settings, last: u32) -> Option<Box<Held<H>>>
         requires order { IsSome (H.state heap).order }
         requires kind { (H.state heap).kind ≡ H.of_kind }
-        ensures { IfSome result (λ b. IsFreshHeap (H.state heap).kind (profile_of s.now) b.value) }
+        ensures { IfSome result (λ b. IsFreshHeap (H.state heap).kind (profile_of s.now) last b.value) }
     {
+        let alloc = Global::new(memory);
+        let handles = Handles::new(alloc, s.proxies, last)?;
         heap.open_heap(s).ok()?;
         let held = Held {
             heap,
             steps: 0,
             memory,
+            handles,
         };
-        Box::new(Global::new(memory), held).ok()
+        Box::new(alloc, held).ok()
     }
 
     /// Makes an object of `bytes` zeros and writes its handle into `handle`. Returns `DONE`, or the code of
@@ -63,7 +70,7 @@ impl<H: OfKind> Held<H> {
         self.steps = meter.lap();
         match answer {
             Ok(h) => {
-                *handle = h.0;
+                *handle = self.handles.handle_of(h.0);
                 DONE
             }
             Err(cause) => of_refusal(cause),
@@ -76,14 +83,16 @@ impl<H: OfKind> Held<H> {
     pub fn free(&mut self, handle: u32, freed: &mut NphFreed) -> i32
         ensures { IsFreeCall H.most self.old handle freed.old result freed.new self.new }
     {
+        let number = self.handles.number_in(handle);
         let mut meter = Meter::for_library(self.memory);
-        let answer = self.heap.free(Handle(handle), meter.steps());
+        let answer = self.heap.free(Handle(number), meter.steps());
         self.steps = meter.lap();
         match answer {
             Ok(done) => {
+                self.handles.raise(handle);
                 *freed = NphFreed {
                     slot_words: done.slot_words,
-                    moved: number_of(done.moved),
+                    moved: self.handles.of_moved(done.moved),
                 };
                 DONE
             }
@@ -97,15 +106,16 @@ impl<H: OfKind> Held<H> {
     pub fn resize(&mut self, handle: u32, bytes: u32, resized: &mut NphResized) -> i32
         ensures { IsResizeCall H.most self.old handle bytes resized.old result resized.new self.new }
     {
+        let number = self.handles.number_in(handle);
         let mut meter = Meter::for_library(self.memory);
-        let answer = self.heap.resize(Handle(handle), bytes, meter.steps());
+        let answer = self.heap.resize(Handle(number), bytes, meter.steps());
         self.steps = meter.lap();
         match answer {
             Ok(done) => {
                 *resized = NphResized {
                     old_slot_words: done.old_slot_words,
                     slot_words: done.slot_words,
-                    moved: number_of(done.moved),
+                    moved: self.handles.of_moved(done.moved),
                 };
                 DONE
             }
@@ -118,8 +128,9 @@ impl<H: OfKind> Held<H> {
     pub fn write(&mut self, handle: u32, at: u32, bytes: &[u8]) -> i32
         ensures { IsWriteCall H.most self.old handle at bytes.now result self.new }
     {
+        let number = self.handles.number_in(handle);
         let mut meter = Meter::for_library(self.memory);
-        let answer = self.heap.write(Handle(handle), at, bytes, meter.steps());
+        let answer = self.heap.write(Handle(number), at, bytes, meter.steps());
         self.steps = meter.lap();
         match answer {
             Ok(()) => DONE,
@@ -132,8 +143,9 @@ impl<H: OfKind> Held<H> {
     pub fn read(&mut self, handle: u32, at: u32, out: &mut [u8]) -> i32
         ensures { IsReadCall H.most self.old handle at out.old result out.new self.new }
     {
+        let number = self.handles.number_in(handle);
         let mut meter = Meter::for_library(self.memory);
-        let answer = self.heap.read(Handle(handle), at, out, meter.steps());
+        let answer = self.heap.read(Handle(number), at, out, meter.steps());
         self.steps = meter.lap();
         match answer {
             Ok(()) => DONE,
@@ -146,8 +158,9 @@ impl<H: OfKind> Held<H> {
     pub fn length(&mut self, handle: u32, bytes: &mut u32) -> i32
         ensures { IsLengthCall H.of_kind self.old handle bytes.old result bytes.new self.new }
     {
+        let number = self.handles.number_in(handle);
         let mut meter = Meter::for_library(self.memory);
-        let answer = self.heap.length(Handle(handle), meter.steps());
+        let answer = self.heap.length(Handle(number), meter.steps());
         self.steps = meter.lap();
         match answer {
             Some(n) => {
@@ -163,8 +176,9 @@ impl<H: OfKind> Held<H> {
     pub fn place(&mut self, handle: u32, place: &mut u32) -> i32
         ensures { IsPlaceCall self.old handle place.old result place.new self.new }
     {
+        let number = self.handles.number_in(handle);
         let mut meter = Meter::for_library(self.memory);
-        let answer = self.heap.place(Handle(handle), meter.steps());
+        let answer = self.heap.place(Handle(number), meter.steps());
         self.steps = meter.lap();
         match answer {
             Some(at) => {
@@ -234,5 +248,12 @@ impl<H: OfKind> Held<H> {
     {
         *steps = self.steps;
         DONE
+    }
+
+    /// The largest handle that a number has.
+    pub(crate) fn last(&self) -> u32
+        ensures { result ≡ largest self.now.handles }
+    {
+        self.handles.largest()
     }
 }

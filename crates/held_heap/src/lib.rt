@@ -4,7 +4,9 @@
 
 mod answers;
 mod codes;
+mod handles;
 mod held;
+pub mod laws;
 mod loose;
 pub mod moving;
 pub mod nonmoving;

@@ -7,6 +7,7 @@ ghost use Rattle.paged_heap.specs.PagedState.{region_in};
 ghost use Rattle.held_heap.specs.Loose.{words_of};
 ghost use Rattle.held_heap.specs.LooseLoan.{LendsAllOf, LendsAllIn, LendsAllWords};
 
+use crate::handles::Handles;
 use paged_heap::OpenHeap;
 use std::alloc::Global;
 use std::marker::PhantomData;
@@ -28,6 +29,7 @@ pub struct LooseHeld {
     pub(crate) heap: LooseMoving,
     pub(crate) steps: u64,
     pub(crate) memory: Memory,
+    pub(crate) handles: Handles,
 }
 
 /// Borrows all words of the region.

@@ -116,23 +116,25 @@ fn unboxed_of(p: HeapBlock, alloc: Global) -> Unboxed<Open, Global>
 }
 
 /// A heap in memory of a caller in C: closed, open, or lent, and then the words of its region are the caller's. `shown`
-/// and `lent_shown` say which of these the flags mean. Call `close` before it is dropped: a drop does not free the
+/// and `lent_shown` say which of these the flags mean. `last` is the largest handle
+/// of the heaps that it had. Call `close` before it is dropped: a drop does not free the
 /// memory of a heap.
 #[repr(C)]
 #[derive(Drop)]
 pub struct NphHeap {
     place: HeapBlock,
+    last: u32,
     is_open: bool,
     is_lent: bool,
-    ghost shown: { is_open ≡ opened_now (heap_of place.held place.words) },
-    ghost lent_shown: { is_lent ≡ lent_now (heap_of place.held place.words) },
+    ghost shown: { is_open ≡ opened_now (heap_of place.held place.words last) },
+    ghost lent_shown: { is_lent ≡ lent_now (heap_of place.held place.words last) },
 }
 
 impl NphHeap {
     ghost use Rattle.std.specs.Prelude.{IsTrue};
     ghost use Rattle.cf_base.specs.declared.kind.Kind.TheVariants.{Moving};
     ghost use Rattle.held_heap.specs.AtPlace.{IsLendCall, IsOpenCall, IsReturnCall};
-    ghost use Rattle.held_heap.specs.CallerHeap.{Closed, Opened, refusal_code};
+    ghost use Rattle.held_heap.specs.CallerHeap.{Opened, closed_by, refusal_code};
     ghost use Rattle.held_heap.specs.MovingPlace.{LendsHeap, held_in};
 
     /// Returns whether the heap is open, and not lent.
@@ -207,7 +209,12 @@ impl NphHeap {
         }
         match Settings::check(pages, page_bytes, k, proxies) {
             Err(fault) => of_setting(fault),
-            Ok(s) => match Held::open(memory, MovingHeap::closed(Global::new(memory)), &s) {
+            Ok(s) => match Held::open(
+                memory,
+                MovingHeap::closed(Global::new(memory)),
+                &s,
+                self.last,
+            ) {
                 Some(heap) => {
                     self.place = HeapBlock::of(heap);
                     self.is_open = true;
@@ -227,11 +234,12 @@ impl NphHeap {
 
     /// Closes the heap and frees its memory, also if it is lent; does nothing if it is closed.
     pub fn close(&mut self, memory: Memory)
-        ensures { held_in self.new ≡ Closed }
+        ensures { held_in self.new ≡ closed_by (held_in self.old) }
     {
         if !self.has_heap() {
             return;
         }
+        self.last = self.place.lend().last();
         self.is_open = false;
         self.is_lent = false;
         let place = std::mem::replace(&mut self.place, HeapBlock::nowhere());

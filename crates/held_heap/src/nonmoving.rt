@@ -98,11 +98,13 @@ fn unboxed_of(p: HeapBlock, alloc: Global) -> Unboxed<Open, Global>
 }
 
 /// A heap, open or closed, in memory of a caller in C. `shown` says that the flag is true if and only if the
-/// `HeapBlock` has a heap. Call `close` before it is dropped: a drop does not free the memory of an open heap.
+/// `HeapBlock` has a heap. `last` is the largest handle
+/// of the heaps that it had. Call `close` before it is dropped: a drop does not free the memory of an open heap.
 #[repr(C)]
 #[derive(Drop)]
 pub struct NphHeap {
     place: HeapBlock,
+    last: u32,
     is_open: bool,
     ghost shown: { is_open ≡ is_some place.held },
 }
@@ -111,7 +113,7 @@ impl NphHeap {
     ghost use Rattle.std.specs.Prelude.{IsTrue};
     ghost use Rattle.cf_base.specs.declared.kind.Kind.TheVariants.{NonMoving};
     ghost use Rattle.held_heap.specs.AtPlace.{IsOpenCall};
-    ghost use Rattle.held_heap.specs.CallerHeap.{Closed, Opened, opened_now};
+    ghost use Rattle.held_heap.specs.CallerHeap.{Opened, closed_by, opened_now};
     ghost use Rattle.held_heap.specs.NonMovingPlace.{LendsHeap, held_in};
 
     /// Returns whether the heap is open.
@@ -141,7 +143,12 @@ impl NphHeap {
         }
         match Settings::check(pages, page_bytes, k, proxies) {
             Err(fault) => of_setting(fault),
-            Ok(s) => match Held::open(memory, NonMovingHeap::closed(Global::new(memory)), &s) {
+            Ok(s) => match Held::open(
+                memory,
+                NonMovingHeap::closed(Global::new(memory)),
+                &s,
+                self.last,
+            ) {
                 Some(heap) => {
                     self.place = HeapBlock::of(heap);
                     self.is_open = true;
@@ -154,11 +161,12 @@ impl NphHeap {
 
     /// Closes the heap and frees its memory; does nothing if the heap isn't open.
     pub fn close(&mut self, memory: Memory)
-        ensures { held_in self.new ≡ Closed }
+        ensures { held_in self.new ≡ closed_by (held_in self.old) }
     {
         if !self.is_open {
             return;
         }
+        self.last = self.place.lend().last();
         self.is_open = false;
         let place = std::mem::replace(&mut self.place, HeapBlock::nowhere());
         drop(place.into_box(Global::new(memory)));

@@ -9,7 +9,7 @@ ghost use Rattle.std.specs.Prelude.{◌≡◌};
 ghost use Rattle.cf_base.specs.declared.kind.Kind.TheVariants.{Moving};
 ghost use Rattle.held_heap.specs.Calls.{IsFiguresCall, IsFreeCall, IsLengthCall, IsMallocCall, IsPlaceCall, IsReadCall, IsResizeCall, IsRoomCall, IsStepsCall, IsTotalsCall, IsWriteCall};
 ghost use Rattle.held_heap.specs.AtPlace.{IsCallOnOpen, IsLendCall, IsOpenCall, IsReturnCall};
-ghost use Rattle.held_heap.specs.CallerHeap.{Closed};
+ghost use Rattle.held_heap.specs.CallerHeap.{closed_by};
 ghost use Rattle.held_heap.specs.MovingPlace.{held_in};
 ghost use Rattle.held_heap.specs.Moving.{bounds};
 
@@ -37,7 +37,7 @@ pub extern "C" fn nph_open(
 /// Closes the heap and frees its memory, also if it is lent; does nothing if it is closed (`NphHeap::close`).
 #[unsafe(no_mangle)]
 pub extern "C" fn nph_close(heap: &mut NphHeap, memory: Memory)
-    ensures { held_in heap.new ≡ Closed }
+    ensures { held_in heap.new ≡ closed_by (held_in heap.old) }
 {
     heap.close(memory);
 }

@@ -9,7 +9,7 @@ ghost use Rattle.std.specs.Prelude.{◌≡◌};
 ghost use Rattle.cf_base.specs.declared.kind.Kind.TheVariants.{NonMoving};
 ghost use Rattle.held_heap.specs.Calls.{IsFiguresCall, IsFreeCall, IsLengthCall, IsMallocCall, IsReadCall, IsResizeCall, IsRoomCall, IsStepsCall, IsTotalsCall, IsWriteCall};
 ghost use Rattle.held_heap.specs.AtPlace.{IsOpenCall, IsCallOnOpen};
-ghost use Rattle.held_heap.specs.CallerHeap.{Closed};
+ghost use Rattle.held_heap.specs.CallerHeap.{closed_by};
 ghost use Rattle.held_heap.specs.NonMovingPlace.{held_in};
 ghost use Rattle.held_heap.specs.NonMoving.{bounds};
 
@@ -37,7 +37,7 @@ pub extern "C" fn nph_open(
 /// Closes the heap and frees its memory; does nothing if it is closed (`NphHeap::close`).
 #[unsafe(no_mangle)]
 pub extern "C" fn nph_close(heap: &mut NphHeap, memory: Memory)
-    ensures { held_in heap.new ≡ Closed }
+    ensures { held_in heap.new ≡ closed_by (held_in heap.old) }
 {
     heap.close(memory);
 }

@@ -1,12 +1,13 @@
 use Rattle.cf_base.specs.Settings.{profile_of}
 use Rattle.held_heap.specs.Calls.{IsFreshHeap}
-use Rattle.held_heap.proofs.Fresh.{at_ok, fresh_from_closed, in_box}
+use Rattle.held_heap.proofs.Fresh.{at_ok, at_some, fresh_from_closed, in_box}
 use Rattle.held_heap.proofs.held.Held.open.Goals as goal
 
 pub returns : goal.returns
 returns g c =
     let opened = at_ok c.open_heap.result _ c.open_heap.ensures.ok c.ok.result c.ok.ensures.value c.in_ok-ok.field-0 c.in_ok-ok.was in
     let rules = at_ok c.open_heap.result _ c.open_heap.ensures.rules c.ok.result c.ok.ensures.value c.in_ok-ok.field-0 c.in_ok-ok.was in
-    in_box c.new-2.result (λ b. b.value) _ (IsFreshHeap (g.H.Manager.state c.args.heap).kind (profile_of c.args.s.now))
-    (fresh_from_closed c.args.s.now (g.H.Manager.state c.args.heap) _ c.requires.order opened c.open_heap.ensures.promise rules)
+    let first = at_some c.new.result _ c.new.ensures c.in_ok-handles.handles c.in_ok-handles.was in
+    in_box c.new-2.result (λ b. b.value) _ (IsFreshHeap (g.H.Manager.state c.args.heap).kind (profile_of c.args.s.now) c.args.last)
+    (fresh_from_closed c.args.s.now c.args.last _ first (g.H.Manager.state c.args.heap) _ c.requires.order opened c.open_heap.ensures.promise rules)
     c.new-2.ensures.ok c.ok-2.result c.ok-2.ensures.value

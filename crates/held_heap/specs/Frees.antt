@@ -1,0 +1,18 @@
+-- The handles after any frees, and the generation of a handle.
+use Rattle.std.specs.Prelude.{ℕ, zero, suc, ◌+◌, List, [], ◌∷◌, cond, nat_eq, nat_lt}
+use Rattle.held_heap.specs.Handles.{raised}
+
+-- the handles after the objects with these numbers were freed, the first of the list first
+abbrev pub raised_all : List ℕ → List ℕ → List ℕ
+raised_all handles [] = handles
+raised_all handles (n ∷ ns) = raised_all (raised handles n) ns
+
+-- how often the list has n
+abbrev pub times : ℕ → List ℕ → ℕ
+times n [] = 0
+times n (m ∷ ms) = cond (nat_eq m n) (suc (times n ms)) (times n ms)
+
+-- the generation g, one of c, after k frees
+abbrev pub after : ℕ → ℕ → ℕ → ℕ
+after c zero g = g
+after c (suc k) g = after c k (cond (nat_lt (g + 1) c) (g + 1) 0)

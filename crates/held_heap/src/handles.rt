@@ -1,0 +1,123 @@
+//! The handles that C has: each is the number of an object and a generation, which a free of that number raises.
+ghost use Rattle.std.specs.Prelude.{◌≡◌, ◌%◌, ◌<◌, ◌≤◌, IfSome, length};
+ghost use Rattle.held_heap.specs.HandleRules.{AreFirstHandles};
+ghost use Rattle.held_heap.specs.Handles.{base_of, handle_of, largest, moved_handle, next, number_in, raised};
+
+use crate::codes::NONE;
+use cf_base::Handle;
+use std::alloc::Global;
+use std::marker::Model;
+
+/// For each number the handle that names it now. There are as many as the low bits of a handle can tell apart.
+#[derive(Drop)]
+pub(crate) struct Handles {
+    of: Vec<u32>,
+}
+
+impl Model for Handles {
+    ghost use Rattle.std.specs.Prelude.{ℕ, List, length};
+    ghost use Rattle.std.specs.Coded.{coded_ℕ, coded_list};
+    ghost use Rattle.held_heap.specs.HandleRules.{IsCount};
+
+    ghost Value = { List ℕ };
+
+    ghost coded = { coded_list coded_ℕ };
+
+    ghost view = { λ h. h.of.items };
+
+    ghost invariant = { λ h. IsCount (length h.of.items) };
+}
+
+/// The handle of number 0 in a heap with `count` numbers: the least multiple of `count` that is larger than `last`; or 0,
+/// if it would be too large.
+fn base(count: u32, last: u32) -> u32
+    requires some { 1 ≤ count }
+    requires few { count < 131072 }
+    ensures { result ≡ base_of count last }
+{
+    if last as u64 + 3 * count as u64 <= u32::MAX as u64 {
+        last - last % count + count
+    } else {
+        0
+    }
+}
+
+impl Handles {
+    /// The handles of a heap with this many proxies that was just opened, all larger than `last`. Returns `None` if
+    /// out of memory.
+    pub(crate) fn new(alloc: Global, proxies: u32, last: u32) -> Option<Handles>
+        requires some { 1 ≤ proxies }
+        requires few { proxies ≤ 65536 }
+        ensures { IfSome result (λ h. AreFirstHandles proxies last h) }
+    {
+        let count = proxies.next_power_of_two();
+        let base = base(count, last);
+        let of = (base..base + count).collect(alloc).ok()?;
+        Some(Handles { of })
+    }
+
+    /// The number of a handle: its low bits.
+    fn number(&self, handle: u32) -> u32
+        ensures value { result ≡ handle % length self.now }
+        ensures within { result < length self.now }
+    {
+        handle & (self.of.len() as u32 - 1)
+    }
+
+    /// The handle that C has for object `number`.
+    pub(crate) fn handle_of(&self, number: u32) -> u32
+        ensures { result ≡ handle_of self.now number }
+    {
+        self.of[self.number(number) as usize]
+    }
+
+    /// The number of the object that a handle of C names; `NONE`, which is never live, if it is not the handle that its
+    /// number has now.
+    pub(crate) fn number_in(&self, handle: u32) -> u32
+        ensures { result ≡ number_in self.now handle }
+    {
+        let number = self.number(handle);
+        if self.of[number as usize] == handle {
+            number
+        } else {
+            NONE
+        }
+    }
+
+    /// The handle after this one with the same number; after the last one the first.
+    fn next(&self, handle: u32) -> u32
+        ensures { result ≡ next (length self.now) handle }
+    {
+        let count = self.of.len() as u32;
+        if handle as u64 + 2 * count as u64 <= u32::MAX as u64 {
+            handle + count
+        } else {
+            self.number(handle)
+        }
+    }
+
+    /// Raises the handle of an object that was freed.
+    pub(crate) fn raise(&mut self, handle: u32)
+        ensures { self.new ≡ raised self.old (handle % length self.old) }
+    {
+        let number = self.number(handle) as usize;
+        self.of[number] = self.next(self.of[number]);
+    }
+
+    /// The handle that C has for the object that moved; `NONE` if no object did.
+    pub(crate) fn of_moved(&self, moved: Option<Handle>) -> u32
+        ensures { result ≡ moved_handle self.now moved }
+    {
+        match moved {
+            Some(h) => self.handle_of(h.0),
+            None => NONE,
+        }
+    }
+
+    /// The largest handle.
+    pub(crate) fn largest(&self) -> u32
+        ensures { result ≡ largest self.now }
+    {
+        self.of.iter().fold(0, |most, handle| most.max(*handle))
+    }
+}

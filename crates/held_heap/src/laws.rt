@@ -1,0 +1,72 @@
+//! What the contracts of `Held` imply together of the handles that C has. The functions do nothing; each contract is a
+//! law.
+ghost use Rattle.std.specs.Prelude.{◌≡◌, ◌+◌, ◌*◌, ◌/◌, ◌^◌, ◌<◌, ◌≤◌, ℕ, ℤ, List, Option, length, pos};
+ghost use Rattle.cf_base.specs.Settings.{Profile};
+ghost use Rattle.cf_base.specs.declared.kind.Kind.{Kind};
+ghost use Rattle.cf_model.specs.Bounds.{Bounds};
+ghost use Rattle.cf_model.specs.Steps.{ChangesCost};
+ghost use Rattle.held_heap.specs.Calls.{IsFreeCall, IsFreshHeap, IsLengthCall, IsMallocCall, IsPlaceCall, IsReadCall, IsResizeCall, IsWriteCall};
+ghost use Rattle.held_heap.specs.Frees.{raised_all, times};
+ghost use Rattle.held_heap.specs.HandleRules.{AreFirstHandles, AreHandles, IsNewHandle, KeepsHandles};
+ghost use Rattle.held_heap.specs.Handles.{first_handles, handle_of, largest, none, number_in};
+ghost use Rattle.held_heap.specs.HeldState.{HeldState};
+ghost use Rattle.held_heap.specs.declared.answers.NphFreed.{NphFreed};
+ghost use Rattle.held_heap.specs.declared.answers.NphResized.{NphResized};
+
+/// An object's handle names it. From the first free of its number on, it names nothing until that number was freed
+/// `2 ^ 32 / length handles - 1` times, where `ns` are the numbers that were freed since, in any order.
+pub fn a_freed_handle_names_nothing()
+    ensures names { (handles : List ℕ) (n : ℕ) → AreHandles handles → n < length handles → number_in handles (handle_of handles n) ≡ n }
+    ensures freed { (handles ns : List ℕ) (n : ℕ) → AreHandles handles → n < length handles → 1 ≤ times n ns
+        → times n ns + 1 < 2 ^ 32 / length handles → number_in (raised_all handles ns) (handle_of handles n) ≡ none }
+{}
+
+/// If no handle has reached the last three generations, a handle of a heap names nothing in the next heap of the same
+/// `nph_heap`, whatever its number of proxies.
+pub fn a_handle_of_an_earlier_heap_names_nothing()
+    ensures { (old new : List ℕ) (n proxies : ℕ) → n < length old → AreFirstHandles proxies (largest old) new
+        → largest old + 3 * length new < 2 ^ 32 → number_in new (handle_of old n) ≡ none }
+{}
+
+/// An opened heap keeps the rules of the handles, and each call keeps them.
+pub fn every_call_keeps_the_handles()
+    ensures opened { (kind : Kind) (p : Profile) (last : ℕ) (new : HeldState) → IsFreshHeap kind p last new → KeepsHandles new }
+    ensures malloc { (most : Option Bounds) (old new : HeldState) (bytes before after : ℕ) (code : ℤ)
+        → IsMallocCall most old bytes before code after new → KeepsHandles old → KeepsHandles new }
+    ensures free { (most : Option Bounds) (old new : HeldState) (handle : ℕ) (before after : NphFreed) (code : ℤ)
+        → IsFreeCall most old handle before code after new → KeepsHandles old → KeepsHandles new }
+    ensures resize { (most : Option Bounds) (old new : HeldState) (handle bytes : ℕ) (before after : NphResized) (code : ℤ)
+        → IsResizeCall most old handle bytes before code after new → KeepsHandles old → KeepsHandles new }
+    ensures write { (most : Option Bounds) (old new : HeldState) (handle from : ℕ) (bytes : List ℕ) (code : ℤ)
+        → IsWriteCall most old handle from bytes code new → KeepsHandles old → KeepsHandles new }
+    ensures others { (old new : HeldState) → new.heap ≡ old.heap → new.handles ≡ old.handles → KeepsHandles old → KeepsHandles new }
+{}
+
+/// The handle of a malloc that returns 0 named no object before, names the new one, and is no other object's.
+pub fn a_malloc_gives_a_new_handle()
+    ensures { (most : Option Bounds) (old new : HeldState) (bytes before after : ℕ) → IsMallocCall most old bytes before (pos 0) after new
+        → KeepsHandles old → IsNewHandle old after new }
+{}
+
+/// A call on a handle that names no object returns 4 (`UNKNOWN`) and changes nothing, but for the cost that a free or a
+/// resize records.
+pub fn a_stale_handle_is_refused()
+    ensures free { (most : Option Bounds) (old new : HeldState) (handle : ℕ) (before after : NphFreed) (code : ℤ)
+        → IsFreeCall most old handle before code after new → KeepsHandles old → number_in old.handles handle ≡ none
+        → (code ≡ pos 4) × (after ≡ before) × ChangesCost old.heap new.heap × (new.handles ≡ old.handles) }
+    ensures resize { (most : Option Bounds) (old new : HeldState) (handle bytes : ℕ) (before after : NphResized) (code : ℤ)
+        → IsResizeCall most old handle bytes before code after new → KeepsHandles old → number_in old.handles handle ≡ none
+        → (code ≡ pos 4) × (after ≡ before) }
+    ensures write { (most : Option Bounds) (old new : HeldState) (handle from : ℕ) (bytes : List ℕ) (code : ℤ)
+        → IsWriteCall most old handle from bytes code new → KeepsHandles old → number_in old.handles handle ≡ none
+        → (code ≡ pos 4) × (new.heap ≡ old.heap) }
+    ensures read { (most : Option Bounds) (old new : HeldState) (handle from : ℕ) (before after : List ℕ) (code : ℤ)
+        → IsReadCall most old handle from before code after new → KeepsHandles old → number_in old.handles handle ≡ none
+        → (code ≡ pos 4) × (after ≡ before) }
+    ensures length { (kind : Kind) (old new : HeldState) (handle before after : ℕ) (code : ℤ)
+        → IsLengthCall kind old handle before code after new → KeepsHandles old → number_in old.handles handle ≡ none
+        → (code ≡ pos 4) × (after ≡ before) }
+    ensures place { (old new : HeldState) (handle before after : ℕ) (code : ℤ)
+        → IsPlaceCall old handle before code after new → KeepsHandles old → number_in old.handles handle ≡ none
+        → (code ≡ pos 4) × (after ≡ before) }
+{}
