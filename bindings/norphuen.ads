@@ -12,6 +12,7 @@ package Norphuen is
    --  A heap: closed, open or lent. Its fields are the library's own. A limited record is never copied.
    type Heap is limited record
       At_Address : System.Address := System.Null_Address;
+      Last       : Unsigned_32    := 0;
       Is_Open    : Unsigned_8     := 0;
       Is_Lent    : Unsigned_8     := 0;
    end record

@@ -53,6 +53,7 @@ pub struct HeapTotals { pub asked: u64, pub taken: u64, pub held: u64, pub live:
 #[repr(C)]
 struct RawHeap {
     at: *mut u8,
+    last: u32,
     is_open: bool,
     is_lent: bool,
 }
@@ -125,7 +126,7 @@ impl Heap {
 
     /// Opens a heap without objects; `page_bytes` are the bytes of a page, `k` bounds the partly full pages of a class.
     pub fn open(pages: u32, page_bytes: u32, k: u32, proxies: u32) -> Result<Heap, Error> {
-        let raw = RawHeap { at: core::ptr::null_mut(), is_open: false, is_lent: false };
+        let raw = RawHeap { at: core::ptr::null_mut(), last: 0, is_open: false, is_lent: false };
         let mut heap = Heap { raw, end_loan: None };
         let code = unsafe { nph_open(&mut heap.raw, pages, page_bytes, k, proxies) };
         result_of(code, heap)

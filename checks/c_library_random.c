@@ -1,7 +1,7 @@
 /* Drawn calls beside a plain model: each object's handle, bytes and place. Bytes are written and read by copies and in place,
- * two objects at once. Handles of freed objects and drawn numbers are refused unless a live object has them, a lent heap
- * refuses each call, and no call that fails writes anything. Ends with 1 at the first difference. Arguments: the number of
- * calls, and the seed. */
+ * two objects at once. Handles of objects that were freed of late are refused, drawn numbers unless a live object has them;
+ * a lent heap refuses each call, and no call that fails writes anything. Ends with 1 at the first difference. Arguments: the
+ * number of calls, and the seed. */
 #include "norphuen.h"
 #include <stdio.h>
 #include <stdlib.h>
@@ -185,6 +185,7 @@ int main(int argc, char **argv) {
         default:
             if (freed == 0) break;
             handle = kind == 7 ? stale[draw(freed < STALE ? freed : STALE)] : (uint32_t)(state >> 16);
+            if (kind == 7) CHECK(with(handle) == NULL); /* no new object has it so soon */
             if (with(handle) == NULL) refuse(handle);
         }
         if (i % 50000 == 49999) reopen();

@@ -51,6 +51,7 @@ extern "C" {
 /* A heap: closed, open or lent. Its fields are the library's own. */
 typedef struct nph_heap {
     void *at;
+    uint32_t last;
     bool is_open;
     bool is_lent;
 } nph_heap;
@@ -59,7 +60,7 @@ typedef struct nph_heap {
 #ifdef __cplusplus
 #define NPH_HEAP nph_heap{}
 #else
-#define NPH_HEAP (nph_heap){ NULL, false, false }
+#define NPH_HEAP (nph_heap){ NULL, 0, false, false }
 #endif
 
 /* What a call returns. A call that does not return NPH_OK writes nothing through its pointers. */
