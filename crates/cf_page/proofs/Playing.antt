@@ -45,7 +45,7 @@ played words script old status count new before after output keeps read unwritte
   ended = refl;
   output = output;
   written = written;
-  count = counted;
+  counted = counted;
   shown = shown;
 }
   where

@@ -38,7 +38,7 @@ pub record IsPlayed (words : List Text) (script old : List ℕ) (status : Status
   pub ended : call.status ≡ status
   pub output : List ℕ
   pub written : call.new.sink.written ≡ Some output
-  pub count : count ≡ length output
+  pub counted : count ≡ length output
   pub shown : new ≡ shown_in output old
 
 -- `None` is returned and the buffer stays as it was, or `holds` is true of what is returned
