@@ -86,34 +86,6 @@ pub fn run_arguments<H: Manager, S: Source, K: Sink>(
     ensures too_long { result ≡ Status.TooLong
         → ((S.state source.old).given + MOST_BYTES < (S.state source.new).given) ⊎ ((S.state source.new).given ≡ last_count) }
 {
-    run_arguments(rt.memory(), alloc, words, source, sink, managers)
-}
-
-/// `cf_main` for an export, which has no runtime value: `memory` makes the meters (`Meter::for_library`). Clause
-/// `keeps` has the first four clauses of `cf_main`; the others are the same.
-pub fn run_arguments<H: Manager, S: Source, K: Sink>(
-    memory: Memory,
-    alloc: Global,
-    words: &[String],
-    source: &mut S,
-    sink: &mut K,
-    managers: &mut Vec<H>,
-) -> Status
-    ensures keeps { KeepsContract (map (λ word. string_bytes word) words.now) (record {
-      old = seen S.Source K.Sink (λ m. H.state m) source.old sink.old managers.old.items;
-      status = result;
-      new = seen S.Source K.Sink (λ m. H.state m) source.new sink.new managers.new.items;
-    }) }
-    ensures complete { HasRightInput (map (λ word. string_bytes word) words.now) (S.rest source.old)
-        → ¬ FailsLast (S.faults source.old) (S.faults source.new) (S.last_failed source.new)
-        → ¬ FailsLast (K.faults sink.old) (K.faults sink.new) (K.last_failed sink.new) → EndsWhole result }
-    ensures source_same { result ≢ Status.ReadFault → S.faults source.new ≡ S.faults source.old }
-    ensures read_fault { result ≡ Status.ReadFault → FailsLast (S.faults source.old) (S.faults source.new) (S.last_failed source.new) }
-    ensures sink_same { result ≢ Status.WriteFault → K.faults sink.new ≡ K.faults sink.old }
-    ensures write_fault { result ≡ Status.WriteFault → FailsLast (K.faults sink.old) (K.faults sink.new) (K.last_failed sink.new) }
-    ensures too_long { result ≡ Status.TooLong
-        → (S.given source.old + MOST_BYTES < S.given source.new) ⊎ (S.given source.new ≡ last_count) }
-{
     match read_arguments(alloc, words) {
         Ok(choice) => run_mode(memory, alloc, choice, source, sink, managers),
         Err(ArgumentsFault::Refused) => Status::Words,
