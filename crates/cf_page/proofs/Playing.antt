@@ -1,6 +1,6 @@
 -- For `play_on`: what a call that kept the contract of `cf_main` over the devices in memory shows. The source never fails; the sink did not, since the status
 -- is not `WriteFault`.
-use Rattle.std.proofs.Common.{true, absurd, ◌≡◌, ◌≢◌, ◌∙◌, ℕ, List, [], Some, ap, arith, length, map, refl, subst, sym, false}
+use Rattle.std.proofs.Common.{true, ◌≡◌, ◌≢◌, ◌∙◌, ℕ, List, [], Some, ap, arith, length, map, refl, subst, sym, false}
 use Rattle.std.proofs.lemmas.Bool.{false≢true}
 use Rattle.clap.specs.Words.{Text}
 use Rattle.cf_base.specs.declared.status.Status.{Status}
@@ -56,4 +56,4 @@ played words script old status count new before after output keeps read unwritte
     same = subst (λ b. SinkFailsIf b before.sink after.sink) (no_write_fault status uncut) sink
 
     no_fault : ¬ SinkFailsIf true before.sink after.sink
-    no_fault f = let e : 0 ≡ 1 = sym whole ∙ sym same ∙ f.0 ∙ ap one_more whole in omega arith
+    no_fault f = let e : 0 ≡ 1 = sym whole ∙ sym same ∙ f.0 ∙ ap one_more whole in omega (arith, e)

@@ -9,7 +9,6 @@ mod managers;
 mod opening;
 mod own_faults;
 mod own_heaps;
-mod padded;
 mod rows;
 mod watched;
 

@@ -1,5 +1,5 @@
 //! Scripts of mode `run`, with the status and the replies of each, worked out by hand (`ROWS`); and scripts whose
-//! replies have counts of steps, on heaps of this repository (`STEPS`) and on the managers of `padded` (`PADDED`).
+//! replies have counts of steps, on heaps of this repository (`STEPS`).
 
 use cf_base::Status;
 
@@ -230,42 +230,5 @@ pub const STEPS: [(&[&str], &[u8], &[u8], u32, u32, &[u8]); 4] = [
         24,
         144,
         b" bound 144 moves 1 words 24\nok\nblock 16\nrange\n",
-    ),
-];
-
-/// A script for a padded manager: mallocs, a free that moves an object and a refused malloc, and `steps` after
-/// three of them.
-pub const PADDED_CALLS: &[u8] =
-    b"heap 2 512 1 8\nm 1 176\nsteps\nm 2 176\nm 3 176\nf 1\nsteps\nm 4 505\nsteps\n";
-
-/// A script for a padded manager: a resize that moves an object, one within its class and a refused one, and
-/// `steps` after each.
-pub const PADDED_RESIZES: &[u8] =
-    b"heap 3 512 1 8\nm 1 176\nm 2 176\nm 3 176\nz 1 504\nsteps\nz 2 175\nsteps\nz 1 505\nsteps\n";
-
-/// In each row: the slack of a padded manager, what `PADDED_CALLS` prints on it, and what `PADDED_RESIZES`
-/// prints. Each call takes exactly its bound less the slack, in steps. The bounds are 64 for a malloc; 142 for a
-/// free of a slot of 23 words; 352 for a resize to 64 words, 229 for one within 23 words, and 160 for a refused
-/// one.
-pub const PADDED: [(u64, &[u8], &[u8]); 4] = [
-    (
-        0,
-        b"ok\nok\nsteps last 64 bound 64 moves 0 words 0\nok\nok\nok\nsteps last 142 bound 142 moves 1 words 23\nrefused size\nsteps last 64 bound 64 moves 1 words 23\n",
-        b"ok\nok\nok\nok\nok\nsteps last 352 bound 352 moves 1 words 23\nok\nsteps last 229 bound 229 moves 1 words 23\nrefused size\nsteps last 160 bound 160 moves 1 words 23\n",
-    ),
-    (
-        1,
-        b"ok\nok\nsteps last 63 bound 64 moves 0 words 0\nok\nok\nok\nsteps last 141 bound 142 moves 1 words 23\nrefused size\nsteps last 63 bound 64 moves 1 words 23\n",
-        b"ok\nok\nok\nok\nok\nsteps last 351 bound 352 moves 1 words 23\nok\nsteps last 228 bound 229 moves 1 words 23\nrefused size\nsteps last 159 bound 160 moves 1 words 23\n",
-    ),
-    (
-        2,
-        b"ok\nok\nsteps last 62 bound 64 moves 0 words 0\nok\nok\nok\nsteps last 140 bound 142 moves 1 words 23\nrefused size\nsteps last 62 bound 64 moves 1 words 23\n",
-        b"ok\nok\nok\nok\nok\nsteps last 350 bound 352 moves 1 words 23\nok\nsteps last 227 bound 229 moves 1 words 23\nrefused size\nsteps last 158 bound 160 moves 1 words 23\n",
-    ),
-    (
-        3,
-        b"ok\nok\nsteps last 61 bound 64 moves 0 words 0\nok\nok\nok\nsteps last 139 bound 142 moves 1 words 23\nrefused size\nsteps last 61 bound 64 moves 1 words 23\n",
-        b"ok\nok\nok\nok\nok\nsteps last 349 bound 352 moves 1 words 23\nok\nsteps last 226 bound 229 moves 1 words 23\nrefused size\nsteps last 157 bound 160 moves 1 words 23\n",
     ),
 ];
