@@ -9,7 +9,7 @@
  left out  No block ran that the bounds leave out.
  refused   Wrong notes, and libraries that have no bound, are refused by a line that names what to look at.
  clauses   Each clause that a note trusts is one of the function it names, and the header has each duty of the caller.
- document  The table of docs/SPEED.md has the bounds, and the longest calls that were seen.
+ document  The table of docs/SPEED.md has the bounds, and the longest calls that were seen; that of docs/C.md has the stacks.
 """
 import collections
 import concurrent.futures
@@ -311,7 +311,13 @@ def rows_of(name, bounds, stacks, lines):
     return rows
 
 
-def document(rows, codes):
+def document(rows, codes, stacks):
+    text = Path("docs/C.md").read_text(encoding="utf-8")
+    for what, calls in (("`nph_open`", {"nph_open"}), ("`nph_close`", {"nph_close"}), ("the other calls", None)):
+        most = [max(row[call] for call in calls or row.keys() - tool.MAY_ALLOCATE) for row in stacks]
+        row = " | ".join([f"| stack of {what}, bytes", *(f"{number:,}" for number in most)]) + " |"
+        if row not in text:
+            fail(f"docs/C.md lacks the row {row}")
     text = Path("docs/SPEED.md").read_text(encoding="utf-8")
     for name, code in codes.items():
         if f"{code} ({name})" not in text:
@@ -326,7 +332,7 @@ def document(rows, codes):
 
 def main():
     room, count = sys.argv[1], int(sys.argv[2])
-    rows, codes, total, wrong = [], {}, 0, 0
+    rows, codes, every, total, wrong = [], {}, [], 0, 0
     for name, archive in zip(LIBRARIES, sys.argv[3:]):
         library = tool.Library(archive, name)
         notes = tool.Notes(f"{tool.NOTES}/{name}.{library.processor}")
@@ -342,11 +348,12 @@ def main():
         seen, lines = counted(name, library, notes, bounds, stacks, room, count)
         total += seen.count
         codes[name] = library.code
+        every.append(stacks)
         rows += rows_of(name, bounds, stacks, lines)
         wrong += mutations(name, library, room, lines)
         clauses(name, notes)
     wrong += unbounded(room)
-    document(rows, codes)
+    document(rows, codes, every)
     if failed:
         sys.exit(1)
     print(f"checks/worst_case: of {total:,} counted calls none is above its bound, and {wrong} wrong notes and libraries are refused", file=sys.stderr)
