@@ -37,7 +37,7 @@ SHOWN = (16, 16384, 1, 4096)
 NEAR = Fraction(11, 10)
 # A return that is refused takes longer than one that succeeds.
 FAR = {("norphuen", "nph_open"), ("norphuen", "nph_resize same"), ("norphuen", "nph_return"), ("norphuen_nonmoving", "nph_open"),
-       ("norphuen_nonmoving", "nph_resize same"), ("norphuen_nonmoving", "nph_resize move")}
+       ("norphuen_nonmoving", "nph_resize same"), ("norphuen_nonmoving", "nph_resize move"), ("norphuen_tlsf", "nph_open")}
 # No list of numbers has to grow there; slots have no words outside of whole blocks.
 SHALLOW = {("norphuen_tlsf", "nph_open"), ("norphuen_nonmoving", "nph_free")}
 # How many turns less of a loop are seen: library, function, number of the loop.
