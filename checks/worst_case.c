@@ -3,11 +3,11 @@
  *
  *   program FIRST PAST SEED COUNT LONG PAGES PAGEBYTES K PROXIES
  *
- * FIRST and PAST bound the library's code, in hexadecimal. On x86-64 the trap flag stops after each instruction, and those
- * within the bounds are counted; with PAST 0, and on ARM64, none are counted. A line of output has a call, its code, the
- * instructions, the bytes of stack, the steps, and what its lengths follow from. The calls run on a stack of their own,
- * which is painted before. The functions outside of the library run on the stack of main, without the trap flag. After COUNT drawn
- * calls it makes those that are made to be long, if LONG is 1. Lines `ran ADDRESS` come last. */
+ * FIRST and PAST bound the library's code, in hexadecimal. The trap flag stops after each instruction, and those within
+ * the bounds are counted. A line of output has a call, its code, the instructions, the bytes of stack, the steps, and what
+ * its lengths follow from. The calls run on a stack of their own, which is painted before. The functions outside of the
+ * library run on the stack of main, without the trap flag. After COUNT drawn calls it makes those that are made to be
+ * long, if LONG is 1. Lines `ran ADDRESS` come last. */
 #define _GNU_SOURCE
 #include "norphuen.h"
 
@@ -18,7 +18,12 @@
 #include <string.h>
 #include <ucontext.h>
 
-enum { STACK = 1 << 16, LIVE = 4096 };
+/* Only a library that lends has these. */
+#pragma weak nph_place
+#pragma weak nph_lend
+#pragma weak nph_return
+
+enum { STACK = 1 << 16, LIVE = 1024 };
 static const unsigned char paints[2] = {0xa5, 0x5a};
 static _Alignas(16) unsigned char stack[STACK];
 static nph_heap heap = NPH_HEAP;
@@ -35,7 +40,6 @@ static uint64_t copied[3][2];
 struct trampoline { uint64_t function, arguments[5], flag, top, outer, inner; } trampoline;
 int32_t call_on_stack(void);
 
-#ifdef __x86_64__
 __asm__(".text\ncall_on_stack:\n"
         " push %rbx\n lea trampoline(%rip), %rbx\n mov %rsp, 64(%rbx)\n mov 56(%rbx), %rsp\n"
         " mov (%rbx), %rax\n mov 8(%rbx), %rdi\n mov 16(%rbx), %rsi\n mov 24(%rbx), %rdx\n mov 32(%rbx), %rcx\n mov 40(%rbx), %r8\n"
@@ -51,17 +55,6 @@ static void count(int number, siginfo_t *info, void *context) {
     if (at >= first && at < past) instructions++, ran[(at - first) % sizeof ran] = 1;
     (void)number, (void)info;
 }
-#else
-__asm__(".text\ncall_on_stack:\n"
-        " stp x29, x30, [sp, #-16]!\n adrp x9, trampoline\n add x9, x9, :lo12:trampoline\n mov x10, sp\n str x10, [x9, #64]\n"
-        " ldr x10, [x9, #56]\n mov sp, x10\n ldr x10, [x9]\n ldp x0, x1, [x9, #8]\n ldp x2, x3, [x9, #24]\n ldr x4, [x9, #40]\n blr x10\n"
-        " adrp x9, trampoline\n add x9, x9, :lo12:trampoline\n ldr x10, [x9, #64]\n mov sp, x10\n ldp x29, x30, [sp], #16\n ret\n");
-#define OUTSIDE(name) \
-    __asm__(".globl outside_" #name "\noutside_" #name ":\n" \
-            " adrp x9, trampoline\n add x9, x9, :lo12:trampoline\n mov x10, sp\n str x10, [x9, #72]\n ldr x10, [x9, #64]\n mov sp, x10\n" \
-            " stp x29, x30, [sp, #-16]!\n bl real_" #name "\n ldp x29, x30, [sp], #16\n" \
-            " adrp x9, trampoline\n add x9, x9, :lo12:trampoline\n ldr x10, [x9, #72]\n mov sp, x10\n ret\n");
-#endif
 OUTSIDE(memcpy) OUTSIDE(memmove) OUTSIDE(memset) OUTSIDE(rattle_alloc) OUTSIDE(rattle_realloc) OUTSIDE(rattle_dealloc)
 
 void *real_memcpy(void *to, const void *from, size_t n) { copied[0][0]++, copied[0][1] += n; return memcpy(to, from, n); }
@@ -80,7 +73,7 @@ static int32_t call(const char *name, void *function, uint64_t a, uint64_t b, ui
     uint64_t steps = 0, counted, moved[3][2];
     unsigned char *low = stack, *top = stack + STACK - 64;
     int32_t code;
-    trampoline = (struct trampoline){(uint64_t)function, {(uint64_t)&heap, a, b, c, d}, past ? 0x100 : 0, (uint64_t)top, 0, 0};
+    trampoline = (struct trampoline){(uint64_t)function, {(uint64_t)&heap, a, b, c, d}, 0x100, (uint64_t)top, 0, 0};
     instructions = 0;
     memset(copied, 0, sizeof copied);
     code = call_on_stack();
@@ -89,7 +82,7 @@ static int32_t call(const char *name, void *function, uint64_t a, uint64_t b, ui
     while (low < top && *low == paints[paint]) low++;
     paint ^= 1;
     memset(stack, paints[paint], STACK);
-    if (heap.is_open) nph_last_steps(&heap, &steps);
+    if (heap.is_open && nph_last_steps(&heap, &steps) != NPH_OK) exit(1);
     printf("%s %" PRId32 " %" PRIu64 " %d %" PRIu64, name, function == (void *)nph_close ? 0 : code, counted, (int)(top - low), steps);
     for (int i = 0; i < 3; i++) printf(" %" PRIu64 " %" PRIu64, moved[i][0], moved[i][1]);
     return code;
@@ -110,32 +103,62 @@ static int32_t make(uint32_t bytes) {
     return code;
 }
 
-static void release(uint32_t i) {
+static void release_handle(uint32_t handle) {
     nph_freed freed = {0, NPH_NONE};
-    call("free", (void *)nph_free, handles[i], (uint64_t)&freed, 0, 0);
+    call("free", (void *)nph_free, handle, (uint64_t)&freed, 0, 0);
     printf(" s %" PRIu32 " moved %d\n", freed.slot_words, freed.moved != NPH_NONE);
-    handles[i] = handles[--live], lengths[i] = lengths[live];
+}
+
+static int32_t resize_handle(uint32_t handle, uint32_t old, uint32_t bytes) {
+    nph_resized done = {0, 0, NPH_NONE};
+    int32_t code = call("resize", (void *)nph_resize, handle, bytes, (uint64_t)&done, 0);
+    printf(" s %" PRIu32 " n %" PRIu32 " moved %d old %" PRIu32 " bytes %" PRIu32 "\n", done.old_slot_words, done.slot_words,
+           done.moved != NPH_NONE, old, bytes);
+    return code;
 }
 
 static void resize(uint32_t i, uint32_t bytes) {
-    nph_resized done = {0, 0, NPH_NONE};
-    uint32_t old = lengths[i];
-    if (call("resize", (void *)nph_resize, handles[i], bytes, (uint64_t)&done, 0) == NPH_OK) lengths[i] = bytes;
-    printf(" s %" PRIu32 " n %" PRIu32 " moved %d old %" PRIu32 " bytes %" PRIu32 "\n", done.old_slot_words, done.slot_words,
-           done.moved != NPH_NONE, old, bytes);
+    if (resize_handle(handles[i], lengths[i], bytes) == NPH_OK) lengths[i] = bytes;
 }
 
-static void read_or_write(bool writes, uint32_t i, uint32_t at, uint32_t n) {
-    call(writes ? "write" : "read", writes ? (void *)nph_write : (void *)nph_read, handles[i], at, (uint64_t)buffer, n);
+static void read_or_write(bool writes, uint32_t handle, uint32_t at, uint32_t n) {
+    call(writes ? "write" : "read", writes ? (void *)nph_write : (void *)nph_read, handle, at, (uint64_t)buffer, n);
     printf(" at %" PRIu32 " n %" PRIu32 "\n", at, n);
 }
 
+/* The calls that ask for one object. */
+static void ask_handle(uint32_t handle) {
+    uint32_t number;
+    call("length", (void *)nph_length, handle, (uint64_t)&number, 0, 0), puts("");
+    if (nph_place) call("place", (void *)nph_place, handle, (uint64_t)&number, 0, 0), puts("");
+}
+
+/* Frees an object. Some handles are used once more: each call with them is refused. */
+static void release(uint32_t i) {
+    uint32_t handle = handles[i];
+    release_handle(handle);
+    handles[i] = handles[--live], lengths[i] = lengths[live];
+    if (drawn(8)) return;
+    release_handle(handle), resize_handle(handle, 8, 8), ask_handle(handle);
+    read_or_write(true, handle, 0, 8), read_or_write(false, handle, 0, 8);
+}
+
+/* Lends the heap, makes calls that a lent heap refuses, and takes it back. */
+static void lend(void) {
+    uint64_t *words;
+    if (!nph_lend) return;
+    call("return", (void *)nph_return, 0, 0, 0, 0), puts("");
+    call("lend", (void *)nph_lend, (uint64_t)&words, 0, 0, 0), puts("");
+    call("lend", (void *)nph_lend, (uint64_t)&words, 0, 0, 0), puts("");
+    make(8), ask_handle(handles[0]), release_handle(handles[0]), resize_handle(handles[0], 8, 8);
+    call("return", (void *)nph_return, 0, 0, 0, 0), puts("");
+}
+
 static void ask(uint32_t i) {
-    uint32_t bytes;
     uint64_t steps;
     nph_class c;
     nph_heap_totals t;
-    call("length", (void *)nph_length, handles[i], (uint64_t)&bytes, 0, 0), puts("");
+    ask_handle(handles[i]), lend();
     call("has_room", (void *)nph_has_room, drawn(page_words * 8), 0, 0, 0), puts("");
     call("figures", (void *)nph_figures, drawn(70), (uint64_t)&c, 0, 0), puts("");
     call("totals", (void *)nph_totals, (uint64_t)&t, 0, 0, 0), puts("");
@@ -156,8 +179,8 @@ static void draw_calls(uint64_t count) {
         switch (drawn(8)) {
         case 0: case 1: case 2: release(i); break;
         case 3: case 4: resize(i, drawn(2) ? bytes : (uint32_t)drawn(lengths[i] + 9)); break;
-        case 5: read_or_write(true, i, at, (uint32_t)drawn(lengths[i] - at + 1)); break;
-        case 6: read_or_write(false, i, at, (uint32_t)drawn(lengths[i] - at + 1)); break;
+        case 5: read_or_write(true, handles[i], at, (uint32_t)drawn(lengths[i] - at + 1)); break;
+        case 6: read_or_write(false, handles[i], at, (uint32_t)drawn(lengths[i] - at + 1)); break;
         default: ask(i); n += 4;
         }
     }
@@ -169,7 +192,7 @@ static void long_calls(void) {
     uint32_t most = page_words * 8 - 8;
     while (live) release(live - 1);
     if (make(most) == NPH_OK) {
-        for (uint32_t at = 0; at < 9; at++) read_or_write(true, 0, at, most - at - at / 2), read_or_write(false, 0, at, most - at - at / 2);
+        for (uint32_t at = 0; at < 9; at++) read_or_write(true, handles[0], at, most - at - at / 2), read_or_write(false, handles[0], at, most - at - at / 2);
         resize(0, most - 9), resize(0, most), resize(0, 8), resize(0, most), resize(0, most / 2 - 8), resize(0, most), resize(0, 0), resize(0, most);
     }
     while (live) release(live - 1);
@@ -193,29 +216,30 @@ static void long_calls(void) {
     ask(0);
 }
 
+static int32_t open_or_close(bool opens, const uint64_t *settings) {
+    int32_t code = opens ? call("open", (void *)nph_open, settings[0], settings[1], settings[2], settings[3])
+                         : call("close", (void *)nph_close, 0, 0, 0, 0);
+    printf(" P %" PRIu64 " W %" PRIu32 " Q %" PRIu64 "\n", settings[0], page_words, settings[3]);
+    return code;
+}
+
 int main(int argc, char **argv) {
     static unsigned char spare[1 << 16];
     if (argc != 10) return 1;
     first = strtoull(argv[1], NULL, 16), past = strtoull(argv[2], NULL, 16), state = strtoull(argv[3], NULL, 10);
-#ifdef __x86_64__
     stack_t other = {.ss_sp = spare, .ss_size = sizeof spare};
     struct sigaction action = {.sa_sigaction = count, .sa_flags = SA_SIGINFO | SA_ONSTACK};
     if (sigaltstack(&other, NULL) || sigaction(SIGTRAP, &action, NULL)) return 1;
-#else
-    past = 0, (void)spare;
-#endif
     memset(stack, paints[paint], STACK);
     uint64_t settings[4];
     for (int i = 0; i < 4; i++) settings[i] = strtoull(argv[6 + i], NULL, 10);
     page_words = (uint32_t)settings[1] / 8;
     call("malloc", (void *)nph_malloc, 8, (uint64_t)buffer, 0, 0), puts("");
-    int32_t code = call("open", (void *)nph_open, settings[0], settings[1], settings[2], settings[3]);
-    printf(" P %" PRIu64 " W %" PRIu32 " Q %" PRIu64 "\n", settings[0], page_words, settings[3]);
-    if (code != NPH_OK) return 1;
+    if (open_or_close(true, settings) != NPH_OK) return 1;
     draw_calls(strtoull(argv[4], NULL, 10));
     if (argv[5][0] == '1') long_calls();
     while (live) release(live - 1);
-    call("close", (void *)nph_close, 0, 0, 0, 0), puts("");
+    open_or_close(false, settings);
     for (uint64_t at = first; at < past && at - first < sizeof ran; at++)
         if (ran[at - first]) printf("ran %" PRIx64 "\n", at);
     return 0;

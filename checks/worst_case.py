@@ -1,7 +1,6 @@
-"""Compares the bounds of tools/worst_case with counted calls and with docs/SPEED.md: checks/worst_case, and for ARM64, of
-the archives in ROOM, checks/arm64.
+"""Compares the bounds of tools/worst_case with counted calls and with docs/SPEED.md: checks/worst_case.
 
-    checks/worst_case.py ROOM COUNT [arm]
+    checks/worst_case.py ROOM COUNT NORPHUEN NONMOVING TLSF
 
  counted   checks/worst_case.c is linked with each library, and makes drawn calls and ones that are made to be long, with
            six settings. No call takes more instructions, more bytes of memcpy, memmove or memset, or more stack than its
@@ -9,8 +8,8 @@ the archives in ROOM, checks/arm64.
            those of FAR and SHALLOW.
  left out  No block ran that the bounds leave out.
  refused   Wrong notes, and libraries that have no bound, are refused by a line that names what to look at.
- clauses   Each clause that a note trusts is one of the function it names.
- document  The table of docs/SPEED.md has the bounds, and the longest calls that were seen.
+ clauses   Each clause that a note trusts is one of the function it names, and the header has each duty of the caller.
+ document  The table of docs/SPEED.md has the bounds, and the longest calls that were seen; that of docs/C.md has the stacks.
 """
 import collections
 import concurrent.futures
@@ -30,27 +29,22 @@ loader = importlib.machinery.SourceFileLoader("worst_case", str(TOP / "tools/wor
 tool = importlib.util.module_from_spec(importlib.util.spec_from_loader("worst_case", loader))
 loader.exec_module(tool)
 
-ARM = sys.argv[3:] == ["arm"]
-CROSS = "aarch64-linux-gnu-" if ARM else ""
 LIBRARIES = ["norphuen", "norphuen_nonmoving", "norphuen_tlsf"]
 # PAGES, PAGEBYTES, K, PROXIES
 SETTINGS = [(16, 512, 1, 64), (8, 512, 3, 16), (24, 2048, 2, 200), (16, 4096, 1, 256), (4, 16384, 1, 64), (3, 131072, 1, 32)]
 # The setting of the column "longest seen".
 SHOWN = (16, 16384, 1, 4096)
 NEAR = Fraction(11, 10)
-FAR = {("norphuen", "nph_open"), ("norphuen", "nph_resize same"), ("norphuen_nonmoving", "nph_open"),
-       ("norphuen_nonmoving", "nph_resize same"), ("norphuen_nonmoving", "nph_resize move")}
-if ARM:
-    FAR |= {("norphuen", "nph_resize alone"), ("norphuen", "nph_resize move")}
+# A return that is refused takes longer than one that succeeds.
+FAR = {("norphuen", "nph_open"), ("norphuen", "nph_resize same"), ("norphuen", "nph_return"), ("norphuen_nonmoving", "nph_open"),
+       ("norphuen_nonmoving", "nph_resize same"), ("norphuen_nonmoving", "nph_resize move"), ("norphuen_tlsf", "nph_open")}
 # No list of numbers has to grow there; slots have no words outside of whole blocks.
 SHALLOW = {("norphuen_tlsf", "nph_open"), ("norphuen_nonmoving", "nph_free")}
-# On ARM64 a frame is padded to 16 bytes.
-PADDING = 8 if ARM else 0
 # How many turns less of a loop are seen: library, function, number of the loop.
 TIGHT = {("norphuen", "virtual_words::direct::DirectMapping::write_bytes", 1): 3,
          ("norphuen_nonmoving", "virtual_words::mapped::MappedMapping::write_bytes", 1): 3, ("norphuen_tlsf", "nph_totals", 1): 1}
 # The lengths that the notes may use (docs/SPEED.md).
-NAMES = "smtcwbfPWQ"
+NAMES = "smtcwbfpPWQ"
 failed = []
 
 
@@ -63,17 +57,16 @@ def build(room, name, library):
     """The program that makes the calls, and the addresses of the library's code in it."""
     archive = f"{room}/{name}.outside.a"
     outside = [f"--redefine-sym={n}=outside_{n}" for n in sorted(tool.MOVERS | tool.ALLOCATOR)]
-    subprocess.run([f"{CROSS}objcopy", *outside, library.path, archive], check=True)
+    subprocess.run(["objcopy", *outside, library.path, archive], check=True)
     # All code of the library in one section, so that it stays together.
     script, whole = Path(f"{room}/together"), f"{room}/{name}.o"
     script.write_text("SECTIONS { .text : { *(.text .text.*) } }", encoding="utf-8")
-    subprocess.run([f"{CROSS}ld", "-r", "-T", script, "-o", whole, "--whole-archive", archive], check=True)
+    subprocess.run(["ld", "-r", "-T", script, "-o", whole, "--whole-archive", archive], check=True)
     program = f"{room}/{name}.counted"
-    words = ["-static"] if ARM else ["-mno-red-zone", "-no-pie"]
-    subprocess.run([f"{CROSS}gcc", "-std=gnu11", "-O2", "-Wall", "-Wextra", "-Werror", *words, "-Iinclude", "-o", program, "checks/worst_case.c", whole],
-                   check=True)
+    subprocess.run(["gcc", "-std=gnu11", "-O2", "-Wall", "-Wextra", "-Werror", "-mno-red-zone", "-no-pie", "-Iinclude", "-o", program,
+                    "checks/worst_case.c", whole], check=True)
     places = collections.defaultdict(list)
-    printed = subprocess.run([f"{CROSS}nm", "-n", program], capture_output=True, text=True, check=True).stdout
+    printed = subprocess.run(["nm", "-n", program], capture_output=True, text=True, check=True).stdout
     code = [(int(at, 16), symbol) for at, kind, symbol in (line.split() for line in printed.splitlines() if len(line.split()) == 3) if kind in "tT"]
     for at, symbol in code:
         places[symbol].append(at)
@@ -102,6 +95,7 @@ def lengths(kind, fields, steps):
     """The lengths of a call, by the names in the notes."""
     at = dict.fromkeys(NAMES, 0)
     at.update({n: v for n, v in fields.items() if n in "PWQ"})
+    at["p"] = 1 << (at["Q"] - 1).bit_length() if at["Q"] else 0
     if kind == "free":
         at["s"], at["m"] = fields["s"], fields["s"] if fields["moved"] else 0
     if kind == "resize":
@@ -165,43 +159,14 @@ class Seen:
 
 
 def run(program, first, past, settings, count, seed=1):
-    """The lines that the program prints. On ARM64 qemu counts the instructions."""
+    """The lines that the program prints."""
     # An instruction takes some microseconds to count: short runs make no long calls on large pages.
     long = settings == SHOWN or settings[1] <= 4096 or count >= 1000
     words = [program, f"{first:x}", f"{past:x}", str(seed), str(count), f"{long:d}", *map(str, settings)]
-    log = f"{program}.{seed}.{settings[1]}.log"
-    qemu = ["qemu-aarch64", "-singlestep", "-d", "exec,nochain", "-dfilter", f"{first:#x}..{past - 1:#x}", "-D", log]
-    done = subprocess.run([*(qemu if ARM else []), *words], capture_output=True, text=True, check=False)
+    done = subprocess.run(words, capture_output=True, text=True, check=False)
     if done.returncode:
         raise tool.Fault(f"{program} {settings} ended with status {done.returncode}: {done.stderr}")
-    return with_counts(program, log, done.stdout.splitlines()) if ARM else done.stdout.splitlines()
-
-
-def with_counts(program, log, lines):
-    """The lines with the instructions that the log has for each call. After a call on an open heap the program asks for
-    its steps, which is a call too."""
-    printed = subprocess.run(["aarch64-linux-gnu-nm", program], capture_output=True, text=True, check=True).stdout
-    exports = {int(line.split()[0], 16): line.split()[2] for line in printed.splitlines() if re.search(r" T nph_\w+$", line)}
-    calls, ran = [], set()
-    with open(log, encoding="utf-8") as file:
-        for line in file:
-            if line.startswith("Trace"):
-                at = int(line.split("/")[1], 16)
-                ran.add(at)
-                if at in exports:
-                    calls.append([exports[at], 0])
-                calls[-1][1] += 1
-    os.remove(log)
-    found, rest = [], iter(calls)
-    for line in lines:
-        kind, code, _, *words = line.split(" ")
-        name, number = next(rest)
-        if name != f"nph_{kind}":
-            raise tool.Fault(f"qemu logs a call of {name}, not of nph_{kind}")
-        found.append(" ".join([kind, code, str(number), *words]))
-        if kind != "close" and code != "7":
-            next(rest)
-    return found + [f"ran {at:x}" for at in sorted(ran)]
+    return done.stdout.splitlines()
 
 
 def counted(name, library, notes, bounds, stacks, room, count):
@@ -230,7 +195,7 @@ def counted(name, library, notes, bounds, stacks, room, count):
         if "SHOW" in os.environ:
             print(f"{name} {row}: {float(most / number) if number else 0:.3f} {float(most):g} {line}")
     for export, stack in stacks.items():
-        if seen.deepest[export] > stack or seen.deepest[export] < stack - PADDING and (name, export) not in SHALLOW:
+        if seen.deepest[export] > stack or seen.deepest[export] < stack and (name, export) not in SHALLOW:
             fail(f"{name}: {export} used {seen.deepest[export]} bytes of stack, not {stack}")
     return seen, [line for line in shown.result() if not line.startswith("ran ")]
 
@@ -306,18 +271,18 @@ def unbounded(room):
     for number, (text, words) in enumerate(UNBOUNDED):
         file = f"{room}/unbounded{number}"
         Path(f"{file}.c").write_text(text, encoding="utf-8")
-        subprocess.run([f"{CROSS}gcc", "-O1", "-fno-optimize-sibling-calls" if "nph_malloc(n - 1)" in text else "-foptimize-sibling-calls", "-w", "-c", "-o",
+        subprocess.run(["gcc", "-O1", "-fno-optimize-sibling-calls" if "nph_malloc(n - 1)" in text else "-foptimize-sibling-calls", "-w", "-c", "-o",
                         f"{file}.o", f"{file}.c"], check=True)
-        subprocess.run([f"{CROSS}ar", "rc", f"{file}.a", f"{file}.o"], check=True)
+        subprocess.run(["ar", "rc", f"{file}.a", f"{file}.o"], check=True)
         refuses(text, words, f"{file}.a", str(notes))
     return len(UNBOUNDED)
 
 
 def clauses(name, notes):
-    """Each clause that a note trusts is one of the function that it names, and each document has the words."""
+    """Each clause that a note trusts is one of the function that it names, and the header has the words of a duty."""
     for function, note in notes.functions.items():
         for place, (_, (where, *words)) in [*note["never"].items(), *note["jump"].items()]:
-            if where.startswith("docs/"):
+            if "/" in where:
                 text = Path(where).read_text(encoding="utf-8")
                 found = all(word in text for word in words)
             else:
@@ -346,11 +311,17 @@ def rows_of(name, bounds, stacks, lines):
     return rows
 
 
-def document(rows, codes):
+def document(rows, codes, stacks):
+    text = Path("docs/C.md").read_text(encoding="utf-8")
+    for what, calls in (("`nph_open`", {"nph_open"}), ("`nph_close`", {"nph_close"}), ("the other calls", None)):
+        most = [max(row[call] for call in calls or row.keys() - tool.MAY_ALLOCATE) for row in stacks]
+        row = " | ".join([f"| stack of {what}, bytes", *(f"{number:,}" for number in most)]) + " |"
+        if row not in text:
+            fail(f"docs/C.md lacks the row {row}")
     text = Path("docs/SPEED.md").read_text(encoding="utf-8")
     for name, code in codes.items():
-        if f"`{code}` ({name})" not in text:
-            fail(f"docs/SPEED.md lacks the sum of the code `{code}` ({name})")
+        if f"{code} ({name})" not in text:
+            fail(f"docs/SPEED.md lacks the sum of the code {code} ({name})")
     given = {(library, call): tuple(rest) for library, call, _, *rest in TABLE.findall(text)}
     for library, call, *rest in rows:
         if given.pop((library, call), None) != tuple(rest):
@@ -361,11 +332,9 @@ def document(rows, codes):
 
 def main():
     room, count = sys.argv[1], int(sys.argv[2])
-    rows, codes, total, wrong = [], {}, 0, 0
-    for name in LIBRARIES:
-        if ARM and not Path(f"{tool.NOTES}/{name}.{tool.ARM}").exists():
-            continue  # its bounds on ARM64 have no notes yet
-        library = tool.Library(f"{sys.argv[1]}/{name}.arm.a" if ARM else f"crates/{name}/out/lib{name}.a", name)
+    rows, codes, every, total, wrong = [], {}, [], 0, 0
+    for name, archive in zip(LIBRARIES, sys.argv[3:]):
+        library = tool.Library(archive, name)
         notes = tool.Notes(f"{tool.NOTES}/{name}.{library.processor}")
         found = tool.Bounds(library, notes)
         table = found.table()
@@ -379,15 +348,15 @@ def main():
         seen, lines = counted(name, library, notes, bounds, stacks, room, count)
         total += seen.count
         codes[name] = library.code
+        every.append(stacks)
         rows += rows_of(name, bounds, stacks, lines)
         wrong += mutations(name, library, room, lines)
         clauses(name, notes)
     wrong += unbounded(room)
-    if not ARM:
-        document(rows, codes)
+    document(rows, codes, every)
     if failed:
         sys.exit(1)
-    print(f"checks/{'arm64' if ARM else 'worst_case'}: of {total:,} counted calls none is above its bound, and {wrong} wrong notes and libraries are refused", file=sys.stderr)
+    print(f"checks/worst_case: of {total:,} counted calls none is above its bound, and {wrong} wrong notes and libraries are refused", file=sys.stderr)
 
 
 try:
