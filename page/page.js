@@ -284,7 +284,7 @@ const CLAIM = {
   resize: ['bytes stay, zeros follow', 'Manager::resize'],
   cost: ['A refused malloc, free or, with pages, resize changes only the recorded cost.', ''],
   read: ['A read prints the bytes last written through its id, whatever moved.', 'reads_give_what_was_written'],
-  output: ['With every bound 1 the output is a function of the script, unless it asks for addresses or costs.', 'one_transcript'],
+  output: ['With pages and every bound 1 the output is a function of the script, unless it asks for addresses, words or costs.', 'one_transcript'],
   equal: ['If each line is answered, equal arguments and scripts give equal output, in every mode and however chunked: each address, choice, word and cost.', 'equal_scripts_get_equal_output'],
   physical: ["On NonMovingHeap an object keeps its physical blocks until it is freed or resized to another class", 'PagedHeap::free'],
   bad: ['a line within the limit is not in the grammar at its place', ''],
