@@ -227,6 +227,8 @@ const NorphuenLive = (() => {
     if (!MODES.includes(mode)) throw new Fault(`mode ${mode} has no picture: only ${MODES.join(', ')} have one`);
     const one = given.indexOf('--manager'), made = { mode, own: one < 0 ? 'cf' : given[one + 1], arguments: given.join(' '), script, runs: {} };
     const many = mode === 'run' || mode === 'compare';
+    const refused = ask(given.length ? given : ['run'], '').status;
+    if (refused) throw new Fault(`the tool ended with status ${refused}`);
     for (const manager of many ? MANAGERS : ['cf']) {
       const words = many ? ['run', '--manager', manager] : given, { status, output } = ask(words, script);
       if (![0, 3, 7].includes(status)) throw new Fault(`the tool ended with status ${status}`);
