@@ -1,5 +1,5 @@
-//! The bytes of a chunk, and the list of the numbers below a number.
-ghost use Rattle.std.specs.Prelude.{◌≡◌, IfOk};
+//! The bytes of a chunk, and lists of numbers.
+ghost use Rattle.std.specs.Prelude.{◌≡◌, ◌+◌, ◌^◌, ◌<◌, IfOk};
 ghost use Rattle.std.specs.List.{range_with_len};
 
 use std::alloc::{AllocError, Global};
@@ -7,9 +7,19 @@ use std::alloc::{AllocError, Global};
 /// The most bytes of a chunk: of what is taken from a source at once, and of one write or read of a script.
 pub const CHUNK: usize = 4_096;
 
-/// The numbers from 0 to n - 1, in rising order. Fails only if memory runs out.
+/// The numbers from 0 to n - 1, in rising order, in one block of 4 n bytes. Fails only if memory runs out.
 pub fn numbers_below(alloc: Global, n: u32) -> Result<Vec<u32>, AllocError>
     ensures { IfOk result (λ v. v.items ≡ range_with_len 0 n) }
 {
-    (0..n).collect(alloc)
+    numbers_from(alloc, 0, n)
+}
+
+/// The `n` numbers from `first` on, in rising order, in one block of 4 n bytes. Fails only if memory runs out.
+pub fn numbers_from(alloc: Global, first: u32, n: u32) -> Result<Vec<u32>, AllocError>
+    requires { first + n < 2 ^ 32 }
+    ensures { IfOk result (λ v. v.items ≡ range_with_len first n) }
+{
+    let mut numbers = Vec::with_capacity(alloc, n as usize)?;
+    numbers.extend(first..first + n)?;
+    Ok(numbers)
 }

@@ -9,6 +9,7 @@ mod managers;
 mod opening;
 mod own_faults;
 mod own_heaps;
+mod requested;
 mod rows;
 mod watched;
 

@@ -1,3 +1,4 @@
 pub mod PageLists
 pub mod Counts
 pub mod Layout
+pub mod Needed

@@ -5,12 +5,13 @@
 ghost use Rattle.std.specs.Prelude.{◌≡◌, ◌+◌, ◌*◌, ◌<◌, ◌^◌, ◌↔◌, [], ◌∷◌, IfOk, IfSome, IsNone, length, slice_get, slice_set};
 ghost use Rattle.std.specs.List.{Contains, range_with_len};
 ghost use Rattle.cf_lemmas.specs.Lists.{without_number};
+ghost use Rattle.class_lists.specs.Needed.{list_bytes};
 ghost use Rattle.step_ledger.specs.Counting.{RoseBy};
 ghost use Rattle.class_lists.specs.PageLists.{AreApart, AreEmpty, IsUnlisted, KeepsOthers, empty_lists, list_number, pages_in, with_list};
 
 mod counts;
 
-use cf_base::{OutOfMemory, numbers_below};
+use cf_base::{BytesNeeded, OutOfMemory, numbers_below};
 use counts::Counts;
 use std::alloc::{AllocError, Global};
 use std::marker::Model;
@@ -81,6 +82,15 @@ impl ClassLists {
             return Err(OutOfMemory);
         };
         Ok(ClassLists { links, lens, pages })
+    }
+
+    /// The memory that `new` asks for.
+    pub fn bytes_needed(classes: u32, pages: u32) -> BytesNeeded
+        ensures { result ≡ list_bytes classes pages }
+    {
+        let links = BytesNeeded::block(4 * (u64::from(pages) + 2 * u64::from(classes)));
+        let counts = BytesNeeded::block(4 * u64::from(classes));
+        links.times(2).and(counts.times(2))
     }
 
     /// Returns the first page of the list `which` of class `c`; none if the list is empty. Costs

@@ -1,6 +1,6 @@
 //! Tests of `SlicedHeap` and `QuotaHeap`, by the steps of single calls (`sliced`, `quota`); of `LargeHeap` at its
-//! limits (`large`); of `save` and `load`, by images worked out by hand (`saved`, with the calls of `images`) and
-//! by the largest one (`largest_image`); and of `library_example` (`example`).
+//! limits, and by the steps of its calls (`large`); of `save` and `load`, by images worked out by hand (`saved`,
+//! with the calls of `images`) and by the largest one (`largest_image`); and of `library_example` (`example`).
 mod example;
 mod images;
 mod large;

@@ -19,3 +19,5 @@ pub mod NonMovingPlace
 pub mod Tlsf
 pub mod TlsfLoan
 pub mod TlsfPlace
+pub mod Needed
+pub mod Version

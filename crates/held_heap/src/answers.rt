@@ -1,5 +1,15 @@
-//! The structures into which calls write their results for a caller in C: of a free, of a resize, the figures
-//! of a class and of the heap. The header `norphuen.h` declares the same types.
+//! The structures into which calls write their results for a caller in C: the memory that a heap needs, the result of a
+//! free, of a resize, the figures of a class and of the heap. The header `norphuen.h` declares the same types.
+
+/// What `nph_open` asks of the three functions that take and return memory: the bytes of all blocks (`total`) and of
+/// the largest (`largest`), and how many blocks there are.
+#[repr(C)]
+#[derive(Clone, Copy, Drop)]
+pub struct NphNeeded {
+    pub total: u64,
+    pub largest: u64,
+    pub blocks: u32,
+}
 
 /// The result of a free: the words of the freed slot or block (`slot_words`), and the handle of the object
 /// that moved to its address (`moved`), `NONE` if no object moved.

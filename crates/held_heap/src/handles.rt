@@ -1,10 +1,12 @@
 //! The handles that C has: each is the number of an object and a generation, which a free of that number raises.
-ghost use Rattle.std.specs.Prelude.{◌≡◌, ◌%◌, ◌<◌, ◌≤◌, IfSome, length};
+ghost use Rattle.std.specs.Prelude.{◌≡◌, ℕ, ◌*◌, ◌%◌, ◌^◌, ◌<◌, ◌≤◌, IfSome, length};
+ghost use Rattle.std.specs.Int.{IsNextPowerOfTwo};
+ghost use Rattle.cf_base.specs.Needed.{one_block};
 ghost use Rattle.held_heap.specs.HandleRules.{AreFirstHandles};
 ghost use Rattle.held_heap.specs.Handles.{base_of, handle_of, largest, moved_handle, next, number_in, raised};
 
 use crate::codes::NONE;
-use cf_base::Handle;
+use cf_base::{BytesNeeded, Handle, numbers_from};
 use std::alloc::Global;
 use std::marker::Model;
 
@@ -52,8 +54,18 @@ impl Handles {
     {
         let count = proxies.next_power_of_two();
         let base = base(count, last);
-        let of = (base..base + count).collect(alloc).ok()?;
+        let of = numbers_from(alloc, base, count).ok()?;
         Some(Handles { of })
+    }
+
+    /// The memory that `new` asks for.
+    pub(crate) fn bytes_needed(proxies: u32) -> BytesNeeded
+        requires some { 1 ≤ proxies }
+        requires few { proxies ≤ 65536 }
+        ensures needed { (count : ℕ) × IsNextPowerOfTwo proxies count × (result ≡ one_block (4 * count)) }
+        ensures few { result.total < 2 ^ 32 }
+    {
+        BytesNeeded::block(4 * u64::from(proxies.next_power_of_two()))
     }
 
     /// The number of a handle: its low bits.

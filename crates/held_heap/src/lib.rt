@@ -9,11 +9,12 @@ mod held;
 pub mod laws;
 mod loose;
 pub mod moving;
+mod needed;
 pub mod nonmoving;
 mod of_kind;
 mod place;
 pub mod tlsf;
 mod unboxed;
 
-pub use answers::{NphClass, NphFreed, NphHeapTotals, NphResized};
-pub use codes::CLOSED;
+pub use answers::{NphClass, NphFreed, NphHeapTotals, NphNeeded, NphResized};
+pub use codes::{CLOSED, VERSION};

@@ -10,19 +10,27 @@ ghost use Rattle.held_heap.specs.MovingBlock.{moving_owns, maybe_ptr_code};
 ghost use Rattle.held_heap.specs.CallerHeap.{heap_of, lent_now, opened_now};
 ghost use denote.RawPtr.{Ptr};
 
+use crate::answers::NphNeeded;
 use crate::codes::{CLOSED, DONE, LENT, MEMORY, NOT_LENT, OPEN, of_setting};
 use crate::held::Held;
 use crate::loose::{LooseHeld, all_words};
+use crate::needed::needed_with;
 use crate::place::Sealed;
 use crate::unboxed::Unboxed;
 use cf_base::Settings;
 use moving_heap::MovingHeap;
 use std::alloc::Global;
 use std::marker::Model;
+use std::mem::size_of;
 use std::rt::Memory;
 
 /// The open heap in the block whose address C has.
 type Open = Held<MovingHeap>;
+
+/// The bytes of that block.
+const HELD_BYTES: u64 = 1464;
+
+const _: () = prove!(size_of::<Open>() == 1464);
 
 /// The address of the block of an open heap, which the `HeapBlock` owns; or null, and then it owns nothing.
 /// `held` is the state of the heap, `None` if the address is null. `words` is the address of the region's words
@@ -133,6 +141,7 @@ pub struct NphHeap {
 impl NphHeap {
     ghost use Rattle.std.specs.Prelude.{IsTrue};
     ghost use Rattle.cf_base.specs.declared.kind.Kind.TheVariants.{Moving};
+    ghost use Rattle.held_heap.specs.Needed.{IsNeededCall};
     ghost use Rattle.held_heap.specs.AtPlace.{IsLendCall, IsOpenCall, IsReturnCall};
     ghost use Rattle.held_heap.specs.CallerHeap.{Opened, closed_by, refusal_code};
     ghost use Rattle.held_heap.specs.MovingPlace.{LendsHeap, held_in};
@@ -192,6 +201,26 @@ impl NphHeap {
             NOT_LENT
         } else {
             CLOSED
+        }
+    }
+
+    /// Writes into `needed` what `open` with these settings asks for. Returns `DONE`, or the code of the first setting
+    /// out of range, and then `needed` is unchanged.
+    pub fn bytes_needed(
+        pages: u32,
+        page_bytes: u32,
+        k: u32,
+        proxies: u32,
+        needed: &mut NphNeeded,
+    ) -> i32
+        ensures { IsNeededCall Moving pages page_bytes k proxies result needed.old needed.new }
+    {
+        match Settings::check(pages, page_bytes, k, proxies) {
+            Err(fault) => of_setting(fault),
+            Ok(s) => {
+                *needed = needed_with(MovingHeap::bytes_needed(&s), s.proxies, HELD_BYTES);
+                DONE
+            }
         }
     }
 

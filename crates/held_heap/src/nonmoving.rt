@@ -8,18 +8,26 @@ ghost use Rattle.held_heap.specs.HeldState.{HeldState, held_code};
 ghost use Rattle.held_heap.specs.NonMoving.{open_heap};
 ghost use Rattle.held_heap.specs.HeapBlock.{place_owns};
 
+use crate::answers::NphNeeded;
 use crate::codes::{DONE, MEMORY, OPEN, of_setting};
 use crate::held::Held;
+use crate::needed::needed_with;
 use crate::place::Sealed;
 use crate::unboxed::Unboxed;
 use cf_base::Settings;
 use nonmoving_heap::NonMovingHeap;
 use std::alloc::Global;
 use std::marker::Model;
+use std::mem::size_of;
 use std::rt::Memory;
 
 /// The open heap in the block whose address C has.
 type Open = Held<NonMovingHeap>;
+
+/// The bytes of that block.
+const HELD_BYTES: u64 = 1464;
+
+const _: () = prove!(size_of::<Open>() == 1464);
 
 /// The address of the block of an open heap, which the `HeapBlock` owns; or null, and then it owns nothing.
 /// `held` is the state of the heap, `None` if the address is null.
@@ -112,6 +120,7 @@ pub struct NphHeap {
 impl NphHeap {
     ghost use Rattle.std.specs.Prelude.{IsTrue};
     ghost use Rattle.cf_base.specs.declared.kind.Kind.TheVariants.{NonMoving};
+    ghost use Rattle.held_heap.specs.Needed.{IsNeededCall};
     ghost use Rattle.held_heap.specs.AtPlace.{IsOpenCall};
     ghost use Rattle.held_heap.specs.CallerHeap.{Opened, closed_by, opened_now};
     ghost use Rattle.held_heap.specs.NonMovingPlace.{LendsHeap, held_in};
@@ -130,6 +139,26 @@ impl NphHeap {
         ensures value { held_in self.old ≡ Opened result.now }
     {
         self.place.lend()
+    }
+
+    /// Writes into `needed` what `open` with these settings asks for. Returns `DONE`, or the code of the first setting
+    /// out of range, and then `needed` is unchanged.
+    pub fn bytes_needed(
+        pages: u32,
+        page_bytes: u32,
+        k: u32,
+        proxies: u32,
+        needed: &mut NphNeeded,
+    ) -> i32
+        ensures { IsNeededCall NonMoving pages page_bytes k proxies result needed.old needed.new }
+    {
+        match Settings::check(pages, page_bytes, k, proxies) {
+            Err(fault) => of_setting(fault),
+            Ok(s) => {
+                *needed = needed_with(NonMovingHeap::bytes_needed(&s), s.proxies, HELD_BYTES);
+                DONE
+            }
+        }
     }
 
     /// Opens a heap without objects, with these settings. Returns `DONE`; else, with nothing changed, `OPEN`

@@ -5,7 +5,6 @@ use Rattle.std.proofs.Common.{Some, length, take, drop, arith, sym, ◌∙◌, a
 use Rattle.std.proofs.Math.Nat.{div-add-mod, lt_of_mul-lt-mul_left, mod-lt}
 use borrow.Rule.Slice.PartMut.{put_mid}
 use Rattle.std.proofs.lemmas.List.{length-take, take-append-drop, take_all}
-use Rattle.std.proofs.lemmas.Nat.{mul-le}
 use Rattle.std.proofs.lemmas.Option.{same_Some}
 use Rattle.std.proofs.lemmas.Slice.{drop-put_mid, take-put_mid}
 use Rattle.std.specs.FinMap.{get, insert}
@@ -20,7 +19,7 @@ use Rattle.large_objects.specs.LargeSteps.{HasLong, HasPartRange, StaysKept, Wri
 use Rattle.large_objects.specs.InnerObjects.{whole_part_bytes, part_count}
 use Rattle.large_objects.proofs.Bytes.{take_drop_more, written_more}
 use Rattle.large_objects.proofs.Cutting.{parts_enough}
-use Rattle.large_objects.proofs.InnerSteps.{inner_small}
+use Rattle.large_objects.proofs.InnerSteps.{inner_small, page_small}
 
 take_none : (v : List ℕ) → take 0 v ≡ []
 take_none [] = refl
@@ -125,12 +124,7 @@ index_small s k h v found long i below =
 
 -- the length of a part is a number of 32 bits
 pub part_small : (s : LargeState) → KeepsParts s → part_bytes_in s < 2 ^ 32
-part_small s k =
-    let small = k.rules.settings.small_region in
-    let one = k.rules.settings.some_pages in
-    let m : 1 * s.inner.profile.page_words ≤ s.inner.profile.pages * s.inner.profile.page_words =
-    mul-le 1 s.inner.profile.page_words s.inner.profile.pages s.inner.profile.page_words one (omega arith) in
-    omega arith
+part_small s k = (let small = page_small s.inner (is_ready s k) in omega arith)
 
 module _ (old now : LargeState) (h at done count part_bytes : ℕ) (bytes : List ℕ) (has : HasLong old h at (length bytes))
     (so_far : (v : List ℕ) → get old.objects h ≡ Some v → now.objects ≡ insert old.objects h (written v at (take done bytes)))

@@ -62,7 +62,7 @@ then_ready a b c x y = record {
 pub same_ready : (s : HeapState) → IsReadyInner s → StaysReady s s
 same_ready s r = record { settings = record { kind = refl; opened = refl; profile = refl; bounds = refl }; ready = r }
 
-not_both : (o : Objects) (h : ℕ) (v : List ℕ) → get o h ≡ Some v → get o h ≡ None → ⊥
+pub not_both : (o : Objects) (h : ℕ) (v : List ℕ) → get o h ≡ Some v → get o h ≡ None → ⊥
 not_both o h v some none = (let g : Some v ≡ None = sym some ∙ none in cc)
 
 -- a malloc with room isn't refused
@@ -127,8 +127,15 @@ inner_freed old new h v (Ok freed) ready found step rules = record { stays = sta
 inner_freed old new h v (Err e) ready found (none, same) rules =
     absurd (not_both (objects old.held) h v found (bytes_missing old.held h none))
 
+pub page_small : (s : HeapState) → IsReadyInner s → s.profile.page_words ≤ 2 ^ 23
+page_small s r =
+    let small = r.rules.settings.small_region in
+    let m : 1 * s.profile.page_words ≤ s.profile.pages * s.profile.page_words =
+    mul-le 1 s.profile.page_words s.profile.pages s.profile.page_words r.rules.settings.some_pages (omega arith) in
+    omega arith
+
 -- an inner object is not longer than a page, so its length is a number of 32 bits
-pub inner_small : (s : HeapState) → IsReadyInner s → (q : ℕ) (v : List ℕ) → get (objects s.held) q ≡ Some v → length v < 2 ^ 32
+pub inner_small : (s : HeapState) → IsReadyInner s → (q : ℕ) (v : List ℕ) → get (objects s.held) q ≡ Some v → length v < 2 ^ 27
 inner_small s r q v is =
     let x = held_of_bytes s.held q v is in
     let kept = keeps_pages s r in
@@ -136,11 +143,7 @@ inner_small s r q v is =
     let holds = class_holds (paging_in s) kept.paging (length x.0.bytes) slot.class in
     let fits = slot_fits (paging_in s) kept.paging (class_for (paging_in s) (length x.0.bytes)) slot.class in
     let l = ap length x.2 in
-    let small = r.rules.settings.small_region in
-    let one = r.rules.settings.some_pages in
-    let m : 1 * s.profile.page_words ≤ s.profile.pages * s.profile.page_words = mul-le 1 s.profile.page_words s.profile.pages s.profile.page_words one
-    (omega arith) in
-    omega arith
+    let small = page_small s r in omega arith
 
 -- a handle that is live is below the number of proxies
 pub handle_below : (s : HeapState) → IsReadyInner s → (q : ℕ) (v : List ℕ) → get (objects s.held) q ≡ Some v → q < s.profile.proxies

@@ -1,6 +1,7 @@
 pub mod Cutting
 pub mod Fitting
 pub mod InnerSteps
+pub mod CostLemmas
 pub mod Room
 pub mod Summed
 pub mod Bytes
@@ -14,3 +15,4 @@ pub mod Opening
 pub mod PagesWith
 pub mod ObjectLaws
 pub mod CallerLemmas
+pub mod MovingCosts

@@ -1,6 +1,6 @@
 -- A free of a long object: part by part, each found by its handle in the spine, and then the spine. The invariant of the loop of `release_parts` holds
 -- (`IsShrinking`).
-use Rattle.std.proofs.Common.{◌≡◌, ℕ, suc, ◌+◌, ◌*◌, ◌<◌, List, Some, get_or, drop, arith, sym, ◌∙◌, ap, refl, subst, inl, inr, length-drop}
+use Rattle.std.proofs.Common.{◌≡◌, ℕ, suc, ◌+◌, ◌*◌, ◌^◌, ◌<◌, ◌≤◌, List, Some, get_or, length, drop, arith, sym, ◌∙◌, ap, refl, subst, inl, inr, length-drop}
 use Rattle.std.specs.Prelude.{nat_eq}
 use Rattle.std.proofs.lemmas.Bool.{cases_eq}
 use Rattle.std.proofs.lemmas.List.{get_or-drop}
@@ -8,16 +8,20 @@ use Rattle.std.specs.FinMap.{get, remove, len}
 use Rattle.cf_lemmas.proofs.Maps.{get_removed, get_remove_other, len_fresh}
 use Rattle.cf_lemmas.proofs.Ranges.{one}
 use Rattle.cf_lemmas.proofs.Sums.{put_back}
+use Rattle.step_ledger.specs.Counting.{RoseAtMost}
+use Rattle.page_model.specs.Image.{slot_for}
 use Rattle.page_model.specs.Held.{Objects, objects}
 use Rattle.page_model.specs.Paging.{Paging, class_for}
 use Rattle.page_model.proofs.CallerLemmas.{live_taken}
 use Rattle.cf_model.specs.State.{HeapState, paging_in}
 use Rattle.large_objects.specs.InnerCalls.{FreesInner, HasInner, IsReadyInner}
 use Rattle.large_objects.specs.Large.{bytes_found, handle_at, named}
-use Rattle.large_objects.specs.InnerObjects.{inner_lengths, part_length, part_count}
+use Rattle.large_objects.specs.InnerObjects.{inner_lengths, part_length, part_count, spine_bytes}
 use Rattle.large_objects.specs.Shrinking.{HasParts, IsShrinking, ReleasesLong, Shrinks}
+use Rattle.large_objects.specs.LargeCosts.{InnerCosts, handle_steps, parts_free_steps}
+use Rattle.large_objects.proofs.CostLemmas.{free_next, parts_free_from}
 use Rattle.large_objects.proofs.Cutting.{in_class_more, in_class_take_none, length_long, inner_length_is}
-use Rattle.large_objects.proofs.InnerSteps.{same_ready, then_ready}
+use Rattle.large_objects.proofs.InnerSteps.{inner_small, same_paging, same_ready, then_ready}
 use Rattle.large_objects.proofs.Summed.{sum_more, sum_removed, sum_take_none}
 
 -- a free leaves one object fewer
@@ -106,11 +110,31 @@ module _ (u n : ℕ) (old now : HeapState) (h i : ℕ) (some : 0 < u) (long : u 
         (shrinking_more (paging_in old) u n some long (objects old.held) h has i below (objects now.held) g.shrinking);
   }
 
+  -- the steps after one more part is freed
+  pub free_more : (c : InnerCosts) (start before after : ℕ)
+      → before + parts_free_from c (paging_in old) u n i ≤ start + parts_free_steps c (paging_in old) u n
+      → ((v : List ℕ) → get (objects now.held) (named (objects now.held) h i) ≡ Some v
+      → RoseAtMost before after (handle_steps c i + c.free (slot_for (paging_in now) (length v))))
+      → after + parts_free_from c (paging_in old) u n (i + 1) ≤ start + parts_free_steps c (paging_in old) u n
+  unfolding next_there
+  free_more c start before after so_far part =
+      let v = (has.made i below).0 in
+      let rose = part v next_there.found in
+      let slot : c.free (slot_for (paging_in now) (length v)) ≡ c.free (slot_for (paging_in old) (part_length u n i)) =
+      ap (λ p. c.free (slot_for p (length v))) (same_paging old now g.stays.settings)
+      ∙ ap (λ k. c.free (slot_for (paging_in old) k)) (has.made i below).2 in
+      let next = free_next c (paging_in old) u n i below in
+      let b = rose.bound in omega arith
+
 pub shrinks_first : (u n : ℕ) (old : HeapState) (h : ℕ) → 0 < u → u < n → HasParts u n (objects old.held) h → IsReadyInner old → Shrinks u n old h 0 old
 shrinks_first u n old h some long has ready = record {
   stays = same_ready old ready;
   shrinking = shrinking_first (paging_in old) u n some long (objects old.held) h has;
 }
+
+-- a spine fits a page, so the parts are few
+pub parts_small : (u n : ℕ) (s : HeapState) (h : ℕ) → IsReadyInner s → HasParts u n (objects s.held) h → part_count u n < 2 ^ 25
+parts_small u n s h ready has = (let small = inner_small s ready h has.spine.spine has.spine.found in let l = has.spine.long in omega arith)
 
 -- after all parts were freed, the spine is still live
 pub spine_is_live : (u n : ℕ) (old now : HeapState) (h : ℕ) → HasParts u n (objects old.held) h → Shrinks u n old h (part_count u n) now → HasInner now h 0 0
@@ -129,3 +153,15 @@ releases_long u n old now new h long g frees = record {
   shrunk = g.shrinking;
   left = frees.left;
 }
+
+-- the steps of freeing the spine
+pub spine_costs : (u n : ℕ) (old now : HeapState) (h : ℕ) → HasParts u n (objects old.held) h → Shrinks u n old h (part_count u n) now
+    → (c : InnerCosts) (before after : ℕ)
+    → ((v : List ℕ) → get (objects now.held) h ≡ Some v → RoseAtMost before after (c.free (slot_for (paging_in now) (length v))))
+    → RoseAtMost before after (c.free (slot_for (paging_in old) (spine_bytes u n)))
+spine_costs u n old now h has g c before after spine =
+    let found = g.shrinking.others h (λ j lt e. has.not_spine j lt (sym e)) ∙ has.spine.found in
+    let slot : c.free (slot_for (paging_in now) (length has.spine.spine)) ≡ c.free (slot_for (paging_in old) (spine_bytes u n)) =
+    ap (λ p. c.free (slot_for p (length has.spine.spine))) (same_paging old now g.stays.settings)
+    ∙ ap (λ k. c.free (slot_for (paging_in old) k)) has.spine.long in
+    rw slot at (spine has.spine.spine found)

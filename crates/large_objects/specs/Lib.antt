@@ -1,7 +1,9 @@
 pub mod InnerObjects
 pub mod Large
 pub mod LargeSteps
+pub mod LargeCosts
 pub mod Layout
 pub mod InnerCalls
 pub mod Growing
 pub mod Shrinking
+pub mod Needed

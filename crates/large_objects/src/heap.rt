@@ -1,24 +1,31 @@
 //! `LargeHeap`, a heap whose objects may be longer than a page, over a manager with pages: how it is
 //! opened, and its calls `malloc`, `free`, `write` and `read`.
-ghost use Rattle.std.specs.Prelude.{◌≡◌, ◌+◌, ◌≤◌, IsTrue, OnOk, OnErr, IfOk, IfErr, Some, None, false, length, option_map};
+ghost use Rattle.std.specs.Prelude.{◌≡◌, ◌+◌, ◌^◌, ◌<◌, ◌≤◌, IsTrue, OnOk, OnErr, IfOk, IfErr, Some, None, false, length, option_map};
 ghost use Rattle.std.specs.FinMap.{get};
 ghost use Rattle.cf_lemmas.specs.Maps.{vacant};
 ghost use Rattle.cf_model.specs.Families.{IsPaged};
+ghost use Rattle.cf_model.specs.State.{paging_in};
+ghost use Rattle.step_ledger.specs.Counting.{RoseAtMost};
 ghost use Rattle.large_objects.specs.Large.{KeepsParts};
+ghost use Rattle.large_objects.specs.LargeCosts.{ByCosts, first_count, large_access_steps, large_free_steps, large_malloc_steps, object_free_steps, object_malloc_steps};
+ghost use Rattle.large_objects.specs.Needed.{large_bytes};
 ghost use Rattle.large_objects.specs.LargeSteps.{FreesLarge, GivesLarge, HasLargeRoom, IsEmptyLarge, IsLargeFault, IsShutLarge};
-ghost use Rattle.large_objects.specs.LargeSteps.{IsLargeFree, IsLargeMalloc, IsLargeRead, IsLargeWrite, StaysKept};
+ghost use Rattle.large_objects.specs.LargeSteps.{IsLargeFree, IsLargeMalloc, IsLargeRead, IsLargeWrite, StaysKept, part_bytes_in};
 
 use crate::free::release;
 use crate::malloc::make;
-use cf_base::{AccessFault, Handle, NotLive, OutOfMemory, Refusal, Settings};
+use cf_base::{AccessFault, BytesNeeded, Handle, NotLive, OutOfMemory, Refusal, Settings};
 use cf_model::Manager;
 use std::alloc::{AllocError, Global};
 use std::marker::Model;
-use step_ledger::Meter;
+use step_ledger::{Meter, Steps};
 
 /// Objects that may be longer than a page, over an inner manager with pages. An object that fits a page is
 /// one inner object; a longer one is a spine and its parts. The handle of an object is that of this inner
 /// object or of the spine.
+///
+/// A call adds its steps to the meter's count, and first resets a count above 2 ^ 62. Clause `steps` of each has
+/// them as a function of the steps of the inner manager's calls (`InnerCosts`).
 #[derive(Drop)]
 pub struct LargeHeap<H: Manager> {
     alloc: Global,
@@ -61,6 +68,16 @@ impl<H: Manager> LargeHeap<H> {
             part_bytes: 0,
             lengths: Vec::new(alloc),
         }
+    }
+
+    /// The memory that `open_heap` asks for, if the inner manager asks for `inner` with these settings. The bytes of the
+    /// `LargeHeap` itself, which its owner keeps, aren't counted.
+    pub fn bytes_needed(inner: BytesNeeded, s: &Settings) -> BytesNeeded
+        requires few { inner.blocks < 2 ^ 31 }
+        requires fits { inner.total < 2 ^ 63 }
+        ensures { result ≡ large_bytes inner s.now.proxies }
+    {
+        inner.and(BytesNeeded::block(8 * u64::from(s.proxies)))
     }
 
     /// Lends the inner manager.
@@ -109,28 +126,38 @@ impl<H: Manager> LargeHeap<H> {
     /// Adds an object of `bytes` bytes, all zero, under a handle that wasn't live. It fails with `Size` if the
     /// spine would need more than a page. Else it fails with `Proxy` if there would be more inner objects than
     /// proxies, and else with `Space` if they would need more pages than there are. A refusal changes nothing,
-    /// not even the inner manager.
+    /// not even the inner manager. At most the steps of a malloc for each inner object and of a write of four
+    /// bytes for each part; none if refused.
     pub fn malloc(&mut self, bytes: u32, meter: &mut Meter) -> Result<Handle, Refusal>
         requires { IsTrue self.old.is_open }
         ensures step { IsLargeMalloc self.old bytes result self.new }
         ensures kept { StaysKept self.old self.new }
+        ensures steps { ByCosts H.most (λ c. RoseAtMost (first_count meter.old) meter.new (large_malloc_steps c (part_bytes_in self.old) bytes result)) }
     {
-        match self.refusal(bytes, meter) {
+        make_room(meter);
+        match self.refusal(bytes, meter.steps()) {
             Some(cause) => Err(cause),
-            None => Ok(self.make_object(bytes, meter)),
+            None => {
+                // `totals` of a manager without bounds of its own may have taken many steps.
+                make_room(meter);
+                Ok(self.make_object(bytes, meter.steps()))
+            }
         }
     }
 
     /// Removes an object, and its spine and parts if it is longer than a page. It fails with `NotLive` if the
-    /// handle isn't that of an object, for instance if it is that of a part, and then changes nothing.
+    /// handle isn't that of an object, for instance if it is that of a part, and then changes nothing. At most
+    /// the steps of a free for each inner object and of a read of four bytes for each part; none if refused.
     pub fn free(&mut self, h: Handle, meter: &mut Meter) -> Result<(), NotLive>
         requires { IsTrue self.old.is_open }
         ensures step { IsLargeFree self.old h.0 result self.new }
         ensures kept { StaysKept self.old self.new }
+        ensures steps { ByCosts H.most (λ c. RoseAtMost (first_count meter.old) meter.new (large_free_steps c self.old h.0)) }
     {
+        make_room(meter);
         match self.length_of(h) {
             Some(bytes) => {
-                self.release_object(h, bytes, meter);
+                self.release_object(h, bytes, meter.steps());
                 Ok(())
             }
             None => Err(NotLive),
@@ -139,7 +166,8 @@ impl<H: Manager> LargeHeap<H> {
 
     /// Writes bytes into an object from byte `at` on; no other object changes. It fails with `Unknown` if
     /// the handle isn't that of an object, with `Range` if the bytes pass the object's end, and then
-    /// changes nothing.
+    /// changes nothing. Exactly the steps of one write for a short object. For a long one, exactly those of a read
+    /// of four bytes and of a write for each part that gets bytes. None if refused.
     pub fn write(
         &mut self,
         h: Handle,
@@ -150,13 +178,16 @@ impl<H: Manager> LargeHeap<H> {
         requires { IsTrue self.old.is_open }
         ensures step { IsLargeWrite self.old (record { number = h.0; from = at }) bytes.now result self.new }
         ensures kept { StaysKept self.old self.new }
+        ensures steps { ByCosts H.most (λ c. meter.new ≡ first_count meter.old
+            + large_access_steps c self.old (record { number = h.0; from = at }) (length bytes.now) result) }
     {
+        make_room(meter);
         match self.length_for(h, at, bytes.len()) {
             Ok(length) => {
                 if length <= self.part_bytes {
-                    self.write_short(h, at, bytes, meter);
+                    self.write_short(h, at, bytes, meter.steps());
                 } else {
-                    self.write_long(h, at, bytes, meter);
+                    self.write_long(h, at, bytes, meter.steps());
                 }
                 Ok(())
             }
@@ -166,7 +197,7 @@ impl<H: Manager> LargeHeap<H> {
 
     /// Fills `out` with bytes of an object, from byte `at` on. It fails with `Unknown` if the handle isn't
     /// that of an object, with `Range` if the bytes pass the object's end, and then leaves `out`
-    /// unchanged.
+    /// unchanged. Exactly as many steps as a write of these bytes.
     pub fn read(
         &self,
         h: Handle,
@@ -177,13 +208,16 @@ impl<H: Manager> LargeHeap<H> {
         requires { IsTrue self.now.is_open }
         ensures answer { IsLargeRead self.now (record { number = h.0; from = at }) out.old result out.new }
         ensures kept { KeepsParts self.now }
+        ensures steps { ByCosts H.most (λ c. meter.new ≡ first_count meter.old
+            + large_access_steps c self.now (record { number = h.0; from = at }) (length out.old) result) }
     {
+        make_room(meter);
         match self.length_for(h, at, out.len()) {
             Ok(length) => {
                 if length <= self.part_bytes {
-                    self.read_short(h, at, out, meter);
+                    self.read_short(h, at, out, meter.steps());
                 } else {
-                    self.read_long(h, at, out, meter);
+                    self.read_long(h, at, out, meter.steps());
                 }
                 Ok(())
             }
@@ -192,25 +226,30 @@ impl<H: Manager> LargeHeap<H> {
     }
 
     /// Makes an object of `bytes` zero bytes, for which the heap has room, and returns its handle.
-    fn make_object(&mut self, bytes: u32, meter: &mut Meter) -> Handle
+    fn make_object(&mut self, bytes: u32, steps: &mut Steps) -> Handle
         requires open { IsTrue self.old.is_open }
         requires room { HasLargeRoom self.old bytes }
+        requires low { steps.old ≤ 2 ^ 62 }
         ensures given { GivesLarge self.old result.0 bytes self.new }
         ensures kept { StaysKept self.old self.new }
+        ensures steps { ByCosts H.most (λ c. RoseAtMost steps.old steps.new (object_malloc_steps c (part_bytes_in self.old) bytes)) }
     {
-        let h = make(&mut self.inner, bytes, self.part_bytes, meter);
+        let h = make(&mut self.inner, bytes, self.part_bytes, steps);
         self.lengths[h.0 as usize] = Some(bytes);
         h
     }
 
     /// Frees the live object h, which has `bytes` bytes.
-    fn release_object(&mut self, h: Handle, bytes: u32, meter: &mut Meter)
+    fn release_object(&mut self, h: Handle, bytes: u32, steps: &mut Steps)
         requires open { IsTrue self.old.is_open }
         requires found { option_map length (get self.old.objects h.0) ≡ Some bytes }
+        requires low { steps.old ≤ 2 ^ 62 }
         ensures freed { FreesLarge self.old h.0 self.new }
         ensures kept { StaysKept self.old self.new }
+        ensures steps { ByCosts H.most (λ c. RoseAtMost steps.old steps.new
+            (object_free_steps c (paging_in self.old.inner) (part_bytes_in self.old) bytes)) }
     {
-        release(&mut self.inner, h, bytes, self.part_bytes, meter);
+        release(&mut self.inner, h, bytes, self.part_bytes, steps);
         self.lengths[h.0 as usize] = None;
     }
 
@@ -243,6 +282,16 @@ impl<H: Manager> LargeHeap<H> {
         } else {
             Err(AccessFault::Range)
         }
+    }
+}
+
+/// Resets the meter if its count is above 2 ^ 62, for an inner manager needs a count of at most 2 ^ 63.
+fn make_room(meter: &mut Meter)
+    ensures count { meter.new ≡ first_count meter.old }
+    ensures low { meter.new ≤ 2 ^ 62 }
+{
+    if 1 << 62 < meter.steps().count() {
+        meter.lap();
     }
 }
 

@@ -1,23 +1,29 @@
 //! Calls of the inner manager that it can't refuse: each function requires that there is room, or that the
-//! inner object is live and has the bytes. Each first resets `meter`, since a manager requires a count of at
-//! most 2 ^ 63 steps; so afterwards `meter` has the steps of the last inner call alone.
-ghost use Rattle.std.specs.Prelude.{◌≡◌, ℕ, List, Some, length, take, drop};
+//! inner object is live and has the bytes. Clause `few` of each bounds its steps for every manager, clause `steps`
+//! by the manager's own bounds.
+ghost use Rattle.std.specs.Prelude.{◌≡◌, ℕ, ◌+◌, ◌^◌, ◌≤◌, List, Some, length, take, drop};
 ghost use Rattle.std.specs.FinMap.{get};
+ghost use Rattle.step_ledger.specs.Counting.{RoseAtMost};
 ghost use Rattle.page_model.specs.Held.{objects};
+ghost use Rattle.page_model.specs.Image.{slot_for};
+ghost use Rattle.cf_model.specs.State.{paging_in};
 ghost use Rattle.large_objects.specs.InnerCalls.{FreesInner, MakesOneInner, HasInner, HasInnerRoom, IsReadyInner, WritesInner};
+ghost use Rattle.large_objects.specs.LargeCosts.{ByCosts};
 
 use cf_base::Handle;
 use cf_model::Manager;
-use step_ledger::Meter;
+use step_ledger::Steps;
 
 /// Makes an inner object of `bytes` zero bytes, for which the manager has room, and returns its handle.
-pub(crate) fn make_inner<H: Manager>(inner: &mut H, bytes: u32, meter: &mut Meter) -> Handle
+pub(crate) fn make_inner<H: Manager>(inner: &mut H, bytes: u32, steps: &mut Steps) -> Handle
     requires ready { IsReadyInner (H.state inner.old) }
     requires room { HasInnerRoom (H.state inner.old) bytes }
-    ensures { MakesOneInner (H.state inner.old) result.0 bytes (H.state inner.new) }
+    requires low { steps.old ≤ 2 ^ 63 }
+    ensures step { MakesOneInner (H.state inner.old) result.0 bytes (H.state inner.new) }
+    ensures few { RoseAtMost steps.old steps.new 64 }
+    ensures steps { ByCosts H.most (λ c. RoseAtMost steps.old steps.new c.malloc) }
 {
-    meter.lap();
-    match inner.malloc(bytes, meter.steps()) {
+    match inner.malloc(bytes, steps) {
         Ok(object) => object,
         Err(_) => unreachable!(),
     }
@@ -29,14 +35,16 @@ pub(crate) fn write_inner<H: Manager>(
     object: Handle,
     at: u32,
     bytes: &[u8],
-    meter: &mut Meter,
+    steps: &mut Steps,
 )
     requires ready { IsReadyInner (H.state inner.old) }
     requires has { HasInner (H.state inner.old) object.0 at (length bytes.now) }
-    ensures { WritesInner (H.state inner.old) object.0 at bytes.now (H.state inner.new) }
+    requires low { steps.old ≤ 2 ^ 63 }
+    ensures step { WritesInner (H.state inner.old) object.0 at bytes.now (H.state inner.new) }
+    ensures few { RoseAtMost steps.old steps.new (64 + length bytes.now) }
+    ensures steps { ByCosts H.most (λ c. steps.new ≡ steps.old + c.access at (length bytes.now)) }
 {
-    meter.lap();
-    let _ = inner.write(object, at, bytes, meter.steps());
+    let _ = inner.write(object, at, bytes, steps);
 }
 
 /// Fills `out` with bytes of the live inner object `object`, from its byte `at` on.
@@ -45,22 +53,27 @@ pub(crate) fn read_inner<H: Manager>(
     object: Handle,
     at: u32,
     out: &mut [u8],
-    meter: &mut Meter,
+    steps: &mut Steps,
 )
     requires ready { IsReadyInner (H.state inner.now) }
     requires has { HasInner (H.state inner.now) object.0 at (length out.old) }
-    ensures { (v : List ℕ) → get (objects (H.state inner.now).held) object.0 ≡ Some v → out.new ≡ take (length out.old) (drop at v) }
+    requires low { steps.old ≤ 2 ^ 63 }
+    ensures value { (v : List ℕ) → get (objects (H.state inner.now).held) object.0 ≡ Some v → out.new ≡ take (length out.old) (drop at v) }
+    ensures few { RoseAtMost steps.old steps.new (64 + length out.old) }
+    ensures steps { ByCosts H.most (λ c. steps.new ≡ steps.old + c.access at (length out.old)) }
 {
-    meter.lap();
-    let _ = inner.read(object, at, out, meter.steps());
+    let _ = inner.read(object, at, out, steps);
 }
 
 /// Frees the live inner object `object`.
-pub(crate) fn release_inner<H: Manager>(inner: &mut H, object: Handle, meter: &mut Meter)
+pub(crate) fn release_inner<H: Manager>(inner: &mut H, object: Handle, steps: &mut Steps)
     requires ready { IsReadyInner (H.state inner.old) }
     requires live { HasInner (H.state inner.old) object.0 0 0 }
-    ensures { FreesInner (H.state inner.old) object.0 (H.state inner.new) }
+    requires low { steps.old ≤ 2 ^ 63 }
+    ensures step { FreesInner (H.state inner.old) object.0 (H.state inner.new) }
+    ensures few { RoseAtMost steps.old steps.new (2 ^ 25) }
+    ensures steps { ByCosts H.most (λ c. (v : List ℕ) → get (objects (H.state inner.old).held) object.0 ≡ Some v
+        → RoseAtMost steps.old steps.new (c.free (slot_for (paging_in (H.state inner.old)) (length v)))) }
 {
-    meter.lap();
-    let _ = inner.free(object, meter.steps());
+    let _ = inner.free(object, steps);
 }

@@ -4,10 +4,13 @@ ghost use Rattle.std.specs.Prelude.{◌≡◌, ◌≢◌, ℕ, ◌+◌, ◌*◌,
 ghost use Rattle.std.specs.FinMap.{get};
 ghost use Rattle.cf_base.specs.declared.answers.AccessFault.{AccessFault};
 ghost use Rattle.cf_base.specs.declared.answers.Refusal.{Refusal};
+ghost use Rattle.cf_model.specs.Costs.{words_touched};
 ghost use Rattle.cf_model.specs.State.{paging_in};
 ghost use Rattle.cf_model.specs.Steps.{Position};
 ghost use Rattle.page_model.specs.Arrangement.{pages_for, used_pages};
+ghost use Rattle.page_model.specs.Paging.{Paging};
 ghost use Rattle.large_objects.specs.Large.{KeepsParts, LargeState};
+ghost use Rattle.large_objects.specs.LargeCosts.{moving_costs, object_free_steps, object_malloc_steps, parts_access_steps, parts_touched, slots_taken};
 ghost use Rattle.large_objects.specs.LargeSteps.{GivesLarge, IsLargeFault, IsRefusedLarge, ReadsLarge, WritesLarge, part_bytes_in};
 ghost use Rattle.large_objects.specs.InnerObjects.{inner_live, part_count};
 
@@ -44,4 +47,15 @@ pub fn what_is_written_is_read()
         → WritesLarge old position bytes new → ReadsLarge new position (length bytes) out → out ≡ bytes }
     ensures others { (old new : LargeState) (position : Position) (bytes : List ℕ) → WritesLarge old position bytes new
         → (q : ℕ) → q ≢ position.number → get new.objects q ≡ get old.objects q }
+{}
+
+/// The steps of calls on a long object over a moving manager. With q parts a malloc takes at most 17 + 20 q, and a
+/// free at most 20 + 23 q plus the words of all its slots. A read or a write takes exactly 5 for each part and 1 for
+/// each word that has one of its bytes.
+pub fn long_calls_take_steps_for_parts_and_words()
+    ensures malloc { (u n : ℕ) → u < n → object_malloc_steps moving_costs u n ≡ 17 + 20 * part_count u n }
+    ensures free { (p : Paging) (u n : ℕ) → u < n
+        → object_free_steps moving_costs p u n ≡ 20 + 23 * part_count u n + slots_taken p u n }
+    ensures access { (m u at count : ℕ) → 0 < m → u ≡ 8 * m
+        → parts_access_steps moving_costs u at count ≡ 5 * parts_touched u at count + words_touched at count }
 {}

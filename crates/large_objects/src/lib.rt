@@ -14,6 +14,6 @@ mod spine;
 
 pub use heap::LargeHeap;
 pub use laws::{
-    pages_in_use_are_those_of_the_inner_objects, parts_are_as_many_as_needed,
-    refusals_come_exactly_by_their_causes, what_is_written_is_read,
+    long_calls_take_steps_for_parts_and_words, pages_in_use_are_those_of_the_inner_objects,
+    parts_are_as_many_as_needed, refusals_come_exactly_by_their_causes, what_is_written_is_read,
 };

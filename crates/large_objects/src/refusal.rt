@@ -7,6 +7,7 @@ ghost use Rattle.page_model.specs.Arrangement.{live, pages_for};
 ghost use Rattle.page_model.specs.Held.{objects};
 ghost use Rattle.cf_model.specs.State.{paging_in};
 ghost use Rattle.large_objects.specs.InnerCalls.{IsReadyInner};
+ghost use Rattle.large_objects.specs.LargeCosts.{ByCosts};
 ghost use Rattle.large_objects.specs.LargeSteps.{FitsSpine, HasLargeRoom, IsRefusedLarge, StaysKept};
 ghost use Rattle.large_objects.specs.InnerObjects.{in_class, inner_lengths};
 
@@ -14,21 +15,22 @@ use crate::cut::{has_spine_that_fits, inner_objects, inner_objects_within};
 use crate::heap::LargeHeap;
 use cf_base::Refusal;
 use cf_model::Manager;
-use step_ledger::Meter;
+use step_ledger::Steps;
 
 impl<H: Manager> LargeHeap<H> {
     /// Why the heap would refuse a malloc of `bytes` bytes; `None` if it would not. The causes are tested
     /// in the order `Size`, `Proxy`, `Space`, and nothing changes.
-    pub(crate) fn refusal(&self, bytes: u32, meter: &mut Meter) -> Option<Refusal>
+    pub(crate) fn refusal(&self, bytes: u32, steps: &mut Steps) -> Option<Refusal>
         requires { IsTrue self.now.is_open }
         ensures cause { MatchOption result (HasLargeRoom self.now bytes) (λ e. IsRefusedLarge self.now bytes e) }
         ensures kept { StaysKept self.now self.now }
+        ensures steps { ByCosts H.most (λ c. steps.new ≡ steps.old) }
     {
         if !has_spine_that_fits(bytes, self.part_bytes) {
             return Some(Refusal::Size);
         }
         // `lengths` has one entry for each proxy, so its length is the number of proxies.
-        let live = self.inner.totals(meter.steps()).live as u64;
+        let live = self.inner.totals(steps).live as u64;
         if (self.lengths.len() as u64) < live + inner_objects(bytes, self.part_bytes) {
             return Some(Refusal::Proxy);
         }

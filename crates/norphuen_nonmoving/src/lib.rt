@@ -10,11 +10,13 @@ ghost use Rattle.cf_base.specs.declared.kind.Kind.TheVariants.{NonMoving};
 ghost use Rattle.held_heap.specs.Calls.{IsFiguresCall, IsFreeCall, IsLengthCall, IsMallocCall, IsReadCall, IsResizeCall, IsRoomCall, IsStepsCall, IsTotalsCall, IsWriteCall};
 ghost use Rattle.held_heap.specs.AtPlace.{IsOpenCall, IsCallOnOpen};
 ghost use Rattle.held_heap.specs.CallerHeap.{closed_by};
+ghost use Rattle.held_heap.specs.Needed.{IsNeededCall};
 ghost use Rattle.held_heap.specs.NonMovingPlace.{held_in};
 ghost use Rattle.held_heap.specs.NonMoving.{bounds};
+ghost use Rattle.held_heap.specs.Version.{version};
 
 use held_heap::nonmoving::NphHeap;
-use held_heap::{CLOSED, NphClass, NphFreed, NphHeapTotals, NphResized};
+use held_heap::{CLOSED, NphClass, NphFreed, NphHeapTotals, NphNeeded, NphResized, VERSION};
 use std::rt::Memory;
 
 /// Opens the heap with these settings: `pages` pages of `page_bytes` bytes, at most `k` partly full pages in
@@ -32,6 +34,22 @@ pub extern "C" fn nph_open(
     ensures { IsOpenCall NonMoving (held_in heap.old) pages page_bytes k proxies result (held_in heap.new) }
 {
     heap.open(memory, pages, page_bytes, k, proxies)
+}
+
+/// Writes into `needed` what `nph_open` with these settings asks of the functions that take and return memory: how many
+/// blocks, the bytes of all, and those of the largest. The caller's own memory for `heap` isn't counted, nor what the
+/// functions need for a block. Returns 0, or the code of the first setting out of range (`NphHeap::bytes_needed`).
+#[unsafe(no_mangle)]
+pub extern "C" fn nph_bytes_needed(
+    pages: u32,
+    page_bytes: u32,
+    k: u32,
+    proxies: u32,
+    needed: &mut NphNeeded,
+) -> i32
+    ensures { IsNeededCall NonMoving pages page_bytes k proxies result needed.old needed.new }
+{
+    NphHeap::bytes_needed(pages, page_bytes, k, proxies, needed)
 }
 
 /// Closes the heap and frees its memory; does nothing if it is closed (`NphHeap::close`).
@@ -178,4 +196,12 @@ pub extern "C" fn nph_last_steps(heap: &mut NphHeap, steps: &mut u64) -> i32
     } else {
         CLOSED
     }
+}
+
+/// Returns the version of this library (`VERSION`).
+#[unsafe(no_mangle)]
+pub extern "C" fn nph_version() -> u32
+    ensures { result ≡ version }
+{
+    VERSION
 }

@@ -3,8 +3,9 @@ ghost use Rattle.std.specs.Prelude.{◌≡◌, ◌<◌, ◌∷◌, false, length
 ghost use Rattle.std.specs.List.{range_with_len};
 ghost use Rattle.step_ledger.specs.Counting.{RoseBy};
 ghost use Rattle.page_pool.specs.Pool.{is_in_pool, IsPool, TakesFront};
+ghost use Rattle.page_pool.specs.Needed.{pool_bytes};
 
-use cf_base::{OutOfMemory, numbers_below};
+use cf_base::{BytesNeeded, OutOfMemory, numbers_below};
 use std::alloc::Global;
 use std::marker::Model;
 use step_ledger::{Cells, Steps};
@@ -45,6 +46,13 @@ impl PagePool {
             }),
             Err(_) => Err(OutOfMemory),
         }
+    }
+
+    /// The memory that `new` asks for.
+    pub fn bytes_needed(n: u32) -> BytesNeeded
+        ensures { result ≡ pool_bytes n }
+    {
+        BytesNeeded::block(4 * u64::from(n))
     }
 
     /// How many pages are free.

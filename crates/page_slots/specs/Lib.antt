@@ -4,3 +4,4 @@ pub mod Take
 pub mod Release
 pub mod Occupying
 pub mod Orders
+pub mod Needed

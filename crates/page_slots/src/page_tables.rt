@@ -1,7 +1,7 @@
 //! `PageTables`: the size classes, the used slots and the free pages of a region.
-ghost use Rattle.std.specs.Prelude.{◌/◌, ◌≤◌};
+ghost use Rattle.std.specs.Prelude.{◌/◌, ◌^◌, ◌<◌, ◌≤◌};
 
-use cf_base::{Layout, OutOfMemory, Settings};
+use cf_base::{BytesNeeded, Layout, OutOfMemory, Settings};
 use page_pool::PagePool;
 use size_classes::Classes;
 use slot_bitmap::SlotMaps;
@@ -20,8 +20,10 @@ pub struct PageTables {
 }
 
 impl PageTables {
-    ghost use Rattle.std.specs.Prelude.{IfOk};
+    ghost use Rattle.std.specs.Prelude.{◌≡◌, IfOk};
+    ghost use Rattle.cf_base.specs.Settings.{profile_of};
     ghost use Rattle.page_slots.specs.PageTables.{AreFirst};
+    ghost use Rattle.page_slots.specs.Needed.{table_bytes};
 
     /// Returns tables in which all pages of the settings are free, with slot sizes of this layout.
     /// Fails if out of memory; no other call of `PageTables` allocates.
@@ -33,5 +35,15 @@ impl PageTables {
             maps: SlotMaps::new(alloc, s.pages, s.page_words / 4)?,
             pool: PagePool::new(alloc, s.pages)?,
         })
+    }
+
+    /// The memory that `new` asks for.
+    pub fn bytes_needed(s: &Settings, layout: Layout) -> BytesNeeded
+        ensures needed { result ≡ table_bytes (profile_of s.now) layout }
+        ensures few { result.total < 2 ^ 43 }
+    {
+        let classes = Classes::bytes_needed(s.page_words, layout);
+        let maps = SlotMaps::bytes_needed(s.pages, s.page_words / 4);
+        classes.and(maps).and(PagePool::bytes_needed(s.pages))
     }
 }

@@ -1,6 +1,7 @@
 //! `PagedHeap`: the trait `Manager` over an open heap with pages, or none while it is closed.
 ghost use Rattle.std.specs.Prelude.{◌≡◌, ◌^◌, ◌+◌, ◌<◌, ◌≤◌, [], IsSome, IsTrue, OnErr, OnOk, Some};
 ghost use Rattle.page_model.specs.Arrangement.{free_pages, not_full_pages, pages_of_class};
+ghost use Rattle.cf_base.specs.Settings.{profile_of};
 ghost use Rattle.cf_base.specs.declared.kind.Kind.TheVariants.{NonMoving};
 ghost use Rattle.cf_model.specs.Answers.{classes_in};
 ghost use Rattle.paged_heap.specs.Costs.{free_steps, resize_steps};
@@ -12,13 +13,14 @@ ghost use Rattle.cf_model.specs.Steps.{BlocksStayIn, IsClosed, IsEmptyHeap, IsFr
 ghost use Rattle.step_ledger.specs.Counting.{RoseAtMost};
 ghost use Rattle.paged_heap.specs.Layout.{Holds, state_at};
 ghost use Rattle.paged_heap.specs.Most.{page_bounds};
+ghost use Rattle.paged_heap.specs.Needed.{paged_bytes};
 ghost use Rattle.paged_heap.specs.PagedState.{IsMappedByItsTable, OthersStayIn};
 
 use crate::open_heap::OpenHeap;
 use crate::page_kind::PageKind;
 use cf_base::{
-    AccessFault, Figures, Freed, Handle, Kind, NotLive, OutOfMemory, Refusal, ResizeFault, Resized,
-    Settings, Totals,
+    AccessFault, BytesNeeded, Figures, Freed, Handle, Kind, NotLive, OutOfMemory, Refusal,
+    ResizeFault, Resized, Settings, Totals,
 };
 use cf_model::{Manager, StepBounds, Usage};
 use std::alloc::Global;
@@ -240,6 +242,14 @@ impl<A: PageKind> Manager for PagedHeap<A> {
 }
 
 impl<A: PageKind> PagedHeap<A> {
+    /// The memory that `open_heap` asks for. The bytes of the manager itself, which its owner keeps, aren't counted.
+    pub fn bytes_needed(s: &Settings) -> BytesNeeded
+        ensures needed { result ≡ paged_bytes A.kind (profile_of s.now) }
+        ensures few { result.total < 2 ^ 45 }
+    {
+        A::bytes_needed(s)
+    }
+
     /// Returns a closed manager, which has allocated nothing.
     pub fn closed(alloc: Global) -> PagedHeap<A>
         ensures state { result.state ≡ closed_state A.kind }

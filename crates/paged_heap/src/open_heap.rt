@@ -1,6 +1,7 @@
 //! `OpenHeap`, the heap of the managers with pages while it is open, and how it is opened.
-ghost use Rattle.std.specs.Prelude.{◌≡◌, ◌*◌, length, replicate, IfOk};
+ghost use Rattle.std.specs.Prelude.{◌≡◌, ◌*◌, ◌^◌, ◌<◌, length, replicate, IfOk};
 ghost use Rattle.cf_base.specs.declared.kind.Layout.{Layout};
+ghost use Rattle.cf_base.specs.Settings.{profile_of};
 ghost use Rattle.cf_model.specs.State.{layout_of};
 ghost use Rattle.cf_model.specs.Steps.{IsEmptyHeap};
 ghost use Rattle.class_lists.specs.PageLists.{empty_lists};
@@ -8,9 +9,10 @@ ghost use Rattle.page_slots.specs.PageTables.{AreFirst};
 ghost use Rattle.proxy_table.specs.Proxies.{AreBelowLimit, no_proxies};
 ghost use Rattle.paged_heap.specs.Layout.{Holds, state_at};
 ghost use Rattle.paged_heap.specs.FirstTable.{IsFirstTable};
+ghost use Rattle.paged_heap.specs.Needed.{open_bytes};
 
 use block_table::BlockTable;
-use cf_base::{Layout, OutOfMemory, Settings};
+use cf_base::{BytesNeeded, Layout, OutOfMemory, Settings, class_count};
 use class_lists::ClassLists;
 use page_slots::PageTables;
 use proxy_table::ProxyTable;
@@ -60,6 +62,18 @@ impl OpenHeap {
         let lists = ClassLists::new(alloc, tables.classes.len(), s.pages)?;
         let proxies = ProxyTable::new(alloc, s.proxies)?;
         Ok(OpenHeap::empty::<A>(s, region, blocks, tables, lists, proxies))
+    }
+
+    /// The memory that `new` asks for.
+    pub(crate) fn bytes_needed(s: &Settings, layout: Layout) -> BytesNeeded
+        ensures needed { result ≡ open_bytes (profile_of s.now) layout }
+        ensures few { result.total < 2 ^ 44 }
+    {
+        let lists = ClassLists::bytes_needed(class_count(s.page_words, layout), s.pages);
+        let words = PageTables::bytes_needed(s, layout).and(Region::bytes_needed(
+            s.pages * s.page_words,
+        ));
+        words.and(lists.and(ProxyTable::bytes_needed(s.proxies)))
     }
 
     /// Makes an open heap of these parts, each without objects.

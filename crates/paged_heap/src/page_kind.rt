@@ -1,16 +1,18 @@
 //! The trait `PageKind`: what the moving and the non-moving manager do each in its own way.
-ghost use Rattle.std.specs.Prelude.{◌≡◌, IfOk, refl};
+ghost use Rattle.std.specs.Prelude.{◌≡◌, ◌^◌, ◌<◌, IfOk, refl};
 ghost use Rattle.std.specs.FinMap as map;
 ghost use Rattle.step_ledger.specs.Counting.{RoseBy};
+ghost use Rattle.cf_base.specs.Settings.{profile_of};
 ghost use Rattle.cf_model.specs.Answers.{block_in};
 ghost use Rattle.cf_model.specs.Costs.{block_steps};
 ghost use Rattle.cf_model.specs.Families.{IsPaged};
 ghost use Rattle.cf_model.specs.Steps.{IsEmptyHeap};
 ghost use Rattle.paged_heap.specs.Layout.{Holds, state_at};
+ghost use Rattle.paged_heap.specs.Needed.{paged_bytes};
 
 use crate::open_heap::OpenHeap;
 use block_table::BlockTable;
-use cf_base::{Handle, Kind, Layout, OutOfMemory, Settings};
+use cf_base::{BytesNeeded, Handle, Kind, Layout, OutOfMemory, Settings};
 use std::alloc::Global;
 use step_ledger::Steps;
 use virtual_words::{Direct, Mapped, Mapping};
@@ -25,6 +27,11 @@ pub trait PageKind: Mapping {
     fn open(alloc: Global, s: &Settings) -> Result<OpenHeap, OutOfMemory>
         ensures kept { IfOk result (λ h. Holds Self.kind h) }
         ensures empty { IfOk result (λ h. IsEmptyHeap Self.kind s.now (state_at Self.kind h)) };
+
+    /// The memory that `open` asks for.
+    fn bytes_needed(s: &Settings) -> BytesNeeded
+        ensures needed { result ≡ paged_bytes Self.kind (profile_of s.now) }
+        ensures few { result.total < 2 ^ 45 };
 
     /// The number of the physical block that holds block i of the object's slot, counted from 0;
     /// none if the kind has no block table, the handle is not live, or the slot has no block i.
@@ -47,6 +54,10 @@ impl PageKind for Direct {
         OpenHeap::new::<Direct>(alloc, s, Layout::Words, None)
     }
 
+    fn bytes_needed(s: &Settings) -> BytesNeeded {
+        OpenHeap::bytes_needed(s, Layout::Words)
+    }
+
     fn block(_heap: &OpenHeap, _h: Handle, _i: u32, _steps: &mut Steps) -> Option<u32> {
         None
     }
@@ -64,6 +75,11 @@ impl PageKind for Mapped {
     fn open(alloc: Global, s: &Settings) -> Result<OpenHeap, OutOfMemory> {
         let blocks = BlockTable::new(alloc, s.pages, s.page_words / 4)?;
         OpenHeap::new::<Mapped>(alloc, s, Layout::Blocks, Some(blocks))
+    }
+
+    fn bytes_needed(s: &Settings) -> BytesNeeded {
+        let blocks = BlockTable::bytes_needed(s.pages, s.page_words / 4);
+        OpenHeap::bytes_needed(s, Layout::Blocks).and(blocks)
     }
 
     fn block(heap: &OpenHeap, h: Handle, i: u32, steps: &mut Steps) -> Option<u32> {

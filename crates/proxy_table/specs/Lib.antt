@@ -1,2 +1,3 @@
 pub mod Proxies
 pub mod Layout
+pub mod Needed

@@ -7,9 +7,10 @@ ghost use Rattle.std.specs.FinMap as map;
 ghost use Rattle.step_ledger.specs.Counting.{RoseBy};
 ghost use Rattle.proxy_table.specs.Proxies.{AreBelowLimit, no_proxies, with_place, without_place};
 ghost use Rattle.cf_lemmas.specs.Maps.{vacant};
+ghost use Rattle.proxy_table.specs.Needed.{proxy_bytes};
 ghost use Rattle.proxy_table.specs.Layout.{IsFalling};
 
-use cf_base::{Handle, OutOfMemory};
+use cf_base::{BytesNeeded, Handle, OutOfMemory};
 use std::alloc::{AllocError, Global};
 use std::marker::Model;
 use step_ledger::{Cells, Steps};
@@ -59,6 +60,13 @@ impl ProxyTable {
             free: Cells::new(free),
             left: n,
         })
+    }
+
+    /// The memory that `new` asks for.
+    pub fn bytes_needed(n: u32) -> BytesNeeded
+        ensures { result ≡ proxy_bytes n }
+    {
+        BytesNeeded::block(8 * u64::from(n)).and(BytesNeeded::block(4 * u64::from(n)))
     }
 
     /// How many numbers are live.

@@ -16,3 +16,5 @@ pub mod OpenLemmas
 pub mod SetQuota
 pub mod ClassFigures
 pub mod Filler
+pub mod PartlyFull
+pub mod StepCounts

@@ -13,7 +13,7 @@ use Rattle.cf_base.specs.declared.answers.AccessFault.{AccessFault}
 use Rattle.cf_base.specs.declared.answers.AccessFault.TheVariants.{Unknown, Range}
 use Rattle.page_model.specs.Arrangement.{live, pages_needed}
 use Rattle.page_model.specs.Bytes.{AreBytes, byte_of, bytes_at, written}
-use Rattle.page_model.specs.Held.{Held, Placed, objects, places}
+use Rattle.page_model.specs.Held.{Held, Placed, objects}
 use Rattle.page_model.specs.Image.{IsSlotImage, Rewrites, object_word, slot_for}
 use Rattle.page_model.specs.Paging.{class_for}
 use Rattle.page_model.proofs.CallerLemmas.{byte_is, byte_of_object, bytes_at-AreBytes, inserted_there, length-written, object_word_small, rewritten_places, storable_added}

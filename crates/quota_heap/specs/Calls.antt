@@ -10,11 +10,12 @@ use Rattle.cf_model.specs.Steps.{Position}
 use Rattle.page_model.specs.Bytes.{bytes_at}
 use Rattle.page_model.specs.Image.{Clears, MovesWords, header_word}
 use Rattle.page_model.specs.Paging.{class_for, classes}
-use Rattle.page_slots.specs.Release.{FillsFrom, MovesObject, Vacates}
+use Rattle.page_slots.specs.Release.{FillsFrom, MovesObject, Vacates, steps_to_drop, steps_to_fill}
 use Rattle.page_slots.specs.Tables.{AreTables, KeepsForeign, page_at, slot_at, slots_on}
 use Rattle.page_slots.specs.Take.{TakesAt}
 use Rattle.proxy_table.specs.Proxies.{AreBelowLimit, with_place, without_place}
 use Rattle.quota_model.specs.Parts.{key_of}
+use Rattle.quota_heap.specs.Costs.{fault_steps}
 use Rattle.quota_heap.specs.Layout.{paging_at, state_of, tables_of}
 use Rattle.quota_heap.specs.Steps.{IsFault}
 use Rattle.quota_heap.specs.declared.shared_pages.SharedPages.{SharedPages}
@@ -101,6 +102,17 @@ IsFound g x position count (Err e) = IsMissing g x position count e
 abbrev pub IsRemoved : SharedPages → Task → ℕ → ℕ → ℕ → Option ℕ → SharedPages → Task → Type 0
 IsRemoved g x q place c None g' x' = (MustMoveInto g x place c → ⊥) × FreesAlone g x q place c g' x'
 IsRemoved g x q place c (Some r) g' x' = MustMoveInto g x place c × FreesAndFills g x q place c r g' x'
+
+-- the steps of leaving the slot of class c at the address `place`, by the tables: releasing the proxy of its object (2), its words, and freeing it; or, if object
+-- r moves in, finding it and freeing its slot, reading its header and setting its proxy
+abbrev pub leaving_steps : SharedPages → Task → ℕ → ℕ → Option ℕ → ℕ
+leaving_steps g x place c None = 2 + slice_index g.tables.classes.sizes c + steps_to_drop (tables_of g x) (page_at g.tables.classes place)
+leaving_steps g x place c (Some r) = 4 + slice_index g.tables.classes.sizes c + steps_to_fill (tables_of g x) c
+
+-- the steps of `find`: the proxy and, if the handle is live, the header
+abbrev pub find_steps : Result ℕ AccessFault → ℕ
+find_steps (Ok place) = 2
+find_steps (Err e) = fault_steps e
 
 -- as `IsFound`, for task t of an open heap
 abbrev pub IsFoundIn : OpenTasks → ℕ → Position → ℕ → Result ℕ AccessFault → Type 0

@@ -1,5 +1,7 @@
--- The most steps that each call on a heap of tasks costs. Each bound is reached by some call.
-use Rattle.std.specs.Prelude.{ℕ, ◌+◌, Option, Some, None, Result, Ok, Err}
+-- The exact steps of each call of a task, from the state s before it and the result; and the most of a malloc, a free, a read and a write. Of the objects they
+-- depend on those of the task alone. Each comment lists what the steps pay for.
+use Rattle.std.specs.Prelude.{ℕ, ◌+◌, ◌%◌, Option, Some, None, Result, Ok, Err, if◌then◌else◌, length, nat_eq}
+use Rattle.std.specs.FinMap.{get}
 use Rattle.cf_base.specs.declared.answers.AccessFault.{AccessFault}
 use Rattle.cf_base.specs.declared.answers.AccessFault.TheVariants.{Unknown, Range}
 use Rattle.cf_base.specs.declared.answers.Freed.{Freed}
@@ -7,35 +9,53 @@ use Rattle.cf_base.specs.declared.answers.Handle.{Handle}
 use Rattle.cf_base.specs.declared.answers.NotLive.{NotLive}
 use Rattle.cf_base.specs.declared.answers.Refusal.{Refusal}
 use Rattle.cf_model.specs.Costs.{words_touched}
+use Rattle.page_model.specs.Arrangement.{class_at, live}
+use Rattle.page_model.specs.Held.{Placed}
+use Rattle.page_model.specs.Image.{slot_for}
+use Rattle.page_model.specs.Order.{fill_steps, new_page_steps, open_steps, steps_to_drop}
+use Rattle.page_model.specs.Paging.{class_for, page_of, slots_of}
+use Rattle.quota_model.specs.Refusals.{task_paging}
+use Rattle.quota_heap.specs.State.{QuotaState, held_by, objects_by}
 
--- a malloc whose object makes its page full: the class (1), the slot and its page's lists (13), the proxy (2) and the header (1)
-abbrev pub most_of_malloc : ℕ
-most_of_malloc = 17
+-- how many objects of class c are on the task's partly full page of the class; 0 if it has none. As the bound is 1, the other pages of the class are full.
+abbrev pub on_partly_full : QuotaState → ℕ → ℕ → ℕ
+on_partly_full s task c = live (task_paging s.profile) (objects_by s task) c % slots_of (task_paging s.profile) c
 
--- a free that moves an object and empties its page: two headers (2), the class (1), the tables of two pages (13), two proxies (4), and the slot's words
-abbrev pub most_of_free : ℕ → ℕ
-most_of_free slot_words = 20 + slot_words
+-- taking a slot of a class whose pages have n slots, if `used` objects are on its partly full page; on a free page if there is none
+abbrev pub taking_steps : ℕ → ℕ → ℕ
+taking_steps used n = if nat_eq used 0 then new_page_steps else open_steps used n
 
--- a read or a write of `count` bytes from byte `from` on: the proxy (1), the header (1), and each word that holds one of the bytes
-abbrev pub most_of_access : ℕ → ℕ → ℕ
-most_of_access from count = 2 + words_touched from count
+-- a malloc of `bytes` bytes: finding the class, taking a slot, binding a proxy (2), and writing the header; if refused, only finding the class
+abbrev pub malloc_cost : QuotaState → ℕ → ℕ → Result Handle Refusal → ℕ
+malloc_cost s task bytes (Ok h) = 4 + taking_steps (on_partly_full s task (class_for (task_paging s.profile) bytes))
+    (slots_of (task_paging s.profile) (class_for (task_paging s.profile) bytes))
+malloc_cost s task bytes (Err e) = 1
 
--- the most steps of a malloc with this result; a refused one only looks up the class
-abbrev pub malloc_steps : Result Handle Refusal → ℕ
-malloc_steps (Ok h) = most_of_malloc
-malloc_steps (Err e) = 1
+-- freeing the slot of the object x, whose words are cleared or moved into; if an object moves in, finding it and freeing its slot, reading its header and
+-- setting its proxy
+abbrev pub leaving_cost : QuotaState → ℕ → Placed → Option Handle → ℕ
+leaving_cost s task x None = steps_to_drop (task_paging s.profile) (held_by s task) (class_at (task_paging s.profile) x) (page_of (task_paging s.profile) x.place)
+leaving_cost s task x (Some y) = 2 + fill_steps (on_partly_full s task (class_at (task_paging s.profile) x))
 
--- the most steps of a free with this result; a refused one only reads the proxy
-abbrev pub free_steps : Result Freed NotLive → ℕ
-free_steps (Ok freed) = most_of_free freed.slot_words
-free_steps (Err e) = 1
+-- a free of object h: reading its proxy and header, finding its class, testing whether an object must move, releasing the proxy (2), the words of the slot, and
+-- leaving it; if refused, only the proxy
+abbrev pub free_cost : QuotaState → ℕ → ℕ → Result Freed NotLive → ℕ
+free_cost s task h (Ok freed) = elim (get (held_by s task) h) [
+  | None ↦ 0
+  | Some x ↦ 6 + slot_for (task_paging s.profile) (length x.bytes) + leaving_cost s task x freed.moved
+]
+free_cost s task h (Err e) = 1
 
--- the steps of a refused read or write: it reads the proxy and, if the handle is live, the header
+-- a refused read or write: the proxy and, if the handle is live, the header
 abbrev pub fault_steps : AccessFault → ℕ
 fault_steps Unknown = 1
 fault_steps Range = 2
 
--- the most steps of a read or a write with this result, of `count` bytes from byte `from` on
+-- the most steps of a read or a write of `count` bytes from byte `from` on, taken unless it is refused: the proxy, the header, and each word that holds one of the bytes
+abbrev pub most_of_access : ℕ → ℕ → ℕ
+most_of_access from count = 2 + words_touched from count
+
+-- a read or a write with this result, of `count` bytes from byte `from` on
 abbrev pub access_steps : Result Unit AccessFault → ℕ → ℕ → ℕ
 access_steps (Ok done) from count = most_of_access from count
 access_steps (Err e) from count = fault_steps e
@@ -44,3 +64,16 @@ access_steps (Err e) from count = fault_steps e
 abbrev pub peek_steps : Option ℕ → ℕ
 peek_steps None = 0
 peek_steps (Some word) = 1
+
+-- the most steps of a malloc: those of one whose object makes its page full
+abbrev pub most_of_malloc : ℕ
+most_of_malloc = 17
+
+-- the most steps of a free of an object in a slot of this many words: those of one that moves an object and empties its page
+abbrev pub most_of_free : ℕ → ℕ
+most_of_free slot_words = 20 + slot_words
+
+-- the most steps of a free with this result
+abbrev pub free_steps : Result Freed NotLive → ℕ
+free_steps (Ok freed) = most_of_free freed.slot_words
+free_steps (Err e) = 1

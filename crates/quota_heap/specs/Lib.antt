@@ -3,3 +3,4 @@ pub mod Costs
 pub mod Steps
 pub mod Layout
 pub mod Calls
+pub mod Needed

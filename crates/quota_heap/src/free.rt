@@ -1,9 +1,9 @@
 //! How a task frees an object on the pages that all tasks share: with no other object moved (`free_alone`),
 //! or with one moved into the freed slot (`free_and_fill`).
 ghost use Rattle.std.specs.Prelude.{◌≡◌, ◌+◌, ◌*◌, ◌<◌, ◌≤◌, IfSome, IsSome, None, slice_index};
-ghost use Rattle.step_ledger.specs.Counting.{RoseAtMost};
+ghost use Rattle.step_ledger.specs.Counting.{RoseBy};
 ghost use Rattle.cf_model.specs.Steps.{number_of};
-ghost use Rattle.quota_heap.specs.Calls.{FreesAndFills, FreesAlone, MustMoveInto, IsObjectAt, IsRemoved};
+ghost use Rattle.quota_heap.specs.Calls.{FreesAndFills, FreesAlone, MustMoveInto, IsObjectAt, IsRemoved, leaving_steps};
 ghost use Rattle.quota_heap.specs.Layout.{ArePages, IsTask};
 
 use crate::shared_pages::{Found, SharedPages, shift, wipe};
@@ -31,7 +31,7 @@ impl SharedPages {
         requires object { IsObjectAt self.old task.old h.0 x.place x.length x.class }
         ensures removed { IsRemoved self.old task.old h.0 x.place x.class (number_of result.moved) self.new task.new }
         ensures slot { result.slot_words ≡ slice_index self.old.tables.classes.sizes x.class }
-        ensures bound { RoseAtMost steps.old steps.new (17 + result.slot_words) }
+        ensures steps { RoseBy steps.old steps.new (1 + leaving_steps self.old task.old x.place x.class (number_of result.moved)) }
     {
         if self
             .tables
@@ -60,7 +60,7 @@ impl SharedPages {
         ensures goes { FreesAlone self.old task.old h.0 x.place x.class self.new task.new }
         ensures still { result.moved ≡ None }
         ensures slot { result.slot_words ≡ slice_index self.old.tables.classes.sizes x.class }
-        ensures bound { RoseAtMost steps.old steps.new (15 + result.slot_words) }
+        ensures steps { RoseBy steps.old steps.new (leaving_steps self.old task.old x.place x.class None) }
     {
         let slot_words = self.tables.classes.slot_words(x.class);
         let left = self.tables.pool.left();
@@ -96,7 +96,7 @@ impl SharedPages {
         ensures fills { IfSome result.moved (λ other. FreesAndFills self.old task.old h.0 x.place x.class other.0 self.new task.new) }
         ensures moved { IsSome result.moved }
         ensures slot { result.slot_words ≡ slice_index self.old.tables.classes.sizes x.class }
-        ensures bound { RoseAtMost steps.old steps.new (16 + result.slot_words) }
+        ensures steps { RoseBy steps.old steps.new (leaving_steps self.old task.old x.place x.class (number_of result.moved)) }
     {
         let slot_words = self.tables.classes.slot_words(x.class);
         let left = self.tables.pool.left();

@@ -1,17 +1,19 @@
 //! The heap that sixteen tasks share, closed or open, with its public calls: quotas, malloc, free, read, write,
 //! figures and `peek`. `OpenTasks` does all the work.
 ghost use Rattle.std.specs.Prelude.{◌≡◌, ◌+◌, ◌^◌, ◌<◌, ◌≤◌, IsTrue, IfErr, IfOk, false, length, slice_get, sum};
-ghost use Rattle.step_ledger.specs.Counting.{RoseAtMost};
+ghost use Rattle.step_ledger.specs.Counting.{RoseAtMost, RoseBy};
 ghost use Rattle.cf_base.specs.Settings.{profile_of};
-ghost use Rattle.cf_model.specs.Costs.{access_bound, free_bound};
 ghost use Rattle.page_model.specs.Arrangement.{pages_needed, used_pages};
 ghost use Rattle.quota_model.specs.Refusals.{task_paging};
-ghost use Rattle.quota_heap.specs.Costs.{access_steps, free_steps, malloc_steps, peek_steps};
+ghost use Rattle.quota_heap.specs.Costs.{access_steps, free_cost, free_steps, malloc_cost, most_of_malloc, peek_steps};
+ghost use Rattle.quota_heap.specs.Needed.{quota_bytes};
 ghost use Rattle.quota_heap.specs.State.{KeepsTasks, closed_state, empty_state, held_by, objects_by, quota_of};
 ghost use Rattle.quota_heap.specs.Steps.{IsFreeStep, IsMallocStep, IsQuotaStep, IsReadAnswer, IsWriteStep, figures_by};
 
 use crate::open_tasks::OpenTasks;
-use cf_base::{AccessFault, Figures, Freed, Handle, NotLive, OutOfMemory, Refusal, Settings};
+use cf_base::{
+    AccessFault, BytesNeeded, Figures, Freed, Handle, NotLive, OutOfMemory, Refusal, Settings,
+};
 use quota_model::QuotaFault;
 use std::alloc::Global;
 use std::marker::Model;
@@ -60,6 +62,13 @@ impl QuotaHeap {
         self.inner = None;
         self.inner = Some(OpenTasks::new(self.alloc, s)?);
         Ok(())
+    }
+
+    /// The memory that `open_heap` asks for. The bytes of the `QuotaHeap` itself, which its owner keeps, aren't counted.
+    pub fn bytes_needed(s: &Settings) -> BytesNeeded
+        ensures { result ≡ quota_bytes (profile_of s.now) }
+    {
+        OpenTasks::bytes_needed(s)
     }
 
     /// Returns whether the heap is open. In an open heap no page has objects of two tasks, and no task
@@ -133,8 +142,8 @@ impl QuotaHeap {
         requires room { steps.old ≤ 2 ^ 63 }
         ensures step { IsMallocStep self.old task bytes result self.new }
         ensures kept { KeepsTasks self.new }
-        ensures bound { RoseAtMost steps.old steps.new 64 }
-        ensures steps { RoseAtMost steps.old steps.new (malloc_steps result) }
+        ensures steps { RoseBy steps.old steps.new (malloc_cost self.old task bytes result) }
+        ensures bound { RoseAtMost steps.old steps.new most_of_malloc }
     {
         match &mut self.inner {
             Some(open) => open.malloc(task, bytes, steps),
@@ -151,8 +160,8 @@ impl QuotaHeap {
         requires room { steps.old ≤ 2 ^ 63 }
         ensures step { IsFreeStep self.old task h.0 result self.new }
         ensures kept { KeepsTasks self.new }
-        ensures bound { RoseAtMost steps.old steps.new (free_bound result) }
-        ensures steps { RoseAtMost steps.old steps.new (free_steps result) }
+        ensures steps { RoseBy steps.old steps.new (free_cost self.old task h.0 result) }
+        ensures bound { RoseAtMost steps.old steps.new (free_steps result) }
     {
         match &mut self.inner {
             Some(open) => open.free(task, h, steps),
@@ -176,8 +185,7 @@ impl QuotaHeap {
         requires room { steps.old ≤ 2 ^ 63 }
         ensures step { IsWriteStep self.old task (record { number = h.0; from = at }) bytes.now result self.new }
         ensures kept { KeepsTasks self.new }
-        ensures bound { RoseAtMost steps.old steps.new (access_bound at (length bytes.now)) }
-        ensures steps { RoseAtMost steps.old steps.new (access_steps result at (length bytes.now)) }
+        ensures steps { RoseBy steps.old steps.new (access_steps result at (length bytes.now)) }
     {
         match &mut self.inner {
             Some(open) => open.write(task, h, at, bytes, steps),
@@ -200,8 +208,7 @@ impl QuotaHeap {
         requires sixteen { task < 16 }
         requires room { steps.old ≤ 2 ^ 63 }
         ensures answer { IsReadAnswer self.now task (record { number = h.0; from = at }) out.old result out.new }
-        ensures bound { RoseAtMost steps.old steps.new (access_bound at (length out.old)) }
-        ensures steps { RoseAtMost steps.old steps.new (access_steps result at (length out.old)) }
+        ensures steps { RoseBy steps.old steps.new (access_steps result at (length out.old)) }
     {
         match &self.inner {
             Some(open) => open.read(task, h, at, out, steps),
@@ -227,8 +234,7 @@ impl QuotaHeap {
         requires opened { IsTrue self.now.is_open }
         requires room { steps.old ≤ 2 ^ 63 }
         ensures value { result ≡ slice_get self.now.words word }
-        ensures rises { RoseAtMost steps.old steps.new 1 }
-        ensures steps { RoseAtMost steps.old steps.new (peek_steps result) }
+        ensures steps { RoseBy steps.old steps.new (peek_steps result) }
     {
         match &self.inner {
             Some(open) => open.peek(word, steps),

@@ -2,12 +2,13 @@
 //! slot, binds a proxy of the task, and writes the header.
 ghost use Rattle.std.specs.Prelude.{◌≡◌, ◌≢◌, ◌+◌, ◌<◌, ◌≤◌, [], length};
 ghost use Rattle.std.specs.FinMap.{get, len};
-ghost use Rattle.step_ledger.specs.Counting.{RoseAtMost};
+ghost use Rattle.step_ledger.specs.Counting.{RoseBy};
 ghost use Rattle.class_lists.specs.PageLists.{pages_in};
 ghost use Rattle.class_lists.specs.declared.Which.TheVariants.{NotFull};
 ghost use Rattle.page_model.specs.Paging.{class_for, classes};
+ghost use Rattle.page_slots.specs.Take.{steps_to_take};
 ghost use Rattle.quota_heap.specs.Calls.{IsAdded};
-ghost use Rattle.quota_heap.specs.Layout.{ArePages, IsTask, paging_at};
+ghost use Rattle.quota_heap.specs.Layout.{ArePages, IsTask, paging_at, tables_of};
 
 use crate::shared_pages::SharedPages;
 use crate::task::Task;
@@ -36,7 +37,7 @@ impl SharedPages {
         requires room { pages_in task.old.lists c NotFull ≡ [] → self.old.tables.pool.free ≡ [] → ⊥ }
         requires few { task.old.pages ≤ 4096 }
         ensures comes { IsAdded self.old task.old t c bytes result.0 self.new task.new }
-        ensures bound { RoseAtMost steps.old steps.new 16 }
+        ensures steps { RoseBy steps.old steps.new (steps_to_take self.old.tables.classes (tables_of self.old task.old) c + 3) }
     {
         let left = self.tables.pool.left();
         let Some(place) = self.tables.take_slot(&mut task.lists, c, steps) else {

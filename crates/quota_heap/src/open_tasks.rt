@@ -1,28 +1,32 @@
 //! The body of an open heap of sixteen tasks, with all calls and their tests for refusals. Each call works on
 //! its task's own tables and on the pages that all tasks share.
-ghost use Rattle.std.specs.Prelude.{◌≡◌, ℕ, ◌+◌, ◌<◌, ◌≤◌, None, Some, IfErr, IfNone, IfOk, IfSome, length, slice_get, slice_set, sum};
+ghost use Rattle.std.specs.Prelude.{◌≡◌, ℕ, ◌+◌, ◌<◌, ◌≤◌, None, Some, IfNone, IfOk, IfSome, if◌then◌else◌, is_some, length, slice_get, slice_set, sum};
 ghost use Rattle.std.specs.FinMap.{get};
-ghost use Rattle.step_ledger.specs.Counting.{RoseAtMost};
+ghost use Rattle.step_ledger.specs.Counting.{RoseBy};
 ghost use Rattle.cf_base.specs.Classes.{need};
 ghost use Rattle.cf_base.specs.Settings.{profile_of};
-ghost use Rattle.cf_model.specs.Costs.{access_bound, free_bound};
 ghost use Rattle.page_model.specs.Arrangement.{pages_needed};
 ghost use Rattle.page_model.specs.Figures.{figures_of};
 ghost use Rattle.page_model.specs.Paging.{class_for, classes};
 ghost use Rattle.quota_model.specs.Refusals.{malloc_refusal, quota_refusal};
-ghost use Rattle.quota_heap.specs.Calls.{IsFoundIn, IsObjectAt};
-ghost use Rattle.quota_heap.specs.Costs.{access_steps, fault_steps, free_steps, malloc_steps, peek_steps};
+ghost use Rattle.quota_heap.specs.Calls.{IsFoundIn, IsObjectAt, find_steps};
+ghost use Rattle.quota_heap.specs.Costs.{access_steps, free_cost, malloc_cost, peek_steps};
 ghost use Rattle.quota_heap.specs.Layout.{IsValid, paging_at, state_of};
+ghost use Rattle.quota_heap.specs.Needed.{quota_bytes};
 ghost use Rattle.quota_heap.specs.declared.task.Task.{Task};
 ghost use Rattle.quota_heap.specs.State.{empty_state, held_by, objects_by, quota_of};
 ghost use Rattle.quota_heap.specs.Steps.{IsFreeStep, IsMallocStep, IsQuotaStep, IsReadAnswer, IsWriteStep, figures_by};
 
 use crate::shared_pages::{Found, SharedPages};
-use crate::task::{Task, first_tasks};
-use cf_base::{AccessFault, Figures, Freed, Handle, NotLive, OutOfMemory, Refusal, Settings};
+use crate::task::{Task, first_tasks, tasks_bytes};
+use cf_base::{
+    AccessFault, BytesNeeded, Figures, Freed, Handle, Layout, NotLive, OutOfMemory, Refusal,
+    Settings, class_count,
+};
 use class_lists::Which;
+use page_slots::PageTables;
 use quota_model::QuotaFault;
-use region::{read_run, words_with, write_run};
+use region::{Region, read_run, words_with, write_run};
 use std::alloc::Global;
 use step_ledger::Steps;
 
@@ -49,6 +53,17 @@ impl OpenTasks {
             tasks,
             granted: 0,
         })
+    }
+
+    /// The memory that `new` asks for.
+    pub(crate) fn bytes_needed(s: &Settings) -> BytesNeeded
+        ensures { result ≡ quota_bytes (profile_of s.now) }
+    {
+        let layout = Layout::Words;
+        let shared_pages = PageTables::bytes_needed(s, layout).and(Region::bytes_needed(
+            s.pages * s.page_words,
+        ));
+        shared_pages.and(tasks_bytes(class_count(s.page_words, layout), s.pages, s.proxies))
     }
 
     /// The quota of task `t` in pages.
@@ -126,8 +141,7 @@ impl OpenTasks {
         requires sixteen { t < 16 }
         ensures step { IsMallocStep (state_of self.old) t bytes result (state_of self.new) }
         ensures kept { IsValid self.new }
-        ensures bound { RoseAtMost steps.old steps.new 64 }
-        ensures steps { RoseAtMost steps.old steps.new (malloc_steps result) }
+        ensures steps { RoseBy steps.old steps.new (malloc_cost (state_of self.old) t bytes result) }
     {
         let Some(c) = self.shared_pages.tables.classes.class_of(bytes, steps) else {
             return Err(Refusal::Size);
@@ -166,8 +180,7 @@ impl OpenTasks {
         requires sixteen { t < 16 }
         ensures step { IsFreeStep (state_of self.old) t h.0 result (state_of self.new) }
         ensures kept { IsValid self.new }
-        ensures bound { RoseAtMost steps.old steps.new (free_bound result) }
-        ensures steps { RoseAtMost steps.old steps.new (free_steps result) }
+        ensures steps { RoseBy steps.old steps.new (free_cost (state_of self.old) t h.0 result) }
     {
         let Some(x) = self.object(t, h, steps) else {
             return Err(NotLive);
@@ -184,8 +197,7 @@ impl OpenTasks {
         ensures none { IfNone result (get (held_by (state_of self.now) t) h.0 ≡ None) }
         ensures found { IfSome result (λ f. (x : Task) → slice_get self.now.tasks.items t ≡ Some x
             → IsObjectAt self.now.shared_pages x h.0 f.place f.length f.class) }
-        ensures bound { RoseAtMost steps.old steps.new 3 }
-        ensures missing { IfNone result (RoseAtMost steps.old steps.new 1) }
+        ensures steps { RoseBy steps.old steps.new (if is_some result then 3 else 1) }
     {
         let task = &self.tasks[t as usize];
         self.shared_pages.object(task, h, steps)
@@ -204,8 +216,7 @@ impl OpenTasks {
         requires kept { IsValid self.now }
         requires sixteen { t < 16 }
         ensures found { IsFoundIn self.now t (record { number = h.0; from = at }) count result }
-        ensures bound { RoseAtMost steps.old steps.new 2 }
-        ensures refused { IfErr result (λ e. RoseAtMost steps.old steps.new (fault_steps e)) }
+        ensures steps { RoseBy steps.old steps.new (find_steps result) }
     {
         let task = &self.tasks[t as usize];
         self.shared_pages.find(task, h, at, count, steps)
@@ -225,8 +236,7 @@ impl OpenTasks {
         requires sixteen { t < 16 }
         ensures step { IsWriteStep (state_of self.old) t (record { number = h.0; from = at }) bytes.now result (state_of self.new) }
         ensures kept { IsValid self.new }
-        ensures bound { RoseAtMost steps.old steps.new (access_bound at (length bytes.now)) }
-        ensures steps { RoseAtMost steps.old steps.new (access_steps result at (length bytes.now)) }
+        ensures steps { RoseBy steps.old steps.new (access_steps result at (length bytes.now)) }
     {
         let len = bytes.len();
         let place = self.find(t, h, at, len, steps)?;
@@ -253,8 +263,7 @@ impl OpenTasks {
         requires kept { IsValid self.now }
         requires sixteen { t < 16 }
         ensures answer { IsReadAnswer (state_of self.now) t (record { number = h.0; from = at }) out.old result out.new }
-        ensures bound { RoseAtMost steps.old steps.new (access_bound at (length out.old)) }
-        ensures steps { RoseAtMost steps.old steps.new (access_steps result at (length out.old)) }
+        ensures steps { RoseBy steps.old steps.new (access_steps result at (length out.old)) }
     {
         let len = out.len();
         let place = self.find(t, h, at, len, steps)?;
@@ -303,8 +312,7 @@ impl OpenTasks {
     /// Returns the word of the region with the number `word`, or `None` past the region's end.
     pub(crate) fn peek(&self, word: u32, steps: &mut Steps) -> Option<u64>
         ensures value { result ≡ slice_get self.now.shared_pages.region word }
-        ensures bound { RoseAtMost steps.old steps.new 1 }
-        ensures steps { RoseAtMost steps.old steps.new (peek_steps result) }
+        ensures steps { RoseBy steps.old steps.new (peek_steps result) }
     {
         if word < self.shared_pages.region.len() {
             Some(self.shared_pages.region.read(word, steps))

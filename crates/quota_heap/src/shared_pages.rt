@@ -1,12 +1,11 @@
 //! What all tasks share (`SharedPages`): the settings, the region, the used slots of each page, and the free
 //! pages. Also the lookup of a task's object, and the clearing and moving of a slot's words.
-ghost use Rattle.std.specs.Prelude.{◌≡◌, ℕ, ◌*◌, ◌+◌, ◌<◌, ◌≤◌, false, length, replicate, slice_get, slice_index, None, IfErr, IfNone, IfOk, IfSome};
+ghost use Rattle.std.specs.Prelude.{◌≡◌, ℕ, ◌*◌, ◌+◌, ◌<◌, ◌≤◌, false, length, replicate, slice_get, slice_index, None, IfNone, IfOk, IfSome, if◌then◌else◌, is_some};
 ghost use Rattle.std.specs.List.{range_with_len};
 ghost use Rattle.std.specs.FinMap.{get};
-ghost use Rattle.step_ledger.specs.Counting.{RoseAtMost};
+ghost use Rattle.step_ledger.specs.Counting.{RoseBy};
 ghost use Rattle.page_model.specs.Image.{Clears, IsDisjoint, MovesWords};
-ghost use Rattle.quota_heap.specs.Calls.{IsFound, IsObjectAt};
-ghost use Rattle.quota_heap.specs.Costs.{fault_steps};
+ghost use Rattle.quota_heap.specs.Calls.{IsFound, IsObjectAt, find_steps};
 ghost use Rattle.quota_heap.specs.Layout.{AreFirstPages, ArePages, IsTask};
 
 use crate::task::Task;
@@ -53,8 +52,7 @@ impl SharedPages {
         requires kept { (t : ℕ) × IsTask self.now t task.now }
         ensures none { IfNone result (get task.now.proxies.places h.0 ≡ None) }
         ensures found { IfSome result (λ f. IsObjectAt self.now task.now h.0 f.place f.length f.class) }
-        ensures bound { RoseAtMost steps.old steps.new 3 }
-        ensures missing { IfNone result (RoseAtMost steps.old steps.new 1) }
+        ensures steps { RoseBy steps.old steps.new (if is_some result then 3 else 1) }
     {
         let Some(place) = task.proxies.lookup(h, steps) else {
             return None;
@@ -83,8 +81,7 @@ impl SharedPages {
         requires shared_pages { ArePages self.now }
         requires kept { (t : ℕ) × IsTask self.now t task.now }
         ensures found { IsFound self.now task.now (record { number = h.0; from = at }) count result }
-        ensures bound { RoseAtMost steps.old steps.new 2 }
-        ensures refused { IfErr result (λ e. RoseAtMost steps.old steps.new (fault_steps e)) }
+        ensures steps { RoseBy steps.old steps.new (find_steps result) }
     {
         let Some(place) = task.proxies.lookup(h, steps) else {
             return Err(AccessFault::Unknown);
@@ -102,7 +99,7 @@ pub(crate) fn wipe(region: &mut Region, place: u32, slot_words: u32, steps: &mut
     requires within { place + slot_words ≤ length region.old }
     ensures words { Clears region.old region.new (record { from = place; count = slot_words }) }
     ensures len { length region.new ≡ length region.old }
-    ensures bound { RoseAtMost steps.old steps.new slot_words }
+    ensures steps { RoseBy steps.old steps.new slot_words }
 {
     region.clear(place, slot_words, steps);
 }
@@ -114,7 +111,7 @@ pub(crate) fn shift(region: &mut Region, from: u32, to: u32, slot_words: u32, st
     requires apart { IsDisjoint from slot_words to slot_words }
     ensures words { MovesWords region.old region.new (record { from = from; count = slot_words }) to }
     ensures len { length region.new ≡ length region.old }
-    ensures bound { RoseAtMost steps.old steps.new slot_words }
+    ensures steps { RoseBy steps.old steps.new slot_words }
 {
     region.move_words(from, to, slot_words, steps);
 }

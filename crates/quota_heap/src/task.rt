@@ -1,13 +1,15 @@
 //! One task of the heap of tasks: its quota, its counts, page lists and proxies, which it shares with no other
 //! task; and how sixteen tasks without objects are made.
-ghost use Rattle.std.specs.Prelude.{◌≡◌, IfOk, replicate};
+ghost use Rattle.std.specs.Prelude.{◌≡◌, ◌^◌, ◌<◌, ◌≤◌, IfOk, replicate};
 ghost use Rattle.proxy_table.specs.Proxies.{AreBelowLimit, no_proxies};
 ghost use Rattle.quota_heap.specs.Layout.{first_task};
+ghost use Rattle.quota_heap.specs.Needed.{task_bytes};
 
-use cf_base::OutOfMemory;
+use cf_base::{BytesNeeded, OutOfMemory};
 use class_lists::ClassLists;
 use proxy_table::ProxyTable;
 use std::alloc::Global;
+use std::mem::size_of;
 
 /// The number of tasks.
 pub(crate) const TASKS: u32 = 16;
@@ -29,6 +31,11 @@ pub(crate) struct Task {
     /// The addresses of its objects, by their numbers in this task.
     pub(crate) proxies: ProxyTable,
 }
+
+/// The bytes of a `Task`.
+const TASK_BYTES: u64 = 680;
+
+const _: () = prove!(size_of::<Task>() == 680);
 
 impl Task {
     /// Makes a task without objects, whose quota is 0. Its tables are for `classes` size classes, a region of
@@ -75,4 +82,14 @@ pub(crate) fn first_tasks(
         };
     }
     Ok(tasks)
+}
+
+/// The memory that `first_tasks` asks for.
+pub(crate) fn tasks_bytes(classes: u32, pages: u32, proxies: u32) -> BytesNeeded
+    requires { classes ≤ 67 }
+    ensures needed { result ≡ task_bytes classes pages proxies }
+    ensures few { result.total < 2 ^ 43 }
+{
+    let tables = ClassLists::bytes_needed(classes, pages).and(ProxyTable::bytes_needed(proxies));
+    BytesNeeded::block(u64::from(TASKS) * TASK_BYTES).and(tables.times(TASKS))
 }

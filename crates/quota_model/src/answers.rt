@@ -13,6 +13,7 @@ pub enum QuotaFault {
 
 /// One entry of what a task declares before it runs: at any time, at most `count` of its live
 /// objects have `bytes` bytes. Entries of the same length add up.
+#[repr(C)]
 #[derive(Clone, Copy, Debug, PartialEq, Eq)]
 pub struct Need {
     pub bytes: u32,

@@ -1,7 +1,12 @@
--- For `clear_blocks` and `move_blocks`: blocks of four words are cleared or moved, one after the other.
-use Rattle.std.proofs.Common.{◌≡◌, ◌≢◌, ℕ, ◌+◌, ◌*◌, ◌/◌, ◌<◌, ◌≤◌, ◌⊎◌, inl, inr, List, length, slice_index, arith, ap, ◌∙◌}
+-- For `clear_blocks`, `move_blocks` and `write_blocks`: blocks of four words are cleared, moved or written, one after the other.
+use Rattle.std.proofs.Common.{◌≡◌, ◌≢◌, ℕ, ◌+◌, ◌-◌, ◌*◌, ◌/◌, ◌%◌, ◌^◌, ◌<◌, ◌≤◌, ◌⊎◌, inl, inr, List, length, slice_index, arith, ap, refl, sym, ◌∙◌}
+use borrow.Rule.Slice.PartMut.{put_mid}
 use Rattle.std.proofs.lemmas.Bool.{cases_eq, cases_lt}
+use Rattle.page_model.specs.Bytes.{byte_of}
+use Rattle.region.specs.Cells.{byte_in}
+use Rattle.region.specs.BlockBytes.{WritesBlocks}
 use Rattle.region.specs.Words.{AreDistinct, AreOther, ClearsBlocks, MovesBlocks, cleared, moved}
+use Rattle.region.proofs.Pieces.{put_inside, put_outside}
 use Rattle.region.proofs.WordsAfter.{cleared_others, cleared_within, moved_arrived, moved_left, moved_others}
 
 -- clearing or moving none of the blocks changes nothing
@@ -106,4 +111,42 @@ module _ (u v sources targets : List ℕ) (n m : ℕ) (less : n < m) (source : 4
     arrived = arrived;
     left_zeros = left;
     others = λ i far out. stays i (far n (omega arith)) (out n (omega arith)) ∙ so_far.others i (λ k lt. far k (omega arith)) (λ k lt. out k (omega arith));
+  }
+
+-- writing none of the blocks changes nothing
+pub writes_none : (u blocks bytes : List ℕ) → WritesBlocks u u blocks bytes 0
+writes_none u blocks bytes = record { arrived = λ k j lt. absurd (omega arith); small = λ k j lt. absurd (omega arith); others = λ w out. refl }
+
+-- the first n blocks are written; then `new` replaces the four words of the next one
+module _ (u v new blocks bytes : List ℕ) (n m : ℕ) (is_m : m ≡ 4) (less : n < length blocks) (long : length new ≡ m)
+    (within : 4 * slice_index blocks n + 4 ≤ length v) (differ : AreDistinct blocks (length blocks))
+    (each : (j : ℕ) → j < 32 → byte_in new j ≡ slice_index bytes (32 * n + j)) (so_far : WritesBlocks u v blocks bytes n) where
+  abbrev next : ℕ
+  next = slice_index blocks n
+
+  abbrev put : List ℕ
+  put = put_mid (4 * next) m v new
+
+  leaves : (w : ℕ) → w / 4 ≢ next → slice_index put w ≡ slice_index v w
+  leaves w ne = put_outside v new (4 * next) m long (omega arith) w (elim (apart_from next w ne) [ inl l ↦ inl l | inr g ↦ inr (omega arith) ])
+
+  pub writes_next : ((i : ℕ) → slice_index put i < 2 ^ 64) → WritesBlocks u put blocks bytes (n + 1)
+  writes_next fits = record {
+    arrived = λ k j lt l. elim (cases_lt k n) [
+      | inl low ↦ (
+          let ne = differ k n (omega arith) less (λ e. omega arith) in
+          let cell : (32 * slice_index blocks k + j) / 8 / 4 ≡ slice_index blocks k = omega arith in
+          so_far.arrived k j low l
+          ∙ sym (ap (byte_of ((32 * slice_index blocks k + j) % 8)) (leaves ((32 * slice_index blocks k + j) / 8) (λ e. ne (omega arith)))))
+      | inr high ↦ (
+          let is : k ≡ n = omega arith in
+          let word : (32 * next + j) / 8 - 4 * next ≡ j / 8 = omega arith in
+          let rest : (32 * next + j) % 8 ≡ j % 8 = omega arith in
+          ap (λ (i : ℕ). slice_index bytes (32 * i + j)) is ∙ sym (each j l)
+          ∙ sym (ap (byte_of ((32 * next + j) % 8)) (put_inside v new (4 * next) m long (omega arith) ((32 * next + j) / 8) (omega arith) (omega arith))
+          ∙ ap (λ (i : ℕ). byte_of ((32 * next + j) % 8) (slice_index new i)) word ∙ ap (λ (i : ℕ). byte_of i (slice_index new (j / 8))) rest)
+          ∙ ap (λ (i : ℕ). byte_in put (32 * slice_index blocks i + j)) (sym is))
+    ];
+    small = λ k j lt l. fits (4 * slice_index blocks k + j);
+    others = λ w out. leaves w (out n (omega arith)) ∙ so_far.others w (λ k lt. out k (omega arith));
   }

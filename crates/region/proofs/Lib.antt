@@ -6,5 +6,6 @@ pub mod Blocks
 pub mod Crosses
 pub mod WordsAfter
 pub mod Overwriting
+pub mod Pieces
 pub mod WordRanges
 pub mod RunLemmas

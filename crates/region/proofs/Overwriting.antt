@@ -1,8 +1,8 @@
 -- For `write_bytes` and the other calls of `cells.rt`: bytes are overwritten word by word.
-use Rattle.std.proofs.Common.{◌≡◌, ℕ, zero, suc, ◌+◌, ◌-◌, ◌/◌, ◌%◌, ◌<◌, ◌≤◌, true, false, List, [], ◌∷◌, length, get_or, set, take, drop, arith, lit<, ◌^◌, sym, ◌∙◌}
+use Rattle.std.proofs.Common.{◌≡◌, ℕ, zero, suc, ◌+◌, ◌-◌, ◌*◌, ◌/◌, ◌%◌, ◌<◌, ◌≤◌, true, false, List, [], ◌∷◌, length, get_or, set, take, drop, arith, lit<, ◌^◌, sym, ◌∙◌}
 use Rattle.std.proofs.Common.{inl, inr, ap, refl}
-use Rattle.std.specs.Prelude.{◌⊎◌, nat_le, nat_lt}
-use Rattle.std.proofs.lemmas.List.{get_or-set_same, get_or-set_other, get_or_past, get_or-take, get_or-drop, length-take, length-drop}
+use Rattle.std.specs.Prelude.{◌&&◌, nat_le, nat_lt, if◌then◌else◌}
+use Rattle.std.proofs.lemmas.List.{get_or-set_same, get_or-set_other, get_or_past, get_or-take, get_or-drop, length-take, length-drop, take_all}
 use Rattle.std.proofs.lemmas.Bool.{cases_lt, cases_eq}
 use Rattle.std.proofs.lemmas.Bool.Decides.{nat_tests}
 use Rattle.std.specs.Int.{w64, to_le_bytes, from_le_bytes}
@@ -27,84 +27,91 @@ module _ (f : ℕ → ℕ) (at : ℕ) (part : List ℕ) (k : ℕ) where
       let b : nat_lt k (at + length part) ≡ false = grind (arith, nat_tests) in
       rw (a, b) refl
 
--- the first `done` bytes are written, then the n after them
-module _ (f : ℕ → ℕ) (at done n : ℕ) (bytes : List ℕ) (fits : done + n ≤ length bytes) (k : ℕ) where
-  len_done : length (take done bytes) ≡ done
-  len_done = (let l = length-take done bytes in omega arith)
+-- the first d bytes are written, then the next n
+module _ (f : ℕ → ℕ) (at d n : ℕ) (bytes : List ℕ) (fits : d + n ≤ length bytes) where
+  abbrev first : List ℕ
+  first = take d bytes
 
-  len_more : length (take (done + n) bytes) ≡ done + n
-  len_more = (let l = length-take (done + n) bytes in omega arith)
+  abbrev next : List ℕ
+  next = take n (drop d bytes)
 
-  -- a byte within the next n bytes
-  pub next_inside : at + done ≤ k → k < at + done + n → overwritten f at (take (done + n) bytes) k ≡ get_or bytes (k - at) 0
-  next_inside low high =
-      let l = len_more in
-      overwritten_inside f at (take (done + n) bytes) k (omega arith) (omega arith) ∙ get_or-take (done + n) bytes (k - at) 0 (omega arith)
+  len_first : length first ≡ d
+  len_first = (let l = length-take d bytes in omega arith)
 
-  -- a byte outside of them
-  pub next_outside : (k < at + done) ⊎ (at + done + n ≤ k) → overwritten f at (take (done + n) bytes) k ≡ overwritten f at (take done bytes) k
-  next_outside out = (let l = len_more in let d = len_done in elim (cases_lt k at) [
-    | inl before ↦ overwritten_before f at (take (done + n) bytes) k before ∙ sym (overwritten_before f at (take done bytes) k before)
-    | inr from ↦ elim out [
-      | inl low ↦ overwritten_inside f at (take (done + n) bytes) k from (omega arith) ∙ get_or-take (done + n) bytes (k - at) 0 (omega arith)
-          ∙ sym (overwritten_inside f at (take done bytes) k from (omega arith) ∙ get_or-take done bytes (k - at) 0 (omega arith))
-      | inr high ↦ overwritten_behind f at (take (done + n) bytes) k (omega arith) ∙ sym (overwritten_behind f at (take done bytes) k (omega arith))
+  len_next : length next ≡ n
+  len_next = (let l = length-take n (drop d bytes) in let m = length-drop d bytes in omega arith)
+
+  len_both : length (take (d + n) bytes) ≡ d + n
+  len_both = (let l = length-take (d + n) bytes in omega arith)
+
+  pub overwritten_more : (k : ℕ) → overwritten (overwritten f at first) (at + d) next k ≡ overwritten f at (take (d + n) bytes) k
+  overwritten_more k = (let lf = len_first in let ln = len_next in let lb = len_both in let all = take (d + n) bytes in elim (cases_lt k at) [
+    | inl before ↦ overwritten_before (overwritten f at first) (at + d) next k (omega arith) ∙ overwritten_before f at first k before
+        ∙ sym (overwritten_before f at all k before)
+    | inr from ↦ elim (cases_lt k (at + d)) [
+      | inl low ↦ overwritten_before (overwritten f at first) (at + d) next k low ∙ overwritten_inside f at first k from (omega arith)
+          ∙ get_or-take d bytes (k - at) 0 (omega arith)
+          ∙ sym (overwritten_inside f at all k from (omega arith) ∙ get_or-take (d + n) bytes (k - at) 0 (omega arith))
+      | inr high ↦ elim (cases_lt k (at + d + n)) [
+        | inl inside ↦ overwritten_inside (overwritten f at first) (at + d) next k high (omega arith)
+            ∙ get_or-take n (drop d bytes) (k - (at + d)) 0 (omega arith) ∙ get_or-drop d bytes (k - (at + d)) 0
+            ∙ ap (λ (i : ℕ). get_or bytes i 0) (let e : d + (k - (at + d)) ≡ k - at = omega arith in e)
+            ∙ sym (overwritten_inside f at all k from (omega arith) ∙ get_or-take (d + n) bytes (k - at) 0 (omega arith))
+        | inr behind ↦ overwritten_behind (overwritten f at first) (at + d) next k (omega arith) ∙ overwritten_behind f at first k (omega arith)
+            ∙ sym (overwritten_behind f at all k (omega arith))
+      ]
     ]
   ])
 
--- one more word gets its bytes: after `done` bytes of all, the next n
-pub cell_written : (old words : List ℕ) (at done n word : ℕ) (bytes : List ℕ) → done + n ≤ length bytes → (at + done) % 8 + n ≤ 8
-    → (at + done) / 8 < length words
-    → ((k : ℕ) → byte_in words k ≡ overwritten (byte_in old) at (take done bytes) k)
-    → ((j : ℕ) → j < 8 → byte_of j word ≡ overwritten (λ i. byte_of i (get_or words ((at + done) / 8) 0)) ((at + done) % 8) (take n (drop done bytes)) j)
-    → (k : ℕ) → byte_in (set words ((at + done) / 8) word) k ≡ overwritten (byte_in old) at (take (done + n) bytes) k
-cell_written old words at done n word bytes fits inside lt so_far patch k =
-    let part = take n (drop done bytes) in
-    let dl = length-drop done bytes in
-    let len : length (take n (drop done bytes)) ≡ n = (let l = length-take n (drop done bytes) in omega arith) in
-    let cell = (at + done) / 8 in
-    let from = (at + done) % 8 in
-    elim (cases_eq (k / 8) ((at + done) / 8)) [
-      | inl is ↦ (
-          let here : byte_in (set words ((at + done) / 8) word) k ≡ byte_of (k % 8) word =
-          ap (byte_of (k % 8)) (ap (λ i. get_or (set words ((at + done) / 8) word) i 0) is ∙ get_or-set_same words ((at + done) / 8) word 0 lt) in
-          let was : byte_of (k % 8) (get_or words ((at + done) / 8) 0) ≡ byte_in words k = ap (λ i. byte_of (k % 8) (get_or words i 0)) (sym is) in
-          here ∙ patch (k % 8) (omega arith) ∙ elim (cases_lt (k % 8) ((at + done) % 8)) [
-            | inl low ↦ overwritten_before (λ i. byte_of i (get_or words ((at + done) / 8) 0)) ((at + done) % 8) (take n (drop done bytes)) (k % 8) low ∙ was
-                ∙ so_far k ∙ sym (next_outside (byte_in old) at done n bytes fits k (inl (omega arith)))
-            | inr from_on ↦ elim (cases_lt (k % 8) ((at + done) % 8 + n)) [
-              | inl high ↦ (
-                  let e : done + (k % 8 - (at + done) % 8) ≡ k - at = omega arith in
-                  overwritten_inside (λ i. byte_of i (get_or words ((at + done) / 8) 0)) ((at + done) % 8) (take n (drop done bytes)) (k % 8) from_on
-                  (omega arith)
-                  ∙ get_or-take n (drop done bytes) (k % 8 - (at + done) % 8) 0 (omega arith) ∙ get_or-drop done bytes (k % 8 - (at + done) % 8) 0
-                  ∙ ap (λ i. get_or bytes i 0) e
-                  ∙ sym (next_inside (byte_in old) at done n bytes fits k (omega arith) (omega arith)))
-              | inr past ↦ overwritten_behind (λ i. byte_of i (get_or words ((at + done) / 8) 0)) ((at + done) % 8) (take n (drop done bytes)) (k % 8)
-                  (omega arith) ∙ was ∙ so_far k ∙ sym (next_outside (byte_in old) at done n bytes fits k (inr (omega arith)))
-            ]
-          ])
-      | inr ne ↦ ap (byte_of (k % 8)) (get_or-set_other words ((at + done) / 8) (k / 8) word 0 ne) ∙ so_far k
-          ∙ sym (next_outside (byte_in old) at done n bytes fits k (
-          elim (cases_lt k (at + done)) [ inl below ↦ inl below | inr above ↦ inr (omega arith) ]))
-    ]
+-- if f and g have the same byte k, they still have it after both are overwritten by the same bytes
+pub overwritten_same : (f g : ℕ → ℕ) (at : ℕ) (part : List ℕ) (k : ℕ) → f k ≡ g k → overwritten f at part k ≡ overwritten g at part k
+overwritten_same f g at part k e = ap (λ (z : ℕ). if nat_le at k && nat_lt k (at + length part) then get_or part (k - at) 0 else z) e
 
--- writing no bytes changes nothing
-pub none_overwritten : (f : ℕ → ℕ) (at : ℕ) (bytes : List ℕ) (k : ℕ) → overwritten f at (take 0 bytes) k ≡ f k
-none_overwritten f at bytes k = elim (cases_lt k at) [
-  | inl before ↦ overwritten_before f at (take 0 bytes) k before
-  | inr from ↦ overwritten_behind f at (take 0 bytes) k (let e = length-take 0 bytes in omega arith)
+-- bytes are written in three parts: those before byte x of them, those before byte y, and the rest
+pub all_overwritten : (f g h i : ℕ → ℕ) (at x y : ℕ) (bytes : List ℕ) → x ≤ y → y ≤ length bytes
+    → ((k : ℕ) → g k ≡ overwritten f at (take x bytes) k) → ((k : ℕ) → h k ≡ overwritten g (at + x) (take (y - x) (drop x bytes)) k)
+    → ((k : ℕ) → i k ≡ overwritten h (at + y) (take (length bytes - y) (drop y bytes)) k) → (k : ℕ) → i k ≡ overwritten f at bytes k
+all_overwritten f g h i at x y bytes order within one two three k =
+    let both : h k ≡ overwritten f at (take y bytes) k =
+    two k ∙ overwritten_same g (overwritten f at (take x bytes)) (at + x) (take (y - x) (drop x bytes)) k (one k)
+    ∙ overwritten_more f at x (y - x) bytes (omega arith) k ∙ ap (λ (n : ℕ). overwritten f at (take n bytes) k) (let e : x + (y - x) ≡ y = omega arith in e) in
+    three k ∙ overwritten_same h (overwritten f at (take y bytes)) (at + y) (take (length bytes - y) (drop y bytes)) k both
+    ∙ overwritten_more f at y (length bytes - y) bytes (omega arith) k
+    ∙ ap (λ (part : List ℕ). overwritten f at part k) (take_all (y + (length bytes - y)) bytes (omega arith))
+
+-- the same bytes, counted from a later byte
+pub overwritten_shift : (f g : ℕ → ℕ) (d at : ℕ) (part : List ℕ) (k : ℕ) → d ≤ k → g (k - d) ≡ f k
+    → overwritten g at part (k - d) ≡ overwritten f (d + at) part k
+overwritten_shift f g d at part k le same = elim (cases_lt (k - d) at) [
+  | inl before ↦ overwritten_before g at part (k - d) before ∙ same ∙ sym (overwritten_before f (d + at) part k (omega arith))
+  | inr from ↦ elim (cases_lt (k - d) (at + length part)) [
+    | inl inside ↦ (
+        let e : k - d - at ≡ k - (d + at) = omega arith in
+        overwritten_inside g at part (k - d) from inside ∙ ap (λ i. get_or part i 0) e
+        ∙ sym (overwritten_inside f (d + at) part k (omega arith) (omega arith)))
+    | inr behind ↦ overwritten_behind g at part (k - d) behind ∙ same ∙ sym (overwritten_behind f (d + at) part k (omega arith))
+  ]
 ]
 
--- `cell_written`, with the word, the byte in it and the part given by equations
-pub cell_put : (old words : List ℕ) (at done n more cell from word : ℕ) (part bytes : List ℕ) → more ≡ done + n → cell ≡ (at + done) / 8
-    → from ≡ (at + done) % 8 → part ≡ take n (drop done bytes) → more ≤ length bytes → from + n ≤ 8 → cell < length words
-    → ((k : ℕ) → byte_in words k ≡ overwritten (byte_in old) at (take done bytes) k)
-    → ((j : ℕ) → j < 8 → byte_of j word ≡ overwritten (λ i. byte_of i (get_or words cell 0)) from part j)
-    → (k : ℕ) → byte_in (set words cell word) k ≡ overwritten (byte_in old) at (take more bytes) k
-cell_put old words at done n more cell from word part bytes is_more is_cell is_from has_inner_object fits inside lt so_far patch k =
-    rw (is_more, is_cell) (cell_written old words at done n word bytes (omega arith) (omega arith) (omega arith) so_far
-    (λ j l. rw (is_cell, is_from, has_inner_object) at (patch j l)) k)
+-- the word that has byte `at` gets its new bytes
+pub word_overwritten : (words : List ℕ) (at word : ℕ) (part : List ℕ) → at / 8 < length words → at % 8 + length part ≤ 8
+    → ((j : ℕ) → j < 8 → byte_of j word ≡ overwritten (λ i. byte_of i (get_or words (at / 8) 0)) (at % 8) part j)
+    → (k : ℕ) → byte_in (set words (at / 8) word) k ≡ overwritten (byte_in words) at part k
+word_overwritten words at word part inside fits patch k = elim (cases_eq (k / 8) (at / 8)) [
+  | inl is ↦ (
+      let low : k % 8 ≡ k - 8 * (at / 8) = omega arith in
+      let from : 8 * (at / 8) + at % 8 ≡ at = omega arith in
+      let was : byte_of (k - 8 * (at / 8)) (get_or words (at / 8) 0) ≡ byte_in words k =
+      ap (λ i. byte_of i (get_or words (at / 8) 0)) (sym low) ∙ ap (λ i. byte_of (k % 8) (get_or words i 0)) (sym is) in
+      ap (λ i. byte_of (k % 8) (get_or (set words (at / 8) word) i 0)) is ∙ ap (byte_of (k % 8)) (get_or-set_same words (at / 8) word 0 inside)
+      ∙ ap (λ i. byte_of i word) low ∙ patch (k - 8 * (at / 8)) (omega arith)
+      ∙ overwritten_shift (byte_in words) (λ i. byte_of i (get_or words (at / 8) 0)) (8 * (at / 8)) (at % 8) part k (omega arith) was
+      ∙ ap (λ (a : ℕ). overwritten (byte_in words) a part k) from)
+  | inr ne ↦ ap (byte_of (k % 8)) (get_or-set_other words (at / 8) (k / 8) word 0 ne) ∙ sym (elim (cases_lt k at) [
+    | inl before ↦ overwritten_before (byte_in words) at part k before
+    | inr from ↦ overwritten_behind (byte_in words) at part k (omega arith)
+  ])
+]
 
 -- byte j of a word, as the standard library defines it
 pub cell_byte : (w j : ℕ) → j < 8 → get_or (to_le_bytes w64 w) j 0 ≡ byte_of j w
@@ -170,9 +177,3 @@ word_from part result bytes gives j lt =
       | inr past ↦ rw (get_or_past (cell_of part) i 0 past) (lit< tt)
     ] in
     sym (cell_byte result j lt) ∙ ap (λ xs. get_or xs j 0) (le_bytes_8 (cell_of part) result refl good gives) ∙ cell_same part j lt
-
--- eight bytes overwrite all bytes of a word
-pub all_overwritten : (f : ℕ → ℕ) (word : ℕ) (part : List ℕ) → length part ≡ 8 → ((j : ℕ) → j < 8 → byte_of j word ≡ get_or part j 0)
-    → (j : ℕ) → j < 8 → byte_of j word ≡ overwritten f 0 part j
-all_overwritten f word part long each j lt =
-    each j lt ∙ ap (λ (i : ℕ). get_or part i 0) (let e : j ≡ j - 0 = omega arith in e) ∙ sym (overwritten_inside f 0 part j (omega arith) (omega arith))

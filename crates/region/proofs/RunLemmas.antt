@@ -1,7 +1,6 @@
 -- For the calls of `runs.rt`: the bytes of a run of consecutive words, and the words that a borrow of the run leaves if bytes were written through it.
 use Rattle.std.proofs.Common.{◌≡◌, ℕ, zero, suc, ◌+◌, ◌-◌, ◌*◌, ◌/◌, ◌%◌, ◌^◌, ◌<◌, ◌≤◌, List, length, get_or, set, take, drop, arith}
 use Rattle.std.proofs.Common.{◌∙◌, ap, inl, inr, sym}
-use Rattle.std.specs.Prelude.{◌&&◌, nat_le, nat_lt, if◌then◌else◌}
 use Rattle.std.proofs.lemmas.Bool.{cases_eq, cases_lt}
 use Rattle.std.proofs.lemmas.List.{get_or-take, get_or-drop, get_or-set_same, get_or-set_other}
 use Rattle.page_model.specs.Bytes.{byte_of}
@@ -9,7 +8,7 @@ use Rattle.region.specs.Lending.{with_words}
 use Rattle.region.proofs.WordsAfter.{fit_below, fit_within, length-with_words, with_words_others, with_words_within}
 use Rattle.region.specs.Cells.{byte_in, overwritten}
 use Rattle.region.specs.Overwriting.{Overwrites, byte_from}
-use Rattle.region.proofs.Overwriting.{overwritten_before, overwritten_behind, overwritten_inside}
+use Rattle.region.proofs.Overwriting.{overwritten_before, overwritten_behind, overwritten_same, overwritten_shift}
 
 -- reduction to 64 bits keeps the low eight bytes
 byte_mod : (j w : ℕ) → j < 8 → byte_of j (w % 2 ^ 64) ≡ byte_of j w
@@ -33,10 +32,6 @@ byte_shift words first d k le =
     let cell : first + d + (k - 8 * d) / 8 ≡ first + k / 8 = omega arith in
     let rest : (k - 8 * d) % 8 ≡ k % 8 = omega arith in
     ap (λ (i : ℕ). byte_of ((k - 8 * d) % 8) (get_or words i 0)) cell ∙ ap (λ (i : ℕ). byte_of i (get_or words (first + k / 8) 0)) rest
-
--- if f and g have the same byte k, they still have it after both are overwritten by the same bytes
-pub overwritten_same : (f g : ℕ → ℕ) (at : ℕ) (part : List ℕ) (k : ℕ) → f k ≡ g k → overwritten f at part k ≡ overwritten g at part k
-overwritten_same f g at part k e = ap (λ (z : ℕ). if nat_le at k && nat_lt k (at + length part) then get_or part (k - at) 0 else z) e
 
 -- only bytes of the first word are written
 pub first_overwritten : (words : List ℕ) (at word : ℕ) (bytes : List ℕ) → 0 < length words → at + length bytes ≤ 8
@@ -65,20 +60,6 @@ loan_overwrites old ws first n from bytes inside long each = record {
       ap (byte_of (j % 8)) word ∙ byte_mod (j % 8) (get_or ws (j / 8) 0) (omega arith) ∙ each j
       ∙ overwritten_same (byte_in (take n (drop first old))) (byte_from old first) from bytes j (lent_byte old first n j lt);
 }
-
--- the same bytes, counted from a later byte
-pub overwritten_shift : (f g : ℕ → ℕ) (d at : ℕ) (part : List ℕ) (k : ℕ) → d ≤ k → g (k - d) ≡ f k
-    → overwritten g at part (k - d) ≡ overwritten f (d + at) part k
-overwritten_shift f g d at part k le same = elim (cases_lt (k - d) at) [
-  | inl before ↦ overwritten_before g at part (k - d) before ∙ same ∙ sym (overwritten_before f (d + at) part k (omega arith))
-  | inr from ↦ elim (cases_lt (k - d) (at + length part)) [
-    | inl inside ↦ (
-        let e : k - d - at ≡ k - (d + at) = omega arith in
-        overwritten_inside g at part (k - d) from inside ∙ ap (λ i. get_or part i 0) e
-        ∙ sym (overwritten_inside f (d + at) part k (omega arith) (omega arith)))
-    | inr behind ↦ overwritten_behind g at part (k - d) behind ∙ same ∙ sym (overwritten_behind f (d + at) part k (omega arith))
-  ]
-]
 
 -- bytes written into a run are bytes written into a longer run that contains it
 pub overwrites_wider : (old new : List ℕ) (first d n m at : ℕ) (bytes : List ℕ) → d + n ≤ m → at + length bytes ≤ 8 * n

@@ -1,7 +1,9 @@
 pub mod Words
+pub mod BlockBytes
 pub mod Lending
 pub mod RegionLoan
 pub mod Layout
 pub mod BlockLoan
 pub mod Cells
 pub mod Overwriting
+pub mod Needed

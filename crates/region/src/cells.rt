@@ -1,6 +1,6 @@
 //! Reading and writing the bytes of words, without counting steps. Byte k of a list of words is
 //! byte k modulo 8 of word k / 8, the least significant first.
-ghost use Rattle.std.specs.Prelude.{◌≡◌, ℕ, ◌+◌, ◌*◌, ◌<◌, ◌≤◌, length, slice_index};
+ghost use Rattle.std.specs.Prelude.{◌≡◌, ℕ, ◌+◌, ◌-◌, ◌*◌, ◌%◌, ◌<◌, ◌≤◌, length, min, slice_index};
 ghost use Rattle.page_model.specs.Bytes.{byte_of, written};
 ghost use Rattle.region.specs.Cells.{byte_in, overwritten};
 
@@ -56,48 +56,90 @@ pub(crate) fn copy_word(word: u64, from: usize, out: &mut [u8])
     }
 }
 
-/// Fills `out` with the bytes of the words from byte `at` on. Counts no step.
+/// Fills `out` with the bytes of the words, eight of each.
+// The loop goes over two slices by one index, so that it compiles to loads and stores of 16 bytes.
 #[inline(always)]
-pub fn read_bytes(words: &[u64], at: usize, out: &mut [u8])
+pub(crate) fn copy_words(words: &[u64], out: &mut [u8])
+    requires { length out.old ≡ 8 * length words.now }
+    ensures { (k : ℕ) → k < length out.new → slice_index out.new k ≡ byte_in words.now k }
+{
+    'words: for i in 0..words.len() {
+        let start = WORD_BYTES * i;
+        copy_word(words[i], 0, &mut out[start..start + WORD_BYTES]);
+    }
+}
+
+/// Replaces the words by those whose bytes are `bytes`, eight bytes to a word.
+#[inline(always)]
+pub(crate) fn put_words(words: &mut [u64], bytes: &[u8])
+    requires { length bytes.now ≡ 8 * length words.old }
+    ensures { (k : ℕ) → k < length bytes.now → byte_in words.new k ≡ slice_index bytes.now k }
+{
+    'words: for i in 0..words.len() {
+        let start = WORD_BYTES * i;
+        words[i] = word_of(&bytes[start..start + WORD_BYTES]);
+    }
+}
+
+/// Fills `out` with bytes of one word, those from byte `at` of the words on.
+fn copy_part(words: &[u64], at: usize, out: &mut [u8])
+    requires one { at % 8 + length out.old ≤ 8 }
+    requires within { at + length out.old ≤ 8 * length words.now }
+    ensures { (k : ℕ) → k < length out.new → slice_index out.new k ≡ byte_in words.now (at + k) }
+{
+    if !out.is_empty() {
+        copy_word(words[at / WORD_BYTES], at % WORD_BYTES, out);
+    }
+}
+
+/// Replaces bytes of one word, those from byte `at` of the words on, by `part`.
+fn put_part(words: &mut [u64], at: usize, part: &[u8])
+    requires one { at % 8 + length part.now ≤ 8 }
+    requires within { at + length part.now ≤ 8 * length words.old }
+    ensures { (k : ℕ) → byte_in words.new k ≡ overwritten (byte_in words.old) at part.now k }
+{
+    if !part.is_empty() {
+        let cell = at / WORD_BYTES;
+        words[cell] = patched(words[cell], at % WORD_BYTES, part);
+    }
+}
+
+/// How many of the `count` bytes from byte `at` on are before the next byte that begins a word.
+fn before_word(at: usize, count: usize) -> usize
+    ensures { result ≡ min ((8 - at % 8) % 8) count }
+{
+    ((WORD_BYTES - at % WORD_BYTES) % WORD_BYTES).min(count)
+}
+
+/// Fills `out` with the bytes of the words from byte `at` on. Counts no step.
+// Not inlined, so that callers which take a shorter path for one word save no registers for this one.
+#[inline(never)]
+pub(crate) fn read_bytes(words: &[u64], at: usize, out: &mut [u8])
     requires { at + length out.old ≤ 8 * length words.now }
     ensures { (k : ℕ) → k < length out.new → slice_index out.new k ≡ byte_in words.now (at + k) }
 {
-    let mut done = 0;
-    if at % WORD_BYTES > 0 {
-        done = (WORD_BYTES - at % WORD_BYTES).min(out.len());
-        copy_word(words[at / WORD_BYTES], at % WORD_BYTES, &mut out[..done]);
-    }
-    'whole: while done + WORD_BYTES <= out.len() {
-        copy_word(
-            words[(at + done) / WORD_BYTES],
-            0,
-            &mut out[done..done + WORD_BYTES],
-        );
-        done += WORD_BYTES;
-    }
-    if done < out.len() {
-        copy_word(words[(at + done) / WORD_BYTES], 0, &mut out[done..]);
-    }
+    let start = before_word(at, out.len());
+    let first = (at + start) / WORD_BYTES;
+    let count = (out.len() - start) / WORD_BYTES;
+    let end = start + WORD_BYTES * count;
+    copy_part(words, at, &mut out[..start]);
+    copy_words(&words[first..first + count], &mut out[start..end]);
+    copy_part(words, at + end, &mut out[end..]);
 }
 
 /// Replaces the bytes of the words from byte `at` on by `bytes`. Every other byte stays. Counts no
 /// step.
-#[inline(always)]
-pub fn write_bytes(words: &mut [u64], at: usize, bytes: &[u8])
+// Not inlined, as `read_bytes`.
+#[inline(never)]
+pub(crate) fn write_bytes(words: &mut [u64], at: usize, bytes: &[u8])
     requires { at + length bytes.now ≤ 8 * length words.old }
     ensures { (k : ℕ) → byte_in words.new k ≡ overwritten (byte_in words.old) at bytes.now k }
 {
-    let mut done = 0;
-    if at % WORD_BYTES > 0 {
-        done = (WORD_BYTES - at % WORD_BYTES).min(bytes.len());
-        words[at / WORD_BYTES] = patched(words[at / WORD_BYTES], at % WORD_BYTES, &bytes[..done]);
-    }
-    'whole: while done + WORD_BYTES <= bytes.len() {
-        words[(at + done) / WORD_BYTES] = word_of(&bytes[done..done + WORD_BYTES]);
-        done += WORD_BYTES;
-    }
-    if done < bytes.len() {
-        let cell = (at + done) / WORD_BYTES;
-        words[cell] = patched(words[cell], 0, &bytes[done..]);
-    }
+    let start = before_word(at, bytes.len());
+    let first = (at + start) / WORD_BYTES;
+    let count = (bytes.len() - start) / WORD_BYTES;
+    let end = start + WORD_BYTES * count;
+    put_part(words, at, &bytes[..start]);
+    put_words(&mut words[first..first + count], &bytes[start..end]);
+    put_part(words, at + end, &bytes[end..]);
 }

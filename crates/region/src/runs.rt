@@ -17,19 +17,23 @@ pub fn words_with(at: usize, count: usize) -> u32
 }
 
 /// Fills `out` with bytes of the `n` words of the region from word `first` on, beginning with byte
-/// `at` of these words. The words are borrowed as one slice. Costs n steps.
+/// `at` of these words. Costs n steps.
 pub fn read_run(region: &Region, first: u32, n: u32, at: usize, out: &mut [u8], steps: &mut Steps)
     requires within { first + n ≤ length region.now }
     requires fits { at + length out.old ≤ 8 * n }
     ensures bytes { (j : ℕ) → j < length out.new → slice_index out.new j ≡ byte_from region.now first (at + j) }
     ensures steps { RoseBy steps.old steps.new n }
 {
-    let words = region.payload(first, n, steps);
-    read_bytes(words, at, out);
+    // Most reads are of one word.
+    if n == 1 {
+        read_word(region, first, at, out, steps);
+    } else {
+        read_bytes(region.payload(first, n, steps), at, out);
+    }
 }
 
 /// Writes `bytes` into the `n` words of the region from word `first` on, beginning with byte `at`
-/// of these words. Every other byte stays. The words are borrowed as one slice. Costs n steps.
+/// of these words. Every other byte stays. Costs n steps.
 pub fn write_run(
     region: &mut Region,
     first: u32,
@@ -44,54 +48,11 @@ pub fn write_run(
     ensures len { length region.new ≡ length region.old }
     ensures steps { RoseBy steps.old steps.new n }
 {
-    let words = region.payload_mut(first, n, steps);
-    write_bytes(words, at, bytes);
-}
-
-/// Does what `read_run` does, for words that are often a whole block of four. If all 32 bytes of
-/// four words are read, length and offset are constants, and the copy compiles to eight moves.
-pub fn read_in_block(
-    region: &Region,
-    first: u32,
-    n: u32,
-    at: usize,
-    out: &mut [u8],
-    steps: &mut Steps,
-)
-    requires within { first + n ≤ length region.now }
-    requires fits { at + length out.old ≤ 8 * n }
-    ensures bytes { (j : ℕ) → j < length out.new → slice_index out.new j ≡ byte_from region.now first (at + j) }
-    ensures steps { RoseBy steps.old steps.new n }
-{
-    if n == 4 && out.len() == 32 {
-        let words = region.payload(first, n, steps);
-        read_bytes(words, 0, out);
+    // Most writes are to one word.
+    if n == 1 {
+        write_word(region, first, at, bytes, steps);
     } else {
-        read_run(region, first, n, at, out, steps);
-    }
-}
-
-/// Does what `write_run` does, for words that are often a whole block of four. If all 32 bytes of
-/// four words are written, length and offset are constants, as in `read_in_block`.
-pub fn write_in_block(
-    region: &mut Region,
-    first: u32,
-    n: u32,
-    at: usize,
-    bytes: &[u8],
-    steps: &mut Steps,
-)
-    requires within { first + n ≤ length region.old }
-    requires fits { at + length bytes.now ≤ 8 * n }
-    ensures words { Overwrites region.old region.new (record { from = first; count = n }) at bytes.now }
-    ensures len { length region.new ≡ length region.old }
-    ensures steps { RoseBy steps.old steps.new n }
-{
-    if n == 4 && bytes.len() == 32 {
-        let words = region.payload_mut(first, n, steps);
-        write_bytes(words, 0, bytes);
-    } else {
-        write_run(region, first, n, at, bytes, steps);
+        write_bytes(region.payload_mut(first, n, steps), at, bytes);
     }
 }
 

@@ -17,13 +17,13 @@ use Rattle.script_reader.specs.declared.stage.Stage.TheVariants.{Opening, Boundi
 use Rattle.run_model.proofs.CallerLemmas.{one_run, run_joined, text_joined}
 use Rattle.run_model.specs.Plays.{PlayRun, PlayPart}
 use Rattle.run_model.specs.Texts.{Reply, bad_line, led, said, text_of}
-use Rattle.script_loop.specs.AnswersSoFar.{Answered, CutOff, MeetsChunkOutcome, IsWaiting, PrintsBadLine}
+use Rattle.script_loop.specs.AnswersSoFar.{Answered, CutOff, IsWaiting, PrintsBadLine, StopsAt}
 use Rattle.script_loop.specs.Progress.{IsReadyAt, Playing, Progress, progress, run_in, run_of}
 use Rattle.script_loop.specs.ScriptOutcome.{has_bad}
 use Rattle.script_loop.specs.Semantics.{IsOpened, IsOpenedInPart, PartBy, RunBy, Semantics, StepBy}
-use Rattle.script_loop.specs.declared.answering.ChunkOutcome.{ChunkOutcome}
-use Rattle.script_loop.specs.declared.answering.ChunkOutcome.TheVariants.{GoesOn, Stopped, Cut, LacksMemory}
-use Rattle.cf_io.proofs.CallerLemmas.{appended_after}
+use Rattle.cf_base.specs.declared.status.Status.{Status}
+use Rattle.cf_base.specs.declared.status.Status.TheVariants.{Done, Words, BadScript, ReadFault, WriteFault, OutOfMemory, TooLong, BadImage}
+use Rattle.cf_io.proofs.CallerLemmas.{appended_after, appended_none}
 use Rattle.script_loop.proofs.Stages.{going_after, never_opening, run_before, run_after}
 
 pub bad_then : (xs ys : List Item) → has_bad xs ≡ false → has_bad (xs ++ ys) ≡ has_bad ys
@@ -292,22 +292,26 @@ module _ {S P : Type 0} (m : Semantics S P) where
   }
 
   -- the number of a bad line was written, whole or in part
-  pub named : (old : Progress S) (r r' : Reading) (s : S) (w w' : Option (List ℕ)) (line : ℕ) (text : List ℕ) (ready : ChunkOutcome)
+  pub named : (old : Progress S) (r r' : Reading) (s : S) (w w' : Option (List ℕ)) (line : ℕ) (text : List ℕ) (status : Status)
       → Answered m old.playing [] (record { reading = r; state = s }) text false → w ≡ appended old.written text → IsBadAt r line r'
-      → PrintsBadLine w line ready w' → MeetsChunkOutcome m old [] ready (progress (record { reading = r'; state = s }) w')
-  named old r r' s w w' line text Stopped a wrote h names = record {
+      → PrintsBadLine w line status w' → StopsAt m old [] status (progress (record { reading = r'; state = s }) w')
+  named old r r' s w w' line text BadScript a wrote h names = record {
     text = text ++ led [] (said (bad_line line));
     answered = answered_then a (answered_bad r r' s line h);
     wrote = appended_after _ _ _ _ _ wrote names;
     over = (line, h.stopped);
   }
-  named old r r' s w w' line text Cut a wrote h names = record {
+  named old r r' s w w' line text WriteFault a wrote h names = record {
     out = text ++ names.0;
     cut = cut_then a (cut_bad r r' s line names.0 names.1 h names.2);
     wrote = appended_after _ _ _ _ _ wrote names.3;
   }
-  named old r r' s w w' line text GoesOn a wrote h names = absurd names
-  named old r r' s w w' line text LacksMemory a wrote h names = absurd names
+  named old r r' s w w' line text Done a wrote h names = absurd names
+  named old r r' s w w' line text Words a wrote h names = absurd names
+  named old r r' s w w' line text ReadFault a wrote h names = absurd names
+  named old r r' s w w' line text OutOfMemory a wrote h names = absurd names
+  named old r r' s w w' line text TooLong a wrote h names = absurd names
+  named old r r' s w w' line text BadImage a wrote h names = absurd names
 
   -- ---- bytes that are fed
 
@@ -369,3 +373,30 @@ module _ {S P : Type 0} (m : Semantics S P) where
     );
     untouched = a.untouched;
   }
+
+  -- the bytes of a chunk before byte i were answered, and the items that its next bytes completed ended the script: so did those of the whole chunk
+  pub stops_over : (old : Progress S) (chunk : List ℕ) (i : ℕ) (r : Reading) (s : S) (w : Option (List ℕ)) (t : List ℕ) (status : Status) (new : Progress S)
+      → Answered m old.playing (take i chunk) (record { reading = r; state = s }) t false → w ≡ appended old.written t
+      → StopsAt m (progress (record { reading = r; state = s }) w) [] status new → StopsAt m old chunk status new
+  stops_over old chunk i r s w t BadScript new a wrote went = record {
+    text = t ++ went.text;
+    answered = answered_over went.over.0 chunk i (answered_next a went.answered) went.over.1;
+    wrote = appended_after _ _ _ _ _ wrote went.wrote;
+    over = went.over;
+  }
+  stops_over old chunk i r s w t WriteFault new a wrote went = record {
+    out = t ++ went.out;
+    cut = cut_over chunk i (cut_next a went.cut);
+    wrote = appended_after _ _ _ _ _ wrote went.wrote;
+  }
+  stops_over old chunk i r s w t OutOfMemory new a wrote went = record {
+    stage = (a.untouched went.stage).0;
+    lacks = subst (λ (z : S). m.lacks z new.playing.state) (a.untouched went.stage).1 went.lacks;
+    plan = went.plan ∙ a.plan;
+    wrote = went.wrote ∙ wrote ∙ ap (appended old.written) (a.silent refl went.stage) ∙ sym (appended_none old.written);
+  }
+  stops_over old chunk i r s w t Done new a wrote went = absurd went
+  stops_over old chunk i r s w t Words new a wrote went = absurd went
+  stops_over old chunk i r s w t ReadFault new a wrote went = absurd went
+  stops_over old chunk i r s w t TooLong new a wrote went = absurd went
+  stops_over old chunk i r s w t BadImage new a wrote went = absurd went

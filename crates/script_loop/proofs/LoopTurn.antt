@@ -1,6 +1,6 @@
 -- For `play_script` and `Script::turn`, one turn of its loop: what a turn takes (a chunk) and answers, what all turns so far did, and the loop's contract
 -- (`Plays`) once a turn ends the script.
-use Rattle.std.proofs.Common.{◌≡◌, ◌≤◌, ◌<◌, ◌+◌, ◌⊎◌, ◌++◌, ◌∙◌, false, true, List, [], ℕ, Option, refl, ap, sym, subst, length, inl, inr, arith}
+use Rattle.std.proofs.Common.{◌≡◌, ◌≤◌, ◌<◌, ◌+◌, ◌⊎◌, ◌++◌, ◌∙◌, false, true, List, [], ℕ, Option, Result, Ok, Err, refl, ap, sym, subst, length, inl, inr, arith}
 use Rattle.std.proofs.Common.{take, drop, append_assoc, append-nil, length-append, length-drop, take-append-drop, min}
 use Rattle.std.proofs.lemmas.List.{length-take-le, take-take}
 use Rattle.cf_base.specs.declared.status.Status.{Status}
@@ -8,7 +8,7 @@ use Rattle.cf_base.specs.declared.status.Status.TheVariants.{Done, Words, BadScr
 use Rattle.cf_io.specs.Feeds.{HasGiven, IsSpent, SinkFailsIf, SinkState, SourceFailsIf, SourceState, appended, last_count, preceded}
 use Rattle.script_reader.specs.Items.{items}
 use Rattle.script_reader.specs.Reading.{Reading, fresh}
-use Rattle.script_loop.specs.AnswersSoFar.{Answered, HasStopped, WasCut, LackedMemory, WentOn}
+use Rattle.script_loop.specs.AnswersSoFar.{Answered, AnswersItems, HasStopped, LackedMemory, StopsAt, WasCut, WentOn}
 use Rattle.script_loop.specs.Progress.{Progress, playing, progress}
 use Rattle.script_loop.specs.ScriptOutcome.{Effects, IsStatusRow, MOST_BYTES, MOST_CHUNK, MeetsOutcome, Plays, effects, is_read_fault, is_write_fault, items_within}
 use Rattle.script_loop.specs.Semantics.{Semantics}
@@ -75,13 +75,33 @@ plays_of m from s k st s' k' to ended source sink = record {
   causes = record { silent = ended.silent; source_fault = source; sink_fault = sink; too_long = ended.too_long };
 }
 
--- the end of the input completed items; how answering them ended, for each status
-abbrev pub EndsAs : {S P : Type 0} → Semantics S P → Status → Progress S → Progress S → Type 0
-EndsAs m Done old new = WentOn m old [] new
-EndsAs m BadScript old new = HasStopped m old [] new
-EndsAs m WriteFault old new = WasCut m old [] new
-EndsAs m OutOfMemory old new = LackedMemory m old new
-EndsAs m status old new = ⊥
+-- the status of a script, by the result of the last call of `answer_pending_items`
+abbrev pub status_by : Result (Unit {0}) Status → Status
+status_by (Ok done) = Done
+status_by (Err status) = status
+
+-- a turn took a chunk, and its items ended the script
+pub stops_by : {S P : Type 0} (m : Semantics S P) (old new : BetweenTurns S) (c : Chunk old new) (st : Status)
+    → StopsAt m old.progress c.within st new.progress → StopsBy m st old new
+stops_by m old new c Done went = (c, went)
+stops_by m old new c Words went = (c, went)
+stops_by m old new c BadScript went = (c, went)
+stops_by m old new c WriteFault went = (c, went)
+stops_by m old new c OutOfMemory went = (c, went)
+stops_by m old new c BadImage went = (c, went)
+stops_by m old new c ReadFault went = absurd went
+stops_by m old new c TooLong went = absurd went
+
+-- items never end the script by a fault of the source
+pub never_read : {S P : Type 0} (m : Semantics S P) (old new : Progress S) (chunk : List ℕ) (st : Status) → StopsAt m old chunk st new → is_read_fault st ≡ false
+never_read m old new chunk ReadFault went = absurd went
+never_read m old new chunk Done went = refl
+never_read m old new chunk Words went = refl
+never_read m old new chunk BadScript went = refl
+never_read m old new chunk WriteFault went = refl
+never_read m old new chunk OutOfMemory went = refl
+never_read m old new chunk TooLong went = refl
+never_read m old new chunk BadImage went = refl
 
 -- ---- from the start of a script
 
@@ -316,8 +336,9 @@ module _ {S P : Type 0} (m : Semantics S P) {from : S} {had before : Option (Lis
           (row (f.taken ++ more) (ap (λ (l : List ℕ). f.taken ++ l) none ∙ append-nil f.taken) (omega (arith, f.count)));
     }
 
-    pub has_ended : (st : Status) → EndsAs m st (progress (ending b.progress.playing) b.progress.written) p → HasEnded m from (call_by st) p.playing.state
-    has_ended Done went = record {
+    pub has_ended : (r : Result (Unit {0}) Status) → AnswersItems m (progress (ending b.progress.playing) b.progress.written) [] r p
+        → HasEnded m from (call_by (status_by r)) p.playing.state
+    has_ended (Ok done) went = record {
       outcome = by_end Done (λ all same few.
           let wanted = whole_items m all f.answered went.answered same few went.waiting in (
             (let e = ap length same in omega (arith, e, few)),
@@ -329,7 +350,7 @@ module _ {S P : Type 0} (m : Semantics S P) {from : S} {had before : Option (Lis
       silent = λ is. absurd (let e : Done ≡ OutOfMemory = is in cc);
       too_long = λ is. absurd (let e : Done ≡ TooLong = is in cc);
     }
-    has_ended BadScript went = record {
+    has_ended (Err BadScript) went = record {
       outcome = by_end BadScript (λ all same few.
           let wanted = bad_end_items m all f.answered went.answered same few went.over.1 in (
             bads_then m f.answered went.answered (items_within all) wanted,
@@ -339,7 +360,7 @@ module _ {S P : Type 0} (m : Semantics S P) {from : S} {had before : Option (Lis
       silent = λ is. absurd (let e : BadScript ≡ OutOfMemory = is in cc);
       too_long = λ is. absurd (let e : BadScript ≡ TooLong = is in cc);
     }
-    has_ended WriteFault went = record {
+    has_ended (Err WriteFault) went = record {
       outcome = by_end WriteFault (λ all same few.
           let part = cut_at_end m all f.answered went.cut (call_by WriteFault) same few (appended_after _ _ _ _ _ f.wrote went.wrote) in (
             part.0,
@@ -349,16 +370,17 @@ module _ {S P : Type 0} (m : Semantics S P) {from : S} {had before : Option (Lis
       silent = λ is. absurd (let e : WriteFault ≡ OutOfMemory = is in cc);
       too_long = λ is. absurd (let e : WriteFault ≡ TooLong = is in cc);
     }
-    has_ended OutOfMemory went = record {
+    has_ended (Err OutOfMemory) went = record {
       outcome = by_end OutOfMemory (λ all same few. wants_at_end m (call_by OutOfMemory) f.answered went f.wrote);
       plan = went.plan ∙ f.answered.plan;
       silent = λ is. silent_at_end m f.answered went f.wrote;
       too_long = λ is. absurd (let e : OutOfMemory ≡ TooLong = is in cc);
     }
-    has_ended Words went = absurd went
-    has_ended ReadFault went = absurd went
-    has_ended TooLong went = absurd went
-    has_ended BadImage went = absurd went
+    has_ended (Err Done) went = absurd went
+    has_ended (Err Words) went = absurd went
+    has_ended (Err ReadFault) went = absurd went
+    has_ended (Err TooLong) went = absurd went
+    has_ended (Err BadImage) went = absurd went
 
 -- a turn ended the script with the status `st`
 pub has_stopped : {S P : Type 0} (m : Semantics S P) {from : S} {had before : Option (List ℕ)} {given : ℕ} {b : BetweenTurns S}
@@ -370,14 +392,15 @@ has_stopped m f b' BadScript (c, went) = stopped m f c went
 has_stopped m f b' WriteFault (c, went) = was_cut m f c went
 has_stopped m f b' OutOfMemory (c, went) = was_wanting m f c went
 has_stopped m f b' TooLong passes = passed m f passes.chunk passes.some passes.full passes.went
-has_stopped m f b' Done never = absurd never
-has_stopped m f b' Words never = absurd never
-has_stopped m f b' BadImage never = absurd never
+has_stopped m f b' Done (c, never) = absurd never
+has_stopped m f b' Words (c, never) = absurd never
+has_stopped m f b' BadImage (c, never) = absurd never
 
--- the source ended, the items that its end completes were answered, and the script ended with the status `st`
+-- the source ended, and the items that its end completes were answered
 pub at_end : {S P : Type 0} (m : Semantics S P) {from : S} {had before : Option (List ℕ)} {given : ℕ} {b : BetweenTurns S}
-    (f : SoFar m from had given before b) (b' : BetweenTurns S) → TakesNothing b b' × IsSpent b.rest → (p : Progress S) (st : Status)
-    → EndsAs m st (progress (ending b'.progress.playing) b'.progress.written) p
-    → HasEnded m from (record { had = had; left = b'.rest; given_before = given; given_after = b'.given; before = before; after = p.written; status = st })
+    (f : SoFar m from had given before b) (b' : BetweenTurns S) → TakesNothing b b' × IsSpent b.rest → (p : Progress S) (r : Result (Unit {0}) Status)
+    → AnswersItems m (progress (ending b'.progress.playing) b'.progress.written) [] r p
+    → HasEnded m from
+    (record { had = had; left = b'.rest; given_before = given; given_after = b'.given; before = before; after = p.written; status = status_by r })
     p.playing.state
-at_end m f b' (none, spent) p st went = has_ended m (same_so_far m f none) (subst IsSpent (sym none.rest) spent) p st went
+at_end m f b' (none, spent) p r went = has_ended m (same_so_far m f none) (subst IsSpent (sym none.rest) spent) p r went

@@ -1,6 +1,8 @@
 -- The contracts of the inner loops of the script loop: bytes were fed to the reader, and the items that they complete were answered; four ways in which that
--- may end (`MeetsChunkOutcome`). `m` is the semantics of the mode handler.
-use Rattle.std.specs.Prelude.{◌≡◌, ◌≤◌, ◌+◌, ◌++◌, ℕ, Bool, true, false, List, [], ◌∷◌, length, Option, Some, None}
+-- may end (`AnswersItems`). `m` is the semantics of the mode handler.
+use Rattle.std.specs.Prelude.{◌≡◌, ◌≤◌, ◌+◌, ◌++◌, ℕ, Bool, true, false, List, [], ◌∷◌, length, Option, Some, None, Result, Ok, Err}
+use Rattle.cf_base.specs.declared.status.Status.{Status}
+use Rattle.cf_base.specs.declared.status.Status.TheVariants.{BadScript, WriteFault, OutOfMemory}
 use Rattle.cf_io.specs.Feeds.{WritesPrefix, appended}
 use Rattle.script_reader.specs.Items.{Item}
 use Rattle.script_reader.specs.Lines.{LONGEST}
@@ -10,8 +12,6 @@ use Rattle.run_model.specs.Texts.{Reply, bad_line, led, said, text_of}
 use Rattle.script_loop.specs.Progress.{IsReady, Playing, Progress, run_of}
 use Rattle.script_loop.specs.ScriptOutcome.{has_bad}
 use Rattle.script_loop.specs.Semantics.{PartBy, RunBy, Semantics}
-use Rattle.script_loop.specs.declared.answering.ChunkOutcome.{ChunkOutcome}
-use Rattle.script_loop.specs.declared.answering.ChunkOutcome.TheVariants.{GoesOn, Stopped, Cut, LacksMemory}
 
 -- The bytes `chunk` were fed. The items `done` that they complete were answered, `text` is their replies, and `stopped` is whether a bad line is one of them.
 -- `left`: whatever bytes `more` follow, the items of `chunk` and `more` are `done` and then those that are still to be answered. While the reader awaits the
@@ -48,7 +48,7 @@ pub record IsWaiting (r : Reading) : Type 0 where
   pub quiet : items_left r [] false ≡ []
   pub room : r.ended ≡ false → length r.kept ≤ LONGEST
 
--- the case `GoesOn`: all items that the chunk completes were answered, and the reader needs more bytes
+-- no status: all items that the chunk completes were answered, and the reader needs more bytes
 pub record WentOn {S P : Type 0} (m : Semantics S P) (old : Progress S) (chunk : List ℕ) (new : Progress S) : Type 0 where
   pub text : List ℕ
   pub answered : Answered m old.playing chunk new.playing text false
@@ -58,43 +58,40 @@ pub record WentOn {S P : Type 0} (m : Semantics S P) (old : Progress S) (chunk :
   pub same_end : new.playing.reading.ended ≡ old.playing.reading.ended
   pub fed : new.playing.reading.fed ≡ old.playing.reading.fed + length chunk
 
--- the case `Stopped`: the script stopped at a bad line, and its number was written
+-- `BadScript`: the script stopped at a bad line, and its number was written
 pub record HasStopped {S P : Type 0} (m : Semantics S P) (old : Progress S) (chunk : List ℕ) (new : Progress S) : Type 0 where
   pub text : List ℕ
   pub answered : Answered m old.playing chunk new.playing text true
   pub wrote : new.written ≡ appended old.written text
   pub over : (line : ℕ) × (new.playing.reading.stopped ≡ Some line)
 
--- the case `Cut`: the sink failed at the reply to an item, and a prefix of that reply was written
+-- `WriteFault`: the sink failed at the reply to an item, and a prefix of that reply was written
 pub record WasCut {S P : Type 0} (m : Semantics S P) (old : Progress S) (chunk : List ℕ) (new : Progress S) : Type 0 where
   pub out : List ℕ
   pub cut : CutOff m old.playing chunk new.playing out
   pub wrote : new.written ≡ appended old.written out
 
--- the case `LacksMemory`: an allocation failed at the `heap` line, and nothing was written
+-- `OutOfMemory`: an allocation failed at the `heap` line, and nothing was written
 pub record LackedMemory {S P : Type 0} (m : Semantics S P) (old new : Progress S) : Type 0 where
   pub stage : old.playing.reading.stage ≡ Opening
   pub lacks : m.lacks old.playing.state new.playing.state
   pub plan : m.plan new.playing.state ≡ m.plan old.playing.state
   pub wrote : new.written ≡ old.written
 
--- from the progress `old` the bytes `chunk` led to the progress `new`, by the result of `answer_chunk`
-abbrev pub MeetsChunkOutcome : {S P : Type 0} → Semantics S P → Progress S → List ℕ → ChunkOutcome → Progress S → Type 0
-MeetsChunkOutcome m old chunk GoesOn new = WentOn m old chunk new
-MeetsChunkOutcome m old chunk Stopped new = HasStopped m old chunk new
-MeetsChunkOutcome m old chunk Cut new = WasCut m old chunk new
-MeetsChunkOutcome m old chunk LacksMemory new = LackedMemory m old new
+-- from the progress `old` the bytes `chunk` led to the progress `new`, and the script ends with this status
+abbrev pub StopsAt : {S P : Type 0} → Semantics S P → Progress S → List ℕ → Status → Progress S → Type 0
+StopsAt m old chunk BadScript new = HasStopped m old chunk new
+StopsAt m old chunk WriteFault new = WasCut m old chunk new
+StopsAt m old chunk OutOfMemory new = LackedMemory m old new
+StopsAt m old chunk status new = ⊥
 
--- whether the sink failed
-abbrev pub is_cut : ChunkOutcome → Bool
-is_cut GoesOn = false
-is_cut Stopped = false
-is_cut Cut = true
-is_cut LacksMemory = false
+-- from the progress `old` the bytes `chunk` led to the progress `new`, by the result of `answer_chunk`
+abbrev pub AnswersItems : {S P : Type 0} → Semantics S P → Progress S → List ℕ → Result (Unit {0}) Status → Progress S → Type 0
+AnswersItems m old chunk (Ok done) new = WentOn m old chunk new
+AnswersItems m old chunk (Err status) new = StopsAt m old chunk status new
 
 -- the number of a bad line was written, or if the sink failed, a prefix of that reply
-abbrev pub PrintsBadLine : Option (List ℕ) → ℕ → ChunkOutcome → Option (List ℕ) → Type 0
-PrintsBadLine old line Stopped new = new ≡ appended old (led [] (said (bad_line line)))
-PrintsBadLine old line Cut new = WritesPrefix old (led [] (said (bad_line line))) new
-PrintsBadLine old line GoesOn new = ⊥
-PrintsBadLine old line LacksMemory new = ⊥
+abbrev pub PrintsBadLine : Option (List ℕ) → ℕ → Status → Option (List ℕ) → Type 0
+PrintsBadLine old line BadScript new = new ≡ appended old (led [] (said (bad_line line)))
+PrintsBadLine old line WriteFault new = WritesPrefix old (led [] (said (bad_line line))) new
+PrintsBadLine old line status new = ⊥

@@ -1,18 +1,16 @@
 -- The contract of `Script::turn`, one turn of the loop: it takes one chunk, and answers the items that the chunk completes. `m` is the semantics of the mode
 -- handler; `old` and `new` are the script before and after the turn.
-use Rattle.std.specs.Prelude.{◌≡◌, ◌<◌, ◌≤◌, ◌+◌, ◌++◌, ℕ, Bool, false, List, [], length, Option}
+use Rattle.std.specs.Prelude.{◌≡◌, ◌<◌, ◌≤◌, ◌+◌, ◌++◌, ℕ, Bool, true, false, List, [], length, Option, Result, Ok, Err}
 use Rattle.cf_base.specs.declared.status.Status.{Status}
-use Rattle.cf_base.specs.declared.status.Status.TheVariants.{BadScript, ReadFault, WriteFault, OutOfMemory, TooLong}
+use Rattle.cf_base.specs.declared.status.Status.TheVariants.{ReadFault, TooLong}
 use Rattle.cf_io.specs.Feeds.{HasGiven, IsSpent, preceded}
 use Rattle.cf_io.specs.Sources.{more_given}
 use Rattle.script_reader.specs.Reading.{Reading}
-use Rattle.script_loop.specs.AnswersSoFar.{HasStopped, IsWaiting, WasCut, LackedMemory, WentOn}
+use Rattle.script_loop.specs.AnswersSoFar.{IsWaiting, StopsAt, WentOn}
 use Rattle.script_loop.specs.Progress.{IsReady, Progress, playing, progress}
-use Rattle.script_loop.specs.ScriptOutcome.{MOST_BYTES, MOST_CHUNK, is_read_fault, is_write_fault}
+use Rattle.script_loop.specs.ScriptOutcome.{MOST_BYTES, MOST_CHUNK}
 use Rattle.script_loop.specs.Semantics.{Semantics}
 use Rattle.script_loop.specs.declared.running.Script.{Script}
-use Rattle.script_loop.specs.declared.running.TurnEnd.{TurnEnd}
-use Rattle.script_loop.specs.declared.running.TurnEnd.TheVariants.{Answered, Ended, Stopped}
 
 -- the state of the script's reader: what it was fed and keeps
 abbrev pub reading_in : Script → Reading
@@ -76,26 +74,11 @@ pub record TakesNothing {S : Type 0} (old new : BetweenTurns S) : Type 0 where
 -- what the last turn did, from `old` to `new`, if the script ends with this status
 abbrev pub StopsBy : {S P : Type 0} → Semantics S P → Status → BetweenTurns S → BetweenTurns S → Type 0
 StopsBy m ReadFault old new = TakesNothing old new
-StopsBy m BadScript old new = (c : Chunk old new) × HasStopped m old.progress c.within new.progress
-StopsBy m WriteFault old new = (c : Chunk old new) × WasCut m old.progress c.within new.progress
-StopsBy m OutOfMemory old new = (c : Chunk old new) × LackedMemory m old.progress new.progress
 StopsBy m TooLong old new = PassesLimit m old new
-StopsBy m status old new = ⊥
+StopsBy m status old new = (c : Chunk old new) × StopsAt m old.progress c.within status new.progress
 
--- what a turn did, from `old` to `new`, by how it ended (`TurnEnd`)
-abbrev pub TakesTurn : {S P : Type 0} → Semantics S P → BetweenTurns S → TurnEnd → BetweenTurns S → Type 0
-TakesTurn m old Answered new = AnswersChunk m old new
-TakesTurn m old Ended new = TakesNothing old new × IsSpent old.rest
-TakesTurn m old (Stopped status) new = StopsBy m status old new
-
--- whether the source failed in the turn
-abbrev pub is_read_end : TurnEnd → Bool
-is_read_end Answered = false
-is_read_end Ended = false
-is_read_end (Stopped status) = is_read_fault status
-
--- whether the sink failed in the turn
-abbrev pub is_write_end : TurnEnd → Bool
-is_write_end Answered = false
-is_write_end Ended = false
-is_write_end (Stopped status) = is_write_fault status
+-- what a turn did, from `old` to `new`, by its result
+abbrev pub TakesTurn : {S P : Type 0} → Semantics S P → BetweenTurns S → Result Bool Status → BetweenTurns S → Type 0
+TakesTurn m old (Ok true) new = AnswersChunk m old new
+TakesTurn m old (Ok false) new = TakesNothing old new × IsSpent old.rest
+TakesTurn m old (Err status) new = StopsBy m status old new

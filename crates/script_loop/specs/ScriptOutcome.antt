@@ -1,6 +1,6 @@
 -- How the run of a whole script may end: for each status, which bytes were read, which items were answered, and what was written. `m` is the semantics of the
 -- mode handler; its run goes from the state `from` to the state `to`.
-use Rattle.std.specs.Prelude.{◌≡◌, ◌<◌, ◌≤◌, ◌+◌, ◌⊎◌, ◌++◌, ℕ, Bool, true, false, List, [], ◌∷◌, length, take, nat_le, Option, Some, None}
+use Rattle.std.specs.Prelude.{◌≡◌, ◌<◌, ◌≤◌, ◌+◌, ◌⊎◌, ◌++◌, ℕ, Bool, true, false, List, [], ◌∷◌, length, take, nat_le, Option, Some, None, Result, Ok, Err}
 use Rattle.std.specs.List.{list_any}
 use Rattle.cf_base.specs.declared.status.Status.{Status}
 use Rattle.cf_base.specs.declared.status.Status.TheVariants.{Done, Words, BadScript, ReadFault, WriteFault, OutOfMemory, TooLong, BadImage}
@@ -129,6 +129,16 @@ is_read_fault status = false
 abbrev pub is_write_fault : Status → Bool
 is_write_fault WriteFault = true
 is_write_fault status = false
+
+-- whether the script ended since the source failed
+abbrev pub fails_to_read : {T : Type 0} → Result T Status → Bool
+fails_to_read (Ok done) = false
+fails_to_read (Err status) = is_read_fault status
+
+-- whether the script ended since the sink failed
+abbrev pub fails_to_write : {T : Type 0} → Result T Status → Bool
+fails_to_write (Ok done) = false
+fails_to_write (Err status) = is_write_fault status
 
 -- The cause of each status, over every source and sink; `source'` and `sink'` are their states after the call. `ReadFault` means that the last call of the
 -- source failed, `WriteFault` the same of the sink; with any other status neither failed. With `OutOfMemory` nothing was written. `TooLong` means that the

@@ -17,5 +17,5 @@ pub use laws::{
 };
 pub use mode_handler::{ModeHandler, OpenFault};
 pub use one_manager::run_script;
-pub use running::{LIMIT, Script, TurnEnd, play_script};
+pub use running::{LIMIT, Script, play_script};
 pub use with_settings::WithSettings;

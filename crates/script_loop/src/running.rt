@@ -3,10 +3,10 @@
 ghost use Rattle.std.specs.Prelude.{◌≡◌, ◌≤◌, ◌+◌};
 ghost use Rattle.cf_io.specs.Feeds.{one_more, SinkFailsIf, SourceFailsIf};
 ghost use Rattle.script_reader.specs.Reading.{fresh};
-ghost use Rattle.script_loop.specs.ScriptOutcome.{MOST_BYTES, Plays};
-ghost use Rattle.script_loop.specs.LoopTurn.{AwaitsChunk, TakesTurn, between, left_in, reading_in, is_read_end, is_write_end};
+ghost use Rattle.script_loop.specs.ScriptOutcome.{MOST_BYTES, Plays, fails_to_read, fails_to_write};
+ghost use Rattle.script_loop.specs.LoopTurn.{AwaitsChunk, TakesTurn, between, left_in, reading_in};
 
-use crate::answering::{ChunkOutcome, answer_chunk, answer_pending_items};
+use crate::answering::{answer_chunk, answer_pending_items};
 use crate::mode_handler::ModeHandler;
 use cf_base::{CHUNK, Status};
 use cf_io::{Sink, Source};
@@ -14,17 +14,6 @@ use script_reader::{PayloadBuffer, Reader};
 
 /// The most bytes of a script.
 pub const LIMIT: usize = 268_435_455;
-
-/// How a turn of the loop ends.
-#[derive(Clone, Copy, Debug, PartialEq, Eq)]
-pub enum TurnEnd {
-    /// A chunk was taken, the items that it completes were answered, and another turn may follow.
-    Answered,
-    /// The source has ended, and no byte was taken.
-    Ended,
-    /// The script ends with this status.
-    Stopped(Status),
-}
 
 /// A script between two chunks: its reader, a buffer for the bytes of a write, and `left`, how many bytes may
 /// still be taken within the limit, `LIMIT`.
@@ -48,32 +37,33 @@ impl Script {
         }
     }
 
-    /// One turn of the loop: takes one chunk, and lets `mode_handler` answer each item whose line is complete. It ends
-    /// the script at a bad line, if the source or the sink fails, if an allocation fails at the `heap` line, and
-    /// if the chunk passes the limit.
+    /// One turn of the loop: takes one chunk, and lets `mode_handler` answer each item whose line is complete. Returns
+    /// false if the source has ended, and no byte was taken. An error is the status with which the script ends: at a
+    /// bad line, if the source or the sink fails, if an allocation fails at the `heap` line, and if the chunk passes
+    /// the limit.
     pub fn turn<H, A: ModeHandler<H>, S: Source, K: Sink>(
         &mut self,
         mode_handler: &mut A,
         heap: &mut H,
         source: &mut S,
         sink: &mut K,
-    ) -> TurnEnd
+    ) -> Result<bool, Status>
         requires { AwaitsChunk A.semantics (between self.old (A.state mode_handler.old heap.old) (K.state sink.old).written (S.state source.old).rest (S.state source.old).given) }
         ensures once { (S.state source.new).calls ≡ one_more (S.state source.old).calls }
         ensures few { (S.state source.new).given ≤ (S.state source.old).given + CHUNK }
         ensures turn { TakesTurn A.semantics
             (between self.old (A.state mode_handler.old heap.old) (K.state sink.old).written (S.state source.old).rest (S.state source.old).given) result
             (between self.new (A.state mode_handler.new heap.new) (K.state sink.new).written (S.state source.new).rest (S.state source.new).given) }
-        ensures source { SourceFailsIf (is_read_end result) (S.state source.old) (S.state source.new) }
-        ensures sink { SinkFailsIf (is_write_end result) (K.state sink.old) (K.state sink.new) }
+        ensures source { SourceFailsIf (fails_to_read result) (S.state source.old) (S.state source.new) }
+        ensures sink { SinkFailsIf (fails_to_write result) (K.state sink.old) (K.state sink.new) }
     {
         let mut buffer = [0; CHUNK];
         let n = match source.take(&mut buffer) {
             Ok(n) => n,
-            Err(_) => return TurnEnd::Stopped(Status::ReadFault),
+            Err(_) => return Err(Status::ReadFault),
         };
         if n == 0 {
-            return TurnEnd::Ended;
+            return Ok(false);
         }
         let within = n.min(self.left);
         match answer_chunk(
@@ -84,16 +74,14 @@ impl Script {
             &mut self.payload,
             &buffer[..within],
         ) {
-            ChunkOutcome::GoesOn => {}
-            ChunkOutcome::Stopped => return TurnEnd::Stopped(Status::BadScript),
-            ChunkOutcome::Cut => return TurnEnd::Stopped(Status::WriteFault),
-            ChunkOutcome::LacksMemory => return TurnEnd::Stopped(Status::OutOfMemory),
+            Ok(()) => {}
+            Err(status) => return Err(status),
         }
         if n > self.left {
-            return TurnEnd::Stopped(Status::TooLong);
+            return Err(Status::TooLong);
         }
         self.left -= n;
-        TurnEnd::Answered
+        Ok(true)
     }
 }
 
@@ -114,9 +102,9 @@ pub fn play_script<H, A: ModeHandler<H>, S: Source, K: Sink>(
     let mut script = Script::new();
     'turns: loop {
         match script.turn(mode_handler, heap, source, sink) {
-            TurnEnd::Answered => {}
-            TurnEnd::Ended => break,
-            TurnEnd::Stopped(status) => return status,
+            Ok(true) => {}
+            Ok(false) => break,
+            Err(status) => return status,
         }
     }
     script.reader.finish();
@@ -127,9 +115,7 @@ pub fn play_script<H, A: ModeHandler<H>, S: Source, K: Sink>(
         sink,
         &mut script.payload,
     ) {
-        ChunkOutcome::GoesOn => Status::Done,
-        ChunkOutcome::Stopped => Status::BadScript,
-        ChunkOutcome::Cut => Status::WriteFault,
-        ChunkOutcome::LacksMemory => Status::OutOfMemory,
+        Ok(()) => Status::Done,
+        Err(status) => status,
     }
 }

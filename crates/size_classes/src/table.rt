@@ -1,12 +1,13 @@
 //! `Classes`, the table of size classes of a heap's pages.
-ghost use Rattle.std.specs.Prelude.{◌≡◌, ◌↔◌, ◌/◌, ◌%◌, ◌<◌, ◌≤◌, IsTrue, IsNone, IfOk, IfSome, length, slice_index};
+ghost use Rattle.std.specs.Prelude.{◌≡◌, ◌↔◌, ◌/◌, ◌%◌, ◌^◌, ◌<◌, ◌≤◌, IsTrue, IsNone, IfOk, IfSome, length, slice_index};
 ghost use Rattle.step_ledger.specs.Counting.{RoseBy};
 ghost use Rattle.cf_base.specs.Classes.{need, slots, class_of};
 ghost use Rattle.cf_base.specs.Limits.{is_page_size};
 ghost use Rattle.size_classes.specs.Table.{table_of};
+ghost use Rattle.size_classes.specs.Needed.{class_table_bytes};
 
 use crate::needs::classes_by_need;
-use cf_base::{Layout, OutOfMemory, need_of, slot_sizes};
+use cf_base::{BytesNeeded, Layout, OutOfMemory, class_count, need_of, slot_sizes};
 use std::alloc::Global;
 use std::marker::Model;
 use step_ledger::{Cells, Steps};
@@ -54,6 +55,16 @@ impl Classes {
             page_words,
             page_shift: page_words.trailing_zeros(),
         })
+    }
+
+    /// The memory that `new` asks for.
+    pub fn bytes_needed(page_words: u32, layout: Layout) -> BytesNeeded
+        requires { IsTrue (is_page_size page_words) }
+        ensures needed { result ≡ class_table_bytes page_words layout }
+        ensures few { result.total < 2 ^ 33 }
+    {
+        let sizes = BytesNeeded::block(4 * u64::from(class_count(page_words, layout)));
+        sizes.and(BytesNeeded::block(u64::from(page_words) + 1))
     }
 
     /// The number of classes, at most 67.

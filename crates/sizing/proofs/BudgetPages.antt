@@ -23,8 +23,9 @@ use Rattle.page_model.proofs.CallerLemmas.{bytes_missing, lacks_room_at_one, liv
 use Rattle.page_model.proofs.CallerLemmas.{sum_plus, sum_same, sum_zeros}
 use Rattle.page_model.proofs.RoomAtOne.{needed_with_is}
 use Rattle.std.proofs.lemmas.List.{length-replicate}
-use Rattle.sizing.specs.Demands.{KeepsBudget}
+use Rattle.sizing.specs.Demands.{Affords, KeepsBudget, objects_to_open}
 use Rattle.sizing.specs.Runs.{HeapCall, MallocLacks, Run}
+use Rattle.sizing.proofs.BudgetLeast.{opened_by}
 use Rattle.sizing.proofs.Calls.{run_keeps, sound_next}
 
 -- n objects of at least b bytes, m to a page, on the pages that they need
@@ -136,3 +137,28 @@ budget_serves p least budget t ok ones full enough calls m h n run l =
     let more : (p.pages + 1) * t ≤ pages_needed p (insert (objects m) h (replicate n 0)) * t =
     mul-le (p.pages + 1) t (pages_needed p (insert (objects m) h (replicate n 0))) t (omega arith) (omega arith) in
     absurd (omega arith)
+
+-- the pages that the objects need are pages that the budget affords
+pub afforded_serve : (p : Paging) (least : ℕ → ℕ) (budget : ℕ) → IsPaging p → EveryBoundIsOne p
+    → ((pages : ℕ → ℕ) → Affords p least budget pages → sum_by pages (range_with_len 0 (classes p)) ≤ p.pages)
+    → (calls : List HeapCall) (m : Held) (h n : ℕ) → Run p (KeepsBudget p least budget) empty calls m → ¬ MallocLacks p (KeepsBudget p least budget) m h n
+unfolding pages_needed asked_bytes
+afforded_serve p least budget ok ones enough calls m h n run l =
+    let s = run_keeps p (KeepsBudget p least budget) (IsSound p) (λ old new call sound does asked. sound_next p ok old sound call new does) calls empty m
+    (sound_empty p) run in
+    let lacks = (lacks_room_at_one p ok ones m s n l.fits).0 l.lacking in
+    let is = needed_with_is p (objects m) h (replicate n 0) (bytes_missing m h l.unused) in
+    let len : pages_needed_with p (objects m) (length (replicate {A = ℕ} n 0)) ≡ pages_needed_with p (objects m) n =
+    ap (pages_needed_with p (objects m)) (length-replicate {A = ℕ} n 0) in
+    let some = enough (λ c. ceil_div (live p (insert (objects m) h (replicate n 0)) c) (slots_of p c)) (cost (insert (objects m) h (replicate n 0)) l.asked) in
+    absurd (omega arith)
+  where
+    cost : (o : Objects) → KeepsBudget p least budget o → Affords p least budget (λ c. ceil_div (live p o c) (slots_of p c))
+    cost o keeps =
+        let each = sum_le (λ c. objects_to_open (ceil_div (live p o c) (slots_of p c)) (slots_of p c) * least c) (λ c. live p o c * least c) 0 (classes p)
+        (λ c _ lt. mul-le (objects_to_open (ceil_div (live p o c) (slots_of p c)) (slots_of p c)) (least c) (live p o c) (least c)
+        (opened_by (live p o c) (slots_of p c) (slots_some p ok c (omega arith))) (omega arith)) in
+        let weights = weighted p least o in
+        let bytes = values_le (λ v. least (class_for p (length v))) length o keeps.long_enough in
+        let within : sum_by length (values o) ≤ budget = keeps.within in
+        omega arith

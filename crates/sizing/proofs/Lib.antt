@@ -7,3 +7,7 @@ pub mod ModePages
 pub mod BudgetPages
 pub mod HeapRuns
 pub mod Needed
+pub mod Closed
+pub mod BudgetLeast
+pub mod Filled
+pub mod CheckedPoints

@@ -1,11 +1,12 @@
 -- For the laws of `modes.rt`: a program whose objects are always within one of several modes. A certificate bounds its pages along every run; `spread_of_modes`
 -- is the sum of one.
 use Rattle.std.proofs.Common.{◌≡◌, ℕ, ◌+◌, ◌-◌, ◌*◌, ◌%◌, ◌<◌, ◌≤◌, suc, List, [], ◌∷◌, Contains, None, length, map, replicate, arith, ap, sym, ◌∙◌, inl, inr, refl, subst}
-use Rattle.std.specs.Prelude.{All, count_by, max, min, nat_eq, sum_by}
+use Rattle.std.specs.Prelude.{All, count_by, max, min, nat_eq, slice_index_or, sum_by}
 use Rattle.std.specs.List.{range_with_len}
 use Rattle.std.proofs.lemmas.Bool.{cases_lt}
-use Rattle.std.proofs.lemmas.List.{get_or-map, length-map}
-use Rattle.std.proofs.lemmas.List.Elements.{All-cons, All-contains, All-contains_itself, All-map, All-nil, All-weaker}
+use Rattle.std.proofs.lemmas.List.{get_or_default}
+use Rattle.std.proofs.lemmas.List.FromFn.{get_or-map-range_with_len, length-map-range_with_len}
+use Rattle.std.proofs.lemmas.List.Elements.{All-cons, All-contains, All-nil, All-weaker}
 use Rattle.std.proofs.lemmas.Nat.{div-add-mod', mul-le}
 use Rattle.std.proofs.Math.Nat.{le-max_left, le-max_right, le-min, max-le, min-le_left, min-le_right, mod-lt}
 use Rattle.std.specs.FinMap.{empty, get, insert}
@@ -24,7 +25,7 @@ use Rattle.page_model.proofs.PageLaws.{most_pages_least}
 use Rattle.quota_model.specs.Admission.{first_large, in_order, live_of, pages_needed_by}
 use Rattle.quota_model.specs.declared.answers.Need.{Need}
 use Rattle.quota_model.proofs.CallerLemmas.{live_of-inserted}
-use Rattle.sizing.specs.Certificates.{IsCertificate, LeadsTo, Point}
+use Rattle.sizing.specs.Certificates.{IsCertificate, IsPoint, LeadsTo, Point, mode_count}
 use Rattle.sizing.specs.Demands.{HasAtMost, KeepsTo, KeepsToOne, count_in, greatest_of, pages_of_modes, spread_of, spread_of_modes}
 use Rattle.sizing.specs.Runs.{CanBeRefused, Does, HeapCall, Run, ServesMallocs, ServesResizes}
 use Rattle.sizing.proofs.Calls.{live_malloced, run_keeps, sound_next, within_next}
@@ -41,8 +42,18 @@ contains_head x xs = (0, omega arith, refl)
 pub contains_later : {X : Type 0} (x y : X) (xs : List X) → Contains xs y → Contains (x ∷ xs) y
 contains_later x y xs c = (c.0 + 1, (let lt = c.1 in omega arith), (let e : c.0 + 1 ≡ suc c.0 = omega arith in rw e c.2))
 
-contains_mapped : {X Y : Type 0} (f : X → Y) (xs : List X) (x : X) → Contains xs x → Contains (map f xs) (f x)
-contains_mapped f xs x c = (c.0, (let e = length-map xs f in let lt = c.1 in omega arith), get_or-map f xs c.0 x (f x) c.1 ∙ ap f c.2)
+-- the mode with number j
+abbrev mode_at : List (List Need) → ℕ → List Need
+mode_at modes j = slice_index_or modes j []
+
+-- objects within one of the modes are within that of some number
+numbered : (modes : List (List Need)) (o : Objects) → KeepsToOne modes o → (j : ℕ) × (j < length modes) × KeepsTo (mode_at modes j) o
+numbered modes o one_of =
+    let at = one_of.1 in
+    (at.0, at.1, subst (λ n. KeepsTo n o) (sym (get_or_default modes at.0 [] one_of.0 at.1 ∙ at.2)) one_of.2)
+
+contains_at : (modes : List (List Need)) (j : ℕ) → j < length modes → Contains modes (mode_at modes j)
+contains_at modes j lt = (j, lt, get_or_default modes j (mode_at modes j) [] lt)
 
 module _ (f : List Need → ℕ) where
   pub at_most_greatest : (modes : List (List Need)) (needs : List Need) → Contains modes needs → f needs ≤ greatest_of f modes
@@ -102,29 +113,29 @@ module _ (p : Paging) (ok : IsPaging p) where
     abbrev IsBelow : Held → Point → Type 0
     IsBelow m x = (c : ℕ) → c < classes p → pages_of_class p m c ≤ x.pages c
 
-    -- in the mode a point of the certificate covers the pages
-    abbrev Covers : Held → List Need → Type 0
-    Covers m needs = (x : Point) × Contains points x × (x.needs ≡ needs) × IsBelow m x
+    -- in the mode with number j a point of the certificate covers the pages
+    abbrev Covers : Held → ℕ → Type 0
+    Covers m j = (x : Point) × Contains points x × (x.mode ≡ j) × IsBelow m x
 
     record IsCovered (m : Held) : Type 0 where
       sound : IsSound p m
-      within : KeepsToOne modes (objects m)
-      covered : (needs : List Need) → Contains modes needs → KeepsTo needs (objects m) → Covers m needs
+      within : (j : ℕ) × (j < length modes) × KeepsTo (mode_at modes j) (objects m)
+      covered : (j : ℕ) → j < length modes → KeepsTo (mode_at modes j) (objects m) → Covers m j
 
-    covered_first : (needs : List Need) → Contains modes needs → IsCovered empty
-    covered_first needs is = record {
+    covered_first : (j : ℕ) → j < length modes → IsCovered empty
+    covered_first j is = record {
       sound = sound_empty p;
-      within = (needs, is, keeps_none needs);
-      covered = λ others is keeps. (let x = sure.first others is in (x.0, x.1, x.2, λ c lt. (let z = none_home p c in omega arith)));
+      within = (j, is, keeps_none (mode_at modes j));
+      covered = λ i lt keeps. (let x = sure.first i lt in (x.0, x.1, x.2, λ c less. (let z = none_home p c in omega arith)));
     }
 
     -- the objects of a mode are within those of its point
-    few_at : (x : Point) (needs : List Need) → x.needs ≡ needs → (o : Objects) → KeepsTo needs o → HasAtMost p (count_in p x.needs) o
-    few_at x needs is o keeps = subst (λ n. HasAtMost p (count_in p n) o) (sym is) (declared_few p needs o keeps)
+    few_at : (x : Point) (j : ℕ) → x.mode ≡ j → (o : Objects) → KeepsTo (mode_at modes j) o → HasAtMost p (mode_count p modes x.mode) o
+    few_at x j is o keeps = subst (λ i. HasAtMost p (mode_count p modes i) o) (sym is) (declared_few p (mode_at modes j) o keeps)
 
     -- a call leaves each class the pages that it had, or those of the point
     grows_within : (old new : Held) (call : HeapCall) → IsSound p old → Does p old call new → (y : Point) → Contains points y
-        → HasAtMost p (count_in p y.needs) (objects new) → (c : ℕ) → c < classes p → pages_of_class p new c ≤ max (pages_of_class p old c) (y.pages c)
+        → HasAtMost p (mode_count p modes y.mode) (objects new) → (c : ℕ) → c < classes p → pages_of_class p new c ≤ max (pages_of_class p old c) (y.pages c)
     grows_within old new call s does y inside few c lt =
         let after = within_next p ok old s (λ d. max (pages_of_class p old d) (y.pages d) * slots_of p d)
         (λ d l. (
@@ -133,15 +144,15 @@ module _ (p : Paging) (ok : IsPaging p) where
         omega arith)) call new does
         (λ d l. (
         let a = few d l in
-        let b = slots_enough (count_in p y.needs d) (slots_of p d) (y.pages d) (slots_some p ok d l) (sure.tops y d inside l) in
+        let b = slots_enough (mode_count p modes y.mode d) (slots_of p d) (y.pages d) (slots_some p ok d l) ((sure.each y inside).tops d l) in
         let e = mul-le (y.pages d) (slots_of p d) (max (pages_of_class p old d) (y.pages d)) (slots_of p d) (le-max_right (pages_of_class p old d) (y.pages d)) (omega arith) in
         omega arith)) c lt in
         let e = filled (max (pages_of_class p old c) (y.pages c)) (slots_of p c) (slots_some p ok c lt) in
         omega arith
 
     -- the point to which the point of the old objects leads is above the new ones
-    below_next : (old new : Held) → IsSound p old → IsSound p new → (x y : Point) → LeadsTo p x y → IsBelow old x
-        → HasAtMost p (count_in p x.needs) (objects old) → HasAtMost p (count_in p y.needs) (objects new)
+    below_next : (old new : Held) → IsSound p old → IsSound p new → (x y : Point) → LeadsTo p modes x y → IsBelow old x
+        → HasAtMost p (mode_count p modes x.mode) (objects old) → HasAtMost p (mode_count p modes y.mode) (objects new)
         → ((c : ℕ) → c < classes p → pages_of_class p new c ≤ max (pages_of_class p old c) (y.pages c)) → IsBelow new y
     below_next old new so sn x y leads below few few' grows c lt = elim (cases_lt (y.pages c) (pages_of_class p new c)) [
       | inr fine ↦ fine
@@ -157,13 +168,13 @@ module _ (p : Paging) (ok : IsPaging p) where
                 let within : max (pages_of_class p old c) (y.pages c) ≤ pages_of_class p new c - 1 = max-le (omega arith) (omega arith) in
                 omega arith)
           ] in
-          let on : pages_of_class p new c ≤ most_pages (min (count_in p x.needs c) (count_in p y.needs c)) (slots_of p c) (bound_of p c) =
-          elim (cases_lt (count_in p y.needs c) (live p (objects old) c)) [
-            | inl over ↦ most_on new sn c (min (count_in p x.needs c) (count_in p y.needs c)) lt (le-min (omega arith) now)
-            | inr under ↦ (let a = most_on old so c (min (count_in p x.needs c) (count_in p y.needs c)) lt (le-min was under) in omega arith)
+          let on : pages_of_class p new c ≤ most_pages (min (mode_count p modes x.mode c) (mode_count p modes y.mode c)) (slots_of p c) (bound_of p c) =
+          elim (cases_lt (mode_count p modes y.mode c) (live p (objects old) c)) [
+            | inl over ↦ most_on new sn c (min (mode_count p modes x.mode c) (mode_count p modes y.mode c)) lt (le-min (omega arith) now)
+            | inr under ↦ (let a = most_on old so c (min (mode_count p modes x.mode c) (mode_count p modes y.mode c)) lt (le-min was under) in omega arith)
           ] in
           let both : pages_of_class p new c
-          ≤ min (x.pages c) (most_pages (min (count_in p x.needs c) (count_in p y.needs c)) (slots_of p c) (bound_of p c)) = le-min (omega arith) on in
+          ≤ min (x.pages c) (most_pages (min (mode_count p modes x.mode c) (mode_count p modes y.mode c)) (slots_of p c) (bound_of p c)) = le-min (omega arith) on in
           omega arith)
     ]
 
@@ -174,10 +185,10 @@ module _ (p : Paging) (ok : IsPaging p) where
         let x = k.covered was.0 was.1 was.2 in
         record {
           sound = sound;
-          within = one_of;
-          covered = λ needs is keeps. (
-              let y = sure.next x.0 needs x.1 is in
-              let few = few_at y.0 needs y.2 (objects new) keeps in (
+          within = numbered modes (objects new) one_of;
+          covered = λ j lt keeps. (
+              let y = (sure.each x.0 x.1).next j lt in
+              let few = few_at y.0 j y.2 (objects new) keeps in (
                 y.0,
                 y.1,
                 y.2,
@@ -186,29 +197,29 @@ module _ (p : Paging) (ok : IsPaging p) where
               ));
         }
 
-    covered_along : (needs : List Need) → Contains modes needs → (calls : List HeapCall) (m : Held) → Run p (KeepsToOne modes) empty calls m → IsCovered m
-    covered_along needs is calls m run = run_keeps p (KeepsToOne modes) IsCovered covered_next calls empty m (covered_first needs is) run
+    covered_along : (j : ℕ) → j < length modes → (calls : List HeapCall) (m : Held) → Run p (KeepsToOne modes) empty calls m → IsCovered m
+    covered_along j lt calls m run = run_keeps p (KeepsToOne modes) IsCovered covered_next calls empty m (covered_first j lt) run
 
     pub certified_mallocs : ServesMallocs p (KeepsToOne modes)
     unfolding used_pages
     certified_mallocs calls m h n run l =
-        let o = l.asked in
+        let o = numbered modes (insert (objects m) h (replicate n 0)) l.asked in
         let k = covered_along o.0 o.1 calls m run in
-        let x = k.covered o.0 o.1 (keeps_before o.0 m h n l.unused o.2) in
+        let x = k.covered o.0 o.1 (keeps_before (mode_at modes o.0) m h n l.unused o.2) in
         let all : used_pages p m ≡ p.pages = none_free p m k.sound l.lacking.taken in
         let few = few_at x.0 o.0 x.2 (insert (objects m) h (replicate n 0)) o.2 (class_for p n) l.fits in
         let added = live_malloced p m h n l.unused in
-        let next = full_now p ok m k.sound (class_for p n) l.fits (count_in p (x.0).needs (class_for p n)) l.lacking.full (omega arith) in
-        let top = sure.tops x.0 (class_for p n) x.1 l.fits in
+        let next = full_now p ok m k.sound (class_for p n) l.fits (mode_count p modes (x.0).mode (class_for p n)) l.lacking.full (omega arith) in
+        let top = (sure.each x.0 x.1).tops (class_for p n) l.fits in
         let less = sum_less (pages_of_class p m) (x.0).pages 0 (classes p) (class_for p n) (omega arith) (let f = l.fits in omega arith)
         (λ d _ lt. x.3 d (omega arith)) (omega arith) in
-        let within = sure.enough x.0 x.1 in
+        let within = (sure.each x.0 x.1).enough in
         absurd (omega arith)
 
     pub certified_resizes : ((x : Point) → Contains points x → sum_by x.pages (range_with_len 0 (classes p)) < p.pages) → ServesResizes p (KeepsToOne modes)
     unfolding used_pages
     certified_resizes spare calls m h n run l =
-        let o = l.asked in
+        let o = numbered modes _ l.asked in
         let k = covered_along o.0 o.1 calls m run in
         let w = k.within in
         let x = k.covered w.0 w.1 w.2 in
@@ -218,56 +229,75 @@ module _ (p : Paging) (ok : IsPaging p) where
         absurd (omega arith)
 
   module _ (modes : List (List Need)) where
-    -- the pages that the classes can have in a mode
-    abbrev point_of : List Need → Point
-    point_of needs = record { needs = needs; pages = spread_of p modes needs }
+    -- the pages that the classes can have in mode j
+    abbrev point_of : ℕ → Point
+    point_of j = record { mode = j; pages = spread_of p modes (mode_at modes j) }
+
+    -- a point for each mode
+    abbrev spread_points : List Point
+    spread_points = map point_of (range_with_len 0 (length modes))
 
     abbrev IsPointOf : Point → Type 0
-    IsPointOf x = (needs : List Need) × Contains modes needs × (x ≡ point_of needs)
+    IsPointOf x = (j : ℕ) × (j < length modes) × (x ≡ point_of j)
 
-    is_point : (x : Point) → Contains (map point_of modes) x → IsPointOf x
-    is_point x inside = All-contains IsPointOf (map point_of modes) x
-        (All-map IsPointOf point_of modes (All-weaker (Contains modes) (λ needs. IsPointOf (point_of needs)) (λ needs is. (needs, is, refl)) modes
-        (All-contains_itself modes))) inside
+    is_point : (x : Point) → Contains spread_points x → IsPointOf x
+    is_point x inside =
+        let long = length-map-range_with_len point_of 0 (length modes) in
+        let lt : inside.0 < length modes = (let less = inside.1 in omega arith) in
+        (inside.0, lt, sym inside.2 ∙ get_or-map-range_with_len point_of 0 (length modes) inside.0 inside.0 x lt (omega arith))
 
-    sum_of_point : (x : Point) → Contains (map point_of modes) x → sum_by x.pages (range_with_len 0 (classes p)) ≤ spread_of_modes p modes
+    has_point : (j : ℕ) → j < length modes → Contains spread_points (point_of j)
+    has_point j lt =
+        let long = length-map-range_with_len point_of 0 (length modes) in
+        (j, omega arith, get_or-map-range_with_len point_of 0 (length modes) j j (point_of j) lt (omega arith))
+
+    spread_sum : (j : ℕ) → j < length modes → sum_by (spread_of p modes (mode_at modes j)) (range_with_len 0 (classes p)) ≤ spread_of_modes p modes
+    spread_sum j lt = at_most_greatest (λ needs. sum_by (spread_of p modes needs) (range_with_len 0 (classes p))) modes (mode_at modes j) (contains_at modes j lt)
+
+    sum_of_point : (x : Point) → Contains spread_points x → sum_by x.pages (range_with_len 0 (classes p)) ≤ spread_of_modes p modes
     sum_of_point x inside =
         let y = is_point x inside in
-        subst (λ z. sum_by z.pages (range_with_len 0 (classes p)) ≤ spread_of_modes p modes) (sym y.2)
-        (at_most_greatest (λ needs. sum_by (spread_of p modes needs) (range_with_len 0 (classes p))) modes y.0 y.1)
+        subst (λ z. sum_by z.pages (range_with_len 0 (classes p)) ≤ spread_of_modes p modes) (sym y.2) (spread_sum y.0 y.1)
 
-    spread_tops : (needs : List Need) (c : ℕ) → Contains modes needs → c < classes p → ceil_div (count_in p needs c) (slots_of p c) ≤ spread_of p modes needs c
-    spread_tops needs c is lt = le-min (ceil_within_most (count_in p needs c) (slots_of p c) (bound_of p c) (slots_some p ok c lt) (ok.some c lt))
-        (ceil_mono (count_in p needs c) (greatest_of (λ n. count_in p n c) modes) (slots_of p c) (at_most_greatest (λ n. count_in p n c) modes needs is))
+    spread_tops : (j c : ℕ) → j < length modes → c < classes p → ceil_div (mode_count p modes j c) (slots_of p c) ≤ spread_of p modes (mode_at modes j) c
+    spread_tops j c is lt = le-min (ceil_within_most (mode_count p modes j c) (slots_of p c) (bound_of p c) (slots_some p ok c lt) (ok.some c lt))
+        (ceil_mono (mode_count p modes j c) (greatest_of (λ n. count_in p n c) modes) (slots_of p c)
+        (at_most_greatest (λ n. count_in p n c) modes (mode_at modes j) (contains_at modes j is)))
 
-    spread_leads : (needs others : List Need) → LeadsTo p (point_of needs) (point_of others)
-    spread_leads needs others c lt =
-        let low = min-le_left (spread_of p modes needs c)
-        (most_pages (min (count_in p needs c) (count_in p others c)) (slots_of p c) (bound_of p c)) in
-        let low' = min-le_right (spread_of p modes needs c)
-        (most_pages (min (count_in p needs c) (count_in p others c)) (slots_of p c) (bound_of p c)) in
-        let top = min-le_right (most_pages (count_in p needs c) (slots_of p c) (bound_of p c)) (ceil_div (greatest_of (λ n. count_in p n c) modes) (slots_of p c)) in
-        let grows = most_grows (min (count_in p needs c) (count_in p others c)) (count_in p others c) (slots_of p c) (bound_of p c) (slots_some p ok c lt) (ok.some c lt)
-        (min-le_right (count_in p needs c) (count_in p others c)) in
-        le-min (omega arith) (omega arith)
+    spread_leads : (i j : ℕ) → LeadsTo p modes (point_of i) (point_of j)
+    spread_leads i j c lt = leads (mode_at modes i) (mode_at modes j)
+      where
+        leads : (needs others : List Need)
+            → min (spread_of p modes needs c) (most_pages (min (count_in p needs c) (count_in p others c)) (slots_of p c) (bound_of p c)) ≤ spread_of p modes others c
+        leads needs others =
+            let low = min-le_left (spread_of p modes needs c)
+            (most_pages (min (count_in p needs c) (count_in p others c)) (slots_of p c) (bound_of p c)) in
+            let low' = min-le_right (spread_of p modes needs c)
+            (most_pages (min (count_in p needs c) (count_in p others c)) (slots_of p c) (bound_of p c)) in
+            let top = min-le_right (most_pages (count_in p needs c) (slots_of p c) (bound_of p c)) (ceil_div (greatest_of (λ n. count_in p n c) modes) (slots_of p c)) in
+            let grows = most_grows (min (count_in p needs c) (count_in p others c)) (count_in p others c) (slots_of p c) (bound_of p c) (slots_some p ok c lt) (ok.some c lt)
+            (min-le_right (count_in p needs c) (count_in p others c)) in
+            le-min (omega arith) (omega arith)
 
-    spread_certificate : spread_of_modes p modes ≤ p.pages → IsCertificate p modes (map point_of modes)
+    spread_point : spread_of_modes p modes ≤ p.pages → (j : ℕ) → j < length modes → IsPoint p modes spread_points (point_of j)
+    spread_point enough j lt = record {
+      known = lt;
+      tops = λ c less. spread_tops j c lt less;
+      enough = (let sum = spread_sum j lt in omega arith);
+      next = λ i less. (point_of i, has_point i less, refl, spread_leads j i);
+    }
+
+    spread_certificate : spread_of_modes p modes ≤ p.pages → IsCertificate p modes spread_points
     spread_certificate enough = record {
-      first = λ needs is. (point_of needs, contains_mapped point_of modes needs is, refl);
-      tops = λ x c inside lt. (
-          let y = is_point x inside in
-          subst (λ z. ceil_div (count_in p z.needs c) (slots_of p c) ≤ z.pages c) (sym y.2) (spread_tops y.0 c y.1 lt));
-      next = λ x needs inside is. (
-          let y = is_point x inside in
-          (point_of needs, contains_mapped point_of modes needs is, refl, subst (λ z. LeadsTo p z (point_of needs)) (sym y.2) (spread_leads y.0 needs)));
-      enough = λ x inside. (let sum = sum_of_point x inside in omega arith);
+      first = λ j lt. (point_of j, has_point j lt, refl);
+      each = λ x inside. (let y = is_point x inside in subst (λ z. IsPoint p modes spread_points z) (sym y.2) (spread_point enough y.0 y.1));
     }
 
     pub spread_mallocs : spread_of_modes p modes ≤ p.pages → ServesMallocs p (KeepsToOne modes)
-    spread_mallocs enough = certified_mallocs modes (map point_of modes) (spread_certificate enough)
+    spread_mallocs enough = certified_mallocs modes spread_points (spread_certificate enough)
 
     pub spread_resizes : spread_of_modes p modes < p.pages → ServesResizes p (KeepsToOne modes)
-    spread_resizes less = certified_resizes modes (map point_of modes) (spread_certificate (omega arith))
+    spread_resizes less = certified_resizes modes spread_points (spread_certificate (omega arith))
         (λ x inside. (let sum = sum_of_point x inside in omega arith))
 
     -- at bound one a class has the pages that its objects need
@@ -290,7 +320,7 @@ module _ (p : Paging) (ok : IsPaging p) where
             max-le (omega arith) (omega arith)
 
 -- a run within the needs of a mode is one within the modes
-run_weakened : (p : Paging) (A B : Objects → Type 0) → ((o : Objects) → A o → B o) → (calls : List HeapCall) (m last : Held) → Run p A m calls last
+pub run_weakened : (p : Paging) (A B : Objects → Type 0) → ((o : Objects) → A o → B o) → (calls : List HeapCall) (m last : Held) → Run p A m calls last
     → Run p B m calls last
 run_weakened p A B weaker [] m last run = run
 run_weakened p A B weaker (call ∷ rest) m last run = (run.0, run.1, weaker (objects run.0) run.2, run_weakened p A B weaker rest run.0 last run.3)

@@ -24,7 +24,7 @@ use Rattle.quota_model.specs.declared.answers.Admission.TheVariants.{Yes}
 use Rattle.quota_model.specs.declared.answers.Need.{Need}
 use Rattle.quota_model.proofs.CallerLemmas.{counted_by, enough_iff, length-in_order, pages_few}
 use Rattle.sizing.specs.Demands.{KeepsTo}
-use Rattle.sizing.specs.Layout.{declared_between, pages_by_size}
+use Rattle.sizing.specs.Layout.{declared_between, pages_by_size, size_before}
 use Rattle.sizing.specs.Runs.{CanBeRefused, IsServed}
 use Rattle.sizing.proofs.FewerPages.{refused}
 use Rattle.sizing.proofs.MostLive.{needs_served}
@@ -71,18 +71,13 @@ last_counted unit page s below pages x total needs ge is x_is =
 
 -- ---- the sum is that over the classes
 
--- the slots of the class before c; 0 before the first
-abbrev below_of : Paging → ℕ → ℕ
-below_of p zero = 0
-below_of p (suc c) = slot_words p c
-
 module _ (p : Paging) (ok : IsPaging p) where
   module _ (n : ℕ) where
-    low : (c : ℕ) → c ≤ class_for p n → below_of p c < need n
+    low : (c : ℕ) → c ≤ class_for p n → size_before p.sizes c < need n
     low zero le = omega arith
     low (suc c) le = class_least p ok n c (omega arith)
 
-    high : (c : ℕ) → c < classes p → class_for p n < c → need n ≤ below_of p c
+    high : (c : ℕ) → c < classes p → class_for p n < c → need n ≤ size_before p.sizes c
     high zero lt less = absurd (omega arith)
     high (suc c) lt less =
         let holds = class_holds p ok n (omega arith) in
@@ -92,41 +87,41 @@ module _ (p : Paging) (ok : IsPaging p) where
         ]
 
     -- an object of n bytes is of class c if it needs more than the slots of the class before, and at most those of the class
-    is_of_class : (c : ℕ) → c < classes p → (nat_lt (below_of p c) (need n) && nat_le (need n) (slot_words p c)) ≡ nat_eq (class_for p n) c
+    is_of_class : (c : ℕ) → c < classes p → (nat_lt (size_before p.sizes c) (need n) && nat_le (need n) (slot_words p c)) ≡ nat_eq (class_for p n) c
     is_of_class c lt = elim (cases_eq (class_for p n) c) [
       | inl is ↦ (
           let holds = class_holds p ok n (omega arith) in
           let same : slot_words p (class_for p n) ≡ slot_words p c = ap (slot_words p) is in
-          let a = lt_yes (below_of p c) (need n) (low c (omega arith)) in
+          let a = lt_yes (size_before p.sizes c) (need n) (low c (omega arith)) in
           let b = le_yes (need n) (slot_words p c) (omega arith) in
           let e = eq_yes (class_for p n) c is in
           rw (a, b, e) refl)
       | inr ne ↦ (
           let e = eq_no (class_for p n) c ne in
           elim (cases_lt (class_for p n) c) [
-            | inl less ↦ (let a = lt_no (below_of p c) (need n) (high c lt less) in rw (a, e) refl)
+            | inl less ↦ (let a = lt_no (size_before p.sizes c) (need n) (high c lt less) in rw (a, e) refl)
             | inr more ↦ (
                 let b = le_no (need n) (slot_words p c) (class_least p ok n c (omega arith)) in
-                rw (b, e) (and_false (nat_lt (below_of p c) (need n))))
+                rw (b, e) (and_false (nat_lt (size_before p.sizes c) (need n))))
           ])
     ]
 
   module _ (needs : List Need) where
-    count_is : (c : ℕ) → c < classes p → declared_between (below_of p c) (slot_words p c) needs ≡ count_of_class p (in_order needs) c
+    pub count_is : (c : ℕ) → c < classes p → declared_between (size_before p.sizes c) (slot_words p c) needs ≡ count_of_class p (in_order needs) c
     count_is c lt = (λ i. sum_by (λ (e : Need). cond (is_of_class e.bytes c lt i) e.count 0) needs) ∙ sym (counted_by (λ n. nat_eq (class_for p n) c) needs)
 
     abbrev pages_of : ℕ → ℕ
     pages_of c = ceil_div (count_of_class p (in_order needs) c) (slots_of p c)
 
-    sum_from : (n c : ℕ) → c + n ≡ classes p → pages_by_size p.page_words (below_of p c) (drop c p.sizes) needs ≡ sum_by pages_of (range_with_len c n)
-    sum_from zero c is = ap (λ xs. pages_by_size p.page_words (below_of p c) xs needs) (drop_of_length-le p.sizes {i = c} (omega arith))
+    sum_from : (n c : ℕ) → c + n ≡ classes p → pages_by_size p.page_words (size_before p.sizes c) (drop c p.sizes) needs ≡ sum_by pages_of (range_with_len c n)
+    sum_from zero c is = ap (λ xs. pages_by_size p.page_words (size_before p.sizes c) xs needs) (drop_of_length-le p.sizes {i = c} (omega arith))
     sum_from (suc n) c is =
         let e : suc c ≡ c + 1 = omega arith in
-        let split : pages_by_size p.page_words (below_of p c) (drop c p.sizes) needs
-        ≡ ceil_div (declared_between (below_of p c) (slot_words p c) needs) (slots_of p c)
+        let split : pages_by_size p.page_words (size_before p.sizes c) (drop c p.sizes) needs
+        ≡ ceil_div (declared_between (size_before p.sizes c) (slot_words p c) needs) (slots_of p c)
         + pages_by_size p.page_words (slot_words p c) (drop (suc c) p.sizes) needs =
-        ap (λ xs. pages_by_size p.page_words (below_of p c) xs needs) (drop-cons p.sizes c 0 (omega arith)) in
-        let here : ceil_div (declared_between (below_of p c) (slot_words p c) needs) (slots_of p c) ≡ pages_of c =
+        ap (λ xs. pages_by_size p.page_words (size_before p.sizes c) xs needs) (drop-cons p.sizes c 0 (omega arith)) in
+        let here : ceil_div (declared_between (size_before p.sizes c) (slot_words p c) needs) (slots_of p c) ≡ pages_of c =
         ap (λ x. ceil_div x (slots_of p c)) (count_is c (omega arith)) in
         let rest = sum_from n (suc c) (omega arith) in
         let sum = sum_by-cons pages_of c (range_with_len (c + 1) n) in

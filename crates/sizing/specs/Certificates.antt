@@ -1,28 +1,36 @@
 -- Certificates that pages are enough for the modes of a program, whatever the bounds: for each mode some numbers of pages by class, one of which no run that is
--- in the mode exceeds. An unverified planner can compute them.
-use Rattle.std.specs.Prelude.{◌≡◌, ℕ, ◌<◌, ◌≤◌, List, Contains, min, sum_by}
+-- in the mode exceeds. An unverified planner can compute them, and `is_certificate` tests them.
+use Rattle.std.specs.Prelude.{◌≡◌, ℕ, ◌<◌, ◌≤◌, List, [], Contains, length, min, slice_index_or, sum_by}
 use Rattle.std.specs.List.{range_with_len}
 use Rattle.page_model.specs.Counts.{ceil_div, most_pages}
 use Rattle.page_model.specs.Paging.{Paging, bound_of, classes, slots_of}
 use Rattle.quota_model.specs.declared.answers.Need.{Need}
 use Rattle.sizing.specs.Demands.{count_in}
 
--- a mode, and a number of pages for each class
+-- a mode, by its number from 0 on, and a number of pages for each class
 pub record Point : Type 0 where
-  pub needs : List Need
+  pub mode : ℕ
   pub pages : ℕ → ℕ
+
+-- how many objects of class c the mode with number j has at most
+abbrev pub mode_count : Paging → List (List Need) → ℕ → ℕ → ℕ
+mode_count p modes j c = count_in p (slice_index_or modes j []) c
 
 -- The pages of the point y are at least those that a run can still have when it goes on from the point x to the mode of y: the pages of x, as far as the objects
 -- that both modes allow can be on them.
-abbrev pub LeadsTo : Paging → Point → Point → Type 0
-LeadsTo p x y = (c : ℕ) → c < classes p
-    → min (x.pages c) (most_pages (min (count_in p x.needs c) (count_in p y.needs c)) (slots_of p c) (bound_of p c)) ≤ y.pages c
+abbrev pub LeadsTo : Paging → List (List Need) → Point → Point → Type 0
+LeadsTo p modes x y = (c : ℕ) → c < classes p
+    → min (x.pages c) (most_pages (min (mode_count p modes x.mode c) (mode_count p modes y.mode c)) (slots_of p c) (bound_of p c)) ≤ y.pages c
 
--- Each mode has a point (`first`), and each point has at least the pages that the objects of its mode need (`tops`). Each point leads to one of each mode
--- (`next`). The pages of each point are within those of the heap (`enough`).
+-- What a point of a certificate must meet: there is its mode (`known`). It has at least the pages that the objects of its mode need (`tops`), and its pages are
+-- within those of the heap (`enough`). It leads to one of the points of each mode (`next`).
+pub record IsPoint (p : Paging) (modes : List (List Need)) (points : List Point) (x : Point) : Type 0 where
+  pub known : x.mode < length modes
+  pub tops : (c : ℕ) → c < classes p → ceil_div (mode_count p modes x.mode c) (slots_of p c) ≤ x.pages c
+  pub enough : sum_by x.pages (range_with_len 0 (classes p)) ≤ p.pages
+  pub next : (j : ℕ) → j < length modes → (y : Point) × Contains points y × (y.mode ≡ j) × LeadsTo p modes x y
+
+-- each mode has a point (`first`), and each point meets `IsPoint` (`each`)
 pub record IsCertificate (p : Paging) (modes : List (List Need)) (points : List Point) : Type 0 where
-  pub first : (needs : List Need) → Contains modes needs → (x : Point) × Contains points x × (x.needs ≡ needs)
-  pub tops : (x : Point) (c : ℕ) → Contains points x → c < classes p → ceil_div (count_in p x.needs c) (slots_of p c) ≤ x.pages c
-  pub next : (x : Point) (needs : List Need) → Contains points x → Contains modes needs
-      → (y : Point) × Contains points y × (y.needs ≡ needs) × LeadsTo p x y
-  pub enough : (x : Point) → Contains points x → sum_by x.pages (range_with_len 0 (classes p)) ≤ p.pages
+  pub first : (j : ℕ) → j < length modes → (x : Point) × Contains points x × (x.mode ≡ j)
+  pub each : (x : Point) → Contains points x → IsPoint p modes points x

@@ -1,6 +1,6 @@
 -- What a program may have live: at most so many objects of each class, or of each length, or of each length in one of several modes, or so many bytes; and how
 -- many pages are enough.
-use Rattle.std.specs.Prelude.{◌≡◌, ℕ, ◌<◌, ◌≤◌, List, [], ◌∷◌, Some, Contains, length, max, min, sum_by}
+use Rattle.std.specs.Prelude.{◌≡◌, ℕ, zero, suc, ◌+◌, ◌*◌, ◌<◌, ◌≤◌, List, [], ◌∷◌, Some, Contains, length, max, min, sum_by}
 use Rattle.std.specs.FinMap.{get}
 use Rattle.std.specs.List.{range_with_len}
 use Rattle.page_model.specs.Arrangement.{live}
@@ -27,6 +27,15 @@ KeepsToOne modes o = (needs : List Need) × Contains modes needs × KeepsTo need
 pub record KeepsBudget (p : Paging) (least : ℕ → ℕ) (budget : ℕ) (o : Objects) : Type 0 where
   pub within : asked_bytes o ≤ budget
   pub long_enough : (h : ℕ) (v : List ℕ) → get o h ≡ Some v → least (class_for p (length v)) ≤ length v
+
+-- how many objects open q pages of m slots: a page is opened only if all others are full
+abbrev pub objects_to_open : ℕ → ℕ → ℕ
+objects_to_open zero m = 0
+objects_to_open (suc q) m = q * m + 1
+
+-- the budget pays for the objects that open these pages of each class, each of at least `least c` bytes
+abbrev pub Affords : Paging → (ℕ → ℕ) → ℕ → (ℕ → ℕ) → Type 0
+Affords p least budget pages = sum_by (λ c. objects_to_open (pages c) (slots_of p c) * least c) (range_with_len 0 (classes p)) ≤ budget
 
 -- how many objects of class c the needs declare
 abbrev pub count_in : Paging → List Need → ℕ → ℕ

@@ -1,15 +1,17 @@
 -- Runs of a program on a manager with pages, as the trait `Manager` shows them: its calls with their results, refused ones too.
-use Rattle.std.specs.Prelude.{◌≡◌, ℕ, List, [], ◌∷◌, Result}
-use Rattle.std.specs.FinMap.{empty}
+use Rattle.std.specs.Prelude.{◌≡◌, ℕ, List, [], ◌∷◌, Err, None, Result, Some, replicate}
+use Rattle.std.specs.FinMap.{empty, get, insert}
 use Rattle.cf_base.specs.declared.answers.AccessFault.{AccessFault}
 use Rattle.cf_base.specs.declared.answers.Freed.{Freed}
 use Rattle.cf_base.specs.declared.answers.Handle.{Handle}
 use Rattle.cf_base.specs.declared.answers.NotLive.{NotLive}
 use Rattle.cf_base.specs.declared.answers.Refusal.{Refusal}
+use Rattle.cf_base.specs.declared.answers.Refusal.TheVariants as refusal
 use Rattle.cf_base.specs.declared.answers.Resized.{Resized}
 use Rattle.cf_base.specs.declared.answers.ResizeFault.{ResizeFault}
-use Rattle.page_model.specs.Held.{Objects, objects}
-use Rattle.page_model.specs.Steps.{Request}
+use Rattle.cf_base.specs.declared.answers.ResizeFault.TheVariants as resize
+use Rattle.page_model.specs.Held.{Objects, Placed, objects}
+use Rattle.page_model.specs.Steps.{Request, resized}
 use Rattle.cf_model.specs.Rules.{IsPaged, KeepsRules}
 use Rattle.cf_model.specs.State.{HeapState}
 use Rattle.cf_model.specs.Steps.{IsFreeStep, IsMallocStep, IsResizeStep, IsWriteStep, Position}
@@ -38,3 +40,15 @@ pub record IsFresh (s : HeapState) : Type 0 where
   pub pages : IsPaged s.kind
   pub rules : KeepsRules s
   pub none : s.held ≡ empty
+
+-- whatever the program called before, in whatever order, no allowed malloc is refused for space
+abbrev pub ServesHeapMallocs : (Objects → Type 0) → HeapState → Type 0
+ServesHeapMallocs allowed s = (calls : List Answered) (last new : HeapState) (n : ℕ) → HeapRun allowed s calls last
+    → ((h : ℕ) → get last.held h ≡ None → allowed (insert (objects last.held) h (replicate n 0)))
+    → ¬ IsMallocStep last n (Err refusal.Space) new
+
+-- the same of resizes
+abbrev pub ServesHeapResizes : (Objects → Type 0) → HeapState → Type 0
+ServesHeapResizes allowed s = (calls : List Answered) (last new : HeapState) (asked : Request) → HeapRun allowed s calls last
+    → ((x : Placed) → get last.held asked.number ≡ Some x → allowed (insert (objects last.held) asked.number (resized x.bytes asked.length)))
+    → ¬ IsResizeStep last asked (Err resize.Space) new

@@ -61,7 +61,7 @@ fn pages_of_size(page_words: u32, below: u32, slot: u32, needs: &[Need]) -> u64
 }
 
 /// How many of the declared objects need more than `below` words and at most `most`.
-fn count_between(below: u32, most: u32, needs: &[Need]) -> u64
+pub(crate) fn count_between(below: u32, most: u32, needs: &[Need]) -> u64
     requires few { length needs.now ≤ 64 }
     requires objects { declared_in_all needs.now ≤ 65536 }
     ensures count { result ≡ declared_between below most needs.now }

@@ -1,53 +1,35 @@
 //! Laws of managers with pages, by what the trait `Manager` shows: when no malloc and no resize is
 //! refused for space. `s` is the state of a manager that was just opened, `last` that after some
 //! calls, refused ones among them.
-ghost use Rattle.std.specs.Prelude.{ℕ, ◌≡◌, ◌<◌, ◌≤◌, Err, List, None, Ok, Some, replicate};
-ghost use Rattle.std.specs.FinMap.{get, insert};
+ghost use Rattle.std.specs.Prelude.{ℕ, ◌≡◌, ◌<◌, ◌≤◌, List, None, Ok};
 ghost use Rattle.cf_base.specs.declared.answers.Freed.{Freed};
-ghost use Rattle.cf_base.specs.declared.answers.Refusal.TheVariants as refusal;
-ghost use Rattle.cf_base.specs.declared.answers.ResizeFault.TheVariants as resize;
 ghost use Rattle.cf_model.specs.State.{HeapState, paging_in};
-ghost use Rattle.cf_model.specs.Steps.{IsFreeStep, IsMallocStep, IsResizeStep};
+ghost use Rattle.cf_model.specs.Steps.{IsFreeStep};
 ghost use Rattle.page_model.specs.Counts.{ceil_div};
-ghost use Rattle.page_model.specs.Held.{Placed, objects};
 ghost use Rattle.page_model.specs.Paging.{bound_of, classes, slots_of};
-ghost use Rattle.page_model.specs.Steps.{Request, resized};
 ghost use Rattle.quota_model.specs.Admission.{in_order, pages_needed_by};
 ghost use Rattle.quota_model.specs.declared.answers.Need.{Need};
 ghost use Rattle.sizing.specs.Certificates.{IsCertificate, Point};
 ghost use Rattle.sizing.specs.Demands.{KeepsTo, KeepsToOne, count_in, spread_of_modes};
-ghost use Rattle.sizing.specs.Heaps.{Answered, HeapRun, IsFresh};
+ghost use Rattle.sizing.specs.Heaps.{Answered, HeapRun, IsFresh, ServesHeapMallocs, ServesHeapResizes};
 
 /// A manager with pages, moving or not, with any bounds, has as many pages as the declared objects
 /// need. The program keeps to its `needs`. Whatever it called before, in whatever order, no malloc
 /// with which it still keeps to them is refused for space (`mallocs`), and no such resize (`resizes`).
 pub fn no_call_within_the_needs_is_refused_space()
-    ensures mallocs { (needs : List Need) (s : HeapState) (calls : List Answered) (last new : HeapState) (n : ℕ)
-        → IsFresh s → pages_needed_by (paging_in s) (in_order needs) ≤ s.profile.pages
-        → HeapRun (KeepsTo needs) s calls last
-        → ((h : ℕ) → get last.held h ≡ None → KeepsTo needs (insert (objects last.held) h (replicate n 0)))
-        → ¬ IsMallocStep last n (Err refusal.Space) new }
-    ensures resizes { (needs : List Need) (s : HeapState) (calls : List Answered) (last new : HeapState) (asked : Request)
-        → IsFresh s → pages_needed_by (paging_in s) (in_order needs) ≤ s.profile.pages
-        → HeapRun (KeepsTo needs) s calls last
-        → ((x : Placed) → get last.held asked.number ≡ Some x
-        → KeepsTo needs (insert (objects last.held) asked.number (resized x.bytes asked.length)))
-        → ¬ IsResizeStep last asked (Err resize.Space) new }
+    ensures mallocs { (needs : List Need) (s : HeapState) → IsFresh s
+        → pages_needed_by (paging_in s) (in_order needs) ≤ s.profile.pages → ServesHeapMallocs (KeepsTo needs) s }
+    ensures resizes { (needs : List Need) (s : HeapState) → IsFresh s
+        → pages_needed_by (paging_in s) (in_order needs) ≤ s.profile.pages → ServesHeapResizes (KeepsTo needs) s }
 {}
 
 /// The same of the mallocs of a program with `modes`, if there are `spread_of_modes` pages (`spread`),
 /// or if the pages have a certificate (`certified`).
 pub fn no_malloc_within_the_modes_is_refused_space()
-    ensures spread { (modes : List (List Need)) (s : HeapState) (calls : List Answered) (last new : HeapState) (n : ℕ)
-        → IsFresh s → spread_of_modes (paging_in s) modes ≤ s.profile.pages
-        → HeapRun (KeepsToOne modes) s calls last
-        → ((h : ℕ) → get last.held h ≡ None → KeepsToOne modes (insert (objects last.held) h (replicate n 0)))
-        → ¬ IsMallocStep last n (Err refusal.Space) new }
-    ensures certified { (modes : List (List Need)) (points : List Point) (s : HeapState) (calls : List Answered) (last new : HeapState) (n : ℕ)
-        → IsFresh s → IsCertificate (paging_in s) modes points
-        → HeapRun (KeepsToOne modes) s calls last
-        → ((h : ℕ) → get last.held h ≡ None → KeepsToOne modes (insert (objects last.held) h (replicate n 0)))
-        → ¬ IsMallocStep last n (Err refusal.Space) new }
+    ensures spread { (modes : List (List Need)) (s : HeapState) → IsFresh s
+        → spread_of_modes (paging_in s) modes ≤ s.profile.pages → ServesHeapMallocs (KeepsToOne modes) s }
+    ensures certified { (modes : List (List Need)) (points : List Point) (s : HeapState) → IsFresh s
+        → IsCertificate (paging_in s) modes points → ServesHeapMallocs (KeepsToOne modes) s }
 {}
 
 /// If the bound of each class is at least the pages that its declared objects fill, no free moves an

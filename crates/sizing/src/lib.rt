@@ -1,17 +1,27 @@
 //! Sizing: how many pages a program needs so that no malloc is refused for space, whatever the order
 //! of its calls. The program declares what it has live at most: objects by length, in one or several
-//! modes, or bytes. `least_pages` and `pages_with_mode` compute the number; the other public functions
-//! do nothing, and their contracts are laws.
+//! modes, or bytes. `least_pages`, `pages_with_mode` and `pages_needed` compute the number, and
+//! `is_certificate` tests one that an unproved planner found. Those without arguments do nothing, and
+//! their contracts are laws.
 #![tactic(auto)]
 
 mod budget;
+mod by_numbers;
+mod certificate;
 mod count;
 mod heaps;
 mod laws;
 mod least;
 mod modes;
+mod points;
+mod sizes;
 
-pub use budget::pages_for_a_budget_serve;
+pub use budget::{
+    fewer_pages_than_a_budget_affords_refuse, pages_for_a_budget_serve,
+    pages_that_a_budget_affords_serve,
+};
+pub use by_numbers::{NeedsFault, class_objects, is_certified, pages_needed};
+pub use certificate::{ModeObjects, PointPages, is_certificate, objects_by_class};
 pub use heaps::{
     no_call_within_the_needs_is_refused_space, no_free_within_the_needs_moves_an_object,
     no_malloc_within_the_modes_is_refused_space,
@@ -25,6 +35,7 @@ pub use modes::{
     pages_for_modes_serve_at_bound_one,
 };
 pub use quota_model::Need;
+pub use sizes::CLASSES;
 
 #[cfg(test)]
 mod tests;

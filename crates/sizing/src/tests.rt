@@ -1,5 +1,7 @@
-//! Tests of `least_pages` and `pages_with_mode` against numbers worked out by hand.
-use crate::{Need, least_pages, pages_with_mode};
+//! Tests of `least_pages`, `pages_with_mode` and `is_certificate` against numbers worked out by hand.
+use crate::{
+    CLASSES, Need, PointPages, is_certificate, least_pages, objects_by_class, pages_with_mode,
+};
 use cf_base::{Layout, Settings};
 use std::test::Fail;
 
@@ -54,5 +56,42 @@ fn the_greatest_mode_counts(rt: HostRuntime) -> Result<(), Fail> {
         pages_with_mode(&s, Layout::Words, 3, &[need(24, 21)]),
     ];
     assert_eq!(rt; pages, [Some(2), Some(3), Some(3), None], "modes");
+    Ok(())
+}
+
+// A page of 64 words has 20 classes. Number 11 has slots of 23 words, two to a page, for objects of 176 bytes;
+// number 15 has slots of 39, one to a page, for 300 bytes. Six objects of 176 bytes are on three pages. If two of
+// them stay, with bound 2 they can be on two pages, beside three of the other mode.
+#[test]
+fn two_modes_need_five_pages(rt: HostRuntime) -> Result<(), Fail> {
+    let (Ok(five), Ok(four)) = (
+        Settings::check(5, 512, 1, 20),
+        Settings::check(4, 512, 1, 20),
+    ) else {
+        panic!(rt; "the settings are in range");
+    };
+    let many = objects_by_class(&five, Layout::Words, &[need(176, 6), need(300, 1)]);
+    let few = objects_by_class(&five, Layout::Words, &[need(176, 2), need(300, 3)]);
+    let (Some(many), Some(few)) = (many, few) else {
+        panic!(rt; "the objects fit");
+    };
+    let mut points = [PointPages {
+        mode: 0,
+        pages: [0; CLASSES],
+    }; 2];
+    points[0].pages[11] = 3;
+    points[0].pages[15] = 1;
+    points[1].mode = 1;
+    points[1].pages[11] = 2;
+    points[1].pages[15] = 3;
+    let bounds = [2; 20];
+    let modes = [many, few];
+    let found = [
+        is_certificate(&five, Layout::Words, &bounds, &modes, &points),
+        is_certificate(&four, Layout::Words, &bounds, &modes, &points),
+        is_certificate(&five, Layout::Words, &bounds[1..], &modes, &points),
+        is_certificate(&five, Layout::Words, &bounds, &modes, &points[1..]),
+    ];
+    assert_eq!(rt; found, [true, false, false, false], "certificates");
     Ok(())
 }

@@ -3,14 +3,14 @@ use Rattle.std.proofs.Common.{◌≡◌, ◌≢◌, ℕ, ◌+◌, ◌-◌, ◌<�
 use Rattle.std.specs.FinMap.{insert}
 use Rattle.page_model.specs.Arrangement.{not_full_pages}
 use Rattle.page_model.specs.Held.{Held}
-use Rattle.page_model.specs.Order.{IsNextToMove, slot_freed}
+use Rattle.page_model.specs.Order.{IsNextToMove, slot_freed, steps_to_drop}
 use Rattle.page_model.specs.Paging.{page_of, slot_words}
 use Rattle.page_model.specs.Steps.{MustMove}
 use Rattle.page_model.proofs.CallerLemmas.{within_or}
-use Rattle.page_slots.specs.Release.{Vacates}
+use Rattle.page_slots.specs.Release.{Vacates, steps_to_drop as table_drop}
 use Rattle.page_slots.specs.Occupying.{Occupies, class_table}
-use Rattle.page_slots.specs.Tables.{AreTables, IsUsed, page_at, slot_at}
-use Rattle.page_slots.proofs.CallerLemmas.{vacated_occupied, vacated_order, vacated_serve}
+use Rattle.page_slots.specs.Tables.{AreTables, IsOf, IsUsed, page_at, slot_at}
+use Rattle.page_slots.proofs.CallerLemmas.{drop_same, vacated_occupied, vacated_order, vacated_serve}
 use Rattle.proxy_table.specs.Proxies.{AreBelowLimit}
 use Rattle.size_classes.specs.Table.{ClassTable}
 use Rattle.slice_model.specs.declared.job_slot.JobSlot.{JobSlot}
@@ -21,10 +21,14 @@ use Rattle.slice_model.specs.Words.{HasWords}
 use Rattle.slice_model.proofs.CallerLemmas.{kept_slice, two_is_must}
 use Rattle.sliced_heap.specs.Heap.{Heap}
 use Rattle.sliced_heap.specs.Layout.{IsValid, order_in, paging_at, plan_of, state_of, tables_in}
+use Rattle.step_ledger.specs.Counting.{RoseBy}
+use Rattle.step_ledger.proofs.CallerLemmas.{rose_both, rose_by}
+use Rattle.sliced_heap.specs.Costs.{end_cost}
 use Rattle.sliced_heap.specs.Steps.{IsFilled}
 use Rattle.sliced_heap.proofs.Facts.{held_bytes, paging_ok, places_are, plan_ok, table_is}
-use Rattle.sliced_heap.proofs.FillLemmas.{all_are, at_last, class_in, kept_clear, last_done, none_there, occupied_clear, sound_clear}
+use Rattle.sliced_heap.proofs.FillLemmas.{all_are, at_last, class_in, kept_clear, last_done, none_there, occupied_clear, page_is, sound_clear}
 use Rattle.sliced_heap.proofs.FillLemmas.{stand_class, stand_there, two, words_clear}
+use Rattle.sliced_heap.proofs.StepCounts.{must_no, must_yes}
 use Rattle.sliced_heap.proofs.Preserved.{Becomes, becomes_state, becomes_valid}
 use Rattle.cf_lemmas.proofs.Maps.{remove_fresh}
 
@@ -57,6 +61,32 @@ module _ (h : Heap) (k : IsValid h) (g : JobSlot) (at : h.job ≡ Clear g) where
       let u = (occupied_clear h k g at).stands h.settings.proxies (placeholder (paging_at h) g) (stand_there h k g at) in
       subst (λ (t : ClassTable). IsUsed (tables_in h) g.class (page_at t g.address) (slot_at t g.class g.address)) (table_is h k)
       (subst (λ c. IsUsed (tables_in h) c (page_of (paging_at h) g.address) (slot_at (class_table (paging_at h)) c g.address)) (stand_class h k g at) u)
+
+  -- the steps of freeing the slot, by the tables and by the model
+  drop_is : table_drop (tables_in h) (page_at h.classes g.address)
+      ≡ steps_to_drop (paging_at h) (insert m h.settings.proxies (placeholder (paging_at h) g)) g.class (page_of (paging_at h) g.address)
+  drop_is =
+      let used = (occupied_clear h k g at).stands h.settings.proxies (placeholder (paging_at h) g) (stand_there h k g at) in
+      let of : IsOf (tables_in h) g.class (page_of (paging_at h) g.address) =
+      subst (λ c. IsOf (tables_in h) c (page_of (paging_at h) g.address)) (stand_class h k g at) used.of in
+      ap (table_drop (tables_in h)) (page_is h k g at)
+      ∙ drop_same k.serve.part (occupied_clear h k g at) (class_in h k g at) h.proxies.free (page_of (paging_at h) g.address) of
+
+  -- the steps of `end`: if an object must move into the slot, those of `fill`; else also those of freeing the slot
+  pub filled_takes : (a b : ℕ) → MustMove (paging_at h) (occupied (plan_of h) (state_of h)) (placeholder (paging_at h) g) → RoseBy a b 6
+      → RoseBy a b (end_cost (plan_of h) (state_of h).held g)
+  filled_takes a b must rose =
+      let yes = must_yes (paging_at h) (insert m h.settings.proxies (placeholder (paging_at h) g)) (placeholder (paging_at h) g)
+      (subst (λ o. MustMove (paging_at h) o (placeholder (paging_at h) g)) (all_are h k g at) must) in
+      rose_by a b 6 (end_cost (plan_of h) m g) (rw (end_cost, yes) refl) rose
+
+  pub vacant_takes : (a b c : ℕ) → ¬ MustMove (paging_at h) (occupied (plan_of h) (state_of h)) (placeholder (paging_at h) g) → (t : Heap) → t ≡ h → RoseBy a b 1
+      → RoseBy b c (table_drop (tables_in t) (page_at t.classes g.address)) → RoseBy a c (end_cost (plan_of h) (state_of h).held g)
+  vacant_takes a b c stays t same one rest =
+      let no' = must_no (paging_at h) (insert m h.settings.proxies (placeholder (paging_at h) g)) (placeholder (paging_at h) g)
+      (λ must. stays (subst (λ o. MustMove (paging_at h) o (placeholder (paging_at h) g)) (sym (all_are h k g at)) must)) in
+      let drops = ap (λ (t : Heap). table_drop (tables_in t) (page_at t.classes g.address)) same ∙ drop_is in
+      rose_by a c _ (end_cost (plan_of h) m g) (ap (λ n. 1 + n) drops ∙ (rw (end_cost, no') refl)) (rose_both a b c 1 _ one rest)
 
   -- the slot becomes free: heap n has the tables that show it so, and no job
   module _ (stays : ¬ MustMove (paging_at h) (occupied (plan_of h) (state_of h)) (placeholder (paging_at h) g))

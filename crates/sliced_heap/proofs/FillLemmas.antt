@@ -11,30 +11,30 @@ use Rattle.class_lists.specs.declared.Which.TheVariants.{NotFull}
 use Rattle.page_model.specs.Arrangement.{IsSound, class_at, live, not_full_pages, objects_on, pages_needed}
 use Rattle.page_model.specs.Bytes.{AreBytes}
 use Rattle.page_model.specs.Held.{Held, Placed, objects}
-use Rattle.page_model.specs.Order.{IsNextToMove}
+use Rattle.page_model.specs.Order.{IsNextToMove, fill_steps, steps_to_drop, steps_to_fill}
 use Rattle.page_model.specs.Paging.{bound_of, classes, page_of, slot_words, slots_of}
 use Rattle.page_model.specs.Steps.{MustMove}
-use Rattle.page_slots.specs.Release.{IsFiller, MovesObject, steps_to_drop}
+use Rattle.page_slots.specs.Release.{IsFiller, MovesObject}
 use Rattle.page_slots.specs.Occupying.{Occupies, FitPages, class_table}
 use Rattle.page_slots.specs.Orders.{order_of}
-use Rattle.page_slots.specs.Tables.{IsOf, page_at, slot_at, slots_on}
-use Rattle.page_slots.proofs.CallerLemmas.{drop_same, filler, filler_is, filler_next, filler_not_full, found_class, found_page, moves_is, moves_some}
+use Rattle.page_slots.specs.Tables.{IsOf, page_at, slot_at, slots_on, used_in}
+use Rattle.page_slots.proofs.CallerLemmas.{fill_same, filler, filler_is, filler_next, filler_not_full, found_class, found_page, moves_is, moves_some}
 use Rattle.proxy_table.specs.Proxies.{AreBelowLimit, with_place}
 use Rattle.size_classes.specs.Table.{ClassTable}
 use Rattle.slice_model.specs.declared.job_slot.JobSlot.{JobSlot}
-use Rattle.slice_model.specs.State.{Plan, IsPlan, Sliced, IsKept, job_slot, occupied, placeholder, Clear, Move}
+use Rattle.slice_model.specs.State.{Plan, IsPlan, Sliced, IsKept, occupied, placeholder, Clear, Move}
 use Rattle.slice_model.specs.Steps.{IsBeside, IsSlice, done_after, fresh_slot}
 use Rattle.slice_model.specs.Words.{HasWords, word_at}
 use Rattle.slice_model.proofs.CallerLemmas.{changed_places, kept_slice, must_is_two, no_placeholder, objects_sliced, on_more}
 use Rattle.slice_model.proofs.CallerLemmas.{other_than, some_beside, placeholder_class, words_to_carry}
 use Rattle.sliced_heap.specs.Heap.{Heap}
 use Rattle.sliced_heap.specs.Layout.{IsValid, order_in, paging_at, plan_of, state_of, tables_in}
-use Rattle.sliced_heap.specs.Steps.{IsFilled, IsCheapToFree}
+use Rattle.sliced_heap.specs.Steps.{IsFilled}
 use Rattle.sliced_heap.proofs.Facts.{held_bytes, ones, paging_ok, place_known, places_are, plan_ok, table_is}
 use Rattle.sliced_heap.proofs.Headers.{head_number, holds, inside}
 use Rattle.sliced_heap.proofs.Places.{changed_occupied}
 use Rattle.sliced_heap.proofs.Preserved.{Becomes, becomes_plan, becomes_state, becomes_valid}
-use Rattle.sliced_heap.proofs.StepCounts.{drop_partly}
+use Rattle.sliced_heap.proofs.StepCounts.{fill_front, fill_is}
 
 -- If `fill` replaces a job `Clear` of slot k by one that moves an object there, the rules of the model still hold. To the model this is the slice that does the
 -- last word of a job `Clear` of slot k.
@@ -106,7 +106,7 @@ module _ (h : Heap) (k : IsValid h) (g : JobSlot) (at : h.job ≡ Clear g) where
   pub stand_class : class_at (paging_at h) (placeholder (paging_at h) g) ≡ g.class
   stand_class = placeholder_class (paging_at h) (paging_ok h k) g class_in
 
-  page_is : page_at h.classes g.address ≡ page_of (paging_at h) g.address
+  pub page_is : page_at h.classes g.address ≡ page_of (paging_at h) g.address
   page_is = ap (λ (t : ClassTable). g.address / t.page_words) k.table
 
   -- what `must_move` requires
@@ -178,16 +178,17 @@ module _ (h : Heap) (k : IsValid h) (g : JobSlot) (at : h.job ≡ Clear g) where
             ap (λ (z : Placed). page_of (paging_at h) z.place) (sym same) ∙ ap (λ (z : JobSlot). page_of (paging_at h) z.address) (sym i)))
       ]
 
-      -- the filler's page isn't full
-      pub page_partly : steps_to_drop (tables_in h) (page_at h.classes a) ≤ 10
-      page_partly =
-          let u = (occupied_clear.stands q y found.2).of in
-          let of : IsOf (tables_in h) g.class (page_of (paging_at h) y.place) = rw is.0 at u in
-          let steps = drop_same k.serve.part occupied_clear class_in [] (page_of (paging_at h) y.place) of in
-          let few = drop_partly (objects_on (paging_at h) all g.class (page_of (paging_at h) y.place)) (slots_of (paging_at h) g.class) less in
-          let at_place : page_at h.classes a ≡ page_of (paging_at h) y.place =
-          ap (λ (t : ClassTable). a / t.page_words) k.table ∙ ap (page_of (paging_at h)) (sym found.3) in
-          rw at_place (omega arith)
+      -- freeing the filler's slot takes 2 steps less than finding and freeing it
+      page_leaves : steps_to_fill (paging_at h) all (order_in h) g.class ≡ 2 + steps_to_drop (paging_at h) all g.class (page_of (paging_at h) y.place)
+      page_leaves =
+          let used = (occupied_clear.stands q y found.2).of in
+          let of : IsOf (tables_in h) g.class (page_of (paging_at h) y.place) = rw is.0 at used in
+          let by_order = fill_same k.serve.part occupied_clear class_in h.proxies.free f'.page f'.front in
+          let by_table = fill_front (pages_in h.lists g.class NotFull) f'.page (λ page. fill_steps (used_in (slots_on (tables_in h) page))) f'.front in
+          let here : used_in (slots_on (tables_in h) f'.page) ≡ objects_on (paging_at h) all g.class (page_of (paging_at h) y.place) =
+          ap (λ page. used_in (slots_on (tables_in h) page)) (sym is.1) ∙ sym (occupied_clear.counted g.class (page_of (paging_at h) y.place) of) in
+          sym by_order ∙ by_table ∙ ap fill_steps here
+          ∙ fill_is (objects_on (paging_at h) all g.class (page_of (paging_at h) y.place)) (slots_of (paging_at h) g.class) less
 
       -- the filler's header is in the region, and has the filler's number, which is live
       pub from_within : a < length h.words
@@ -297,12 +298,9 @@ module _ (h : Heap) (k : IsValid h) (g : JobSlot) (at : h.job ≡ Clear g) where
           plan = becomes_plan h n k s becomes;
           quantum = ap (λ (z : Heap). z.quantum) rest;
           order = order_same;
+          counts = λ c page. ap (λ plan. objects_on (paging_at h) (occupied plan (state_of n)) c page) (becomes_plan h n k s becomes)
+              ∙ ap (λ t. objects_on (paging_at h) (occupied (plan_of h) t) c page) (becomes_state h n k s becomes) ∙ counts c page
+              ∙ ap (λ o. objects_on (paging_at h) o c page) (sym all_are);
+          leaves = subst (λ o. steps_to_fill (paging_at h) o (order_in h) g.class ≡ 2 + steps_to_drop (paging_at h) o g.class (page_of (paging_at h) y.place))
+              (sym all_are) page_leaves;
         }
-
-        pub filled_partly : (f : JobSlot) → job_slot n.job ≡ Some f → IsCheapToFree n f
-        filled_partly f slot =
-            let e : Some (fresh_slot a g.class) ≡ Some f = sym (ap (λ (z : Heap). job_slot z.job) whole) ∙ slot in
-            let is : fresh_slot a g.class ≡ f = cc in
-            let there : steps_to_drop (tables_in n) (page_at n.classes a) ≤ 10 =
-            subst (λ (z : Heap). steps_to_drop (tables_in z) (page_at z.classes a) ≤ 10) (sym whole) page_partly in
-            subst (λ (z : JobSlot). IsCheapToFree n z) is there

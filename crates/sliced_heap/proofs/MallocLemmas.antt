@@ -1,11 +1,12 @@
 -- For `malloc`: after a slot is taken and an object is bound to it and counted, the heap is valid and has the new object, as its order determines; each test
 -- for a refusal means its cause in the model.
-use Rattle.std.proofs.Common.{◌≡◌, ◌≢◌, ℕ, ◌+◌, ◌<◌, ◌≤◌, List, length, get_or, set, replicate, ◌∷◌, Some, None, arith, refl, sym, ◌∙◌, ap, subst, inl, inr}
+use Rattle.std.proofs.Common.{◌≡◌, ◌≢◌, ℕ, ◌+◌, ◌<◌, ◌≤◌, List, length, get_or, set, replicate, ◌∷◌, Some, None, Ok, arith, refl, sym, ◌∙◌, ap, subst, inl, inr}
 use Rattle.std.specs.Prelude.{◌↔◌, Bool, IsTrue, false, nat_eq, option_map}
 use Rattle.std.proofs.lemmas.Bool.{cases_lt, false≢true}
 use Rattle.std.proofs.lemmas.List.{get_or-set_same, get_or-set_other, length-replicate, length-set}
 use Rattle.std.specs.FinMap.{get, insert, len}
 use Rattle.cf_base.specs.Classes.{class_of, need, slots}
+use Rattle.cf_base.specs.declared.answers.Handle.{Handle}
 use Rattle.cf_lemmas.proofs.Maps.{some_inserted}
 use Rattle.cf_lemmas.proofs.MapValues.{get-map_values}
 use Rattle.cf_lemmas.proofs.Ranges.{one}
@@ -14,22 +15,25 @@ use Rattle.page_model.specs.Arrangement.{LacksRoom, live, pages_needed, pages_ne
 use Rattle.page_model.specs.Bytes.{AreBytes}
 use Rattle.page_model.specs.Held.{Held, Placed, objects}
 use Rattle.page_model.specs.Image.{IsOutside, Rewrites, header_word}
-use Rattle.page_model.specs.Order.{MallocFollows, TakesNext}
+use Rattle.page_model.specs.Order.{MallocFollows, TakesNext, steps_to_take}
 use Rattle.page_model.specs.Paging.{class_for, classes, slots_of}
 use Rattle.page_model.specs.Steps.{IsFreePlace, zeros_at}
 use Rattle.page_model.proofs.CallerLemmas.{live_added, malloc_objects, malloc_places, slot_inside, zeros_are_bytes, live_few}
 use Rattle.page_model.proofs.CallerLemmas.{class_of_zeros}
 use Rattle.page_slots.specs.Tables.{AreTables, Tables}
-use Rattle.page_slots.specs.Take.{TakesAt, TakesSlot}
+use Rattle.page_slots.specs.Take.{TakesAt, TakesSlot, steps_to_take as table_take}
 use Rattle.page_slots.specs.Occupying.{Occupies, FitPages, class_table}
 use Rattle.page_slots.specs.Orders.{order_of}
-use Rattle.page_slots.proofs.CallerLemmas.{refused_lacks_room, taken_is_free, taken_next, taken_occupied, taken_serve}
+use Rattle.page_slots.proofs.CallerLemmas.{refused_lacks_room, steps_same, taken_is_free, taken_next, taken_occupied, taken_serve}
 use Rattle.proxy_table.specs.Proxies.{AreBelowLimit, with_place}
 use Rattle.size_classes.specs.Table.{ClassTable}
 use Rattle.slice_model.specs.State.{IsPlaceFor, Sliced, job_slot, occupied}
 use Rattle.slice_model.specs.Steps.{AddsObject, LacksProxy, LacksSlot, LacksSpace}
 use Rattle.slice_model.specs.Ordered.{MallocsInOrder}
 use Rattle.slice_model.proofs.CallerLemmas.{free_is_place, get_beside, inserted_beside, kept_malloc, lacking_is_no_place, words_given}
+use Rattle.step_ledger.specs.Counting.{RoseBy}
+use Rattle.step_ledger.proofs.CallerLemmas.{rose_both, rose_by}
+use Rattle.sliced_heap.specs.Costs.{malloc_cost}
 use Rattle.sliced_heap.specs.Heap.{Heap}
 use Rattle.sliced_heap.specs.Layout.{IsValid, opens, order_in, paging_at, plan_of, state_of, tables_in, working_of}
 use Rattle.sliced_heap.proofs.Counts.{needed_added, needed_more}
@@ -105,6 +109,15 @@ module _ (h : Heap) (k : IsValid h) (bytes c : ℕ) (found : Some c ≡ class_of
                 (subst (LacksRoom (paging_at h) (occupied (plan_of h) (state_of h))) (sym is.1) lacks);
           }
 
+      -- a malloc that finds no slot looks for one in two steps
+      pub lacks_takes : (new : Tables) → TakesSlot h.classes (tables_in h) c None new → (s t u : ℕ) → RoseBy s t 1
+          → RoseBy t u (table_take h.classes (tables_in h) c) → RoseBy s u 3
+      lacks_takes new none s t u one rest =
+          let parts = none.0 in
+          let pages = none.1 in
+          let is : table_take h.classes (tables_in h) c ≡ 2 = rw (table_take, parts, pages) refl in
+          rose_by s u (1 + table_take h.classes (tables_in h) c) 3 (omega arith) (rose_both s t u 1 _ one rest)
+
       -- a slot is taken
       module _ (new : Tables) (a : ℕ) (t : TakesAt h.classes (tables_in h) c a new) (tables : AreTables h.classes new) where
         at_table : TakesAt (class_table (paging_at h)) (tables_in h) c a new
@@ -112,6 +125,18 @@ module _ (h : Heap) (k : IsValid h) (bytes c : ℕ) (found : Some c ≡ class_of
 
         of_table : AreTables (class_table (paging_at h)) new
         of_table = subst (λ t. AreTables t new) (sym (table_is h k)) tables
+
+        -- the steps of finding the class, of taking the slot and of `bind` sum to those of the malloc
+        pub malloc_takes : (q : Handle) (s u v w : ℕ) → RoseBy s u 1 → RoseBy u v (table_take h.classes (tables_in h) c) → RoseBy v w 3
+            → RoseBy s w (malloc_cost (plan_of h) (state_of h) (order_in h) bytes (Ok q))
+        malloc_takes q s u v w first slot last =
+            let by_order = steps_same k.serve.part k.occupied is.2 h.proxies.free a new at_table in
+            let same : table_take h.classes (tables_in h) c
+            ≡ steps_to_take (paging_at h) (occupied (plan_of h) (state_of h)) (order_in h) (class_for (paging_at h) bytes) =
+            ap (λ t. table_take t (tables_in h) c) (sym (table_is h k)) ∙ by_order
+            ∙ ap (steps_to_take (paging_at h) (occupied (plan_of h) (state_of h)) (order_in h)) (sym is.1) in
+            rose_by s w (1 + table_take h.classes (tables_in h) c + 3) (malloc_cost (plan_of h) (state_of h) (order_in h) bytes (Ok q)) (omega arith)
+            (rose_both s v w _ 3 (rose_both s u v 1 _ first slot) last)
 
         free : IsFreePlace (paging_at h) (occupied (plan_of h) (state_of h)) bytes a
         free = taken_is_free (paging_ok h k) k.serve.part k.occupied of_table is.2 at_table bytes is.1

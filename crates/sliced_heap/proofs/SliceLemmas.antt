@@ -16,11 +16,15 @@ use Rattle.slice_model.specs.Ordered.{EndFollows, SliceFollows, SlicesInOrder}
 use Rattle.slice_model.specs.Words.{DoesWords, HasWords}
 use Rattle.slice_model.specs.Runs.{Slices, HeapWithWords, words_of_slice}
 use Rattle.slice_model.proofs.CallerLemmas.{job_class, kept_slice, slot_stays, words_sliced}
+use Rattle.step_ledger.specs.Counting.{RoseBy}
+use Rattle.step_ledger.proofs.CallerLemmas.{rose_both, rose_by}
+use Rattle.sliced_heap.specs.Costs.{end_cost, part_cost}
 use Rattle.sliced_heap.specs.Heap.{Heap}
 use Rattle.sliced_heap.specs.Layout.{IsValid, order_in, paging_at, plan_of, state_of, tables_in, working_of}
 use Rattle.sliced_heap.proofs.Facts.{held_bytes, places_are, plan_ok}
 use Rattle.sliced_heap.proofs.HeldFromWords.{AreEnded}
 use Rattle.sliced_heap.proofs.Preserved.{Becomes, becomes_state, becomes_valid}
+use Rattle.sliced_heap.proofs.StepCounts.{words_last, words_left}
 
 -- if the job of heap h is j, the state of h has the job j
 pub state_at : (h : Heap) (j : Job) → h.job ≡ j → state_of h ≡ record { held = (state_of h).held; job = j }
@@ -217,6 +221,14 @@ module _ (h : Heap) (k : IsValid h) (j : Job) (at : h.job ≡ j) (g : JobSlot) (
     left_so : done_after (plan_of h) g < slot_words (paging_at h) g.class
     left_so = (let e = sizes_are in let d = done_is in omega arith)
 
+    -- the slice takes a step for each of its words
+    pub part_goes : (a b : ℕ) → RoseBy a b n → RoseBy a b (part_cost (plan_of h) (state_of h).held g)
+    part_goes a b rose =
+        let c = count_is in
+        let s = sizes_are in
+        let on = words_left h.quantum (slot_words (paging_at h) g.class - g.done) (end_cost (plan_of h) (state_of h).held g) (omega arith) in
+        rose_by a b n (part_cost (plan_of h) (state_of h).held g) (omega arith) rose
+
     pub goes_on_valid : IsValid (record h { words = w; job = advanced j (g.done + n) })
     goes_on_valid = on_valid h (record h { words = w; job = advanced j (g.done + n) }) k (same_tables (advanced j (g.done + n))) j at g slot does_so left_so
         (ap (advanced j) done_is)
@@ -244,6 +256,20 @@ module _ (h : Heap) (k : IsValid h) (j : Job) (at : h.job ≡ j) (g : JobSlot) (
     pub vacated_valid : IsValid (record h { words = w; job = Clear (record g { done = 0 }) })
     vacated_valid = vacant_valid h (record h { words = w; job = Clear (record g { done = 0 }) }) k (same_tables (Clear (record g { done = 0 }))) j at g slot
         (ended all) refl
+
+    -- the slice takes a step for each word left, and those of the end of the job
+    pub part_ends : (a b c : ℕ) → RoseBy a b n
+        → RoseBy b c (end_cost (plan_of h) (state_of (record h { words = w; job = Clear (record g { done = 0 }) })).held (record g { done = 0 }))
+        → RoseBy a c (part_cost (plan_of h) (state_of h).held g)
+    part_ends a b c words rest =
+        let is = count_is in
+        let total = all in
+        let last = words_last h.quantum (slot_words (paging_at h) g.class - g.done) (end_cost (plan_of h) (state_of h).held g) (omega arith) in
+        let same : end_cost (plan_of h) (state_of (record h { words = w; job = Clear (record g { done = 0 }) })).held (record g { done = 0 })
+        ≡ end_cost (plan_of h) (state_of h).held g =
+        ap (λ (y : Sliced). end_cost (plan_of h) y.held (record g { done = 0 }))
+        (vacant_state h (record h { words = w; job = Clear (record g { done = 0 }) }) k (same_tables (Clear (record g { done = 0 }))) j at g slot (ended all) refl) in
+        rose_by a c _ (part_cost (plan_of h) (state_of h).held g) (omega arith) (rose_both a b c n _ words rest)
 
     pub goes_to_end : (z : Heap) → EndsJob (paging_at h) (state_of (record h { words = w; job = Clear (record g { done = 0 }) })).held (record g { done = 0 })
         (state_of z)

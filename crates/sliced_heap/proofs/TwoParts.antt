@@ -8,7 +8,8 @@ use Rattle.std.proofs.lemmas.List.{get_or_append_left, get_or-append_right, leng
 use Rattle.cf_lemmas.proofs.Tests.{le_yes, le_no}
 use Rattle.cf_model.specs.Costs.{words_touched}
 use Rattle.page_model.specs.Bytes.{byte_of}
-use Rattle.step_ledger.specs.Counting.{RoseAtMost}
+use Rattle.step_ledger.specs.Counting.{RoseBy}
+use Rattle.step_ledger.proofs.CallerLemmas.{rose_both, rose_by}
 use Rattle.region.specs.Cells.{overwritten}
 use Rattle.region.specs.Overwriting.{byte_from}
 use Rattle.region.proofs.CallerLemmas.{overwritten_before, overwritten_behind, overwritten_inside, overwritten_same}
@@ -84,7 +85,7 @@ module _ (s : Halves) (at count : ℕ) where
   ]
 
   -- no word holds bytes of both halves
-  pub touched_apart : words_touched at first + words_touched (at + first) (count - first) ≤ words_touched at count
+  pub touched_apart : words_touched at first + words_touched (at + first) (count - first) ≡ words_touched at count
   touched_apart = grind (arith, nat_tests)
 
 -- two writes, one in each half, are one write of all the bytes
@@ -163,17 +164,15 @@ module _ (s : Halves) (at : ℕ) (bytes : List ℕ) (apart : HalvesAreApart s (1
       behind k (inl le) = rest_same (byte_by (place_of_word s) old) at n bytes k few le
       behind k (inr none) = nothing_before (byte_by (place_of_word s) old) n none k
 
--- the steps of the two reads or writes, one in each half, are at most one for each word that holds one of the bytes
-pub two_bounds : (s : Halves) (at count f l r x y z : ℕ) → f ≡ first_bytes s at count → l ≡ f → r ≡ count - f → RoseAtMost x y (words_touched at l)
-    → RoseAtMost y z (words_touched (at + f) r) → RoseAtMost x z (words_touched at count)
-two_bounds s at count f l r x y z is left right a b =
+-- the steps of the two reads or writes, one in each half, are one for each word that holds one of the bytes
+pub two_counts : (s : Halves) (at count f l r x y z : ℕ) → f ≡ first_bytes s at count → l ≡ f → r ≡ count - f → RoseBy x y (words_touched at l)
+    → RoseBy y z (words_touched (at + f) r) → RoseBy x z (words_touched at count)
+two_counts s at count f l r x y z is left right a b =
     let all = touched_apart s at count in
     let p : words_touched at l ≡ words_touched at (first_bytes s at count) = ap (words_touched at) (left ∙ is) in
     let q : words_touched (at + f) r ≡ words_touched (at + first_bytes s at count) (count - first_bytes s at count) =
     ap (words_touched (at + f)) right ∙ ap (λ f. words_touched (at + f) (count - f)) is in
-    let low = a.bound in
-    let high = b.bound in
-    record { kept = (let u = a.kept in let v = b.kept in omega arith); bound = omega arith }
+    rose_by x z (words_touched at l + words_touched (at + f) r) (words_touched at count) (omega arith) (rose_both x y z _ _ a b)
 
 -- two reads, one from each half, return the bytes of the object
 pub read_two : (s : Halves) (at count f : ℕ) (words a b : List ℕ) → f ≡ first_bytes s at count → length a ≡ f → length b ≡ count - f

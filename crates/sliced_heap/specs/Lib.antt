@@ -6,3 +6,4 @@ pub mod Steps
 pub mod Access
 pub mod Halves
 pub mod Writes
+pub mod Needed

@@ -1,21 +1,19 @@
--- What the parts of a free and of a slice do and cost: `start_clearing`, `fill`, `move_to` and `end`. Of this module, public clauses cite `fault_in` alone.
-use Rattle.std.specs.Prelude.{◌≡◌, ℕ, ◌∷◌, ◌+◌, ◌-◌, ◌%◌, ◌^◌, ◌≤◌, Bool, true, false, Option, Some, None, Result, Ok, Err, slice_index}
+-- What the parts of a free and of a slice do: `start_clearing`, `fill`, `move_to` and `end`. Of this module, public clauses cite `fault_in` alone.
+use Rattle.std.specs.Prelude.{◌≡◌, ℕ, ◌∷◌, ◌+◌, ◌%◌, ◌^◌, Bool, true, false, Option, Some, None, Result, Ok, Err, slice_index}
 use Rattle.std.specs.FinMap.{get, remove}
-use Rattle.page_model.specs.Arrangement.{class_at}
+use Rattle.page_model.specs.Arrangement.{class_at, objects_on}
 use Rattle.page_model.specs.Held.{Placed}
-use Rattle.page_model.specs.Order.{IsNextToMove}
-use Rattle.page_model.specs.Paging.{slot_words}
+use Rattle.page_model.specs.Order.{IsNextToMove, steps_to_drop, steps_to_fill}
+use Rattle.page_model.specs.Paging.{page_of}
 use Rattle.page_model.specs.Steps.{MustMove}
-use Rattle.page_slots.specs.Release.{IsFiller, steps_to_drop}
-use Rattle.page_slots.specs.Tables.{page_at}
+use Rattle.page_slots.specs.Release.{IsFiller}
 use Rattle.proxy_table.specs.Proxies.{AreBelowLimit, with_place}
 use Rattle.slice_model.specs.declared.job_slot.JobSlot.{JobSlot}
-use Rattle.slice_model.specs.State.{Job, occupied, placeholder, Idle, Clear, Move}
+use Rattle.slice_model.specs.State.{occupied, placeholder, Clear, Move}
 use Rattle.slice_model.specs.Steps.{BeginsMove, IsBeside, fresh_slot}
 use Rattle.slice_model.specs.declared.answers.SliceFault.{SliceFault}
 use Rattle.sliced_heap.specs.Heap.{Heap}
-use Rattle.sliced_heap.specs.Layout.{order_in, paging_at, plan_of, state_of, tables_in}
-use Rattle.sliced_heap.specs.Costs.{words_steps}
+use Rattle.sliced_heap.specs.Layout.{order_in, paging_at, plan_of, state_of}
 
 -- the fault of a free from the function's result; None if it was not refused
 abbrev pub fault_in : {T : Type 0} → Result T SliceFault → Option SliceFault
@@ -35,7 +33,8 @@ pub record StartsClearing (old : Heap) (q : ℕ) (k : JobSlot) (new : Heap) : Ty
   pub order : order_in new ≡ record (order_in old) { spare = q ∷ (order_in old).spare }
 
 -- What `fill` does with slot k if it must be filled. The object that the order lists next to move is on another page of the class, a partly full one. It
--- gets the slot's address, and the new job moves it there. No word of the region changes.
+-- gets the slot's address, and the new job moves it there. No word of the region changes. Each page holds as many objects as before, the placeholder among
+-- them (`counts`), and freeing the slot that the object leaves takes 2 steps less than finding and freeing it (`leaves`).
 pub record IsFilled (old : Heap) (k : JobSlot) (new : Heap) : Type 0 where
   pub must : MustMove (paging_at old) (occupied (plan_of old) (state_of old)) (placeholder (paging_at old) k)
   pub object : ℕ
@@ -46,6 +45,10 @@ pub record IsFilled (old : Heap) (k : JobSlot) (new : Heap) : Type 0 where
   pub plan : plan_of new ≡ plan_of old
   pub quantum : new.quantum ≡ old.quantum
   pub order : order_in new ≡ order_in old
+  pub counts : (c page : ℕ) → objects_on (paging_at old) (occupied (plan_of new) (state_of new)) c page
+      ≡ objects_on (paging_at old) (occupied (plan_of old) (state_of old)) c page
+  pub leaves : steps_to_fill (paging_at old) (occupied (plan_of old) (state_of old)) (order_in old) k.class
+      ≡ 2 + steps_to_drop (paging_at old) (occupied (plan_of old) (state_of old)) k.class (page_of (paging_at old) beside.object.place)
 
 -- what `fill` does with slot k if it need not be filled: nothing
 pub record StaysVacant (old : Heap) (k : JobSlot) (new : Heap) : Type 0 where
@@ -68,21 +71,3 @@ pub record StartsMove (old : Heap) (k : JobSlot) (new : Heap) : Type 0 where
     proxies = with_place old.proxies (slice_index old.words from % 2 ^ 32) k.address;
     job = Move (slice_index old.words from % 2 ^ 32) (fresh_slot from k.class);
   }
-
--- freeing a slot of the page of slot k costs at most 10 steps, as it does if the page isn't full
-abbrev pub IsCheapToFree : Heap → JobSlot → Type 0
-IsCheapToFree h k = steps_to_drop (tables_in h) (page_at h.classes k.address) ≤ 10
-
--- the most steps of `end` for a job with slot k: 1 to look up whether the class has a partly full page, and those of freeing the slot
-abbrev pub end_most : Heap → JobSlot → ℕ
-end_most h k = 1 + steps_to_drop (tables_in h) (page_at h.classes k.address)
-
--- the most steps of a slice of a job with slot k, without the step that looks up the proxy of a moving object
-abbrev pub part_most : Heap → JobSlot → ℕ
-part_most h k = words_steps h.quantum (slot_words (paging_at h) k.class - k.done) (end_most h k)
-
--- the most steps of a slice of each job; one that moves an object also looks up its proxy
-abbrev pub job_most : Heap → Job → ℕ
-job_most h Idle = 0
-job_most h (Clear k) = part_most h k
-job_most h (Move q k) = 1 + part_most h k

@@ -1,7 +1,7 @@
 //! Reads and writes bytes of the objects of an open sliced heap, also of an object in motion, whose words are
 //! in two halves; and reads a word of the region (`peek`).
 ghost use Rattle.std.specs.Prelude.{◌≡◌, ◌+◌, ◌≤◌, if◌then◌else◌, is_some, length, slice_get, IsErr};
-ghost use Rattle.step_ledger.specs.Counting.{RoseAtMost, RoseBy};
+ghost use Rattle.step_ledger.specs.Counting.{RoseBy};
 ghost use Rattle.slice_model.specs.Runs.{Happens, Read, Write};
 ghost use Rattle.sliced_heap.specs.Halves.{halves_of};
 ghost use Rattle.sliced_heap.specs.Access.{IsFound, access_fault, bytes_or_fault, find_steps};
@@ -41,7 +41,7 @@ impl OpenHeap {
         ensures step { Happens (plan_of (seen self.now)) (working_of (seen self.now)) (Read (record { number = h.0; from = at }) (length out.old)
             (bytes_or_fault result out.new)) (working_of (seen self.now)) }
         ensures refused { IsErr result → out.new ≡ out.old }
-        ensures steps { RoseAtMost steps.old steps.new (access_steps result at (length out.old)) }
+        ensures steps { RoseBy steps.old steps.new (access_steps result at (length out.old)) }
     {
         let len = out.len();
         let halves = self.find(h, at, len, steps)?;
@@ -64,7 +64,7 @@ impl OpenHeap {
         ensures order { order_in (seen self.new) ≡ order_in (seen self.old) }
         ensures kept { IsValid (seen self.new) }
         ensures plan { plan_of (seen self.new) ≡ plan_of (seen self.old) }
-        ensures steps { RoseAtMost steps.old steps.new (access_steps result at (length bytes.now)) }
+        ensures steps { RoseBy steps.old steps.new (access_steps result at (length bytes.now)) }
     {
         let len = bytes.len();
         let halves = self.find(h, at, len, steps)?;

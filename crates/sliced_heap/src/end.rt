@@ -1,14 +1,14 @@
 //! The end of a job, after the last word of its slot is cleared or moved: the slot becomes free, or the next
 //! job moves an object into it.
 ghost use Rattle.std.specs.Prelude.{◌≡◌, ℕ, ◌+◌, ◌<◌, ◌≤◌, slice_index};
-ghost use Rattle.step_ledger.specs.Counting.{RoseAtMost};
+ghost use Rattle.step_ledger.specs.Counting.{RoseBy};
 ghost use Rattle.page_model.specs.Paging.{slot_words};
 ghost use Rattle.slice_model.specs.State.{Clear};
 ghost use Rattle.slice_model.specs.Ordered.{EndFollows};
 ghost use Rattle.slice_model.specs.Steps.{EndsJob};
+ghost use Rattle.sliced_heap.specs.Costs.{end_cost};
 ghost use Rattle.sliced_heap.specs.Heap.{job_of, seen};
 ghost use Rattle.sliced_heap.specs.Layout.{IsValid, order_in, paging_at, plan_of, state_of};
-ghost use Rattle.sliced_heap.specs.Steps.{end_most};
 
 use crate::open_heap::{OpenHeap, Pending};
 use slice_model::JobSlot;
@@ -29,7 +29,7 @@ impl OpenHeap {
         ensures kept { IsValid (seen self.new) }
         ensures words { self.new.region ≡ self.old.region }
         ensures plan { plan_of (seen self.new) ≡ plan_of (seen self.old) }
-        ensures steps { RoseAtMost steps.old steps.new (end_most (seen self.old) k) }
+        ensures steps { RoseBy steps.old steps.new (end_cost (plan_of (seen self.old)) (state_of (seen self.old)).held k) }
     {
         if self.fill(k, steps) {
             return;

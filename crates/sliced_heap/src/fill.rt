@@ -1,6 +1,6 @@
 //! `fill`: if freeing the slot of the pending job would give its class two partly full pages, replaces the job
 //! by one that moves an object into the slot. A free and the end of a job call it.
-ghost use Rattle.std.specs.Prelude.{◌≡◌, ℕ, ◌+◌, ◌%◌, ◌^◌, ◌<◌, ◌≤◌, IsSome, IsTrue, Some, if◌then◌else◌, length, slice_index};
+ghost use Rattle.std.specs.Prelude.{◌≡◌, ℕ, ◌+◌, ◌%◌, ◌^◌, ◌<◌, ◌≤◌, IsSome, if◌then◌else◌, length, slice_index};
 ghost use Rattle.std.specs.FinMap as map;
 ghost use Rattle.step_ledger.specs.Counting.{RoseBy};
 ghost use Rattle.class_lists.specs.PageLists.{pages_in};
@@ -9,11 +9,10 @@ ghost use Rattle.page_slots.specs.PageTables.{tables_with};
 ghost use Rattle.page_slots.specs.Release.{IsFiller};
 ghost use Rattle.page_slots.specs.Tables.{AreTables};
 ghost use Rattle.proxy_table.specs.Proxies.{AreBelowLimit};
-ghost use Rattle.slice_model.specs.declared.job_slot.JobSlot.{JobSlot};
-ghost use Rattle.slice_model.specs.State.{Clear, job_slot};
+ghost use Rattle.slice_model.specs.State.{Clear};
 ghost use Rattle.sliced_heap.specs.Heap.{job_of, seen};
 ghost use Rattle.sliced_heap.specs.Layout.{IsValid};
-ghost use Rattle.sliced_heap.specs.Steps.{FillsSlot, IsCheapToFree, StartsMove};
+ghost use Rattle.sliced_heap.specs.Steps.{FillsSlot, StartsMove};
 
 use crate::open_heap::{OpenHeap, Pending};
 use region::Header;
@@ -30,7 +29,6 @@ impl OpenHeap {
         requires fresh { k.done ≡ 0 }
         ensures filled { FillsSlot (seen self.old) k result (seen self.new) }
         ensures kept { IsValid (seen self.new) }
-        ensures partly { IsTrue result → (g : JobSlot) → job_slot (job_of self.new.job) ≡ Some g → IsCheapToFree (seen self.new) g }
         ensures steps { RoseBy steps.old steps.new (if result then 6 else 1) }
     {
         if self

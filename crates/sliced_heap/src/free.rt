@@ -3,11 +3,11 @@
 ghost use Rattle.std.specs.Prelude.{◌≡◌, ◌+◌, ◌*◌, ◌-◌, ◌<◌, ◌≤◌, Some, length, slice_index, slice_set};
 ghost use Rattle.std.specs.FinMap as map;
 ghost use Rattle.cf_base.specs.Classes.{slots};
-ghost use Rattle.step_ledger.specs.Counting.{RoseAtMost, RoseBy};
+ghost use Rattle.step_ledger.specs.Counting.{RoseBy};
 ghost use Rattle.slice_model.specs.Ordered.{FreesInOrder, HappensInOrder};
 ghost use Rattle.slice_model.specs.Runs.{Frees, Free, Happens};
 ghost use Rattle.slice_model.specs.State.{Idle};
-ghost use Rattle.sliced_heap.specs.Costs.{free_steps, words_of, words_steps};
+ghost use Rattle.sliced_heap.specs.Costs.{free_cost, freed_cost};
 ghost use Rattle.sliced_heap.specs.Heap.{job_of, seen};
 ghost use Rattle.sliced_heap.specs.Layout.{IsValid, opens, order_in, plan_of, state_of, working_of};
 ghost use Rattle.sliced_heap.specs.Steps.{StartsClearing, fault_in};
@@ -28,7 +28,8 @@ impl OpenHeap {
             (order_in (seen self.old)) (order_in (seen self.new)) }
         ensures kept { IsValid (seen self.new) }
         ensures plan { plan_of (seen self.new) ≡ plan_of (seen self.old) }
-        ensures steps { RoseAtMost steps.old steps.new (free_steps (plan_of (seen self.old)) (state_of (seen self.old)) h.0 (fault_in result)) }
+        ensures steps { RoseBy steps.old steps.new
+            (free_cost (plan_of (seen self.old)) (state_of (seen self.old)) (order_in (seen self.old)) h.0 (fault_in result)) }
     {
         let Some(place) = self.proxies.lookup(h, steps) else {
             return Err(SliceFault::Unknown);
@@ -52,7 +53,7 @@ impl OpenHeap {
             (order_in (seen self.old)) (order_in (seen self.new)) }
         ensures kept { IsValid (seen self.new) }
         ensures plan { plan_of (seen self.new) ≡ plan_of (seen self.old) }
-        ensures steps { RoseAtMost steps.old steps.new (11 + words_steps self.old.quantum (words_of (plan_of (seen self.old)) (state_of (seen self.old)) h.0) 11) }
+        ensures steps { RoseBy steps.old steps.new (freed_cost (plan_of (seen self.old)) (state_of (seen self.old)) (order_in (seen self.old)) h.0) }
     {
         let k = self.start_clearing(h, place, steps);
         // Whichever job it is now, `slice` does its first slice.

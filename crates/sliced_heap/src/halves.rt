@@ -2,7 +2,7 @@
 //! its new address, the others, its second half, in its old slot.
 ghost use Rattle.std.specs.Prelude.{◌≡◌, ℕ, ◌+◌, ◌-◌, ◌*◌, ◌/◌, ◌^◌, ◌<◌, ◌≤◌, length, min, slice_index};
 ghost use Rattle.cf_model.specs.Costs.{words_touched};
-ghost use Rattle.step_ledger.specs.Counting.{RoseAtMost, RoseBy};
+ghost use Rattle.step_ledger.specs.Counting.{RoseBy};
 ghost use Rattle.sliced_heap.specs.Halves.{HalvesAreApart, byte_in_halves, first_bytes, place_of_word};
 ghost use Rattle.sliced_heap.specs.Writes.{WritesByPlaces};
 
@@ -48,14 +48,14 @@ fn first_bytes(s: Halves, at: u32, count: usize) -> usize
 }
 
 /// Fills `out` with the bytes from byte `at` on of the object whose halves are `s`, each from the half that
-/// holds it. Costs at most one step for each word that holds one of them.
+/// holds it. Costs one step for each word that holds one of them.
 pub fn read_halves(region: &Region, s: Halves, at: u32, out: &mut [u8], steps: &mut Steps)
     requires small { length region.now < 2 ^ 32 }
     requires short { at + length out.old < 2 ^ 32 }
     requires to { s.to + 1 + (at + length out.old + 7) / 8 ≤ length region.now }
     requires from { s.from + 1 + (at + length out.old + 7) / 8 ≤ length region.now }
     ensures bytes { (j : ℕ) → j < length out.new → slice_index out.new j ≡ byte_in_halves s region.now (at + j) }
-    ensures bound { RoseAtMost steps.old steps.new (words_touched at (length out.old)) }
+    ensures steps { RoseBy steps.old steps.new (words_touched at (length out.old)) }
 {
     let first = first_bytes(s, at, out.len());
     let (low, high) = out.split_at_mut(first);
@@ -64,7 +64,7 @@ pub fn read_halves(region: &Region, s: Halves, at: u32, out: &mut [u8], steps: &
 }
 
 /// Writes `bytes` over the bytes from byte `at` on of the object whose halves are `s`, each in the half that
-/// holds it. Costs at most one step for each word that holds one of them.
+/// holds it. Costs one step for each word that holds one of them.
 pub fn write_halves(region: &mut Region, s: Halves, at: u32, bytes: &[u8], steps: &mut Steps)
     requires small { length region.old < 2 ^ 32 }
     requires short { at + length bytes.now < 2 ^ 32 }
@@ -73,7 +73,7 @@ pub fn write_halves(region: &mut Region, s: Halves, at: u32, bytes: &[u8], steps
     requires apart { HalvesAreApart s (1 + (at + length bytes.now + 7) / 8) }
     ensures bytes { WritesByPlaces region.old region.new (place_of_word s) at bytes.now }
     ensures len { length region.new ≡ length region.old }
-    ensures bound { RoseAtMost steps.old steps.new (words_touched at (length bytes.now)) }
+    ensures steps { RoseBy steps.old steps.new (words_touched at (length bytes.now)) }
 {
     let first = first_bytes(s, at, bytes.len());
     let (low, high) = bytes.split_at(first);

@@ -7,12 +7,14 @@ ghost use Rattle.slice_model.specs.Runs.{Happens, Free, Malloc, Read, Step, Writ
 ghost use Rattle.slice_model.specs.State.{left_of};
 ghost use Rattle.step_ledger.specs.Counting.{RoseAtMost, RoseBy};
 ghost use Rattle.sliced_heap.specs.Access.{access_fault, bytes_or_fault};
-ghost use Rattle.sliced_heap.specs.Costs.{access_steps, free_steps, malloc_steps, slice_steps};
+ghost use Rattle.cf_base.specs.Settings.{profile_of};
+ghost use Rattle.sliced_heap.specs.Needed.{sliced_bytes};
+ghost use Rattle.sliced_heap.specs.Costs.{access_steps, free_cost, malloc_cost, slice_cost};
 ghost use Rattle.sliced_heap.specs.Shown.{KeepsRules, StaysOpen, closed_state, opened_state, plan_in, working_in};
 ghost use Rattle.sliced_heap.specs.Steps.{fault_in};
 
 use crate::open_heap::OpenHeap;
-use cf_base::{AccessFault, Handle, OutOfMemory, Settings};
+use cf_base::{AccessFault, BytesNeeded, Handle, OutOfMemory, Settings};
 use slice_model::{SliceFault, SliceRefusal};
 use std::alloc::Global;
 use std::marker::Model;
@@ -50,6 +52,13 @@ impl SlicedHeap {
         SlicedHeap { alloc, inner: None }
     }
 
+    /// The memory that `open_heap` asks for. The bytes of the `SlicedHeap` itself, which its owner keeps, aren't counted.
+    pub fn bytes_needed(s: &Settings) -> BytesNeeded
+        ensures { result ≡ sliced_bytes (profile_of s.now) }
+    {
+        OpenHeap::bytes_needed(s)
+    }
+
     /// Returns whether the heap is open. The state of an open heap keeps the rules of `KeepsRules`.
     pub fn is_open(&self) -> bool
         ensures value { result ≡ self.now.is_open }
@@ -85,7 +94,7 @@ impl SlicedHeap {
         ensures ordered { HappensInOrder (plan_in self.old) (working_in self.old) (Malloc bytes result) (working_in self.new) self.old.order self.new.order }
         ensures same { StaysOpen self.old self.new }
         ensures rules { KeepsRules self.new }
-        ensures steps { RoseAtMost steps.old steps.new (malloc_steps result) }
+        ensures steps { RoseBy steps.old steps.new (malloc_cost (plan_in self.old) (working_in self.old).state self.old.order bytes result) }
         ensures bound { RoseAtMost steps.old steps.new 17 }
     {
         match &mut self.inner {
@@ -105,7 +114,7 @@ impl SlicedHeap {
         ensures ordered { HappensInOrder (plan_in self.old) (working_in self.old) (Free h.0 (fault_in result)) (working_in self.new) self.old.order self.new.order }
         ensures same { StaysOpen self.old self.new }
         ensures rules { KeepsRules self.new }
-        ensures steps { RoseAtMost steps.old steps.new (free_steps (plan_in self.old) (working_in self.old).state h.0 (fault_in result)) }
+        ensures steps { RoseBy steps.old steps.new (free_cost (plan_in self.old) (working_in self.old).state self.old.order h.0 (fault_in result)) }
         ensures bound { RoseAtMost steps.old steps.new (23 + self.old.quantum) }
     {
         match &mut self.inner {
@@ -124,7 +133,7 @@ impl SlicedHeap {
         ensures ordered { HappensInOrder (plan_in self.old) (working_in self.old) Step (working_in self.new) self.old.order self.new.order }
         ensures same { StaysOpen self.old self.new }
         ensures rules { KeepsRules self.new }
-        ensures steps { RoseAtMost steps.old steps.new (slice_steps (plan_in self.old) (working_in self.old).state) }
+        ensures steps { RoseBy steps.old steps.new (slice_cost (plan_in self.old) (working_in self.old).state) }
         ensures bound { RoseAtMost steps.old steps.new (15 + self.old.quantum) }
     {
         match &mut self.inner {
@@ -158,7 +167,7 @@ impl SlicedHeap {
         ensures step { Happens (plan_in self.now) (working_in self.now) (Read (record { number = h.0; from = at }) (length out.old)
             (bytes_or_fault result out.new)) (working_in self.now) }
         ensures refused { IsErr result → out.new ≡ out.old }
-        ensures steps { RoseAtMost steps.old steps.new (access_steps result at (length out.old)) }
+        ensures steps { RoseBy steps.old steps.new (access_steps result at (length out.old)) }
         ensures bound { RoseAtMost steps.old steps.new (2 + words_touched at (length out.old)) }
     {
         match &self.inner {
@@ -184,7 +193,7 @@ impl SlicedHeap {
             (access_fault result)) (working_in self.new) self.old.order self.new.order }
         ensures same { StaysOpen self.old self.new }
         ensures rules { KeepsRules self.new }
-        ensures steps { RoseAtMost steps.old steps.new (access_steps result at (length bytes.now)) }
+        ensures steps { RoseBy steps.old steps.new (access_steps result at (length bytes.now)) }
         ensures bound { RoseAtMost steps.old steps.new (2 + words_touched at (length bytes.now)) }
     {
         match &mut self.inner {

@@ -3,14 +3,14 @@
 ghost use Rattle.std.specs.Prelude.{◌≡◌, ◌≢◌, ◌+◌, ◌<◌, ◌≤◌, ◌↔◌, ◌∷◌, IsTrue, None, length, slice_index, slice_set};
 ghost use Rattle.std.specs.FinMap as map;
 ghost use Rattle.cf_base.specs.Classes.{slots};
-ghost use Rattle.step_ledger.specs.Counting.{RoseAtMost, RoseBy};
+ghost use Rattle.step_ledger.specs.Counting.{RoseBy};
 ghost use Rattle.page_model.specs.Image.{header_word};
 ghost use Rattle.proxy_table.specs.Proxies.{AreBelowLimit, with_place};
 ghost use Rattle.slice_model.specs.Ordered.{HappensInOrder};
 ghost use Rattle.slice_model.specs.Runs.{Happens, Malloc};
-ghost use Rattle.sliced_heap.specs.Costs.{malloc_steps};
+ghost use Rattle.sliced_heap.specs.Costs.{malloc_cost};
 ghost use Rattle.sliced_heap.specs.Heap.{seen};
-ghost use Rattle.sliced_heap.specs.Layout.{IsValid, opens, order_in, plan_of, working_of};
+ghost use Rattle.sliced_heap.specs.Layout.{IsValid, opens, order_in, plan_of, state_of, working_of};
 
 use crate::open_heap::OpenHeap;
 use cf_base::Handle;
@@ -30,7 +30,7 @@ impl OpenHeap {
             (order_in (seen self.old)) (order_in (seen self.new)) }
         ensures kept { IsValid (seen self.new) }
         ensures plan { plan_of (seen self.new) ≡ plan_of (seen self.old) }
-        ensures steps { RoseAtMost steps.old steps.new (malloc_steps result) }
+        ensures steps { RoseBy steps.old steps.new (malloc_cost (plan_of (seen self.old)) (state_of (seen self.old)) (order_in (seen self.old)) bytes result) }
     {
         let Some(c) = self.tables.classes.class_of(bytes, steps) else {
             return Err(SliceRefusal::Size);

@@ -1,14 +1,16 @@
 //! The fields of an open sliced heap: its tables, the words of its region, and the pending job; and how a heap
 //! without objects is made. The other files of this crate have its calls.
 ghost use Rattle.std.specs.Prelude.{◌≡◌, ◌*◌, ◌≤◌, length, replicate, IfOk};
+ghost use Rattle.cf_base.specs.Settings.{profile_of};
 ghost use Rattle.cf_base.specs.declared.kind.Layout.TheVariants.{Words};
 ghost use Rattle.class_lists.specs.PageLists.{empty_lists};
 ghost use Rattle.page_slots.specs.PageTables.{AreFirst};
 ghost use Rattle.proxy_table.specs.Proxies.{AreBelowLimit, no_proxies};
 ghost use Rattle.sliced_heap.specs.Heap.{seen};
 ghost use Rattle.sliced_heap.specs.Layout.{IsNew, IsValid};
+ghost use Rattle.sliced_heap.specs.Needed.{sliced_bytes};
 
-use cf_base::{Handle, Layout, OutOfMemory, Settings};
+use cf_base::{BytesNeeded, Handle, Layout, OutOfMemory, Settings, class_count};
 use class_lists::ClassLists;
 use page_slots::PageTables;
 use proxy_table::ProxyTable;
@@ -65,6 +67,18 @@ impl OpenHeap {
         let lists = ClassLists::new(alloc, tables.classes.len(), s.pages)?;
         let proxies = ProxyTable::new(alloc, s.proxies)?;
         Ok(OpenHeap::empty(s, quantum, region, tables, lists, proxies))
+    }
+
+    /// The memory that `new` asks for.
+    pub fn bytes_needed(s: &Settings) -> BytesNeeded
+        ensures { result ≡ sliced_bytes (profile_of s.now) }
+    {
+        let layout = Layout::Words;
+        let lists = ClassLists::bytes_needed(class_count(s.page_words, layout), s.pages);
+        let words = PageTables::bytes_needed(s, layout).and(Region::bytes_needed(
+            s.pages * s.page_words,
+        ));
+        words.and(lists.and(ProxyTable::bytes_needed(s.proxies)))
     }
 
     /// Returns the open heap that consists of these parts: a region of zeros, and tables, page lists and

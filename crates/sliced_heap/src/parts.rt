@@ -2,7 +2,7 @@
 //! address of the slot that has this half; `at` counts from the object's first byte for both halves.
 ghost use Rattle.std.specs.Prelude.{◌≡◌, ℕ, ◌+◌, ◌/◌, ◌^◌, ◌<◌, ◌≤◌, length, slice_index};
 ghost use Rattle.cf_model.specs.Costs.{words_touched};
-ghost use Rattle.step_ledger.specs.Counting.{RoseAtMost};
+ghost use Rattle.step_ledger.specs.Counting.{RoseBy};
 ghost use Rattle.region.specs.Overwriting.{byte_from};
 ghost use Rattle.sliced_heap.specs.Writes.{WritesByPlaces, word_from};
 
@@ -10,12 +10,12 @@ use region::{Region, read_run, words_with, write_run};
 use step_ledger::Steps;
 
 /// Fills `out` with the bytes from byte `at` on of an object whose header is word `place` of the region, or was
-/// before a job moved it. Costs at most one step for each word that holds one of the bytes.
+/// before a job moved it. Costs one step for each word that holds one of the bytes.
 pub(crate) fn read_half(region: &Region, place: u32, at: u32, out: &mut [u8], steps: &mut Steps)
     requires small { length region.now < 2 ^ 32 }
     requires within { place + 1 + (at + length out.old + 7) / 8 ≤ length region.now }
     ensures bytes { (j : ℕ) → j < length out.new → slice_index out.new j ≡ byte_from region.now (place + 1) (at + j) }
-    ensures bound { RoseAtMost steps.old steps.new (words_touched at (length out.old)) }
+    ensures steps { RoseBy steps.old steps.new (words_touched at (length out.old)) }
 {
     let len = out.len();
     // A call for no bytes touches no word.
@@ -28,13 +28,13 @@ pub(crate) fn read_half(region: &Region, place: u32, at: u32, out: &mut [u8], st
 }
 
 /// Writes `bytes` over the bytes from byte `at` on of an object whose header is word `place` of the region, or was
-/// before a job moved it. Costs at most one step for each word that holds one of the bytes.
+/// before a job moved it. Costs one step for each word that holds one of the bytes.
 pub(crate) fn write_half(region: &mut Region, place: u32, at: u32, bytes: &[u8], steps: &mut Steps)
     requires small { length region.old < 2 ^ 32 }
     requires within { place + 1 + (at + length bytes.now + 7) / 8 ≤ length region.old }
     ensures bytes { WritesByPlaces region.old region.new (word_from place) at bytes.now }
     ensures len { length region.new ≡ length region.old }
-    ensures bound { RoseAtMost steps.old steps.new (words_touched at (length bytes.now)) }
+    ensures steps { RoseBy steps.old steps.new (words_touched at (length bytes.now)) }
 {
     let len = bytes.len();
     if len == 0 {

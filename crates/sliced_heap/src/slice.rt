@@ -1,14 +1,13 @@
 //! The call `step` of an open sliced heap, which does a slice of the pending job: it clears or moves at most a
 //! quantum of words. `left` is how many words the job has left.
 ghost use Rattle.std.specs.Prelude.{◌≡◌, ◌+◌, ◌-◌, ◌<◌, ◌≤◌, length, min, slice_index};
-ghost use Rattle.step_ledger.specs.Counting.{RoseAtMost};
+ghost use Rattle.step_ledger.specs.Counting.{RoseBy};
 ghost use Rattle.slice_model.specs.Ordered.{HappensInOrder, SlicesInOrder};
 ghost use Rattle.slice_model.specs.Runs.{Happens, Slices, Step};
 ghost use Rattle.slice_model.specs.State.{Clear, Move, left_of};
-ghost use Rattle.sliced_heap.specs.Costs.{slice_steps};
+ghost use Rattle.sliced_heap.specs.Costs.{job_cost, part_cost, slice_cost};
 ghost use Rattle.sliced_heap.specs.Heap.{job_of, seen};
 ghost use Rattle.sliced_heap.specs.Layout.{IsValid, order_in, plan_of, state_of, working_of};
-ghost use Rattle.sliced_heap.specs.Steps.{job_most, part_most};
 
 use crate::jobs::{clear_next, move_next, words_of_slice};
 use crate::open_heap::{OpenHeap, Pending};
@@ -26,7 +25,7 @@ impl OpenHeap {
             (order_in (seen self.old)) (order_in (seen self.new)) }
         ensures kept { IsValid (seen self.new) }
         ensures plan { plan_of (seen self.new) ≡ plan_of (seen self.old) }
-        ensures steps { RoseAtMost steps.old steps.new (slice_steps (plan_of (seen self.old)) (state_of (seen self.old))) }
+        ensures steps { RoseBy steps.old steps.new (slice_cost (plan_of (seen self.old)) (state_of (seen self.old))) }
     {
         self.slice(steps);
     }
@@ -52,7 +51,7 @@ impl OpenHeap {
             (order_in (seen self.old)) (order_in (seen self.new)) }
         ensures kept { IsValid (seen self.new) }
         ensures plan { plan_of (seen self.new) ≡ plan_of (seen self.old) }
-        ensures steps { RoseAtMost steps.old steps.new (job_most (seen self.old) (job_of self.old.job)) }
+        ensures steps { RoseBy steps.old steps.new (job_cost (plan_of (seen self.old)) (state_of (seen self.old)).held (job_of self.old.job)) }
     {
         match self.job {
             Pending::Idle => {}
@@ -84,7 +83,7 @@ impl OpenHeap {
             (order_in (seen self.old)) (order_in (seen self.new)) }
         ensures kept { IsValid (seen self.new) }
         ensures plan { plan_of (seen self.new) ≡ plan_of (seen self.old) }
-        ensures steps { RoseAtMost steps.old steps.new (part_most (seen self.old) k) }
+        ensures steps { RoseBy steps.old steps.new (part_cost (plan_of (seen self.old)) (state_of (seen self.old)).held k) }
     {
         let n = self.words_of(k);
         clear_next(&mut self.region, k, n, steps);
@@ -108,7 +107,7 @@ impl OpenHeap {
             (order_in (seen self.old)) (order_in (seen self.new)) }
         ensures kept { IsValid (seen self.new) }
         ensures plan { plan_of (seen self.new) ≡ plan_of (seen self.old) }
-        ensures steps { RoseAtMost steps.old steps.new (1 + part_most (seen self.old) k) }
+        ensures steps { RoseBy steps.old steps.new (1 + part_cost (plan_of (seen self.old)) (state_of (seen self.old)).held k) }
     {
         let Some(to) = self.proxies.lookup(h, steps) else {
             unreachable!();

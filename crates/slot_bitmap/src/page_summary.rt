@@ -1,8 +1,9 @@
 //! `PageSummary`, what a slot map keeps of a page beside its words.
+use std::mem::size_of;
 use step_ledger::WordCell;
 
 /// What a slot map keeps of a page beside its words: two summary words, which show the words with a
-/// free slot and those with a used one, and two numbers. It has 24 bytes.
+/// free slot and those with a used one, and two numbers.
 #[derive(Drop)]
 pub(crate) struct PageSummary {
     /// Bit j is set if word j has a free slot.
@@ -14,3 +15,8 @@ pub(crate) struct PageSummary {
     /// How many of them are used.
     pub(crate) used: u32,
 }
+
+/// The bytes of a `PageSummary`.
+pub(crate) const SUMMARY_BYTES: u64 = 24;
+
+const _: () = prove!(size_of::<PageSummary>() == 24);

@@ -1,12 +1,13 @@
 //! `SlotMaps`, the maps of the used slots of all pages of a heap, in one table.
-ghost use Rattle.std.specs.Prelude.{◌≡◌, ◌*◌, ◌<◌, ◌≤◌, length, replicate, slice_get, slice_set, not, true, false, IfOk, IfSome, IsNone, is_some, if◌then◌else◌};
+ghost use Rattle.std.specs.Prelude.{◌≡◌, ◌*◌, ◌^◌, ◌<◌, ◌≤◌, length, replicate, slice_get, slice_set, not, true, false, IfOk, IfSome, IsNone, is_some, if◌then◌else◌};
 ghost use Rattle.std.specs.List.{position, count_by};
 ghost use Rattle.step_ledger.specs.Counting.{RoseBy};
 ghost use Rattle.slot_bitmap.specs.Maps.{on_page, with_page};
+ghost use Rattle.slot_bitmap.specs.Needed.{map_bytes};
 
 use crate::bits;
-use crate::page_summary::PageSummary;
-use cf_base::OutOfMemory;
+use crate::page_summary::{PageSummary, SUMMARY_BYTES};
+use cf_base::{BytesNeeded, OutOfMemory};
 use std::alloc::{AllocError, Global};
 use std::marker::Model;
 use step_ledger::{Cells, Steps, WordCell, with_bit};
@@ -52,6 +53,16 @@ impl SlotMaps {
             Ok(maps) => Ok(maps),
             Err(_) => Err(OutOfMemory),
         }
+    }
+
+    /// The memory that `new` asks for.
+    pub fn bytes_needed(pages: u32, most: u32) -> BytesNeeded
+        requires { most ≤ 4096 }
+        ensures needed { result ≡ map_bytes pages most }
+        ensures few { result.total < 2 ^ 42 }
+    {
+        let summaries = BytesNeeded::block(SUMMARY_BYTES * u64::from(pages));
+        summaries.and(BytesNeeded::block(8 * (u64::from(pages) * u64::from(most.div_ceil(64)))))
     }
 
     /// Turns the map of a page, none of whose slots may be used, into one of `slots` slots, all

@@ -3,3 +3,4 @@ pub mod Room
 pub mod Access
 pub mod Costs
 pub mod Choices
+pub mod Needed

@@ -1,14 +1,16 @@
 //! `TagHeap`: the trait `Manager` over an open heap with blocks, or none while it is closed.
-ghost use Rattle.std.specs.Prelude.{◌≡◌, IsTrue, Some};
+ghost use Rattle.std.specs.Prelude.{◌≡◌, ◌^◌, ◌<◌, IsTrue, Some};
 ghost use Rattle.cf_model.specs.State.{closed_state};
 ghost use Rattle.tag_heap.specs.Costs.{block_bounds};
+ghost use Rattle.cf_base.specs.Settings.{profile_of};
 ghost use Rattle.tag_heap.specs.Heap.{state_of};
+ghost use Rattle.tag_heap.specs.Needed.{tag_bytes};
 
 use crate::fit_policy::FitPolicy;
 use crate::open_heap::OpenHeap;
 use cf_base::{
-    AccessFault, Figures, Freed, Handle, Kind, NotLive, OutOfMemory, Refusal, ResizeFault, Resized,
-    Settings, Totals,
+    AccessFault, BytesNeeded, Figures, Freed, Handle, Kind, NotLive, OutOfMemory, Refusal,
+    ResizeFault, Resized, Settings, Totals,
 };
 use cf_model::{Manager, StepBounds, Usage};
 use std::alloc::Global;
@@ -44,6 +46,14 @@ impl<B: FitPolicy> TagHeap<B> {
         ensures { result ≡ closed_state B.kind }
     {
         TagHeap { alloc, inner: None }
+    }
+
+    /// The memory that `open_heap` asks for. The bytes of the manager itself, which its owner keeps, aren't counted.
+    pub fn bytes_needed(s: &Settings) -> BytesNeeded
+        ensures needed { result ≡ tag_bytes B.kind (profile_of s.now) }
+        ensures few { result.total < 2 ^ 45 }
+    {
+        OpenHeap::<B>::bytes_needed(s)
     }
 
     /// Borrows the open heap, for calls that change nothing.

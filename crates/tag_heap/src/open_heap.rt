@@ -1,15 +1,17 @@
 //! `OpenHeap`, the heap of the managers with blocks while it is open, and how it is opened.
-ghost use Rattle.std.specs.Prelude.{◌≡◌, ◌*◌, length, IfOk};
+ghost use Rattle.std.specs.Prelude.{◌≡◌, ◌*◌, ◌^◌, ◌<◌, length, IfOk};
 ghost use Rattle.block_model.specs.FreeOrder.{AreListsOf, first_lists};
 ghost use Rattle.block_model.specs.Tiling.{one_free_block};
 ghost use Rattle.tag_blocks.specs.Blocks.{AreTags, listed};
 ghost use Rattle.proxy_table.specs.Proxies.{AreBelowLimit, no_proxies};
 ghost use Rattle.cf_model.specs.Rules.{KeepsRules};
 ghost use Rattle.cf_model.specs.Steps.{IsEmptyHeap};
+ghost use Rattle.cf_base.specs.Settings.{profile_of};
 ghost use Rattle.tag_heap.specs.Heap.{state_of};
+ghost use Rattle.tag_heap.specs.Needed.{tag_bytes};
 
 use crate::fit_policy::FitPolicy;
-use cf_base::{OutOfMemory, Settings};
+use cf_base::{BytesNeeded, OutOfMemory, Settings};
 use proxy_table::ProxyTable;
 use std::alloc::Global;
 use std::marker::Model;
@@ -58,6 +60,15 @@ impl<B: FitPolicy> OpenHeap<B> {
         let blocks = TagBlocks::new(alloc, s.pages * s.page_words)?;
         let proxies = ProxyTable::new(alloc, s.proxies)?;
         Ok(OpenHeap::empty(s, blocks, proxies))
+    }
+
+    /// The memory that `new` asks for.
+    pub(crate) fn bytes_needed(s: &Settings) -> BytesNeeded
+        ensures needed { result ≡ tag_bytes B.kind (profile_of s.now) }
+        ensures few { result.total < 2 ^ 45 }
+    {
+        let blocks = TagBlocks::<B>::bytes_needed(s.pages * s.page_words);
+        blocks.and(ProxyTable::bytes_needed(s.proxies))
     }
 
     /// Makes an open heap of these parts, each without objects.

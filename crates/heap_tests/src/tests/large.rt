@@ -1,8 +1,9 @@
 //! `LargeHeap` at its limits, over both managers with pages: the longest object of a page size, and the fewest
-//! proxies and pages for an object.
+//! proxies and pages for an object. And the steps of its calls over a moving manager.
+ghost use Rattle.std.specs.Prelude.{IsTrue};
 ghost use Rattle.cf_model.specs.Families.{IsPaged};
 
-use cf_base::{OutOfMemory, Refusal, Settings};
+use cf_base::{Handle, OutOfMemory, Refusal, Settings};
 use cf_model::Manager;
 use large_objects::LargeHeap;
 use moving_heap::MovingHeap;
@@ -137,5 +138,102 @@ fn objects_are_as_long_as_spines_and_heaps_allow(rt: HostRuntime) -> Result<(), 
         let other = agrees(alloc, NonMovingHeap::closed(alloc), row, &mut meter)?;
         assert!(rt; moving && other, "row {i}");
     }
+    Ok(())
+}
+
+/// A call on a heap of long objects. An object is named by the number of its handle.
+#[derive(Clone, Copy)]
+enum Call {
+    /// A malloc of this many bytes.
+    Malloc(u32),
+    Free(u32),
+    /// A write of this many bytes, at most 1,512, from this byte of the object on.
+    Write(u32, u32, usize),
+    /// A read of this many bytes, at most 1,512, from this byte of the object on.
+    Read(u32, u32, usize),
+}
+
+/// Calls on pages of 64 words over a moving manager, each with its steps. A whole part has 504 bytes and a page of
+/// its own. A page has two slots of 30 words, for objects of 232 bytes, or two of 23, for objects of 176 bytes.
+///
+/// A malloc on the moving manager takes 15 steps on a free page, and 17 if it fills a page. A free takes 16 and the
+/// words of the slot if that empties the page, and 20 and these words if another object moves into the slot and that
+/// empties another page. So the bounds, 17 + 20 q for a malloc and 20 + 23 q + s for a free of q parts and slots of
+/// s words, are met but for the whole parts: a malloc takes two steps less for each of them, and a free four less.
+static CALLS: [(Call, u64); 18] = [
+    (Call::Malloc(232), 15),
+    (Call::Malloc(176), 15),
+    // Object 2 has 44 parts, of which 43 are whole. Its spine, of 176 bytes, and its last part, of 232, fill a page
+    // each. Each part has its handle written, in three steps.
+    (Call::Malloc(21_904), 17 + 43 * (15 + 3) + (17 + 3)),
+    (Call::Malloc(232), 15),
+    (Call::Malloc(176), 15),
+    // Refused: the spine would exceed a page.
+    (Call::Malloc(63_505), 0),
+    (Call::Read(2, 0, 1), 5 + 1),
+    // The last four bytes of a part and the first four of the next one: two handles of three steps, and two accesses
+    // of two steps and one word.
+    (Call::Write(2, 500, 8), 5 * 2 + 2),
+    // From byte 4 of the first part up to byte 4 of the fourth: 190 words.
+    (Call::Write(2, 4, 1_512), 5 * 4 + 190),
+    (Call::Read(2, 4, 1_512), 5 * 4 + 190),
+    (Call::Read(2, 21_903, 1), 5 + 1),
+    (Call::Read(2, 7, 0), 0),
+    // Refused: past the end; and number 3 is a part.
+    (Call::Read(2, 21_903, 2), 0),
+    (Call::Free(3), 0),
+    // Each whole part empties its page. Into the slots of the last part and of the spine another object moves.
+    (
+        Call::Free(2),
+        43 * (3 + 16 + 64) + (3 + 20 + 30) + (20 + 23),
+    ),
+    // Short objects take the steps of the moving manager: object 0 has its last 8 bytes in one word, and these two
+    // bytes of object 1 are in two.
+    (Call::Read(0, 224, 8), 2 + 1),
+    (Call::Write(1, 7, 2), 2 + 2),
+    (Call::Free(1), 6 + 13 + 23),
+];
+
+/// Makes the call, whether it succeeds or is refused, and returns the steps that it adds to the meter's count.
+fn steps_of<H: Manager>(heap: &mut LargeHeap<H>, call: Call, meter: &mut Meter) -> u64
+    requires { IsTrue heap.old.is_open }
+{
+    let mut bytes = [1; 1_512];
+    let before = meter.steps().count();
+    match call {
+        Call::Malloc(bytes) => {
+            let _ = heap.malloc(bytes, meter);
+        }
+        Call::Free(h) => {
+            let _ = heap.free(Handle(h), meter);
+        }
+        Call::Write(h, at, count) => {
+            let _ = heap.write(Handle(h), at, &bytes[..count.min(1_512)], meter);
+        }
+        Call::Read(h, at, count) => {
+            let _ = heap.read(Handle(h), at, &mut bytes[..count.min(1_512)], meter);
+        }
+    }
+    meter.steps().count().saturating_sub(before)
+}
+
+/// Makes the calls of `CALLS` in order. Returns the index of the first that takes another number of steps, or finds
+/// the heap closed; none if there is no such call.
+fn first_other<H: Manager>(heap: &mut LargeHeap<H>, meter: &mut Meter) -> Option<usize> {
+    for (i, (call, steps)) in CALLS.iter().enumerate() {
+        if !heap.is_open() || steps_of(heap, *call, meter) != *steps {
+            return Some(i);
+        }
+    }
+    None
+}
+
+// Each call of `CALLS` adds exactly its steps to the meter.
+#[test]
+fn each_part_adds_its_steps(rt: HostRuntime) -> Result<(), Fail> {
+    let alloc = rt.alloc();
+    let mut heap = LargeHeap::new(alloc, MovingHeap::closed(alloc));
+    heap.open_heap(&Settings::check(48, 512, 1, 64)?)?;
+    assert_eq!(rt; first_other(&mut heap, &mut Meter::new(&rt)), None);
     Ok(())
 }

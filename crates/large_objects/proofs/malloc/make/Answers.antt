@@ -9,10 +9,10 @@ pub make_inner-requires-clause-room : goal.make_inner-requires-clause-room
 make_inner-requires-clause-room g c =
     room_for_short c.args.part_bytes c.args.bytes (g.H.Manager.state c.args.inner.now) c.requires.some (omega arith) c.requires.room
 
-pub returns-then-bytes-part_bytes : goal.returns-then-bytes-part_bytes
-returns-then-bytes-part_bytes g c = inl (
-    let given = c.make_inner.ensures in
+pub returns-then-bytes-part_bytes-clause-step : goal.returns-then-bytes-part_bytes-clause-step
+returns-then-bytes-part_bytes-clause-step g c = inl (
+    let given = c.make_inner.ensures.step in
     record { short = omega arith; stays = given.stays; unused = given.unused; left = given.left })
 
-pub returns : goal.returns
-returns g c = inr (record { long = omega arith; grown = c.make_long.ensures })
+pub returns-clause-step : goal.returns-clause-step
+returns-clause-step g c = inr (record { long = omega arith; grown = c.make_long.ensures.step })

@@ -9,7 +9,7 @@ overflow_mul-i g c =
     let small = inner_small (g.H.Manager.state c.args.inner.now) c.requires.ready c.args.spine.0 c.requires.has.bytes c.requires.has.found in
     let within = c.requires.has.within in omega arith
 
-pub returns : goal.returns
+pub returns-clause-value : goal.returns-clause-value
 unfolding handle_at
-returns g c = c.from_le_bytes.ensures ∙ ap (from_le_bytes w32) (c.read_inner.ensures c.requires.has.bytes c.requires.has.found)
+returns-clause-value g c = c.from_le_bytes.ensures ∙ ap (from_le_bytes w32) (c.read_inner.ensures.value c.requires.has.bytes c.requires.has.found)
     ∙ sym (ap (λ o. handle_at (bytes_found o) c.args.i) c.requires.has.found)

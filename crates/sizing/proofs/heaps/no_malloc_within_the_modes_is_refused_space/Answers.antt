@@ -5,9 +5,9 @@ use Rattle.sizing.proofs.ModePages.{certified_mallocs, spread_mallocs}
 use Rattle.sizing.proofs.heaps.no_malloc_within_the_modes_is_refused_space.Goals as goal
 
 pub returns-clause-spread : goal.returns-clause-spread
-returns-clause-spread c = λ modes s calls last new n fresh enough run asked. no_malloc_refused (KeepsToOne modes) s calls last new fresh run
+returns-clause-spread c = λ modes s fresh enough calls last new n run asked. no_malloc_refused (KeepsToOne modes) s calls last new fresh run
     (spread_mallocs (paging_in s) (paging_at (KeepsToOne modes) s calls last new fresh run) modes enough) n asked
 
 pub returns-clause-certified : goal.returns-clause-certified
-returns-clause-certified c = λ modes points s calls last new n fresh sure run asked. no_malloc_refused (KeepsToOne modes) s calls last new fresh run
+returns-clause-certified c = λ modes points s fresh sure calls last new n run asked. no_malloc_refused (KeepsToOne modes) s calls last new fresh run
     (certified_mallocs (paging_in s) (paging_at (KeepsToOne modes) s calls last new fresh run) modes points sure) n asked

@@ -1,7 +1,7 @@
 use Rattle.std.proofs.Common.{◌+◌, length, take, drop, arith, ◌∙◌, ap, subst}
 use Rattle.sliced_heap.specs.Halves.{first_bytes}
 use Rattle.sliced_heap.specs.Writes.{WritesByPlaces, word_from}
-use Rattle.sliced_heap.proofs.TwoParts.{two_bounds, two_parts}
+use Rattle.sliced_heap.proofs.TwoParts.{two_counts, two_parts}
 use Rattle.sliced_heap.proofs.halves.write_halves.Goals as goal
 
 pub returns-clause-bytes : goal.returns-clause-bytes
@@ -18,9 +18,9 @@ returns-clause-bytes c =
     c.write_half-2.ensures.bytes) in
     two_parts s at bytes c.requires.apart c.args.region.now c.write_half.new.region c.write_half-2.new.region low high
 
-pub returns-clause-bound : goal.returns-clause-bound
-returns-clause-bound c =
+pub returns-clause-steps : goal.returns-clause-steps
+returns-clause-steps c =
     let back = c.split_at.ensures.back_len in
-    two_bounds c.args.s c.args.at (length c.args.bytes.now) c.first_bytes-first.result (length c.split_at.result.0.now) (length c.split_at.result.1.now)
+    two_counts c.args.s c.args.at (length c.args.bytes.now) c.first_bytes-first.result (length c.split_at.result.0.now) (length c.split_at.result.1.now)
     c.args.steps.now c.write_half.new.steps c.write_half-2.new.steps c.first_bytes-first.ensures c.split_at.ensures.front_len (omega arith)
-    c.write_half.ensures.bound c.write_half-2.ensures.bound
+    c.write_half.ensures.steps c.write_half-2.ensures.steps

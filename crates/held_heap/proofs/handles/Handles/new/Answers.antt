@@ -1,7 +1,6 @@
 -- There are as many handles as the least power of two that is not below the number of proxies.
-use Rattle.std.proofs.Common.{◌≡◌, ◌+◌, refl, arith}
+use Rattle.std.proofs.Common.{◌≡◌, arith}
 use Rattle.std.specs.List.{range_with_len}
-use Rattle.std.proofs.lemmas.Iterator.{items_from_collect, YieldsList-from_range}
 use Rattle.held_heap.proofs.Fresh.{ok_value}
 use Rattle.held_heap.proofs.Generations.{first_are, fits_proxies}
 use Rattle.held_heap.proofs.handles.Handles.new.Goals as goal
@@ -14,8 +13,7 @@ pub invariant_of-result : goal.invariant_of-result
 invariant_of-result c =
     let count = c.next_power_of_two-count.result in let base = c.base-base.result in let n = c.next_power_of_two-count.ensures in
     let items : c.in_ok-of.of.items ≡ range_with_len base count =
-    ok_value c.collect.result (λ v. v.items ≡ range_with_len base count)
-    (items_from_collect c.collect.result c.collect.ensures.ran (YieldsList-from_range base (base + count) count refl (omega arith)))
+    ok_value c.numbers_from.result (λ v. v.items ≡ range_with_len base count) c.numbers_from.ensures
     c.ok.result c.ok.ensures.value c.in_ok-of.of c.in_ok-of.was in
     (first_are c.args.proxies c.args.last count base c.in_ok-of.of.items n.power n.lower_bound n.upper_bound c.requires.some c.requires.few c.base-base.ensures items).count
 
@@ -23,7 +21,6 @@ pub returns : goal.returns
 returns c =
     let count = c.next_power_of_two-count.result in let base = c.base-base.result in let n = c.next_power_of_two-count.ensures in
     let items : c.in_ok-of.of.items ≡ range_with_len base count =
-    ok_value c.collect.result (λ v. v.items ≡ range_with_len base count)
-    (items_from_collect c.collect.result c.collect.ensures.ran (YieldsList-from_range base (base + count) count refl (omega arith)))
+    ok_value c.numbers_from.result (λ v. v.items ≡ range_with_len base count) c.numbers_from.ensures
     c.ok.result c.ok.ensures.value c.in_ok-of.of c.in_ok-of.was in
     first_are c.args.proxies c.args.last count base c.in_ok-of.of.items n.power n.lower_bound n.upper_bound c.requires.some c.requires.few c.base-base.ensures items

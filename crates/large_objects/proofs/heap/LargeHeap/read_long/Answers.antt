@@ -1,7 +1,9 @@
-use Rattle.std.proofs.Common.{◌≡◌, ◌+◌, ◌-◌, ◌*◌, ◌/◌, ◌%◌, ◌≤◌, length, take, drop, arith, sym, ◌∙◌, ap, refl, subst}
+use Rattle.std.proofs.Common.{◌≡◌, ◌+◌, ◌-◌, ◌*◌, ◌/◌, ◌%◌, ◌≤◌, length, min, take, drop, arith, sym, ◌∙◌, ap, refl, subst}
 use Rattle.std.proofs.lemmas.List.{length-drop, length-take, take_all}
+use Rattle.large_objects.specs.LargeCosts.{parts_access_steps}
 use Rattle.large_objects.specs.LargeSteps.{HasPartRange, part_bytes_in}
 use Rattle.large_objects.proofs.AccessLemmas.{length_put, next_read, read_index_small, read_more, read_put}
+use Rattle.large_objects.proofs.CostLemmas.{access_first, access_more, access_past}
 use Rattle.large_objects.proofs.Kept.{keeps, kept, part_is}
 use Rattle.large_objects.proofs.heap.LargeHeap.read_long.Goals as goal
 
@@ -19,7 +21,12 @@ parts-init g c = record {
   room = refl;
   some = omega arith;
   so_far = λ v found. refl;
+  few = record { kept = omega arith; bound = omega arith };
+  steps = λ k follow. access_first k c.self.inside.part_bytes c.args.at (length c.args.out.now) c.args.steps.now;
 }
+
+pub read_part-requires-clause-low : goal.read_part-requires-clause-low
+read_part-requires-clause-low g c = (let i = c.parts.invariant in let rose = i.few.bound in let e = i.room in omega arith)
 
 pub overflow_cast-i : goal.overflow_cast-i
 overflow_cast-i g c =
@@ -42,8 +49,8 @@ read_part-requires-clause-has g c =
     (next_read c.args.self.now c.args.h.0 c.args.at c.parts.done n c.self.inside.part_bytes (length c.args.out.now) c.requires.has i.parts i.part_bytes i.positive few
     (omega arith) (omega arith))
 
-pub returns : goal.returns
-returns g c v found =
+pub returns-clause-value : goal.returns-clause-value
+returns-clause-value g c v found =
     let i = c.parts.invariant in
     let all : length c.parts.out ≤ c.parts.done = omega arith in
     let e : c.parts.done ≡ length c.args.out.now = (let r = i.room in let s = i.some in omega arith) in
@@ -71,7 +78,18 @@ parts-preserved g c =
           (read_more c.args.self.now c.args.h.0 c.args.at c.parts.done n c.self.inside.part_bytes (length c.args.out.now) c.requires.has i.parts i.part_bytes
           i.positive few
           (omega arith) v c.read_part.new.out (take c.parts.done c.parts.out) (i.so_far v found)
-          (c.read_part.ensures v found
+          (c.read_part.ensures.value v found
           ∙ ap (λ m. take m (drop (part_bytes_in c.args.self.now * ((c.args.at + c.parts.done) / c.self.inside.part_bytes)
           + (c.args.at + c.parts.done) % c.self.inside.part_bytes) v)) asked));
+      few = (let a = i.few in let b = c.read_part.ensures.few in record { kept = omega arith; bound = omega arith });
+      steps = λ k follow. access_more k c.self.inside.part_bytes c.args.at (length c.args.out.now) c.args.steps.now c.parts.done n _ c.parts.steps
+          c.read_part.new.steps i.positive (omega arith) few (c.min-count.ensures ∙ ap (λ m. min (m - c.parts.done)
+          (c.self.inside.part_bytes - (c.args.at + c.parts.done) % c.self.inside.part_bytes)) i.room) asked (i.steps k follow) (c.read_part.ensures.steps k follow);
     }
+
+pub returns-clause-steps : goal.returns-clause-steps
+returns-clause-steps g c k follow =
+    let i = c.parts.invariant in
+    let took = access_past k c.self.inside.part_bytes c.args.at (length c.args.out.now) c.args.steps.now c.parts.done c.parts.steps (let e = i.room in omega arith)
+    (i.steps k follow) in
+    took ∙ ap (λ u. c.args.steps.now + parts_access_steps k u c.args.at (length c.args.out.now)) i.part_bytes

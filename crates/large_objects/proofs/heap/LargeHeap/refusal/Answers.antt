@@ -1,5 +1,6 @@
 use Rattle.std.proofs.Common.{ap, arith, refl}
 use Rattle.cf_base.specs.declared.answers.Totals.{Totals}
+use Rattle.large_objects.proofs.CostLemmas.{totals_cost}
 use Rattle.large_objects.proofs.Kept.{count_small, not_refused, refused_pages, refused_proxies, same_kept}
 use Rattle.large_objects.proofs.heap.LargeHeap.refusal.Goals as goal
 
@@ -55,3 +56,15 @@ pub returns-clause-kept : goal.returns-clause-kept
 returns-clause-kept g c = same_kept c.self.inside.is_open c.self.inside.pages c.self.inside.part_bytes c.self.inside.lengths.items
     (g.H.Manager.state c.self.inside.inner) c.args.self.now c.self.view_is
     c.requires c.self.invariant
+
+pub returns-then-len-live-clause-steps : goal.returns-then-len-live-clause-steps
+returns-then-len-live-clause-steps g c = totals_cost g.H.StepBounds.most (g.H.Manager.state c.self.inside.inner) c.args.steps.now c.totals-live.new.steps
+    c.totals-live.ensures.exact
+
+pub returns-then-self-pages_with-clause-steps : goal.returns-then-self-pages_with-clause-steps
+returns-then-self-pages_with-clause-steps g c = totals_cost g.H.StepBounds.most (g.H.Manager.state c.self.inside.inner) c.args.steps.now c.totals-live.new.steps
+    c.totals-live.ensures.exact
+
+pub returns-clause-steps : goal.returns-clause-steps
+returns-clause-steps g c = totals_cost g.H.StepBounds.most (g.H.Manager.state c.self.inside.inner) c.args.steps.now c.totals-live.new.steps
+    c.totals-live.ensures.exact

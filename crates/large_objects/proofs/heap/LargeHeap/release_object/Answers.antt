@@ -1,4 +1,8 @@
-use Rattle.large_objects.proofs.Kept.{gone_frees, gone_kept, gone_valid, has_inner_objects}
+use Rattle.std.proofs.Common.{subst}
+use Rattle.step_ledger.specs.Counting.{RoseAtMost}
+use Rattle.cf_model.specs.State.{HeapState, paging_in}
+use Rattle.large_objects.specs.LargeCosts.{object_free_steps}
+use Rattle.large_objects.proofs.Kept.{gone_frees, gone_kept, gone_valid, has_inner_objects, inner_is, part_is}
 use Rattle.large_objects.proofs.heap.LargeHeap.release_object.Goals as goal
 
 pub release-requires-clause-has : goal.release-requires-clause-has
@@ -9,14 +13,24 @@ release-requires-clause-has g c = has_inner_objects c.self.inside.is_open c.self
 pub invariant_of-self : goal.invariant_of-self
 invariant_of-self g c = gone_valid c.self.inside.is_open c.self.inside.pages c.self.inside.part_bytes c.self.inside.lengths.items
     (g.H.Manager.state c.self.inside.inner) c.args.self.now c.self.view_is
-    c.requires.open c.self.invariant c.args.h.0 c.args.bytes c.requires.found (g.H.Manager.state c.release.new.inner) c.release.ensures
+    c.requires.open c.self.invariant c.args.h.0 c.args.bytes c.requires.found (g.H.Manager.state c.release.new.inner) c.release.ensures.step
 
 pub returns-clause-freed : goal.returns-clause-freed
 returns-clause-freed g c = gone_frees c.self.inside.is_open c.self.inside.pages c.self.inside.part_bytes c.self.inside.lengths.items
     (g.H.Manager.state c.self.inside.inner) c.args.self.now c.self.view_is
-    c.requires.open c.self.invariant c.args.h.0 c.args.bytes c.requires.found (g.H.Manager.state c.release.new.inner) c.release.ensures
+    c.requires.open c.self.invariant c.args.h.0 c.args.bytes c.requires.found (g.H.Manager.state c.release.new.inner) c.release.ensures.step
 
 pub returns-clause-kept : goal.returns-clause-kept
 returns-clause-kept g c = gone_kept c.self.inside.is_open c.self.inside.pages c.self.inside.part_bytes c.self.inside.lengths.items
     (g.H.Manager.state c.self.inside.inner) c.args.self.now c.self.view_is
-    c.requires.open c.self.invariant c.args.h.0 c.args.bytes c.requires.found (g.H.Manager.state c.release.new.inner) c.release.ensures
+    c.requires.open c.self.invariant c.args.h.0 c.args.bytes c.requires.found (g.H.Manager.state c.release.new.inner) c.release.ensures.step
+
+pub returns-clause-steps : goal.returns-clause-steps
+returns-clause-steps g c k follow =
+    let s = g.H.Manager.state c.self.inside.inner in
+    subst (λ u. RoseAtMost c.args.steps.now c.release.new.steps (object_free_steps k (paging_in c.args.self.now.inner) u c.args.bytes)) (part_is
+    c.self.inside.is_open c.self.inside.pages
+    c.self.inside.part_bytes c.self.inside.lengths.items s c.args.self.now c.self.view_is c.requires.open c.self.invariant)
+    (subst (λ (m : HeapState). RoseAtMost c.args.steps.now c.release.new.steps (object_free_steps k (paging_in m) c.self.inside.part_bytes c.args.bytes)) (inner_is
+    c.self.inside.is_open c.self.inside.pages
+    c.self.inside.part_bytes c.self.inside.lengths.items s c.args.self.now c.self.view_is c.requires.open c.self.invariant) (c.release.ensures.steps k follow))

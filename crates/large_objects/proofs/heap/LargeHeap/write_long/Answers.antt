@@ -1,8 +1,10 @@
 use Rattle.std.proofs.Common.{◌≡◌, ◌+◌, ◌-◌, ◌/◌, ◌%◌, ◌≤◌, length, take, drop, arith, sym, ◌∙◌, ap, subst}
 use Rattle.std.proofs.lemmas.List.{length-take, length-drop}
 use Rattle.std.proofs.lemmas.Option.{same_Some}
+use Rattle.large_objects.specs.LargeCosts.{parts_access_steps}
 use Rattle.large_objects.specs.LargeSteps.{HasPartRange}
 use Rattle.large_objects.proofs.AccessLemmas.{next_write, so_far_more, then_kept, write_index_small, wrote_all, wrote_nothing}
+use Rattle.large_objects.proofs.CostLemmas.{access_first, access_more, access_past}
 use Rattle.large_objects.proofs.Kept.{kept, part_is, same_kept}
 use Rattle.large_objects.proofs.heap.LargeHeap.write_long.Goals as goal
 
@@ -21,7 +23,12 @@ parts-init g c = record {
   kept = same_kept c.self.inside.is_open c.self.inside.pages c.self.inside.part_bytes c.self.inside.lengths.items (g.H.Manager.state c.self.inside.inner)
       c.args.self.now c.self.view_is
       c.requires.open c.self.invariant;
+  few = record { kept = omega arith; bound = omega arith };
+  steps = λ k follow. access_first k c.self.inside.part_bytes c.args.at (length c.args.bytes.now) c.args.steps.now;
 }
+
+pub write_part-requires-clause-low : goal.write_part-requires-clause-low
+write_part-requires-clause-low g c = (let rose = c.parts.invariant.few.bound in omega arith)
 
 pub write_part-requires-clause-has : goal.write_part-requires-clause-has
 write_part-requires-clause-has g c =
@@ -50,6 +57,9 @@ parts-preserved g c =
     let i = c.parts.invariant in
     let few : c.parts.done + n ≤ length c.args.bytes.now = omega arith in
     let k : c.parts.done + n - c.parts.done ≡ n = omega arith in
+    let long : length (take (c.parts.done + n - c.parts.done) (drop c.parts.done c.args.bytes.now)) ≡ n =
+    length-take (c.parts.done + n - c.parts.done) (drop c.parts.done c.args.bytes.now) ∙ (let d = length-drop c.parts.done c.args.bytes.now in omega
+    arith) in
     record {
       part_bytes = i.part_bytes;
       positive = i.positive;
@@ -59,8 +69,17 @@ parts-preserved g c =
           i.kept
           i.part_bytes i.positive few (omega arith) c.write_part.new.self _ (ap (λ m. take m (drop c.parts.done c.args.bytes.now)) k) c.write_part.ensures.writes;
       kept = then_kept c.args.self.now c.parts.self c.write_part.new.self i.kept c.write_part.ensures.kept;
+      few = (let a = i.few in let b = c.write_part.ensures.few in let l = long in record { kept = omega arith; bound = omega arith });
+      steps = λ k follow. access_more k c.self.inside.part_bytes c.args.at (length c.args.bytes.now) c.args.steps.now c.parts.done n _ c.parts.steps
+          c.write_part.new.steps i.positive (omega arith) few c.min-count.ensures long (i.steps k follow) (c.write_part.ensures.steps k follow);
     }
 
 pub returns-clause-writes : goal.returns-clause-writes
 returns-clause-writes g c = wrote_all c.args.self.now c.parts.self c.args.h.0 c.args.at c.parts.done c.args.bytes.now c.requires.has (omega arith)
     c.parts.invariant.so_far
+
+pub returns-clause-steps : goal.returns-clause-steps
+returns-clause-steps g c k follow =
+    let took = access_past k c.self.inside.part_bytes c.args.at (length c.args.bytes.now) c.args.steps.now c.parts.done c.parts.steps (omega arith)
+    (c.parts.invariant.steps k follow) in
+    took ∙ ap (λ u. c.args.steps.now + parts_access_steps k u c.args.at (length c.args.bytes.now)) c.parts.invariant.part_bytes

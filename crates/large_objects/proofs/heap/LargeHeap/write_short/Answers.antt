@@ -14,14 +14,14 @@ write_inner-requires-clause-has g c = short_inner c.self.inside.is_open c.self.i
 pub invariant_of-self : goal.invariant_of-self
 invariant_of-self g c = short_valid c.self.inside.is_open c.self.inside.pages c.self.inside.part_bytes c.self.inside.lengths.items
     (g.H.Manager.state c.self.inside.inner) c.args.self.now c.self.view_is
-    c.requires.open c.self.invariant c.args.h.0 c.args.at c.args.bytes.now c.requires.has (g.H.Manager.state c.write_inner.new.inner) c.write_inner.ensures
+    c.requires.open c.self.invariant c.args.h.0 c.args.at c.args.bytes.now c.requires.has (g.H.Manager.state c.write_inner.new.inner) c.write_inner.ensures.step
 
 pub returns-clause-writes : goal.returns-clause-writes
 returns-clause-writes g c = short_writes c.self.inside.is_open c.self.inside.pages c.self.inside.part_bytes c.self.inside.lengths.items
     (g.H.Manager.state c.self.inside.inner) c.args.self.now c.self.view_is
-    c.requires.open c.self.invariant c.args.h.0 c.args.at c.args.bytes.now c.requires.has (g.H.Manager.state c.write_inner.new.inner) c.write_inner.ensures
+    c.requires.open c.self.invariant c.args.h.0 c.args.at c.args.bytes.now c.requires.has (g.H.Manager.state c.write_inner.new.inner) c.write_inner.ensures.step
 
 pub returns-clause-kept : goal.returns-clause-kept
 returns-clause-kept g c = short_kept c.self.inside.is_open c.self.inside.pages c.self.inside.part_bytes c.self.inside.lengths.items
     (g.H.Manager.state c.self.inside.inner) c.args.self.now c.self.view_is
-    c.requires.open c.self.invariant c.args.h.0 c.args.at c.args.bytes.now c.requires.has (g.H.Manager.state c.write_inner.new.inner) c.write_inner.ensures
+    c.requires.open c.self.invariant c.args.h.0 c.args.at c.args.bytes.now c.requires.has (g.H.Manager.state c.write_inner.new.inner) c.write_inner.ensures.step

@@ -3,6 +3,7 @@ use Rattle.std.specs.Vec.{with_item}
 use Rattle.cf_model.specs.Steps.{number_of}
 use Rattle.quota_heap.specs.declared.open_tasks.OpenTasks.{OpenTasks}
 use Rattle.quota_heap.proofs.FreeKinds.{removed_freed, removed_kept}
+use Rattle.quota_heap.proofs.StepCounts.{free_sum}
 use Rattle.quota_heap.proofs.Tasks.{pages_few, task_there}
 use Rattle.quota_heap.proofs.open_tasks.OpenTasks.free.Goals as goal
 
@@ -36,3 +37,11 @@ returns-clause-kept c =
     let n : OpenTasks = record h { shared_pages = c.free_inner.new.self; tasks = with_item h.tasks c.args.t c.free_inner.new.task } in
     removed_kept h n k c.args.t x c.free_inner.new.task at refl refl c.args.h.0 c.in-Some.x.place c.in-Some.x.length c.in-Some.x.class
     (c.in-Some.ensures.found x at) (number_of c.free_inner.result.moved) c.free_inner.ensures.removed
+
+pub returns-clause-steps : goal.returns-clause-steps
+returns-clause-steps c =
+    let h = c.args.self.now in let k = c.requires.kept in let x = c.index_mut-owner.result.now in
+    let at = task_there h k c.args.t c.requires.sixteen x c.index_mut-owner.ensures.value in
+    free_sum h k c.args.t x at c.args.h.0 c.in-Some.x.place c.in-Some.x.length c.in-Some.x.class (c.in-Some.ensures.found x at) c.free_inner.result
+    c.free_inner.new.self c.free_inner.new.task c.free_inner.ensures.removed c.args.steps.now c.object.new.steps c.free_inner.new.steps
+    c.in-Some.ensures.steps c.free_inner.ensures.steps

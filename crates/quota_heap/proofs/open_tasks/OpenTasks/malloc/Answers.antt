@@ -4,6 +4,7 @@ use Rattle.quota_heap.specs.declared.open_tasks.OpenTasks.{OpenTasks}
 use Rattle.quota_heap.proofs.Facts.{class_is}
 use Rattle.quota_heap.proofs.MallocLemmas.{comes_given, comes_kept}
 use Rattle.quota_heap.proofs.Refusals.{has_proxy, has_room}
+use Rattle.quota_heap.proofs.StepCounts.{malloc_sum}
 use Rattle.quota_heap.proofs.Tasks.{pages_few, task_there}
 use Rattle.quota_heap.proofs.open_tasks.OpenTasks.malloc.Goals as goal
 
@@ -57,3 +58,12 @@ returns-clause-kept c =
     let n : OpenTasks = record h { shared_pages = c.malloc_inner.new.self; tasks = with_item h.tasks c.args.t c.malloc_inner.new.task } in
     comes_kept h n k c.args.t x c.malloc_inner.new.task at refl refl c.in-Some.c c.args.bytes c.malloc_inner.result.0 is.1 is.2 c.malloc_inner.ensures.comes
     (c.in_default-refusal.ensures c.args.bytes is.0 is.1)
+
+pub returns-clause-steps : goal.returns-clause-steps
+returns-clause-steps c =
+    let h = c.args.self.now in let k = c.requires.kept in let x = c.index_mut-task.result.now in
+    let at = task_there h k c.args.t c.requires.sixteen x c.index_mut-task.ensures.value in
+    let is = class_is h.shared_pages k.shared_pages c.args.bytes c.in-Some.c c.in-Some.ensures.found in
+    malloc_sum h k c.args.t x at c.args.bytes c.in-Some.c c.in-Some.ensures.found
+    (has_room h k c.args.t x at c.in-Some.c c.args.bytes is.0 is.1 is.2 (c.in_default-refusal.ensures c.args.bytes is.0 is.1))
+    c.malloc_inner.result c.args.steps.now c.class_of.new.steps c.malloc_inner.new.steps c.class_of.ensures.steps c.malloc_inner.ensures.steps

@@ -2,7 +2,7 @@ use Rattle.std.proofs.Common.{◌≡◌, ◌<◌, ◌+◌, ap, arith, inl, min, 
 use Rattle.cf_io.specs.Feeds.{last_count}
 use Rattle.std.proofs.lemmas.List.{length-take-le}
 use Rattle.cf_io.proofs.CallerLemmas.{given_min, nothing_taken}
-use Rattle.script_loop.proofs.LoopTurn.{chunk_of, some_past, whole_chunk}
+use Rattle.script_loop.proofs.LoopTurn.{chunk_of, some_past, stops_by, whole_chunk}
 use Rattle.script_loop.proofs.running.Script.turn.Goals as goal
 
 pub returns-in-Err-clause-turn : goal.returns-in-Err-clause-turn
@@ -25,26 +25,12 @@ returns-then-n-eq0-clause-turn g c =
       took.3 (omega arith) c.if-n-eq0.true,
     )
 
-pub returns-in-Stopped-clause-turn : goal.returns-in-Stopped-clause-turn
-returns-in-Stopped-clause-turn g c =
-    let took = c.in-Ok.ensures in (
-      chunk_of _ _ c.take.new.buf c.min-within.result c.in-Ok.n (omega (arith, c.min-within.ensures)) (omega (arith, c.min-within.ensures)) took.2 (omega arith) took.0 took.1,
-      c.in-Stopped.ensures.goes,
-    )
-
-pub returns-in-Cut-clause-turn : goal.returns-in-Cut-clause-turn
-returns-in-Cut-clause-turn g c =
-    let took = c.in-Ok.ensures in (
-      chunk_of _ _ c.take.new.buf c.min-within.result c.in-Ok.n (omega (arith, c.min-within.ensures)) (omega (arith, c.min-within.ensures)) took.2 (omega arith) took.0 took.1,
-      c.in-Cut.ensures.goes,
-    )
-
-pub returns-in-LacksMemory-clause-turn : goal.returns-in-LacksMemory-clause-turn
-returns-in-LacksMemory-clause-turn g c =
-    let took = c.in-Ok.ensures in (
-      chunk_of _ _ c.take.new.buf c.min-within.result c.in-Ok.n (omega (arith, c.min-within.ensures)) (omega (arith, c.min-within.ensures)) took.2 (omega arith) took.0 took.1,
-      c.in-LacksMemory.ensures.goes,
-    )
+pub returns-in-Err-answer_chunk-clause-turn : goal.returns-in-Err-answer_chunk-clause-turn
+returns-in-Err-answer_chunk-clause-turn g c =
+    let took = c.in-Ok.ensures in
+    stops_by g.A.ModeHandler.semantics _ _
+    (chunk_of _ _ c.take.new.buf c.min-within.result c.in-Ok.n (omega (arith, c.min-within.ensures)) (omega (arith, c.min-within.ensures)) took.2 (omega arith) took.0 took.1)
+    c.in-Err-answer_chunk.status c.in-Err-answer_chunk.ensures.goes
 
 pub returns-then-n-self-clause-turn : goal.returns-then-n-self-clause-turn
 returns-then-n-self-clause-turn g c =
@@ -54,7 +40,7 @@ returns-then-n-self-clause-turn g c =
       chunk = chunk_of _ _ c.take.new.buf c.min-within.result c.in-Ok.n (omega (arith, below)) (omega (arith, c.min-within.ensures)) took.2 (omega arith) took.0 took.1;
       some = some_past c.take.new.buf c.min-within.result c.in-Ok.n below took.2;
       full = length-take-le c.min-within.result c.take.new.buf (omega (arith, below, took.2)) ∙ (omega (arith, c.min-within.ensures, below));
-      went = c.in-GoesOn.ensures.goes;
+      went = c.in-Ok-answer_chunk.ensures.goes;
     }
 
 pub returns-clause-turn : goal.returns-clause-turn
@@ -67,5 +53,5 @@ returns-clause-turn g c =
       whole = refl;
       some = omega (arith, long);
       left = omega (arith, long);
-      went = rw whole at c.in-GoesOn.ensures.goes;
+      went = rw whole at c.in-Ok-answer_chunk.ensures.goes;
     }

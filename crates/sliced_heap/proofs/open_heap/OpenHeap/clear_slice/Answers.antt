@@ -2,7 +2,7 @@ use Rattle.std.proofs.Common.{arith, refl}
 use Rattle.slice_model.specs.State.{Clear}
 use Rattle.sliced_heap.specs.Heap.{seen}
 use Rattle.sliced_heap.proofs.SliceWords.{clear_ended, clear_within}
-use Rattle.sliced_heap.proofs.SliceLemmas.{all_zeros, ends_in_order, goes_in_order, goes_on, goes_on_valid, goes_to_end, vacated_valid}
+use Rattle.sliced_heap.proofs.SliceLemmas.{all_zeros, ends_in_order, goes_in_order, goes_on, goes_on_valid, goes_to_end, part_ends, part_goes, vacated_valid}
 use Rattle.sliced_heap.proofs.open_heap.OpenHeap.clear_slice.Goals as goal
 
 pub clear_next-requires-clause-within : goal.clear_next-requires-clause-within
@@ -70,3 +70,21 @@ returns-clause-ordered c =
     c.words_of-n.ensures
     c.clear_next.ensures.words (clear_ended h c.requires.kept c.args.k c.requires.job c.clear_next.new.region c.words_of-n.result c.clear_next.ensures.words)
     (let t = c.if-done-slot_words.false in omega arith) (seen c.end.new.self) c.end.ensures.ended c.end.ensures.ordered c.end.ensures.words
+
+pub returns-then-done-slot_words-clause-steps : goal.returns-then-done-slot_words-clause-steps
+returns-then-done-slot_words-clause-steps c =
+    let h = seen c.args.self.now in
+    let s = c.slot_words.ensures.value in
+    part_goes h c.requires.kept (Clear c.args.k) c.requires.job c.args.k refl c.clear_next.new.region c.clear_next.ensures.len c.words_of-n.result
+    c.words_of-n.ensures
+    c.clear_next.ensures.words (clear_ended h c.requires.kept c.args.k c.requires.job c.clear_next.new.region c.words_of-n.result c.clear_next.ensures.words)
+    (let t = c.if-done-slot_words.true in omega arith) c.args.steps.now c.clear_next.new.steps c.clear_next.ensures.steps
+
+pub returns-clause-steps : goal.returns-clause-steps
+returns-clause-steps c =
+    let h = seen c.args.self.now in
+    let s = c.slot_words.ensures.value in
+    part_ends h c.requires.kept (Clear c.args.k) c.requires.job c.args.k refl c.clear_next.new.region c.clear_next.ensures.len c.words_of-n.result
+    c.words_of-n.ensures
+    c.clear_next.ensures.words (clear_ended h c.requires.kept c.args.k c.requires.job c.clear_next.new.region c.words_of-n.result c.clear_next.ensures.words)
+    (let t = c.if-done-slot_words.false in omega arith) c.args.steps.now c.clear_next.new.steps c.end.new.steps c.clear_next.ensures.steps c.end.ensures.steps

@@ -1,10 +1,12 @@
 use Rattle.std.proofs.Common.{sym, ap, subst}
+use Rattle.std.specs.Prelude.{if◌then◌else◌}
+use Rattle.step_ledger.specs.Counting.{RoseBy}
 use Rattle.page_slots.specs.Tables.{IsUsed, page_at, slot_at}
 use Rattle.slice_model.specs.State.{Idle}
 use Rattle.sliced_heap.specs.Heap.{Heap, seen}
 use Rattle.sliced_heap.specs.Layout.{tables_in}
-use Rattle.sliced_heap.specs.Steps.{FillsSlot, StaysVacant}
-use Rattle.sliced_heap.proofs.EndLemmas.{filled_ends, filled_follows, idle_at, slot_used}
+use Rattle.sliced_heap.specs.Steps.{FillsSlot, IsFilled, StaysVacant}
+use Rattle.sliced_heap.proofs.EndLemmas.{filled_ends, filled_follows, filled_takes, idle_at, slot_used, vacant_takes}
 use Rattle.sliced_heap.proofs.Facts.{only_tables}
 use Rattle.sliced_heap.proofs.open_heap.OpenHeap.end.Goals as goal
 
@@ -49,3 +51,18 @@ returns-clause-kept c =
     (idle_at (seen c.args.self.now) c.requires.kept c.args.k c.requires.job v.stays c.requires.zeros (seen c.fill.new.self) _ v.same
     (ap (λ (x : Heap). record x { job = Idle }) (only_tables c.fill.new.self c.drop_slot.new.self c.drop_slot.new.lists c.drop_slot.ensures.classes))
     c.drop_slot.ensures.freed c.drop_slot.ensures.kept).0
+
+pub returns-then-fill-clause-steps : goal.returns-then-fill-clause-steps
+returns-then-fill-clause-steps c =
+    let v : IsFilled (seen c.args.self.now) c.args.k (seen c.fill.new.self) =
+    subst (λ b. FillsSlot (seen c.args.self.now) c.args.k b (seen c.fill.new.self)) c.if-fill.true c.fill.ensures.filled in
+    filled_takes (seen c.args.self.now) c.requires.kept c.args.k c.requires.job c.args.steps.now c.fill.new.steps v.must
+    (subst (λ b. RoseBy c.args.steps.now c.fill.new.steps (if b then 6 else 1)) c.if-fill.true c.fill.ensures.steps)
+
+pub returns-clause-steps : goal.returns-clause-steps
+returns-clause-steps c =
+    let v : StaysVacant (seen c.args.self.now) c.args.k (seen c.fill.new.self) =
+    subst (λ b. FillsSlot (seen c.args.self.now) c.args.k b (seen c.fill.new.self)) c.if-fill.false c.fill.ensures.filled in
+    vacant_takes (seen c.args.self.now) c.requires.kept c.args.k c.requires.job c.args.steps.now c.fill.new.steps c.drop_slot.new.steps v.stays
+    (seen c.fill.new.self) v.same
+    (subst (λ b. RoseBy c.args.steps.now c.fill.new.steps (if b then 6 else 1)) c.if-fill.false c.fill.ensures.steps) c.drop_slot.ensures.steps

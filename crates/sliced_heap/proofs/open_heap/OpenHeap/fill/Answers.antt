@@ -5,7 +5,7 @@ use Rattle.page_model.specs.Steps.{MustMove}
 use Rattle.slice_model.specs.State.{placeholder}
 use Rattle.sliced_heap.specs.Heap.{seen}
 use Rattle.sliced_heap.specs.Layout.{paging_at}
-use Rattle.sliced_heap.proofs.FillLemmas.{all_are, filled_partly, filled_valid, from_within, is_filled, must_is, number_live, page_within}
+use Rattle.sliced_heap.proofs.FillLemmas.{all_are, filled_valid, from_within, is_filled, must_is, number_live, page_within}
 use Rattle.sliced_heap.proofs.open_heap.OpenHeap.fill.Goals as goal
 
 pub must_move-requires-clause-page : goal.must_move-requires-clause-page
@@ -51,11 +51,3 @@ returns-clause-filled c =
           false≢true (sym c.if-must_move.false ∙ t);
       same = refl;
     }
-
-pub returns-then-must_move-clause-partly : goal.returns-then-must_move-clause-partly
-returns-then-must_move-clause-partly c = λ _ f slot.
-    (let h = seen c.args.self.now in
-    let t = c.must_move.ensures.value.0 c.if-must_move.true in
-    let b = c.move_to.ensures.begun in
-    filled_partly h c.requires.kept c.args.k c.requires.job ((must_is h c.requires.kept c.args.k c.requires.job).0 t) b.from b.filler c.requires.fresh
-    (seen c.move_to.new.self) b.handles b.free b.whole f slot)

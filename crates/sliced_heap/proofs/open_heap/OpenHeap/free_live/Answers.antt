@@ -1,6 +1,5 @@
 use Rattle.sliced_heap.specs.Heap.{seen}
-use Rattle.sliced_heap.proofs.FreeLemmas.{frees_from}
-use Rattle.sliced_heap.proofs.StepCounts.{free_takes}
+use Rattle.sliced_heap.proofs.FreeLemmas.{free_takes, frees_from}
 use Rattle.sliced_heap.proofs.open_heap.OpenHeap.free_live.Goals as goal
 
 pub returns-clause-step : goal.returns-clause-step
@@ -15,6 +14,7 @@ returns-clause-ordered c =
 
 pub returns-clause-steps : goal.returns-clause-steps
 returns-clause-steps c =
-    free_takes (seen c.args.self.now) (seen c.start_clearing-k.new.self) (seen c.fill-filled.new.self) c.args.h.0 c.start_clearing-k.result c.fill-filled.result
-    c.args.steps.now c.start_clearing-k.new.steps c.fill-filled.new.steps c.slice.new.steps c.start_clearing-k.ensures.gone c.fill-filled.ensures.filled
-    c.fill-filled.ensures.partly c.start_clearing-k.ensures.steps c.fill-filled.ensures.steps c.slice.ensures.steps
+    free_takes (seen c.args.self.now) c.requires.kept c.requires.idle c.args.h.0 c.start_clearing-k.result (seen c.start_clearing-k.new.self)
+    (seen c.fill-filled.new.self) c.start_clearing-k.ensures.gone c.start_clearing-k.ensures.kept c.fill-filled.result c.fill-filled.ensures.filled
+    c.args.steps.now c.start_clearing-k.new.steps c.fill-filled.new.steps c.slice.new.steps c.start_clearing-k.ensures.steps c.fill-filled.ensures.steps
+    c.slice.ensures.steps

@@ -5,7 +5,7 @@ use Rattle.page_slots.specs.Orders.{order_of}
 use Rattle.sliced_heap.specs.Layout.{paging_at}
 use Rattle.sliced_heap.specs.declared.open_heap.OpenHeap.{OpenHeap}
 use Rattle.sliced_heap.proofs.Facts.{only_tables, seen_with}
-use Rattle.sliced_heap.proofs.MallocLemmas.{given_from, live_room, place_inside, lacks_proxy, lacks_slot, lacks_space, within_of}
+use Rattle.sliced_heap.proofs.MallocLemmas.{given_from, lacks_proxy, lacks_slot, lacks_space, lacks_takes, live_room, malloc_takes, place_inside, within_of}
 use Rattle.sliced_heap.proofs.open_heap.OpenHeap.malloc.Goals as goal
 
 pub returns-then-live-self-clause-step : goal.returns-then-live-self-clause-step
@@ -89,3 +89,17 @@ returns-clause-kept c =
     (only_tables c.args.self.now c.take_slot.new.self c.take_slot.new.lists c.take_slot.ensures.classes)
     c.bind-handle.ensures.unused c.bind-handle.ensures.below (ap seen c.bind-handle.ensures.whole) c.bind-handle.ensures.handles c.bind-handle.ensures.first
     (ap seen c.count_in.ensures)).1
+
+pub returns-in_default-take_slot-clause-steps : goal.returns-in_default-take_slot-clause-steps
+returns-in_default-take_slot-clause-steps c =
+    lacks_takes (seen c.args.self.now) c.requires c.args.bytes c.in-Some.c c.in-Some.ensures.found (λ e. c.if-live-self.false (c.live.ensures.count ∙ e))
+    (within_of c.is_over.result _ _ c.is_over.ensures c.if-is_over.false) _ c.in_default-take_slot.ensures.taken
+    c.args.steps.now c.class_of.new.steps c.take_slot.new.steps c.class_of.ensures.steps c.take_slot.ensures.steps
+
+pub returns-clause-steps : goal.returns-clause-steps
+returns-clause-steps c =
+    malloc_takes (seen c.args.self.now) c.requires c.args.bytes c.in-Some.c c.in-Some.ensures.found (λ e. c.if-live-self.false (c.live.ensures.count ∙ e))
+    (within_of c.is_over.result _ _ c.is_over.ensures c.if-is_over.false) _ c.in-Some-take_slot.place c.in-Some-take_slot.ensures.taken
+    c.take_slot.ensures.kept c.bind-handle.result
+    c.args.steps.now c.class_of.new.steps c.take_slot.new.steps c.bind-handle.new.steps c.class_of.ensures.steps c.take_slot.ensures.steps
+    c.bind-handle.ensures.steps

@@ -1,8 +1,9 @@
 use Rattle.std.proofs.Common.{arith, refl}
 use Rattle.slice_model.specs.State.{Move}
+use Rattle.step_ledger.proofs.CallerLemmas.{rose_both}
 use Rattle.sliced_heap.specs.Heap.{seen}
 use Rattle.sliced_heap.proofs.SliceWords.{move_apart, move_does, move_ended, move_known, move_source, move_target}
-use Rattle.sliced_heap.proofs.SliceLemmas.{all_zeros, ends_in_order, goes_in_order, goes_on, goes_on_valid, goes_to_end, vacated_valid}
+use Rattle.sliced_heap.proofs.SliceLemmas.{all_zeros, ends_in_order, goes_in_order, goes_on, goes_on_valid, goes_to_end, part_ends, part_goes, vacated_valid}
 use Rattle.sliced_heap.proofs.open_heap.OpenHeap.move_slice.Goals as goal
 
 pub unreachable-requires : goal.unreachable-requires
@@ -106,3 +107,29 @@ returns-clause-ordered c =
     (move_ended h c.requires.kept c.args.k c.args.h.0 c.requires.job c.in-Some.to c.in-Some.ensures.found c.move_next.new.region c.words_of-n.result
     c.move_next.ensures.words)
     (let t = c.if-done-slot_words.false in omega arith) (seen c.end.new.self) c.end.ensures.ended c.end.ensures.ordered c.end.ensures.words
+
+pub returns-then-done-slot_words-clause-steps : goal.returns-then-done-slot_words-clause-steps
+returns-then-done-slot_words-clause-steps c =
+    let h = seen c.args.self.now in
+    let s = c.slot_words.ensures.value in
+    rose_both c.args.steps.now c.lookup.new.steps c.move_next.new.steps 1 _ c.lookup.ensures.steps
+    (part_goes h c.requires.kept (Move c.args.h.0 c.args.k) c.requires.job c.args.k refl c.move_next.new.region c.move_next.ensures.len c.words_of-n.result
+    c.words_of-n.ensures
+    (move_does h c.requires.kept c.args.k c.args.h.0 c.requires.job c.in-Some.to c.in-Some.ensures.found c.move_next.new.region c.words_of-n.result
+    c.move_next.ensures.words)
+    (move_ended h c.requires.kept c.args.k c.args.h.0 c.requires.job c.in-Some.to c.in-Some.ensures.found c.move_next.new.region c.words_of-n.result
+    c.move_next.ensures.words)
+    (let t = c.if-done-slot_words.true in omega arith) c.lookup.new.steps c.move_next.new.steps c.move_next.ensures.steps)
+
+pub returns-clause-steps : goal.returns-clause-steps
+returns-clause-steps c =
+    let h = seen c.args.self.now in
+    let s = c.slot_words.ensures.value in
+    rose_both c.args.steps.now c.lookup.new.steps c.end.new.steps 1 _ c.lookup.ensures.steps
+    (part_ends h c.requires.kept (Move c.args.h.0 c.args.k) c.requires.job c.args.k refl c.move_next.new.region c.move_next.ensures.len c.words_of-n.result
+    c.words_of-n.ensures
+    (move_does h c.requires.kept c.args.k c.args.h.0 c.requires.job c.in-Some.to c.in-Some.ensures.found c.move_next.new.region c.words_of-n.result
+    c.move_next.ensures.words)
+    (move_ended h c.requires.kept c.args.k c.args.h.0 c.requires.job c.in-Some.to c.in-Some.ensures.found c.move_next.new.region c.words_of-n.result
+    c.move_next.ensures.words)
+    (let t = c.if-done-slot_words.false in omega arith) c.lookup.new.steps c.move_next.new.steps c.end.new.steps c.move_next.ensures.steps c.end.ensures.steps)

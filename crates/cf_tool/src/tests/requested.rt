@@ -1,0 +1,121 @@
+//! A test of the memory that a heap asks for: it opens each heap over each size of a page. `checks/refused-memory` runs it
+//! while each request is seen, and compares the requests with what the heap's `bytes_needed` returned.
+
+use cf_base::{BytesNeeded, Settings};
+use cf_model::Manager;
+use half_fit_heap::HalfFitHeap;
+use large_objects::LargeHeap;
+use moving_heap::MovingHeap;
+use nonmoving_heap::NonMovingHeap;
+use quota_heap::QuotaHeap;
+use sliced_heap::SlicedHeap;
+use std::alloc::AllocError;
+use std::test::Fail;
+use tlsf_heap::TlsfHeap;
+
+/// The request that says that the next three are the numbers of a `BytesNeeded`: its blocks, its total, its largest.
+const BEFORE: u64 = 1_000_003;
+
+/// The request after the last one of a heap.
+const AFTER: u64 = 1_000_033;
+
+/// The bytes of a page.
+const PAGE_BYTES: [u32; 9] = [
+    512, 1_024, 2_048, 4_096, 8_192, 16_384, 32_768, 65_536, 131_072,
+];
+
+/// Asks for a block of so many bytes, and returns it.
+fn ask(rt: &HostRuntime, bytes: u64) -> Result<(), AllocError> {
+    let _block: Vec<u8> = Vec::with_capacity(rt.alloc(), bytes as usize)?;
+    Ok(())
+}
+
+/// Asks for blocks that say what the next heap needs.
+fn announce(rt: &HostRuntime, needed: BytesNeeded) -> Result<(), AllocError> {
+    ask(rt, BEFORE)?;
+    ask(rt, u64::from(needed.blocks))?;
+    ask(rt, needed.total)?;
+    ask(rt, needed.largest)
+}
+
+/// Opens a manager, which needs so much memory. Returns the number of heaps that opened.
+fn open_manager<H: Manager>(
+    rt: &HostRuntime,
+    mut heap: H,
+    needed: BytesNeeded,
+    s: &Settings,
+) -> Result<u32, AllocError> {
+    announce(rt, needed)?;
+    let opened = heap.open_heap(s).is_ok();
+    ask(rt, AFTER)?;
+    Ok(u32::from(opened))
+}
+
+/// Opens the heaps that aren't managers. Returns the number of those that opened.
+fn open_others(rt: &HostRuntime, s: &Settings) -> Result<u32, AllocError> {
+    let alloc = rt.alloc();
+    announce(rt, SlicedHeap::bytes_needed(s))?;
+    let sliced = SlicedHeap::closed(alloc).open_heap(s, 16).is_ok();
+    ask(rt, AFTER)?;
+    announce(rt, QuotaHeap::bytes_needed(s))?;
+    let quota = QuotaHeap::closed(alloc).open_heap(s).is_ok();
+    ask(rt, AFTER)?;
+    let one = Settings {
+        pages: s.pages,
+        page_words: s.page_words,
+        k: 1,
+        proxies: s.proxies,
+    };
+    let inner = MovingHeap::bytes_needed(s);
+    announce(rt, LargeHeap::<MovingHeap>::bytes_needed(inner, s))?;
+    let large = LargeHeap::new(alloc, MovingHeap::closed(alloc))
+        .open_heap(&one)
+        .is_ok();
+    ask(rt, AFTER)?;
+    Ok(u32::from(sliced) + u32::from(quota) + u32::from(large))
+}
+
+/// Opens a heap of each kind with these settings. Returns the number of heaps that opened.
+fn open_each(rt: &HostRuntime, s: &Settings) -> Result<u32, AllocError> {
+    let alloc = rt.alloc();
+    let moving = open_manager(
+        rt,
+        MovingHeap::closed(alloc),
+        MovingHeap::bytes_needed(s),
+        s,
+    )?;
+    let nonmoving = open_manager(
+        rt,
+        NonMovingHeap::closed(alloc),
+        NonMovingHeap::bytes_needed(s),
+        s,
+    )?;
+    let tlsf = open_manager(rt, TlsfHeap::closed(alloc), TlsfHeap::bytes_needed(s), s)?;
+    let half = open_manager(
+        rt,
+        HalfFitHeap::closed(alloc),
+        HalfFitHeap::bytes_needed(s),
+        s,
+    )?;
+    Ok(
+        moving
+            .saturating_add(nonmoving)
+            .saturating_add(tlsf)
+            .saturating_add(half)
+            .saturating_add(open_others(rt, s)?),
+    )
+}
+
+/// Seven heaps with each of four settings, over nine sizes of a page.
+#[test]
+fn each_heap_asks_for_the_memory_it_says(rt: HostRuntime) -> Result<(), Fail> {
+    let mut opened = 0u32;
+    for page_bytes in PAGE_BYTES {
+        for (pages, k, proxies) in [(1, 1, 1), (3, 64, 5), (64, 2, 1_000), (512, 1, 65_536)] {
+            let settings = Settings::check(pages, page_bytes, k, proxies)?;
+            opened = opened.saturating_add(open_each(&rt, &settings)?);
+        }
+    }
+    assert_eq!(rt; opened, 252);
+    Ok(())
+}

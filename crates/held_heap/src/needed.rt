@@ -1,0 +1,27 @@
+//! The memory that `nph_open` asks for, as a caller in C gets it.
+ghost use Rattle.std.specs.Prelude.{◌≡◌, ℕ, ◌*◌, ◌^◌, ◌<◌, ◌≤◌};
+ghost use Rattle.std.specs.Int.{IsNextPowerOfTwo};
+ghost use Rattle.cf_base.specs.Needed.{both, one_block};
+ghost use Rattle.held_heap.specs.Needed.{shown_bytes};
+
+use crate::answers::NphNeeded;
+use crate::handles::Handles;
+use cf_base::BytesNeeded;
+
+/// What `nph_open` asks for: what the manager does (`manager`), the handles of this many proxies, and a block of
+/// `held_bytes` bytes for the open heap.
+pub(crate) fn needed_with(manager: BytesNeeded, proxies: u32, held_bytes: u64) -> NphNeeded
+    requires some { 1 ≤ proxies }
+    requires low { proxies ≤ 65536 }
+    requires few { manager.blocks < 2 ^ 31 }
+    requires fits { manager.total < 2 ^ 45 }
+    requires held { held_bytes < 2 ^ 32 }
+    ensures { (count : ℕ) × IsNextPowerOfTwo proxies count × (result ≡ shown_bytes (both manager (both (one_block (4 * count)) (one_block held_bytes)))) }
+{
+    let all = manager.and(Handles::bytes_needed(proxies).and(BytesNeeded::block(held_bytes)));
+    NphNeeded {
+        total: all.total,
+        largest: all.largest,
+        blocks: all.blocks,
+    }
+}

@@ -1,0 +1,136 @@
+-- The steps of calls on long objects over a moving manager, as sums over their parts.
+use Rattle.std.proofs.Common.{◌≡◌, ℕ, false, zero, suc, ◌+◌, ◌-◌, ◌*◌, ◌/◌, ◌%◌, ◌<◌, ◌≤◌, min, arith, sym, ◌∙◌, ap, refl, inl, inr}
+use Rattle.std.specs.Prelude.{nat_eq, sum_by}
+use Rattle.std.specs.List.{range_with_len}
+use Rattle.std.proofs.Math.Nat.{div-add-mod, mod-lt}
+use Rattle.std.proofs.lemmas.Bool.{cases_eq, cases_lt}
+use Rattle.std.proofs.lemmas.List.Sums.{sum_by-cons}
+use Rattle.std.proofs.lemmas.Nat.{le-div}
+use Rattle.cf_lemmas.proofs.Tests.{eq_no}
+use Rattle.page_model.specs.Image.{slot_for}
+use Rattle.page_model.specs.Paging.{Paging}
+use Rattle.page_model.proofs.CallerLemmas.{between_multiples}
+use Rattle.cf_model.specs.Costs.{words_touched}
+use Rattle.large_objects.specs.LargeCosts.{handle_steps, moving_costs, object_free_steps, object_malloc_steps, parts_access_steps, parts_touched, slots_taken}
+use Rattle.large_objects.specs.InnerObjects.{part_count, part_length}
+use Rattle.large_objects.proofs.CostLemmas.{access_next, free_long, malloc_long}
+
+-- a handle is in one word
+handle_is : (i : ℕ) → handle_steps moving_costs i ≡ 3
+handle_is i = (let e : (4 * i % 8 + 4 + 7) / 8 ≡ 1 = omega arith in omega arith)
+
+-- the sum of a number more for each term
+sum_more_each : (f g : ℕ → ℕ) (k a n : ℕ) → ((i : ℕ) → f i ≡ k + g i) → sum_by f (range_with_len a n) ≡ k * n + sum_by g (range_with_len a n)
+sum_more_each f g k a zero each = omega arith
+sum_more_each f g k a (suc n) each =
+    let x = sum_by-cons f a (range_with_len (a + 1) n) in
+    let y = sum_by-cons g a (range_with_len (a + 1) n) in
+    let e = each a in
+    let rest = sum_more_each f g k (a + 1) n each in
+    let t : k * suc n ≡ k * n + k = omega arith in
+    omega arith
+
+sum_none : (a n : ℕ) → sum_by (λ i. 0) (range_with_len a n) ≡ 0
+sum_none a zero = refl
+sum_none a (suc n) = (let x = sum_by-cons (λ i. 0) a (range_with_len (a + 1) n) in let rest = sum_none (a + 1) n in omega arith)
+
+pub malloc_is : (u n : ℕ) → u < n → object_malloc_steps moving_costs u n ≡ 17 + 20 * part_count u n
+malloc_is u n long =
+    let whole = malloc_long moving_costs u n long in
+    let sum = sum_more_each (λ i. 17 + handle_steps moving_costs i) (λ i. 0) 20 0 (part_count u n) (λ i. (let h = handle_is i in omega arith)) in
+    let none = sum_none 0 (part_count u n) in
+    omega arith
+
+pub free_is : (p : Paging) (u n : ℕ) → u < n → object_free_steps moving_costs p u n ≡ 20 + 23 * part_count u n + slots_taken p u n
+free_is p u n long =
+    let whole = free_long moving_costs p u n long in
+    let sum = sum_more_each (λ i. handle_steps moving_costs i + (20 + slot_for p (part_length u n i))) (λ i. slot_for p (part_length u n i)) 23 0 (part_count u n)
+    (λ i. (let h = handle_is i in omega arith)) in
+    omega arith
+
+-- the words of a range, and of its two halves if the first ends where a word ends
+words_are : (a n : ℕ) → 0 < n → words_touched a n ≡ (a % 8 + n + 7) / 8
+words_are a n some = (let e : nat_eq n 0 ≡ false = eq_no n 0 (λ z. absurd (omega arith)) in rw e refl)
+
+words_split : (a b count left : ℕ) → a % 8 ≡ b % 8 → 0 < count → count < left → (a + count) % 8 ≡ 0
+    → words_touched a left ≡ words_touched b count + words_touched (a + count) (left - count)
+words_split a b count left same some few ends =
+    let x = words_are a left (omega arith) in
+    let y = words_are b count some in
+    let z = words_are (a + count) (left - count) (omega arith) in
+    let s : (a % 8 + left + 7) / 8 ≡ (b % 8 + count + 7) / 8 + ((a + count) % 8 + (left - count) + 7) / 8 = omega arith in
+    omega arith
+
+-- a range, and what is left of it after its bytes in the first part
+module _ (m u from left count : ℕ) (some : 0 < m) (words : u ≡ 8 * m) (more : 0 < left) (few : count ≡ min left (u - from % u)) where
+  positive : 0 < u
+  positive = omega arith
+
+  place : u * (from / u) + from % u ≡ from
+  place = div-add-mod from u
+
+  inside : from % u < u
+  inside = mod-lt from positive
+
+  in_words : u * (from / u) ≡ 8 * (m * (from / u))
+  in_words = ap (λ x. x * (from / u)) words ∙ (let a : 8 * m * (from / u) ≡ 8 * (m * (from / u)) = omega arith in a)
+
+  parts_split : parts_touched u from left ≡ 1 + parts_touched u (from + count) (left - count)
+  parts_split =
+      let l = inside in let p = place in
+      let e : nat_eq left 0 ≡ false = eq_no left 0 (λ z. absurd (omega arith)) in
+      let whole : parts_touched u from left ≡ (from + left - 1) / u + 1 - from / u = rw e refl in
+      elim (cases_lt count left) [
+        | inl some_left ↦ (
+            let t : (from / u + 1) * u ≡ u * (from / u) + u = omega arith in
+            let q : (from + count) / u ≡ from / u + 1 = between_multiples (from + count) (from / u + 1) u positive (omega arith) (omega arith) in
+            let r : nat_eq (left - count) 0 ≡ false = eq_no (left - count) 0 (λ z. absurd (omega arith)) in
+            let s : from + count + (left - count) - 1 ≡ from + left - 1 = omega arith in
+            let w : parts_touched u (from + count) (left - count) ≡ (from + left - 1) / u + 1 - (from / u + 1) = rw r (rw s (rw q refl)) in
+            let low = le-div (from / u + 1) (from + left - 1) u positive (omega arith) in
+            omega arith)
+        | inr all ↦ (
+            let t : from / u * u ≡ u * (from / u) = omega arith in
+            let q : (from + left - 1) / u ≡ from / u = between_multiples (from + left - 1) (from / u) u positive (omega arith) (omega arith) in
+            let z : left - count ≡ 0 = omega arith in
+            let w : parts_touched u (from + count) (left - count) ≡ 0 = ap (parts_touched u (from + count)) z in
+            omega arith)
+      ]
+
+  words_are_split : words_touched from left ≡ words_touched (from % u) count + words_touched (from + count) (left - count)
+  words_are_split =
+      let l = inside in let p = place in let w = in_words in
+      elim (cases_lt count left) [
+        | inl some_left ↦ words_split from (from % u) count left (omega arith) (omega arith) some_left (omega arith)
+        | inr all ↦ (
+            let c : count ≡ left = omega arith in
+            let z : left - count ≡ 0 = omega arith in
+            let none : words_touched (from + count) (left - count) ≡ 0 = ap (words_touched (from + count)) z in
+            let x = words_are from left more in
+            let y = words_are (from % u) count (omega arith) in
+            let s : from % 8 ≡ from % u % 8 = omega arith in
+            omega arith)
+      ]
+
+  one_more : parts_access_steps moving_costs u (from + count) (left - count)
+      ≡ 5 * parts_touched u (from + count) (left - count) + words_touched (from + count) (left - count)
+      → parts_access_steps moving_costs u from left ≡ 5 * parts_touched u from left + words_touched from left
+  one_more rest =
+      let next = access_next moving_costs u from left count positive more few in
+      let h = handle_is (from / u) in
+      let p = parts_split in let w = words_are_split in
+      omega arith
+
+-- by the number of the bytes that are left, at most k
+access_up_to : (m u k from left : ℕ) → 0 < m → u ≡ 8 * m → left ≤ k
+    → parts_access_steps moving_costs u from left ≡ 5 * parts_touched u from left + words_touched from left
+access_up_to m u k from zero some words few = refl
+access_up_to m u zero from (suc left) some words few = absurd (omega arith)
+access_up_to m u (suc k) from (suc left) some words few =
+    let l = mod-lt from (positive m u from (suc left) _ some words (omega arith) refl) in
+    one_more m u from (suc left) (min (suc left) (u - from % u)) some words (omega arith) refl
+    (access_up_to m u k (from + min (suc left) (u - from % u)) (suc left - min (suc left) (u - from % u)) some words (omega arith))
+
+pub access_is : (m u at count : ℕ) → 0 < m → u ≡ 8 * m
+    → parts_access_steps moving_costs u at count ≡ 5 * parts_touched u at count + words_touched at count
+access_is m u at count some words = access_up_to m u count at count some words (omega arith)

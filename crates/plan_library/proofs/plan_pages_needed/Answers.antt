@@ -1,0 +1,8 @@
+use Rattle.std.proofs.Common.{sym, ◌∙◌}
+use Rattle.plan_library.proofs.plan_pages_needed.Goals as goal
+
+pub returns-in-Ok-clause-mallocs : goal.returns-in-Ok-clause-mallocs
+returns-in-Ok-clause-mallocs c = λ yes s fresh slots words le. c.in-Ok.ensures.mallocs s fresh (slots ∙ sym c.slots_if.ensures) words le
+
+pub returns-in-Ok-clause-resizes : goal.returns-in-Ok-clause-resizes
+returns-in-Ok-clause-resizes c = λ yes s fresh slots words le. c.in-Ok.ensures.resizes s fresh (slots ∙ sym c.slots_if.ensures) words le

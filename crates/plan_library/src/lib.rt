@@ -1,0 +1,113 @@
+//! The proved functions that `tools/plan` calls: a static library for ctypes. The tool finds the pages that a program
+//! needs, and these functions test them, so the tool need not be trusted. `in_blocks` says which slots: with false those of
+//! the moving manager, with true those of the non-moving one.
+#![tactic(auto)]
+
+ghost use Rattle.std.specs.Prelude.{ℕ, ◌≡◌, ◌+◌, ◌/◌, ◌<◌, ◌≤◌, ◌↔◌, IsTrue, List, None, map, slice_index};
+ghost use Rattle.std.specs.FinMap.{empty};
+ghost use Rattle.cf_base.specs.Classes.{sizes};
+ghost use Rattle.cf_base.specs.Settings.{profile_from, setting_fault};
+ghost use Rattle.cf_model.specs.State.{HeapState, layout_of};
+ghost use Rattle.page_model.specs.Paging.{IsPaging, Paging, classes, paging_of};
+ghost use Rattle.quota_model.specs.declared.answers.Need.{Need};
+ghost use Rattle.sizing.specs.Certificates.{IsCertificate};
+ghost use Rattle.sizing.specs.Checks.{AreCounts, point_in, with_pages};
+ghost use Rattle.sizing.specs.Demands.{KeepsTo, KeepsToOne, count_in};
+ghost use Rattle.sizing.specs.Heaps.{IsFresh, ServesHeapMallocs, ServesHeapResizes};
+ghost use Rattle.sizing.specs.Runs.{CanBeRefused, ServesMallocs, ServesResizes};
+ghost use Rattle.plan_library.specs.Slots.{layout_if};
+
+use cf_base::Layout;
+use sizing::{ModeObjects, Need, PointPages, class_objects, is_certified, pages_needed};
+
+/// Writes into `pages` the least number of pages with which no call of a program is refused for space while it keeps to its
+/// needs (`pages_needed`). False if there are more than 64 entries, an object is larger than a page, or more objects are
+/// declared than a heap may have.
+#[unsafe(no_mangle)]
+pub extern "C" fn plan_pages_needed(
+    page_bytes: u32,
+    in_blocks: bool,
+    needs: &[Need],
+    pages: &mut u32,
+) -> bool
+    ensures mallocs { IsTrue result → (s : HeapState) → IsFresh s → layout_of s.kind ≡ layout_if in_blocks
+        → s.profile.page_words ≡ page_bytes / 8 → pages.new ≤ s.profile.pages → ServesHeapMallocs (KeepsTo needs.now) s }
+    ensures resizes { IsTrue result → (s : HeapState) → IsFresh s → layout_of s.kind ≡ layout_if in_blocks
+        → s.profile.page_words ≡ page_bytes / 8 → pages.new ≤ s.profile.pages → ServesHeapResizes (KeepsTo needs.now) s }
+    ensures least { IsTrue result → (p : Paging) → IsPaging p
+        → p.page_words ≡ page_bytes / 8 → p.sizes ≡ sizes (page_bytes / 8) (layout_if in_blocks)
+        → p.pages < pages.new → CanBeRefused p (KeepsTo needs.now) empty }
+{
+    match pages_needed(page_bytes, 1, slots_if(in_blocks), needs) {
+        Ok(found) => {
+            *pages = found;
+            true
+        }
+        Err(_) => false,
+    }
+}
+
+/// Writes into `mode` how many objects of each class the needs declare (`class_objects`). False if there are more than 64
+/// entries, an object is larger than a page, or more objects are declared than a heap may have.
+#[unsafe(no_mangle)]
+pub extern "C" fn plan_class_objects(
+    page_bytes: u32,
+    in_blocks: bool,
+    needs: &[Need],
+    mode: &mut ModeObjects,
+) -> bool
+    ensures counts { IsTrue result → (p : Paging) (c : ℕ) → IsPaging p → p.page_words ≡ page_bytes / 8
+        → p.sizes ≡ sizes (page_bytes / 8) (layout_if in_blocks)
+        → c < classes p → slice_index mode.new.objects c ≡ count_in p needs.now c }
+{
+    match class_objects(page_bytes, slots_if(in_blocks), needs) {
+        Ok(found) => {
+            *mode = found;
+            true
+        }
+        Err(_) => false,
+    }
+}
+
+/// Whether the points are a certificate for `pages` pages of `page_bytes` bytes and these bounds and modes
+/// (`is_certified`): then the pages are enough.
+#[unsafe(no_mangle)]
+pub extern "C" fn plan_is_certified(
+    pages: u32,
+    page_bytes: u32,
+    in_blocks: bool,
+    bounds: &[u32],
+    modes: &[ModeObjects],
+    points: &[PointPages],
+) -> bool
+    ensures exact { (needs : List (List Need)) → setting_fault pages page_bytes 1 65536 ≡ None
+        → IsPaging (paging_of (profile_from pages page_bytes 1 65536) (layout_if in_blocks) bounds.now)
+        → AreCounts (paging_of (profile_from pages page_bytes 1 65536) (layout_if in_blocks) bounds.now) needs modes.now
+        → IsTrue result ↔ IsCertificate (paging_of (profile_from pages page_bytes 1 65536) (layout_if in_blocks) bounds.now) needs (map point_in points.now) }
+    ensures mallocs { (needs : List (List Need)) → IsTrue result
+        → AreCounts (paging_of (profile_from pages page_bytes 1 65536) (layout_if in_blocks) bounds.now) needs modes.now
+        → ServesMallocs (paging_of (profile_from pages page_bytes 1 65536) (layout_if in_blocks) bounds.now) (KeepsToOne needs) }
+    ensures resizes { (needs : List (List Need)) → IsTrue result
+        → AreCounts (paging_of (profile_from pages page_bytes 1 65536) (layout_if in_blocks) bounds.now) needs modes.now
+        → ServesResizes (with_pages (pages + 1) (paging_of (profile_from pages page_bytes 1 65536) (layout_if in_blocks) bounds.now)) (KeepsToOne needs) }
+{
+    is_certified(
+        pages,
+        page_bytes,
+        slots_if(in_blocks),
+        bounds,
+        modes,
+        points,
+    )
+}
+
+/// The layout of the slots.
+fn slots_if(in_blocks: bool) -> Layout
+    ensures { result ≡ layout_if in_blocks }
+{
+    if in_blocks {
+        Layout::Blocks
+    } else {
+        Layout::Words
+    }
+}

@@ -1,0 +1,133 @@
+//! Sizing by plain numbers, for a caller without settings, as one in C.
+ghost use Rattle.std.specs.Prelude.{ℕ, ◌≡◌, ◌+◌, ◌/◌, ◌<◌, ◌≤◌, ◌↔◌, IfErr, IfOk, IsTrue, List, None, length, map, slice_index};
+ghost use Rattle.std.specs.FinMap.{empty};
+ghost use Rattle.cf_base.specs.Classes.{sizes};
+ghost use Rattle.cf_base.specs.Settings.{profile_from, profile_of, setting_fault};
+ghost use Rattle.cf_model.specs.State.{HeapState, layout_of};
+ghost use Rattle.page_model.specs.Paging.{IsPaging, Paging, classes, paging_of};
+ghost use Rattle.quota_model.specs.Admission.{CanBeAsked, declared_in_all};
+ghost use Rattle.quota_model.specs.declared.answers.Need.{Need};
+ghost use Rattle.sizing.specs.Certificates.{IsCertificate};
+ghost use Rattle.sizing.specs.Checks.{AreCounts, point_in, with_pages};
+ghost use Rattle.sizing.specs.Demands.{KeepsTo, KeepsToOne, count_in};
+ghost use Rattle.sizing.specs.Heaps.{IsFresh, ServesHeapMallocs, ServesHeapResizes};
+ghost use Rattle.sizing.specs.Needs.{HasFault};
+ghost use Rattle.sizing.specs.Runs.{CanBeRefused, ServesMallocs, ServesResizes};
+
+use crate::certificate::{ModeObjects, PointPages, is_certificate, objects_by_class};
+use crate::least::least_pages;
+use cf_base::{Layout, SettingFault, Settings};
+use quota_model::{Need, count_in_all, first_large};
+
+/// Why there is no number.
+#[derive(Clone, Copy, Debug, PartialEq, Eq)]
+pub enum NeedsFault {
+    /// There are more than 64 entries.
+    Entries,
+    /// The bytes of a page, or k, are out of range.
+    Setting(SettingFault),
+    /// An object is larger than a page.
+    Size,
+    /// More objects are declared than a heap may have proxies.
+    Proxies,
+}
+
+/// The least number of pages of `page_bytes` bytes with which no call of a program is refused for space
+/// while it keeps to its `needs`. A manager with pages and slots of this layout that was opened with so
+/// many pages, and has any bounds, serves each malloc (`mallocs`) and resize (`resizes`). With fewer
+/// pages some malloc is refused (`least`). `k` is only tested: it may be the bound of a heap. A heap may
+/// have as many proxies as the needs declare objects (`proxies`).
+pub fn pages_needed(
+    page_bytes: u32,
+    k: u32,
+    layout: Layout,
+    needs: &[Need],
+) -> Result<u32, NeedsFault>
+    ensures mallocs { IfOk result (λ pages. (s : HeapState) → IsFresh s → layout_of s.kind ≡ layout
+        → s.profile.page_words ≡ page_bytes / 8 → pages ≤ s.profile.pages → ServesHeapMallocs (KeepsTo needs.now) s) }
+    ensures resizes { IfOk result (λ pages. (s : HeapState) → IsFresh s → layout_of s.kind ≡ layout
+        → s.profile.page_words ≡ page_bytes / 8 → pages ≤ s.profile.pages → ServesHeapResizes (KeepsTo needs.now) s) }
+    ensures least { IfOk result (λ pages. (p : Paging) → IsPaging p
+        → p.page_words ≡ page_bytes / 8 → p.sizes ≡ sizes (page_bytes / 8) layout
+        → p.pages < pages → CanBeRefused p (KeepsTo needs.now) empty) }
+    ensures proxies { IfOk result (λ pages. declared_in_all needs.now ≤ 65536) }
+    ensures fault { IfErr result (λ e. HasFault page_bytes k needs.now e) }
+{
+    let s = settings_for(page_bytes, k, needs)?;
+    match least_pages(&s, layout, needs) {
+        Some(pages) => Ok(pages),
+        // Not reached, since the settings serve the needs.
+        None => Err(NeedsFault::Proxies),
+    }
+}
+
+/// How many objects of each class the `needs` declare, on pages of `page_bytes` bytes
+/// (`objects_by_class`).
+pub fn class_objects(
+    page_bytes: u32,
+    layout: Layout,
+    needs: &[Need],
+) -> Result<ModeObjects, NeedsFault>
+    ensures counts { IfOk result (λ mode. (p : Paging) (c : ℕ) → IsPaging p
+        → p.page_words ≡ page_bytes / 8 → p.sizes ≡ sizes (page_bytes / 8) layout
+        → c < classes p → slice_index mode.objects c ≡ count_in p needs.now c) }
+    ensures fault { IfErr result (λ e. HasFault page_bytes 1 needs.now e) }
+{
+    let s = settings_for(page_bytes, 1, needs)?;
+    match objects_by_class(&s, layout, needs) {
+        Some(mode) => Ok(mode),
+        // Not reached, since the settings serve the needs.
+        None => Err(NeedsFault::Proxies),
+    }
+}
+
+/// Settings of a heap with as many proxies as possible, which can have the declared objects.
+fn settings_for(page_bytes: u32, k: u32, needs: &[Need]) -> Result<Settings, NeedsFault>
+    ensures few { IfOk result (λ s. length needs.now ≤ 64) }
+    ensures page { IfOk result (λ s. s.page_words ≡ page_bytes / 8) }
+    ensures asked { IfOk result (λ s. CanBeAsked (profile_of s) needs.now) }
+    ensures proxies { IfOk result (λ s. s.proxies ≡ 65536) }
+    ensures fault { IfErr result (λ e. HasFault page_bytes k needs.now e) }
+{
+    if needs.len() > 64 {
+        return Err(NeedsFault::Entries);
+    }
+    let s = match Settings::check(1, page_bytes, k, 65536) {
+        Ok(s) => s,
+        Err(e) => return Err(NeedsFault::Setting(e)),
+    };
+    if first_large(s.page_words, needs).is_some() {
+        return Err(NeedsFault::Size);
+    }
+    if count_in_all(needs) > 65536 {
+        return Err(NeedsFault::Proxies);
+    }
+    Ok(s)
+}
+
+/// Whether the points are a certificate for a heap of `pages` pages of `page_bytes` bytes
+/// (`is_certificate`). If such a heap can't be, the result is false.
+pub fn is_certified(
+    pages: u32,
+    page_bytes: u32,
+    layout: Layout,
+    bounds: &[u32],
+    modes: &[ModeObjects],
+    points: &[PointPages],
+) -> bool
+    ensures exact { (needs : List (List Need)) → setting_fault pages page_bytes 1 65536 ≡ None
+        → IsPaging (paging_of (profile_from pages page_bytes 1 65536) layout bounds.now)
+        → AreCounts (paging_of (profile_from pages page_bytes 1 65536) layout bounds.now) needs modes.now
+        → IsTrue result ↔ IsCertificate (paging_of (profile_from pages page_bytes 1 65536) layout bounds.now) needs (map point_in points.now) }
+    ensures mallocs { (needs : List (List Need)) → IsTrue result
+        → AreCounts (paging_of (profile_from pages page_bytes 1 65536) layout bounds.now) needs modes.now
+        → ServesMallocs (paging_of (profile_from pages page_bytes 1 65536) layout bounds.now) (KeepsToOne needs) }
+    ensures resizes { (needs : List (List Need)) → IsTrue result
+        → AreCounts (paging_of (profile_from pages page_bytes 1 65536) layout bounds.now) needs modes.now
+        → ServesResizes (with_pages (pages + 1) (paging_of (profile_from pages page_bytes 1 65536) layout bounds.now)) (KeepsToOne needs) }
+{
+    match Settings::check(pages, page_bytes, 1, 65536) {
+        Ok(s) => is_certificate(&s, layout, bounds, modes, points),
+        Err(_) => false,
+    }
+}
