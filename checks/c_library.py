@@ -4,16 +4,16 @@ bindings. checks/c_library compiles it.
 
   checks/c_library.py header CRATE   the C code, for one static library
   checks/c_library.py names CRATE    the names of its exports, one a line
-  checks/c_library.py bindings CRATE compares bindings/norphuen.rs and bindings/norphuen.ads
+  checks/c_library.py bindings CRATE compares the bindings for Rust and Ada
 """
 import re, sys
 from pathlib import Path
 
 HEADER, HELD = Path('include/norphuen.h'), Path('crates/held_heap/src')
 NUMBERS = {'u8': 'uint8_t', 'u32': 'uint32_t', 'u64': 'uint64_t', 'i32': 'nph_status', 'usize': 'size_t', 'bool': 'bool', '': 'void'}
-RUST = {'NphHeap': 'RawHeap', 'NphFreed': 'RawFreed', 'NphResized': 'RawResized', 'NphClass': 'Class', 'NphHeapTotals': 'HeapTotals'}
+RUST = {'NphHeap': 'RawHeap', 'NphNeeded': 'Needed', 'NphFreed': 'RawFreed', 'NphResized': 'RawResized', 'NphClass': 'Class', 'NphHeapTotals': 'HeapTotals'}
 ADA = {'u8': 'Unsigned_8', 'u32': 'Unsigned_32', 'u64': 'Unsigned_64', 'bool': 'Unsigned_8', '*mut u64': 'System.Address',
-       'NphHeap': 'Heap', 'NphFreed': 'Freed', 'NphResized': 'Resized', 'NphClass': 'Class', 'NphHeapTotals': 'Heap_Totals'}
+       'NphHeap': 'Heap', 'NphNeeded': 'Needed', 'NphFreed': 'Freed', 'NphResized': 'Resized', 'NphClass': 'Class', 'NphHeapTotals': 'Heap_Totals'}
 # The exports that a library may lack, if an object's words are not side by side there.
 LOAN = {'nph_place', 'nph_lend', 'nph_return'}
 # Parameters with another name in C: `class` is a word of C++.
@@ -110,10 +110,10 @@ def compare_fields(crate, where, name, given, wanted):
 # The declarations of the header: each name with its parameters' names. A comment is above each, and an attribute in front.
 def declarations(exported, text):
     found = {}
-    for above, attribute, kind, name, inside in re.findall(r'(.*)\n(NPH_\w+ )?(nph_status|void|int32_t) (nph_\w+)\(([^)]*)\);', text):
-        if not above.endswith('*/') or attribute != {'nph_status': 'NPH_CALL ', 'void': 'NPH_NONNULL '}.get(kind):
+    for above, attribute, kind, name, inside in re.findall(r'(.*)\n(NPH_\w+ )?(nph_status|void|u?int32_t) (nph_\w+)\(([^)]*)\);', text):
+        if not above.endswith('*/') or attribute != {'nph_status': 'NPH_CALL ', 'void': 'NPH_NONNULL ', 'uint32_t': ''}.get(kind):
             fail(f'the header declares {name} without a comment above or with another attribute')
-        found[name] = [re.search(r'(\w+)$', part)[1] for part in inside.split(', ')]
+        found[name] = [re.search(r'(\w+)$', part)[1] for part in inside.split(', ') if part != 'void']
     return found
 
 
@@ -139,7 +139,7 @@ def header(crate):
             kind = 'void *' if rust == 'HeapBlock' else c_type(rust)
             print(f'SAME(_Generic((({c} *)0)->{field}, {kind}: 1, default: 0), "type of {field} in {c}");')
     for name, parameters, result in exported:
-        kind = f'{c_type(result)} (*)({", ".join(c_parameters(parameters))})'
+        kind = f'{c_type(result)} (*)({", ".join(c_parameters(parameters)) or "void"})'
         print(f'SAME(_Generic(&{name}, {kind}: 1, default: 0), "prototype of {name}");')
     declared = declarations(exported, text)
     if set(declared) - (set() if lends(crate) else LOAN) != {name for name, _, _ in exported}:
@@ -162,18 +162,20 @@ def header(crate):
         fail('nph_text does not return a text of its own for each code')
     none = re.search(r'pub const NONE: u32 = (\w+);', (HELD / 'codes.rt').read_text())[1].replace('_', '')
     print(f'SAME(NPH_NONE == {none}u, "NPH_NONE");')
+    version = re.search(r'pub const VERSION: u32 = (\d+);', (HELD / 'codes.rt').read_text())[1]
+    print(f'SAME(NPH_VERSION == {version}, "NPH_VERSION");')
     print('nph_block (*const takes)(size_t, size_t) = rattle_alloc;')
 
 
 def bindings(crate):
     """The prototypes of the Rust binding, the profiles of the Ada binding, and the fields and codes of both."""
-    rust_text, ada_text = Path('bindings/norphuen.rs').read_text(), Path('bindings/norphuen.ads').read_text()
+    rust_text, ada_text = Path('bindings/rust/src/lib.rs').read_text(), Path('bindings/ada/norphuen.ads').read_text()
     rust_names = re.findall(r'fn (nph_\w+)\(', rust_text.split('unsafe extern "C" {')[1].split('\n}')[0])
     ada_names = re.findall(r'External_Name => "(\w+)"', ada_text)
     names = {name for name, _, _ in exports(crate)} | LOAN
-    for where, found in (('rs', rust_names), ('ads', ada_names)):
+    for where, found in (('Rust', rust_names), ('Ada', ada_names)):
         if sorted(found) != sorted(names):
-            fail(f'bindings/norphuen.{where} declares {sorted(found)}, {crate} exports {sorted(names)}')
+            fail(f'the binding in {where} declares {sorted(found)}, {crate} exports {sorted(names)}')
     ada_flat = ' '.join(ada_text.split())
     for name, parameters, result in exports(crate):
         kinds = []
@@ -183,42 +185,42 @@ def bindings(crate):
             kinds += ['usize'] if rust[0] == '[' else []
         inside = re.search(rf'fn {name}\((.*?)\)(?: -> (\w+))?;', rust_text)
         kinds = [f'{part}: {kind}' for part, kind in zip(c_names(parameters), kinds)]
-        if inside[1].split(', ') != kinds or (inside[2] or '') != result:
-            fail(f'bindings/norphuen.rs: {name}({inside[1]}) is not the export, which takes {kinds}')
+        if [part for part in inside[1].split(', ') if part] != kinds or (inside[2] or '') != result:
+            fail(f'bindings/rust/src/lib.rs: {name}({inside[1]}) is not the export, which takes {kinds}')
         wanted = []
         for _, reference, rust in parameters:
             mode = 'in out ' if reference == '&mut ' else ''
             wanted.append(mode + ('Bytes' if rust[0] == '[' else ADA[rust]))
             wanted += ['size_t'] if rust[0] == '[' else []
-        profile = re.search(r'(?:function|procedure) \w+ \(([^()]*)\)(?: return (\w+))? with Import, Convention => C, External_Name => "' + name + '"', ada_flat)
+        profile = re.search(r'(?:function|procedure) \w+(?: \(([^()]*)\))?(?: return (\w+))? with Import, Convention => C, External_Name => "' + name + '"', ada_flat)
         given = []
-        for part in (profile or fail(f'bindings/norphuen.ads: cannot read {name}'))[1].split(';'):
+        for part in filter(None, ((profile or fail(f'bindings/ada/norphuen.ads: cannot read {name}'))[1] or '').split(';')):
             left, kind = part.split(':')
             given += [kind.strip()] * len(left.split(','))
-        if given != wanted or (profile[2] or '') != ('Code' if result else ''):
-            fail(f'bindings/norphuen.ads: {name} takes {given}, the export {wanted}')
+        if given != wanted or (profile[2] or '') != {'i32': 'Code', '': ''}.get(result, ADA.get(result)):
+            fail(f'bindings/ada/norphuen.ads: {name} takes {given}, the export {wanted}')
     all_structs = structs(crate)
     for name, rust_name in RUST.items():
         fields = [('at' if kind == 'HeapBlock' else field, kind) for field, kind in all_structs[name]]
-        inside = re.search(rf'#\[repr\(C\)\]\n(?:#\[[^\n]*\]\n)*(?:pub )?struct {rust_name} \{{(.*?)\}}', rust_text, re.S) or fail(f'bindings/norphuen.rs: no {rust_name}')
+        inside = re.search(rf'#\[repr\(C\)\]\n(?:#\[[^\n]*\]\n)*(?:pub )?struct {rust_name} \{{(.*?)\}}', rust_text, re.S) or fail(f'bindings/rust/src/lib.rs: no {rust_name}')
         given = re.findall(r'(\w+): ([^,}]+?)\s*(?:,|$)', inside[1].strip())
         wanted = [(field, '*mut u8' if kind == 'HeapBlock' else kind) for field, kind in fields]
-        compare_fields(crate, f'bindings/norphuen.rs: {rust_name}', name, given, wanted)
-        inside = re.search(rf'type {ADA[name]} is (?:limited )?record (.*?) end record with Convention => C;', ada_flat) or fail(f'bindings/norphuen.ads: no {ADA[name]}')
+        compare_fields(crate, f'bindings/rust/src/lib.rs: {rust_name}', name, given, wanted)
+        inside = re.search(rf'type {ADA[name]} is (?:limited )?record (.*?) end record with Convention => C;', ada_flat) or fail(f'bindings/ada/norphuen.ads: no {ADA[name]}')
         given = re.findall(r'(\w+) : (\S+) :=', inside[1])
         wanted = [('At_Address' if field == 'at' else field.title(), 'System.Address' if kind == 'HeapBlock' else ADA[kind]) for field, kind in fields]
-        compare_fields(crate, f'bindings/norphuen.ads: {ADA[name]}', name, given, wanted)
+        compare_fields(crate, f'bindings/ada/norphuen.ads: {ADA[name]}', name, given, wanted)
     codes = re.findall(r'pub const (\w+): i32 = (\d+);', (HELD / 'codes.rt').read_text())
     given = dict(re.findall(r'(\w+) +: constant Code := (\d+);', ada_text))
     ada_code = {'DONE': 'Ok', 'RANGE': 'Bad_Range', 'OPEN': 'Is_Open'}
     if given != {ada_code.get(name, name.title()): value for name, value in codes}:
-        fail('bindings/norphuen.ads: the codes differ')
+        fail('bindings/ada/norphuen.ads: the codes differ')
     given = dict((name, value) for value, name in re.findall(r'(\d+) => (\w+),', rust_text.split('fn result_of')[1].split('\n}')[0]))
     last = max(codes, key=lambda code: int(code[1]))[0]
     wanted = {name.title().replace('_', ''): value for name, value in codes if name not in ('DONE', last)}
     in_order = [*sorted(wanted, key=lambda name: int(wanted[name])), last.title().replace('_', '')]
     if given != wanted or 'pub enum Error { ' + ', '.join(in_order) + ' }' not in rust_text:
-        fail('bindings/norphuen.rs: the codes differ')
+        fail('bindings/rust/src/lib.rs: the codes differ')
 
 
 mode, crate = sys.argv[1:]

@@ -1,6 +1,6 @@
 // What g++ and clang++ must refuse with -Wall -Wextra -Werror. A line `misuse N: TEXT` stands before each; the message has
 // TEXT. Without MISUSE all compiles.
-#include "../bindings/norphuen.hpp"
+#include "../bindings/cpp/norphuen.hpp"
 
 using norphuen::object;
 using norphuen::scope;

@@ -1,7 +1,4 @@
 //! What rustc must refuse. A line `misuse N: TEXT` stands before each; the message has TEXT. Without `misuse` all compiles.
-#[path = "../bindings/norphuen.rs"]
-mod norphuen;
-
 use norphuen::{Error, Heap};
 
 fn main() -> Result<(), Error> {

@@ -11,7 +11,7 @@
  *                            nothing
  *
  * The program defines the three functions rattle_alloc, rattle_realloc and rattle_dealloc, by which the library takes
- * and returns memory: examples/c/malloc.c does so over malloc, examples/c/arena.c over a static array.
+ * and returns memory: examples/c/malloc.c does so over malloc, src/norphuen_arena.c over a static array.
  *
  * A caller has these duties, which the library cannot test:
  *
@@ -33,6 +33,9 @@
 #include <stdbool.h>
 #include <stddef.h>
 #include <stdint.h>
+
+/* The version of this header, 0.4.0: 10,000 times the major number, 100 times the minor one, and the patch. */
+#define NPH_VERSION 400
 
 #ifdef __GNUC__
 #define NPH_NONNULL __attribute__((nonnull))
@@ -76,11 +79,11 @@ typedef enum nph_status {
     NPH_OPEN = 8,    /* nph_open: the heap is open already */
     NPH_LENT = 9,    /* the heap is lent: only nph_return and nph_close are allowed */
     NPH_MEMORY = 10, /* nph_open: out of memory; the heap is not open */
-    NPH_PAGES = 11,      /* nph_open: pages are 1 to 4096 */
-    NPH_PAGE_BYTES = 12, /* nph_open: a page has 512, 1024, and so on by powers of two to 131072 bytes */
-    NPH_BOUND = 13,      /* nph_open: k is 1 to 64 */
-    NPH_PROXIES = 14,    /* nph_open: proxies are 1 to 65536 */
-    NPH_REGION = 15,     /* nph_open: pages * page_bytes is at most 67108864 */
+    NPH_PAGES = 11,      /* nph_open, nph_bytes_needed: pages are 1 to 4096 */
+    NPH_PAGE_BYTES = 12, /* the same: a page has 512, 1024, and so on by powers of two to 131072 bytes */
+    NPH_BOUND = 13,      /* the same: k is 1 to 64 */
+    NPH_PROXIES = 14,    /* the same: proxies are 1 to 65536 */
+    NPH_REGION = 15,     /* the same: pages * page_bytes is at most 67108864 */
     NPH_NOT_LENT = 16    /* nph_return: the heap is not lent */
 } nph_status;
 
@@ -110,6 +113,13 @@ static inline const char *nph_text(nph_status status) {
 
 /* In place of a handle in nph_freed and nph_resized: no object moved. */
 #define NPH_NONE UINT32_MAX
+
+/* The memory that nph_open asks for: the bytes of all blocks, those of the largest block, and how many blocks. */
+typedef struct nph_needed {
+    uint64_t total;
+    uint64_t largest;
+    uint32_t blocks;
+} nph_needed;
 
 /* A free: the words of the freed slot or block, and the object that moved to its address, or NPH_NONE. */
 typedef struct nph_freed {
@@ -150,6 +160,10 @@ typedef struct nph_heap_totals {
  * size class has at most `k` partly full pages. With TLSF the pages are one region without classes, and k means nothing. */
 NPH_CALL nph_status nph_open(nph_heap *heap, uint32_t pages, uint32_t page_bytes, uint32_t k, uint32_t proxies);
 
+/* Writes what nph_open with these settings asks of rattle_alloc, exactly. It never calls rattle_realloc. What the program's
+ * own functions need for a block, and the nph_heap itself, are not counted. Fails as nph_open does for these settings. */
+NPH_CALL nph_status nph_bytes_needed(uint32_t pages, uint32_t page_bytes, uint32_t k, uint32_t proxies, nph_needed *needed);
+
 /* Returns the memory, of a lent heap too. The heap is closed afterwards, and may be opened again. May be called twice. */
 NPH_NONNULL void nph_close(nph_heap *heap);
 
@@ -184,6 +198,9 @@ NPH_CALL nph_status nph_totals(nph_heap *heap, nph_heap_totals *totals);
 
 /* Writes the steps of the last call on the heap. nph_figures and this call take none, and leave the count as it was. */
 NPH_CALL nph_status nph_last_steps(nph_heap *heap, uint64_t *steps);
+
+/* Returns the version of the library, in the form of NPH_VERSION. */
+uint32_t nph_version(void);
 
 /* Pointers to objects. Call nph_place for each object, then nph_lend. Until nph_return the bytes of an object are at
  * nph_bytes(words, place), aligned to 8, and the program reads and writes them there. Each other call but nph_close
@@ -233,6 +250,10 @@ nph_block rattle_realloc(void *at, size_t kept, size_t bytes, size_t align);
 
 /* Takes back a block. */
 void rattle_dealloc(void *at);
+
+/* Of src/norphuen_arena.c alone: how many bytes of its array were in use so far. An array of this size serves the same
+ * calls. */
+size_t nph_arena_most(void);
 
 #ifdef __cplusplus
 }

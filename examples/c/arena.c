@@ -1,49 +1,30 @@
-/* A program without malloc: all memory comes from a static array. The library takes blocks at nph_open and returns them
- * at nph_close. So blocks can be taken one behind the other, and from the start again when all are returned. */
+/* A program without malloc: norphuen_arena.c takes all memory from a static array. The program runs again and again: it
+ * opens two heaps, closes them in the order in which they were opened, and the array serves the next round too. */
 #include "norphuen.h"
-#include <stdalign.h>
 #include <stdio.h>
-#include <string.h>
 
-static alignas(16) unsigned char arena[1 << 16];
-static size_t used, blocks, most;
-
-nph_block rattle_alloc(size_t bytes, size_t align) {
-    size_t from = (used + align - 1) / align * align;
-    nph_block block = {from <= sizeof arena && bytes <= sizeof arena - from, arena};
-    if (!block.ok) return block;
-    block.at = arena + from;
-    used = from + bytes;
-    if (used > most) most = used;
-    blocks++;
-    return block;
-}
-
-/* Takes a new block and copies the first `kept` bytes. The memory of the old block is not used again until all blocks are
- * returned. */
-nph_block rattle_realloc(void *at, size_t kept, size_t bytes, size_t align) {
-    nph_block block = rattle_alloc(bytes, align);
-    if (!block.ok) return block;
-    memcpy(block.at, at, kept < bytes ? kept : bytes);
-    blocks--;
-    return block;
-}
-
-void rattle_dealloc(void *at) {
-    (void)at;
-    if (--blocks == 0) used = 0;
+/* Opens a heap, and returns how many objects of 176 bytes it holds. */
+static unsigned filled(nph_heap *heap, uint32_t pages) {
+    uint32_t object;
+    unsigned made = 0;
+    if (nph_open(heap, pages, 512, 1, 64) != NPH_OK) return 0;
+    while (nph_malloc(heap, 176, &object) == NPH_OK) made++;
+    return made;
 }
 
 int main(void) {
-    nph_heap heap = NPH_HEAP;
-    uint32_t object, made = 0;
-    printf("1024 pages: %d\n", (int)nph_open(&heap, 1024, 512, 1, 64));
-    for (int round = 0; round < 3; round++) {
-        if (nph_open(&heap, 16, 512, 1, 64) != NPH_OK) return 1;
-        for (made = 0; nph_malloc(&heap, 176, &object) == NPH_OK; made++) {}
-        nph_close(&heap);
-        printf("%u objects of 176 bytes on 16 pages of 512; after the close %u blocks are left\n", made, (unsigned)blocks);
+    nph_heap first = NPH_HEAP, second = NPH_HEAP;
+    size_t most = 0;
+    printf("1024 pages: %d\n", (int)nph_open(&first, 1024, 512, 1, 64));
+    for (int round = 1; round <= 3; round++) {
+        unsigned in_first = filled(&first, 16), in_second = filled(&second, 8);
+        printf("round %d: %u and %u objects\n", round, in_first, in_second);
+        nph_close(&first);
+        printf("the first again: %u objects\n", filled(&first, 16));
+        nph_close(&first);
+        nph_close(&second);
+        if (round == 1) most = nph_arena_most();
     }
-    printf("fits: %d\n", most <= sizeof arena);
+    printf("more memory than in round 1: %s\n", nph_arena_most() == most ? "no" : "yes");
     return 0;
 }
