@@ -9,7 +9,8 @@ import time
 
 
 class Browser:
-    """One page. `errors` has each exception, each error on the console and each resource that did not load."""
+    """One page. `errors` has each exception, each error on the console and each resource that did not load; `loaded` each
+    address that was asked for."""
 
     def __init__(self):
         self.room = tempfile.TemporaryDirectory(ignore_cleanup_errors=True)
@@ -22,11 +23,11 @@ class Browser:
                                         stdin=subprocess.DEVNULL, stdout=subprocess.DEVNULL, stderr=subprocess.DEVNULL)
         for one in (down[0], up[1], low, high):
             os.close(one)
-        self.to, self.source, self.rest, self.last, self.errors, self.session = down[1], up[0], b"", 0, [], None
+        self.to, self.source, self.rest, self.last, self.errors, self.loaded, self.session = down[1], up[0], b"", 0, [], set(), None
         targets = self.call("Target.getTargets")["targetInfos"]
         page = next(it["targetId"] for it in targets if it["type"] == "page")
         self.session = self.call("Target.attachToTarget", targetId=page, flatten=True)["sessionId"]
-        for domain in ("Page", "Runtime", "Log"):
+        for domain in ("Page", "Runtime", "Log", "Network"):
             self.call(f"{domain}.enable")
 
     def call(self, method, **parameters):
@@ -52,6 +53,8 @@ class Browser:
         one, _, self.rest = self.rest.partition(b"\0")
         told = json.loads(one)
         what = told.get("params", {})
+        if told.get("method") == "Network.requestWillBeSent":
+            self.loaded.add(what["request"]["url"])
         if told.get("method") == "Runtime.exceptionThrown":
             self.errors.append(str(what["exceptionDetails"]))
         if told.get("method") == "Runtime.consoleAPICalled" and what["type"] in ("error", "warning", "assert"):

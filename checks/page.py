@@ -4,9 +4,12 @@
  replies     Beside each example the page shows the replies of its `.out`, in mode compare those of each manager.
  facts       At twenty places of each example, or at all if there are fewer: the place and the slot of every object by `q`,
              the figures by `walk`, `frag` and `steps`; in mode slice the words by `p`; the pages of tasks, spines and parts.
+ moves       At twenty moves of each: the arrow's ends and the sentence, by `q` of each object before and after.
  claims      Each sentence that the page quotes is in README.md or docs/GUARANTEES.md.
  scripts     A script with a bad line, an empty one, and one of 2,000 commands, made by tools/heap_picture replay.
- use         Keys, the link, both widths in dark and light, titles, what is said without a module; no error on the console.
+ shapes      What must be there in modes compare, slice, quota and large, at both widths, in dark and light: within the page, with
+             no text cut off, and with names for screen readers.
+ use         Keys, the link, what is said without a module; no error on the console, and nothing loaded but the page's files.
  refused     Bad input of tools/heap_picture ends with status 2 and one line.
 """
 import base64
@@ -63,27 +66,40 @@ class Example:
         self.own = self.arguments[-1] if "--manager" in self.arguments else "cf"
         lines = [line for line in text.splitlines() if line.split() and line.split()[0][0] != "#"]
         self.commands = lines[: len(ask(self.words(self.own), lines))]
+        self.replies = {}
 
     def words(self, manager):
         return ["run", "--manager", manager] if self.mode in ("run", "compare") else self.arguments
 
+    def answered(self, manager):
+        """The reply to each command."""
+        if manager not in self.replies:
+            self.replies[manager] = ask(self.words(manager), self.commands)
+        return self.replies[manager]
+
+    def refused(self, manager, i):
+        return sum(it.startswith(("refused", "busy")) for it in self.answered(manager)[: i + 1])
+
     def bad(self):
         return bool(self.out) and self.out.splitlines()[-1].startswith("bad line")
 
-    def places(self):
-        """Twenty commands, at which nothing that follows forbids a question."""
+    def good(self):
+        """The commands at which nothing that follows forbids a question."""
         commands = self.commands[:-1] if self.bad() else self.commands
-        good = [i for i in range(len(commands)) if i + 1 == len(commands) or commands[i + 1].split()[0] != "k"]
+        return [i for i in range(len(commands)) if i + 1 == len(commands) or commands[i + 1].split()[0] != "k"]
+
+    def places(self):
+        """Twenty of them."""
+        good = self.good()
         return sorted({good[i * (len(good) - 1) // 19] for i in range(20)}) if len(good) > 20 else good
 
-    def asked(self, manager, questions):
+    def asked(self, manager, questions, places=None):
         """For each place the replies to the questions there: questions(i, live) with the ids that live after command i."""
-        lines, at, live, spots = [], {}, [], set(self.places())
-        replies = iter(ask(self.words(manager), self.commands))
-        for i, command in enumerate(self.commands):
+        lines, at, live, spots = [], {}, [], set(self.places() if places is None else places)
+        for i, (command, reply) in enumerate(zip(self.commands, self.answered(manager))):
             lines.append(command)
             verb, *rest = command.split()
-            ok = next(replies) == "ok"
+            ok = reply == "ok"
             if ok and verb == "m":
                 live.append(rest[0])
             if ok and verb == "f":
@@ -103,6 +119,10 @@ def examples():
             for name, mode in rows if mode in ("run", "compare", "slice", "quota", "large")]
 
 
+def number(text):
+    return int(text.split()[-1])
+
+
 def numbers(text):
     return [int(it) for it in text.split() if it.isdecimal()]
 
@@ -115,7 +135,15 @@ SHOWN = """(n => { const card = document.querySelectorAll('.heap')[n]; return {
   tasks: [...card.querySelectorAll('[data-task]')].map(it => [+it.dataset.task, +it.dataset.pages, +it.dataset.free, [...it.querySelectorAll('[data-used]')].map(box => [+box.dataset.words, +box.dataset.used])]),
   parts: [...card.querySelectorAll('[data-object]')].map(it => [it.dataset.object, +it.dataset.inner, it.querySelectorAll('.chip').length]),
   boxes: [...card.querySelectorAll('[data-used]')].map(box => [+box.dataset.words, +box.dataset.used]),
-  free: card.querySelectorAll('.page.free').length, arrow: card.querySelectorAll('.arrow path').length, said: card.querySelector('.said').textContent }; })"""
+  costs: [...document.querySelectorAll('[data-steps]')].map(it => [it.dataset.steps, it.textContent, it.parentElement.querySelector('q').textContent, it.parentElement.querySelector('[data-words]')?.textContent ?? '']),
+  bound: document.querySelector('[data-bound]')?.textContent ?? '', free: card.querySelectorAll('.page.free').length, arrow: card.querySelectorAll('.arrow path').length, said: card.querySelector('.said').textContent }; })"""
+
+
+# Both ends of the arrow: its page, how far it is along it, and a pixel and a half in words.
+ARROW = """(() => { const card = document.querySelector('.heap'), svg = card.querySelector('.arrow'), off = svg.getBoundingClientRect(), boxes = [...card.querySelectorAll('.page .box')].map(it => it.getBoundingClientRect());
+  const at = (x, y) => { const n = boxes.findIndex(it => x >= it.left && x <= it.right && y >= it.top && y <= it.bottom); return n < 0 ? null : [n, (x - boxes[n].left) / boxes[n].width, 1.5 * settings().words / boxes[n].width]; };
+  const from = svg.querySelector('circle'), to = svg.querySelector('polygon')?.points[0];
+  return from && [at(off.left + from.cx.baseVal.value, off.top + from.cy.baseVal.value), at(off.left + to.x, off.top + to.y)]; })()"""
 
 
 def said_number(text):
@@ -160,8 +188,44 @@ def check_places(browser, example, manager):
         else:
             _, gaps, largest = numbers(walk[-1])
             live |= {"gaps": gaps, "largest": 8 * largest, "left": held - taken}
+        live["refused"] = example.refused(manager, i)
         shown = {name: said_number(facts[name]) for name in live}
         case(f"{where}: the figures", shown == live, (shown, live))
+        verb, reply = example.commands[i].split()[0], example.answered(manager)[i]
+        if verb in "mfz" and (reply == "ok" or reply.startswith("refused")):
+            check_cost(where, manager, it, numbers(replies["steps"]))
+
+
+def check_cost(where, manager, it, steps):
+    """The steps that are shown are those that `steps` prints; none are more than the bound that is quoted, if its s is shown."""
+    of, said, most, words = (it["costs"] + [["", "", "0", ""]])[0]
+    case(f"{where}: the steps", of == manager and said_number(said) == steps[0] and (manager not in ("cf", "nm") or said_number(it["bound"]) == steps[1]), (it["costs"], it["bound"], steps))
+    case(f"{where}: within the quoted bound", not (words or most.isdigit()) or steps[0] <= eval(most.replace("s", words)), (most, words, steps))
+
+
+def check_moves(browser, example, manager):
+    """At up to twenty moves: the arrow runs from the slot where `q` found the object before to the one where it finds it now, and
+    the sentence says so."""
+    moved = {i: numbers(it["steps"])[2] for i, it in example.asked(manager, lambda i, live: ["steps"], example.good()).items()}
+    moves = [i for i in moved if moved[i] > moved.get(i - 1, 0)]
+    moves = sorted({moves[i * (len(moves) - 1) // 19] for i in range(20)}) if len(moves) > 20 else moves
+    found = example.asked(manager, lambda i, live: [f"q {it}" for it in live] + ["walk"], {j for i in moves for j in (i - 1, i)})
+    page_words = numbers(example.commands[0])[1] // 8
+    browser.do(f"beside(['{manager}'])")
+    for i in moves:
+        own, (before, now) = f"q {example.commands[i].split()[1]}", (found[j] for j in (i - 1, i))
+        (name, start, end), = [(it[2:], number(before[it]), number(now[it])) for it in now if it[0] == "q" and it in before and before[it] != now[it] and it != own]
+        browser.do(f"show({i})")
+        where, seen, it = f"{example.name}, {manager}, move at command {i + 1}", browser.do(ARROW), browser.do(f"{SHOWN}(0)")
+        words = next((count for one, _, count, *_ in it["pieces"] if one == name), 0)
+        case(f"{where}: the arrow", seen and all(one and low - one[2] <= page_words * (one[0] + one[1]) <= low + words + one[2] for one, low in zip(seen, (start, end))), (seen, start, end, words))
+        freed = number(now["walk"]) > number(before["walk"])
+        wanted = f"Object {name} moves from page {start // page_words} into the gap on page {end // page_words}" + (f", and page {start // page_words} is free again." if freed else ".")
+        case(f"{where}: the sentence", wanted in it["said"], (wanted, it["said"]))
+
+
+def check_refused_count(it, example, i):
+    case(f"{example.name}, command {i + 1}: how many were refused", said_number(it["facts"]["refused"]) == example.refused("cf", i), it["facts"])
 
 
 def check_slices(browser, example):
@@ -181,6 +245,7 @@ def check_slices(browser, example):
             continue
         browser.do(f"show({i})")
         it, words = browser.do(f"{SHOWN}(0)"), [int(word, 16) for word in found[i].values()]
+        check_refused_count(it, example, i)
         at = {}
         for name, first, count, title, *_ in it["pieces"]:
             low, high = numbers(title.split(":")[1])[:2]
@@ -219,6 +284,8 @@ def check_tasks(browser, example):
             wanted.append((name, pages, free, Counter({numbers(line)[0]: numbers(line)[2] for line in walk[:-1]})))
         shown = [(name, pages, free, sum((Counter({words: used}) for words, used in boxes), Counter())) for name, pages, free, boxes in it["tasks"]]
         case(f"{example.name}, command {i + 1}: the pages of the tasks", shown == wanted, (shown, wanted))
+        case(f"{example.name}, command {i + 1}: the pages in use", said_number(it["facts"]["pages"]) == sum(pages for _, pages, *_ in wanted), it["facts"])
+        check_refused_count(it, example, i)
 
 
 def check_parts(browser, example):
@@ -237,6 +304,7 @@ def check_parts(browser, example):
             parts = {name: -(-n // full) for name, n in live.items()}
             wanted = sorted([name, 1 if n == 1 else n + 1, 1 if n == 1 else n + 1] for name, n in parts.items())
             case(f"{example.name}, command {i + 1}: spines and parts", sorted(it["parts"]) == wanted, (it["parts"], wanted))
+            check_refused_count(it, example, i)
             drawn = sum((Counter({words: used}) for words, used in it["boxes"]), Counter())
             case(f"{example.name}, command {i + 1}: slots as `walk` counts them", drawn == Counter({numbers(line)[0]: numbers(line)[2] for line in walk[:-1]}) and it["free"] == numbers(walk[-1])[2], drawn)
 
@@ -254,25 +322,32 @@ def check_recordings():
     case("page/recordings.js is what `tools/heap_picture recordings` makes", made.returncode == 0 and kept == new, made.stderr or [one[0] for one, other in zip(kept, new) if one != other] or (len(kept), len(new)))
 
 
+# The condition before a claim that begins within a sentence: the page shows such a claim only where that holds.
+CONDITIONS = {
+    "refused": "With pages, ", "classes": "In the first two heaps ", "partly": "With pages (MovingHeap, NonMovingHeap), ",
+    "blocks": "With blocks (TagHeap: TLSF, Half-Fit), ", "pending": "in mode slice too, where ",
+}
+
+
 def check_claims(browser):
-    """A quote is in one line of the two documents with the names that carry it; without a name it is a sentence or cells. It ends
-    where a sentence, a cell or a part of equal rank ends, so that no condition is dropped."""
+    """A quote is in one line of the two documents with the names that carry it; without a name it is a sentence or cells. It begins
+    and ends where a sentence, a cell or a part of equal rank does, so that no condition is dropped."""
     text = Path("README.md").read_text() + Path("docs/GUARANTEES.md").read_text()
     lines = [re.sub(r"\[(.*?)\]\(.*?\)|[`*]", r"\1", line).replace(" | ", " · ") for line in text.splitlines()]
 
-    def is_there(quote, names):
+    def is_there(quote, names, condition):
         for before, found, after in (line.partition(quote) for line in lines):
+            begins = before.endswith(condition or ("| ", " · ", ": ", ". ")) or not before
             ends = quote.endswith(".") or after.startswith((" ·", " |", "; ", ". ", " (", ", and "))
-            whole = quote.endswith(".") or before.endswith((" · ", "| "))
-            if found and ends and (all(name in before + after for name in names) if names else whole):
+            if found and begins and ends and all(name in before + after for name in names):
                 return True
         return False
 
-    quotes = [(text, [it for one in (who.values() if isinstance(who, dict) else [who]) for it in one.split(", ") if it]) for text, who in browser.do("Object.values(CLAIM)")]
-    quotes += [(text, []) for text in browser.do("[...document.querySelectorAll('footer q')].map(it => it.textContent)")]
-    missing = [quote for quote, names in quotes if not is_there(quote, names)]
-    case("each quoted claim is in README.md or docs/GUARANTEES.md, with what carries it", len(quotes) > 20 and not missing, missing[:3])
-    used = browser.do("(answers + claimsFor + String(claim)).match(/'[a-z]+'/g).map(it => it.slice(1, -1))")
+    quotes = [(text, [it for one in (who.values() if isinstance(who, dict) else [who]) for it in one.split(", ") if it], CONDITIONS.get(name)) for name, (text, who) in browser.do("Object.entries(CLAIM)")]
+    quotes += [(text, [], None) for text in browser.do("[...document.querySelectorAll('footer q')].map(it => it.textContent)")]
+    missing = [quote for quote, *where in quotes if not is_there(quote, *where)]
+    case("each quoted claim is in README.md or docs/GUARANTEES.md, with what carries it", len(quotes) > 20 and not missing, missing)
+    used = browser.do("(answers + pageAnswer + costAnswer + claimsFor + String(claim)).match(/'[a-z]+'/g).map(it => it.slice(1, -1))")
     unused = [it for it in browser.do("Object.keys(CLAIM)") if it not in used]
     case("each claim is used", not unused, unused)
 
@@ -327,20 +402,44 @@ def check_scripts(browser):
     print(f"checks/page: of 2,000 commands the slowest is shown in {max(waits):.0f} ms", file=sys.stderr)
 
 
+# What must be there: how many elements of each kind, and a sentence.
+SHAPES = {
+    "gaps": (40, {".heap": 2, ".page": 16, ".page.free": 2, ".box i": 48, ".box u": 3, ".arrow path": 1, ".box i.new": 1}, "Object 5 moves from page 1 into the gap on page 2, and page 1 is free again."),
+    "slice": (11, {".heap": 1, ".page": 2, ".box i": 3, ".box i.half": 2, ".box u.left": 1}, "Object 2 moves from page 0 into the gap on page 1, a slice at a time: 8 of the 23 words of its slot so far."),
+    "quota": (14, {".heap": 1, "[data-task]": 3, ".group": 4, ".group.present": 1, ".page": 3, ".chip": 2}, "Task 0 may use 1 page now."),
+    "large": (6, {".heap": 1, "[data-object]": 1, ".group": 2, ".page": 4, ".page.free": 2, ".chip.spine": 1, ".chip": 3}, "Object 1 is freed. Its spine and its 2 parts are freed."),
+}
+CUT = """[...document.querySelectorAll('body *')].filter(it => it.offsetParent && !it.closest('.box, .arrow') && (it.getBoundingClientRect().right > innerWidth + 1
+  || it.scrollWidth > it.clientWidth + 1 && getComputedStyle(it).overflowX === 'hidden')).map(it => it.textContent.slice(0, 60))"""
+
+
+def check_shapes(browser):
+    for name, (at, shape, sentence) in SHAPES.items():
+        for width, dark in ((1280, False), (1280, True), (390, False), (390, True)):
+            browser.open(f"{PAGE}#example={name}&at={at}", width, 900, dark)
+            where = f"{name}, {width} wide, {'dark' if dark else 'light'}"
+            seen = browser.do(f"({json.dumps(list(shape))}).map(it => document.querySelectorAll(it).length)")
+            case(f"{where}: what must be there", dict(zip(shape, seen)) == shape, dict(zip(shape, seen)))
+            said = browser.do(f"{SHOWN}(0)")["said"]
+            case(f"{where}: the sentence", sentence in said, said)
+            cut = browser.do(CUT)
+            case(f"{where}: it fits, and no text is cut off", not cut and browser.do("document.documentElement.scrollWidth") <= width, cut[:3])
+            asked = browser.do("[...document.querySelectorAll('#asked div')].map(it => it.textContent.length)")
+            case(f"{where}: four questions with answers", len(asked) == 4 and min(asked) > 60, asked)
+            light = [sum(map(int, re.findall(r"\d+", browser.do(f"getComputedStyle(document.body).{it}"))[:3])) for it in ("color", "backgroundColor")]
+            case(f"{where}: its colours", (light[0] > light[1]) == dark, light)
+            case(f"{where}: says what is trusted", "x86-64 to wasm64" in browser.do("document.getElementById('live').textContent"))
+        names = {}
+        for node in browser.call("Accessibility.getFullAXTree")["nodes"]:
+            if not node.get("ignored"):
+                names.setdefault(node["role"]["value"], []).append(node.get("name", {}).get("value", ""))
+        nameless = [role for role in ("button", "combobox", "slider", "image", "list") if not all(names.get(role, []))]
+        case(f"{name}: names for screen readers", not nameless and any("live objects" in it or "spines" in it for it in names["group"]), nameless)
+        objects = [it for it in names.get("image", []) if it.startswith("object ")]
+        case(f"{name}: each object has a name", len(objects) == (shape[".box i"] if ".box i" in shape else 0), objects[:3])
+
+
 def check_use(browser):
-    for width, dark in ((1280, False), (1280, True), (390, False), (390, True)):
-        browser.open(f"{PAGE}#example=gaps&at=40", width, 900, dark)
-        where = f"{width} wide, {'dark' if dark else 'light'}"
-        seen = browser.do("""({ wide: document.documentElement.scrollWidth, heaps: document.querySelectorAll('.heap').length, asked: [...document.querySelectorAll('#asked h3')].map(it => it.textContent),
-          untitled: document.querySelectorAll('.pages i:not([title])').length, unnamed: [...document.querySelectorAll('button, select, input, svg')].filter(it => !it.textContent.trim() && !it.ariaLabel && !it.title && it.ariaHidden !== 'true' && !it.closest('[aria-hidden]')).length,
-          ink: getComputedStyle(document.body).color, paper: getComputedStyle(document.body).backgroundColor, label: document.querySelector('.view').ariaLabel, live: document.getElementById('live').textContent, said: document.querySelector('.heap .said').textContent })""")
-        case(f"{where}: it fits", seen["wide"] <= width, seen["wide"])
-        case(f"{where}: two heaps and four questions", seen["heaps"] == 2 and len(seen["asked"]) == 4, seen)
-        case(f"{where}: titles and names", seen["untitled"] == seen["unnamed"] == 0 and "24 live objects" in seen["label"], seen)
-        light = [sum(map(int, re.findall(r"\d+", seen[it])[:3])) for it in ("ink", "paper")]
-        case(f"{where}: its colours", (light[0] > light[1]) == dark, light)
-        case(f"{where}: says what is trusted", "x86-64 to wasm64" in seen["live"], seen["live"])
-        case(f"{where}: the move is said and drawn", "Object 5 moves from page 1 into the gap on page 2, and page 1 is free again" in seen["said"] and browser.do(f"{SHOWN}(0)")["arrow"] == 1, seen["said"])
     browser.open(PAGE)
     case("opened without a link, it plays", browser.do("row[0] === 'gaps' && !!playing && at > 30"), browser.do("[row[0], at]"))
     browser.open(f"{PAGE}#example=gaps&at=40")
@@ -385,6 +484,7 @@ def check_refused():
 def main():
     browser = Browser()
     try:
+        check_shapes(browser)
         check_use(browser)
         check_claims(browser)
         found = examples()
@@ -395,6 +495,8 @@ def main():
             if example.mode in ("run", "compare"):
                 for manager in MANAGERS if example.name == "gaps" else {example.own, "tlsf"}:
                     check_places(browser, example, manager)
+                    if manager in ("cf", "nm"):
+                        check_moves(browser, example, manager)
             else:
                 {"slice": check_slices, "quota": check_tasks, "large": check_parts}[example.mode](browser, example)
         check_scripts(browser)
@@ -402,6 +504,8 @@ def main():
         check_refused()
         check_recordings()
         case("no error on the console", not browser.errors, browser.errors[:2])
+        far = [it for it in browser.loaded if not it.startswith(("file:", "data:", "about:"))]
+        case("nothing is loaded but files", len(browser.loaded) > 4 and not far, far[:3] or browser.loaded)
     finally:
         browser.close()
     if not failed:

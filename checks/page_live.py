@@ -75,12 +75,17 @@ def check_scripts(browser):
     run_here(browser, "")
     case("an empty script", "The script is empty." in browser.do("document.body.innerText") and browser.do("length()") == 0)
     text = churn(2000)
-    took = browser.do(f"(async () => {{ const began = performance.now(); await edit({json.dumps(text)}, 0, []); return performance.now() - began; }})()")
-    print(f"checks/page_live: 2,000 commands on four managers are recorded and shown in {took:.0f} ms", file=sys.stderr)
+    took, waits = browser.do(f"""(async () => {{ const began = performance.now(); let last = began, most = 0;
+      const beat = setInterval(() => {{ const now = performance.now(); most = Math.max(most, now - last); last = now; }}, 1);
+      await edit({json.dumps(text)}, 0, []); const ended = performance.now(); await new Promise(done => setTimeout(done, 50)); clearInterval(beat);
+      return [ended - began, most]; }})()""")
+    print(f"checks/page_live: 2,000 commands on four managers are recorded and shown in {took:.0f} ms; meanwhile the page waits {waits:.0f} ms at most", file=sys.stderr)
     example = Example("churn", text)
     case("2,000 commands are shown", browser.do("length()") == 2000 == browser.do("document.querySelectorAll('[data-reply]').length"))
     for manager in ("cf", "tlsf"):
         check_places(browser, example, manager)
+    kept = browser.do("(async () => [await Promise.all([edit('heap 2 512 1 8\\n', 0, []), edit('heap 3 512 1 8\\nm 1 8\\n', 0, [])]), tape.script, document.getElementById('fault').textContent])()")
+    case("of two scripts at once the later one is shown", kept == [[False, True], "heap 3 512 1 8\nm 1 8\n", ""], kept)
     for words, script in (("mode save has no picture", "# arguments: save\nheap 1 512 1 4\n"), ("status 2", "# arguments: run --manager none\nheap 1 512 1 4\n")):
         run_here(browser, script)
         case(f"what can't be run: {words}", words in browser.do("document.getElementById('fault').textContent"), browser.do("document.getElementById('fault').textContent"))

@@ -75,7 +75,42 @@ function prepare(made) {
       frame.moves = moved ?? moves; moves = frame.moves;
     });
   }
+  if (made.mode === 'slice') findJobs(made);
   return made;
+}
+
+// Where the first words of an object are, and how many of them are there, by its pieces in mode slice.
+function startOf(line) {
+  const [, ...found] = numbers(line), first = found.findIndex((it, j) => j % 3 === 1 && it === 0);
+  return { to: found[first - 1], done: found[first + 1] };
+}
+
+// In mode slice: the job that is pending after each frame, with its slot, which is cleared or which an object leaves; and
+// which object a free moves, on which pages. One job can follow another: its slot is known once its object has moved a word.
+function findJobs({ runs: { cf: frames }, arguments: given, slots }) {
+  const quantum = +(given.match(/--quantum (\d+)/) || [0, 16])[1], lengths = new Map();
+  const placesOf = frame => new Map((frame.words || '').split('\n').filter(it => it).map(line => [line.split(' ')[0], line]));
+  const jobOf = (line, mover) => { const [id, at] = numbers(line), words = slots[lengths.get(id)]; return { at, words, mover, left: words - quantum }; };
+  let job = null, old = new Map();
+  frames.forEach(frame => {
+    const now = placesOf(frame), mover = [...now.keys()].find(id => old.has(id) && old.get(id) !== now.get(id));
+    if (frame.verb === 'm' && frame.ok) lengths.set(frame.id, numbers(frame.text)[1]);
+    if (frame.verb === 's') {
+      const [left] = numbers(frame.reply);
+      const another = left > (job ? job.left : 0);
+      if (!left) job = null;
+      else if (mover && mover !== job?.mover && !(job && another)) job = { ...jobOf(old.get(mover), mover), left, printed: left };
+      else job = { ...(another ? {} : job), left, printed: left };
+    }
+    if (frame.verb === 'f' && frame.ok) {
+      job = jobOf(old.get(mover || String(frame.id)), mover);
+      frame.slot = job.words;
+      if (mover) frame.carries = { id: +mover, from: job.at, words: job.words, ...startOf(now.get(mover)) };
+      if (job.left <= 0) job = null;
+    }
+    frame.job = job;
+    old = now;
+  });
 }
 
 // The objects that live after frame i of a run, by id.
@@ -107,16 +142,16 @@ const percent = (part, whole) => `${+(100 * part / whole).toFixed(3)}%`;
 // One piece of an object on its page. `index` is the first of its words there, `used` how many words the object has.
 function piece(id, at, index, words, used, s, how = '', said = '') {
   const solid = Math.max(0, Math.min(words, used - index));
-  return `<i class="${how}" style="left:${percent(at % s.words, s.words)};width:${percent(words, s.words)};--h:${hue(id)};--u:${percent(solid, words)}" data-id="${id}" data-at="${at}" data-words="${words}" title="${plain(said)}">${words * unit < 20 ? '' : index ? `${id}…` : id}</i>`;
+  return `<i role="img" class="${how}" style="left:${percent(at % s.words, s.words)};width:${percent(words, s.words)};--h:${hue(id)};--u:${percent(solid, words)}" data-id="${id}" data-at="${at}" data-words="${words}" title="${plain(said)}">${words * unit < 20 ? '' : index ? `${id}…` : id}</i>`;
 }
 
 // The pages of a region: for each its label, its class (words and slots) and the markup within.
-function pagesOf(s, pieces, classOf, free, label) {
+function pagesOf(s, pieces, classOf, free, label, paged = true) {
   const inside = Array.from({ length: s.pages }, () => '');
   for (const [page, markup] of pieces) inside[page] += markup;
   return inside.map((markup, page) => {
     const of = classOf(page), slots = of ? `--slot:${percent(of.words, s.words)};--end:${percent(of.words * of.slots, s.words)}` : '';
-    const name = `page ${page}${unit * s.words < 180 ? '' : of ? ` · ${count(of.slots, 'slot')} of ${of.words} words` : free(page) ? ' · free' : ''}`;
+    const name = `${paged ? `page ${page}` : `words ${page * s.words} to ${(page + 1) * s.words - 1}`}${unit * s.words < 180 ? '' : of ? ` · ${count(of.slots, 'slot')} of ${of.words} words` : free(page) ? ' · free' : ''}`;
     return { free: free(page), html: `${label ? `<span>${name}</span>` : ''}<div class="box ${of && of.slots > 1 && s.pages <= 128 ? 'slots' : of && of.slots * of.words < s.words ? 'slots one' : ''}" style="${slots}" title="${name}">${markup}</div>` };
   });
 }
@@ -139,22 +174,7 @@ function sceneOfRun(manager, frames, i) {
   }
   const classes = new Map((walkOf(frame && frame.walk).classes || []).map(it => [it.words, it]));
   const classOf = page => PAGED(manager) && words.has(page) ? { words: words.get(page), slots: (classes.get(words.get(page)) || { slots: Math.floor(s.words / words.get(page)) }).slots } : null;
-  return { pages: pagesOf(s, pieces, classOf, page => PAGED(manager) && !words.has(page), s.pages <= 40), live };
-}
-
-// The job that is pending after frame i of mode slice: its slot, which it clears or which an object is leaving.
-function jobAt(frames, i, lengths) {
-  const quantum = +(tape.arguments.match(/--quantum (\d+)/) || [0, 16])[1], placesOf = frame => new Map((frame.words || '').split('\n').map(line => [line.split(' ')[0], line]));
-  let job = null;
-  for (let j = 1; j <= i; j++) {
-    const frame = frames[j];
-    if (frame.verb === 's') job = job && numbers(frame.reply)[0] ? { ...job, left: numbers(frame.reply)[0] } : null;
-    if (frame.verb !== 'f' || !frame.ok) continue;
-    const old = placesOf(frames[j - 1]), now = placesOf(frame), mover = [...now.keys()].find(id => id && old.has(id) && old.get(id) !== now.get(id));
-    const [id, at] = numbers(old.get(mover || String(frame.id))), slot = tape.slots[lengths.get(id)];
-    job = slot > quantum ? { at, words: slot } : null;
-  }
-  return job;
+  return { pages: pagesOf(s, pieces, classOf, page => PAGED(manager) && !words.has(page), s.pages <= 40, PAGED(manager)), live };
 }
 
 function sceneOfSlices(frames, i) {
@@ -168,10 +188,10 @@ function sceneOfSlices(frames, i) {
       pieces.push([page, piece(id, at, index, wide, 1 + Math.ceil(bytes / 8), s, (halves ? 'half ' : '') + (frame.id === id && frame.verb === 'm' && frame.ok ? 'new' : ''), `object ${id}: its words ${index} to ${index + n - 1} are at word ${at}`)]);
     }
   }
-  const job = jobAt(frames, i, lengths);
-  if (job) {
+  const job = frame && frame.job;
+  if (job?.words) {
     words.set(pageOf(job.at), job.words);
-    pieces.push([pageOf(job.at), `<u class="left" style="left:${percent(job.at % s.words, s.words)};width:${percent(job.words, s.words)}">job${job.left ? `: ${count(job.left, 'word')} left` : ''}</u>`]);
+    pieces.push([pageOf(job.at), `<u class="left" style="left:${percent(job.at % s.words, s.words)};width:${percent(job.words, s.words)}">job${job.printed ? `: ${count(job.printed, 'word')} left` : ''}</u>`]);
   }
   const classOf = page => words.has(page) ? { words: words.get(page), slots: Math.floor(s.words / words.get(page)) } : null;
   return { pages: pagesOf(s, pieces, classOf, page => !words.has(page), true) };
@@ -229,7 +249,7 @@ const pageOf = word => Math.floor(word / settings().words);
 function figures(manager, frames, i) {
   const s = settings(), frame = frames[i];
   if (!s || !frame) return [];
-  if (tape.mode === 'slice') return [['live', 'live objects', (frame.words || '').split('\n').length - 1], ['left', 'words of the job left', frame.verb === 's' ? numbers(frame.reply)[0] : '–'], ['refused', 'refused or busy', frame.refused]];
+  if (tape.mode === 'slice') return [['live', 'live objects', (frame.words || '').split('\n').length - 1], ['left', 'words left by this slice', frame.verb === 's' ? numbers(frame.reply)[0] : '–'], ['refused', 'refused or busy', frame.refused]];
   if (tape.mode === 'quota') return [['live', 'live objects', tasksOf(frame).reduce((sum, it) => sum + it.live, 0)], ['pages', 'pages in use', tasksOf(frame).reduce((sum, it) => sum + it.pages, 0)], ['refused', 'refused', frame.refused]];
   const walk = walkOf(frame.walk), more = tape.mode === 'large' ? [['live', 'spines, parts, short objects', walk.live ?? 0]] : [['live', 'live objects', objectsAt(frames, i).size]];
   if (PAGED(manager)) more.push(['pages', 'pages in use', walk.pages ?? 0], ['free', 'pages free', walk.free ?? s.pages], ['largest', 'largest free', (walk.free ?? s.pages) ? size(s.bytes) : '–']);
@@ -240,6 +260,9 @@ function figures(manager, frames, i) {
 }
 
 const REFUSED = { 'refused size': 'the object with its header exceeds a page', 'refused proxy': 'every proxy is in use', 'refused sum': 'the quotas would exceed the pages', 'refused used': 'the task uses more pages than that' };
+
+// The slot that a resize gave its object, if that is another one.
+const newSlot = frame => frame.verb === 'z' && frame.changes.find(it => it.id === frame.id && it.to.at !== it.from.at)?.to;
 
 // What the command did on this manager.
 function sentence(manager, frames, i) {
@@ -252,30 +275,58 @@ function sentence(manager, frames, i) {
     if (frame.reply === 'busy') return no(frame.verb === 'f' ? 'the job of an earlier free is pending' : 'only the slot of the pending job is left');
     if (tape.mode === 'quota') return no('the task would need more pages than its quota');
     if (PAGED(manager)) return no('no slot of its size is free, and too few pages are');
-    return no(`no free block serves; the largest has ${size(8 * walkOf(frame.walk).largest)}`);
+    const free = s.pages * s.bytes - frame.bytes.taken, largest = 8 * walkOf(frame.walk).largest;
+    return no(`no free block serves: ${size(free)} are free in all, but the largest block has ${size(largest)}`);
   }
   if (frame.verb === 'm' && frame.ok) {
     const it = objectsAt(frames, i).get(frame.id);
-    if (!it) return `Object ${frame.id} is made, ${size(+bytes)}.`;
+    if (!it) return `Object ${frame.id} is made, ${size(+bytes)}.${partsSaid(frame.id, frames, i, n => ` It exceeds a page, so it has a spine and ${n} parts.`)}`;
     return `Object ${frame.id}, ${size(+bytes)}, gets ${PAGED(manager) ? `a slot of ${it.words} words on page ${pageOf(it.at)}` : `a block of ${it.words} words from word ${it.at} on`}.`;
   }
   if ((frame.verb === 'f' || frame.verb === 'z') && frame.ok) {
-    let said = frame.verb === 'f' ? `Object ${frame.id} is freed. ` : `Object ${frame.id} now has ${size(+bytes)}. `;
-    if (tape.mode === 'slice') return said + 'The first slice of its job is done; each <code>s</code> does another.';
+    const said = frame.verb === 'f' ? `Object ${frame.id} is freed. ` : `Object ${frame.id} now has ${size(+bytes)}${newSlot(frame) ? `, in a slot of ${newSlot(frame).words} words on page ${pageOf(newSlot(frame).at)}` : ''}. `;
+    if (tape.mode === 'slice') return said + jobSaid(frame);
+    if (tape.mode === 'large') return said + partsSaid(frame.id, frames, i, n => `Its spine and its ${n} parts are freed.`);
     if (tape.mode !== 'run' && tape.mode !== 'compare') return said;
-    if (!frame.move) return said + (PAGED(manager) ? 'Nothing has to move.' : frame.verb === 'f' ? 'Its block becomes a gap; nothing moves.' : '');
+    if (!frame.move) return said + (PAGED(manager) ? newSlot(frame) ? 'No other object has to move.' : 'Nothing has to move.' : frame.verb === 'f' ? 'Its block becomes a gap; nothing moves.' : '');
     const { id, from, to } = frame.move, left = [...objectsAt(frames, i).values()].some(it => pageOf(it.at) === pageOf(from));
     return said + `<em>Object ${id} moves</em> from page ${pageOf(from)} into the gap on page ${pageOf(to)}${left ? '' : `, and <em>page ${pageOf(from)} is free again</em>`}.`;
   }
   if (frame.verb === 's') return numbers(frame.reply)[0] ? `A slice of the job is done; ${count(numbers(frame.reply)[0], 'word')} are left.` : 'No job is pending any more.';
-  if (frame.verb === 't') return `Task ${frame.id} is the present task now.`;
-  return `The reply is <code>${plain(frame.reply.split('\n').pop().slice(0, 90))}</code>.`;
+  const more = otherSaid(frame);
+  return more || `The reply is <code>${plain(frame.reply.split('\n').pop().slice(0, 90))}</code>.`;
+}
+
+// In mode large: what is said of the parts of the object that was last made with this id, if it exceeds a page.
+function partsSaid(id, frames, i, say) {
+  const made = tape.mode === 'large' && frames.slice(0, i + 1).findLast(it => it.verb === 'm' && it.ok && it.id === id);
+  const parts = made ? Math.ceil(+made.tokens[2] / (settings().bytes - 8)) : 1;
+  return parts > 1 ? say(parts) : '';
+}
+
+// What a free does in mode slice.
+function jobSaid({ carries, job, slot }) {
+  if (!carries) return job ? `Its slot of ${count(slot, 'word')} is cleared a slice at a time; each <code>s</code> does one.` : 'Its slot is cleared in one slice.';
+  const { id, from, to, done, words } = carries, way = `<em>Object ${id} moves</em> from page ${pageOf(from)} into the gap on page ${pageOf(to)}`;
+  return job ? `${way}, a slice at a time: ${done} of the ${words} words of its slot so far. Each <code>s</code> moves more.` : `${way}, in one slice.`;
+}
+
+// What the other commands did, but for those whose reply says all.
+function otherSaid({ verb, id, ok, reply, tokens: [, , one, two] }) {
+  if (verb === 'w' && ok) return `${count(two.length / 2, 'byte')} of object ${id} are written, from byte ${one} on.`;
+  if (verb === 'r' && reply[0] === '=') return `Object ${id} is read, from byte ${one} on: <code>${plain(reply.slice(1, 60))}</code>.`;
+  if (verb === 't') return `Task ${id} is the present task now.`;
+  if (verb === 'quota' && ok) return `Task ${id} may use ${count(+one, 'page')} now.`;
+  if (verb === 'need' && ok) return `Task ${id} declares at most ${count(+two, 'live object')} of ${size(+one)}.`;
+  if (verb === 'admit' && reply === 'yes') return `The quota of task ${id} is enough for what it declared.`;
+  if (verb === 'admit' && reply.startsWith('no ')) return `The quota of task ${id} is not enough: of the objects that it declared, number ${numbers(reply)[0]} would be refused.`;
+  return '';
 }
 
 // Sentences of README and docs/GUARANTEES.md with the name that carries each; checks/page compares them with the two.
 const CLAIM = {
   step: ["Each call of a manager does its contract's step and changes nothing else; each refusal has its cause.", 'MovingHeap, NonMovingHeap, TagHeap'],
-  run: ["fixed, but for a manager's choices: a new object's address and number, which object moves, the steps (within the bound)", 'MeetsHeadline'],
+  run: ["fixed, but for a manager's choices: a new object's number, the address of a new or resized object, which object moves, the steps (within the bound)", 'MeetsHeadline'],
   refused: ['if every bound is 1, a malloc that fits a page is refused if and only if every proxy is in use, or with the new object the classes need more pages (Σ ⌈n/m⌉) than there are.', ''],
   malloc: ['an unused handle, an object of zeros', 'Manager::malloc'],
   free: ['moves at most one object', 'Manager::free'],
@@ -291,6 +342,9 @@ const CLAIM = {
   slice: ['a function of script and quantum, but for the word p prints', 'MeetsSliced'],
   busy: ["Busy means that with the new object and the job's slot the objects need more pages than there are", 'when_a_malloc_is_busy'],
   pending: ['a free is busy exactly while a job is pending', 'who_is_busy_and_how_long'],
+  moving: ['MovingHeap · 17 · 20 + s · 34 + s + t', ''],
+  nonmoving: ['NonMovingHeap · 18 · 22 + s + s/2 · 38 + 3(s + t)/2', ''],
+  tags: ['TLSF, Half-Fit · 25 · 41 + s', ''],
   slices: ['SlicedHeap · 17 · 23 + q, and 15 + q a slice', ''],
   quotas: ['QuotaHeap · 17 · 20 + s', ''],
   words: ['does at most q of the n words left, where q is the quantum', 'SlicedHeap::step'],
@@ -302,15 +356,14 @@ const CLAIM = {
   set: ['all quotas would exceed the pages. Used: the task uses more', 'QuotaHeap::set_quota'],
   admit: ["After yes the task's mallocs reply ok or live while its quota is no less and its live objects, with each new one, are within what it declared", 'an_admitted_task_is_served'],
   parts: ['all spines and parts would need more pages than there are', 'LargeHeap::malloc'],
-  unbound: ['LargeHeap has no proved step bound.', ''],
-  tags: ['With blocks the step bounds in MeetsHeadline are 25, and 41+s for a free.', 'MeetsHeadline'],
+  long: ['A malloc or free of a long one takes at most those of one malloc or free for each part and for the spine, and of an access of four bytes for each part.', 'LargeHeap'],
   counted: ['A step is one counted touch of a word, bitmap word, link, proxy or table entry.', ''],
-  classes: ['In the first two heaps a class with n live objects, m to a page, has at most ⌊n/m⌋ + k pages; k, 1 to 64, may be partly full.', ''],
+  classes: ['a class with n live objects, m to a page, has at most ⌊n/m⌋ + k pages; k, 1 to 64, may be partly full.', ''],
 };
 const claim = (name, lead = '') => { const [text, who] = CLAIM[name], by = typeof who === 'string' ? who : who[tape.mode]; return `<p>${lead}<q>${plain(text)}</q>${by ? ` <small>${by}</small>` : ''}</p>`; };
 
 // What stands before a claim that is no whole sentence.
-const LEAD = { run: 'The reply is ', slice: 'The reply is ', fixed: 'The reply is ', malloc: 'A malloc makes ', free: 'A free ', words: 'A slice ', resize: 'Of a resize: ', bad: 'The next line is bad. The run ends so if ', quota: 'Refused space: ', set: 'Refused sum: ', parts: 'Refused space: ', partly: 'Afterwards ', blocks: 'Afterwards ' };
+const LEAD = { run: 'The reply is ', slice: 'The reply is ', fixed: 'The reply is ', malloc: 'A malloc makes ', free: 'A free ', words: 'A slice ', resize: 'Of a resize: ', bad: 'The next line is bad. The run ends so if ', quota: 'Refused space: ', set: 'Refused sum: ', parts: 'Refused space: ', partly: 'Afterwards (the bound is k) ', blocks: 'Afterwards ', classes: 'Of Compact-fit, moving or not, it is proved that ' };
 
 // The names of the claims for a command on a manager, the most telling first.
 function claimsFor(manager, frame) {
@@ -322,7 +375,7 @@ function claimsFor(manager, frame) {
   if (verb === 'r' || verb === 'w') return ['read', 'run'];
   if (no) return ['cost', ...(PAGED(manager) && verb === 'm' ? ['refused'] : ['step'])];
   if (verb === 'm' && ok) return ['malloc', PAGED(manager) ? 'partly' : 'blocks'];
-  if (verb === 'f' && ok) return PAGED(manager) ? [manager === 'nm' ? 'physical' : 'free', 'partly'] : ['blocks'];
+  if (verb === 'f' && ok) return PAGED(manager) ? [manager === 'nm' ? 'physical' : 'free', 'partly', 'read'] : ['blocks', 'read'];
   if (verb === 'z' && ok) return ['resize', 'partly'];
   if (['walk', 'frag'].includes(verb)) return ['output', 'equal'];
   if (verb === 'heap') return ['equal'];
@@ -331,24 +384,49 @@ function claimsFor(manager, frame) {
 
 // The four questions of a newcomer, answered for the command that is shown.
 function answers() {
-  const s = settings(), manager = shown[0], frames = tape.runs[manager], frame = frames[at], other = shown[1] && tape.runs[shown[1]][at];
-  if (!s || !frame) return `<div><h3>What is shown?</h3><p>The script has no command that was answered.</p></div>${tape.bad ? `<div><h3>What is proved of this line?</h3>${claim('bad', LEAD.bad)}</div>` : ''}`;
-  const mode = tape.mode, paged = PAGED(manager), walk = walkOf(frame.walk), one = (walk.classes || [])[0];
-  let page = `The region is cut into ${count(s.pages, 'equal page')} of ${s.words} words. A page in use has slots of one size${one ? `, here for example ${count(one.slots, 'slot')} of ${one.words} words` : ''}; a page without objects is free for any size.`;
-  if (!paged) page = `${NAMES[manager]} has no pages: it cuts blocks of any length out of the region. The picture shows it in rows of ${s.words} words.`;
-  let why = `Nothing moved${'fz'.includes(frame.verb) ? '' : ': this command neither frees nor resizes an object'}.`;
-  if (mode === 'slice') why = 'A free leaves a job: to move another object into the gap, or to clear the slot. While it is pending, the object\'s first words are at its new place and the others still at the old one.';
-  else if (mode === 'quota') why = 'Tasks share the region, but no page: whoever needs a page must have it in its own quota.';
-  else if (mode === 'large') why = 'Spine and parts are ordinary objects on pages: each part but the last fills a page, so no long run of free words is needed.';
-  else if (!paged) why = `${NAMES[manager]} never moves an object. So free words may lie in gaps, each too short.`;
-  else if (frame.move) why = `At most k = ${s.k} ${s.k === 1 ? 'page' : 'pages'} of a size may be partly full (<code>k</code> lines set others). The gap on page ${pageOf(frame.move.to)} would have made one more, so an object of the partly full page ${pageOf(frame.move.from)} fills it.`;
-  else if (frame.ok && 'fz'.includes(frame.verb)) why = `Nothing had to: without a move no more than k = ${s.k} ${s.k === 1 ? 'page' : 'pages'} of that size ${s.k === 1 ? 'is' : 'are'} partly full.`;
-  let cost = frame.cost && frame.cost.last !== undefined ? `${NAMES[manager]}: ${count(frame.cost.last, 'step')}${frame.cost.bound ? `, of at most ${frame.cost.bound}: the proved bound that <code>steps</code> prints` : ''}${other && other.cost && other.cost.last !== undefined ? `. ${NAMES[shown[1]]}: ${count(other.cost.last, 'step')}${other.cost.bound ? `, of at most ${other.cost.bound}` : ''}` : ''}.` : 'The tool prints no steps for this command.';
-  const list = claimsFor(manager, frame).filter(it => it);
+  const s = settings(), manager = shown[0], frame = tape.runs[manager][at], answer = (title, text) => `<div><h3>${title}</h3>${text}</div>`;
+  if (!s || !frame) return answer('What is shown?', '<p>The script has no command that was answered.</p>') + (tape.bad ? answer('What is proved of this line?', claim('bad', LEAD.bad)) : '');
+  const list = claimsFor(manager, frame).filter(it => it), whose = tape.mode === 'run' || tape.mode === 'compare' ? NAMES[manager] : `mode ${tape.mode}`;
   if (tape.bad && at === length() - 1) list.push('bad');
-  return `<div><h3>What is a page?</h3><p>${page}</p>${mode === 'run' || mode === 'compare' ? paged ? claim('classes') : '' : ''}</div><div><h3>Why did it move?</h3><p>${why}</p></div>`
-    + `<div><h3>What does it cost?</h3><p>${cost}</p>${mode === 'large' ? claim('unbound') : mode === 'slice' ? claim('slices', 'The most steps of a malloc and a free: ') : mode === 'quota' ? claim('quotas', 'The most steps of a malloc and a free: ') : frame.cost && shown.some(it => !PAGED(it)) ? claim('tags', `${NAMES[shown.find(it => !PAGED(it))]}: `) : ''}${claim('counted')}</div>`
-    + `<div><h3>What is proved of this line?</h3>${list.map(it => claim(it, LEAD[it])).join('')}</div>`;
+  return answer('What is a page?', pageAnswer(s, manager, frame)) + answer(...moveAnswer(s, manager, frame)) + answer('What does it cost?', costAnswer(frame))
+    + answer('What is proved of this line?', `<p>Proved of ${whose}, for every script and not only this one:</p>${list.map(it => claim(it, LEAD[it])).join('')}`);
+}
+
+function pageAnswer(s, manager, frame) {
+  if (!PAGED(manager)) return `<p>${NAMES[manager]} has no pages: it cuts blocks of any length out of the region. The picture shows the region in rows of ${s.words} words.</p>`;
+  const [one] = walkOf(frame.walk).classes || [], here = one ? `, here ${count(one.slots, 'slot')} of ${one.words} words` : '';
+  return `<p>The region is cut into ${count(s.pages, 'equal page')} of ${s.words} words. A page in use has slots of one size, its class${here}; an object takes one slot. A page without objects is free for any class.</p>${tape.mode === 'run' || tape.mode === 'compare' ? claim('classes', LEAD.classes) : ''}`;
+}
+
+// The question on moves, and its answer; in modes quota and large, which show no moves, what is new there.
+function moveAnswer(s, manager, frame) {
+  const few = `k = ${s.k} ${s.k === 1 ? 'page' : 'pages'}`, said = (title, text) => [title, `<p>${text}</p>`];
+  if (tape.mode === 'quota') return said('What is a quota?', 'Tasks share the region, but no page. A task may use as many pages as its quota has, whatever the others do.');
+  if (tape.mode === 'large') return said('What is a spine?', 'A list of the parts of an object that exceeds a page. Each part but the last fills a page, so no long run of free words is needed.');
+  if (tape.mode === 'slice') {
+    const job = 'A job is done in slices, so that no call takes long.';
+    if (frame.carries || frame.job?.mover) return said('Why does it move?', `At most one page of a class may be partly full, so another object fills the gap. ${job} Until the last one, the object's first words are at its new place and the others at the old one.`);
+    return said('What is a job?', `What a free leaves to do: to clear the slot, or to move another object into it. ${job}`);
+  }
+  if (!PAGED(manager)) return said('Why did nothing move?', `${NAMES[manager]} never moves an object. So free words may lie in gaps, each too short.`);
+  if (frame.move) return said('Why did it move?', `At most ${few} of a class may be partly full (<code>k</code> lines set others). The gap on page ${pageOf(frame.move.to)} would have made one more, so an object of the partly full page ${pageOf(frame.move.from)} fills it.`);
+  if (newSlot(frame)) return said('Why did it move?', `The new length needs a slot of another class, so the object's bytes move there. Then at most ${few} of a class ${s.k === 1 ? 'is' : 'are'} partly full, and no other object has to move.`);
+  return said('Why did nothing move?', frame.ok && 'fz'.includes(frame.verb) ? `Without a move at most ${few} of that class ${s.k === 1 ? 'is' : 'are'} partly full.` : 'This command neither frees nor resizes an object.');
+}
+
+// The steps of the command on each manager that is shown, with the most that a call of its kind takes.
+function costAnswer({ verb, cost }) {
+  const most = (name, at) => `<q>${plain(CLAIM[name][0].split(' · ')[at])}</q>`;
+  if (tape.mode === 'large') return claim('long', 'Of long objects: ') + claim('counted');
+  if (tape.mode === 'slice') return `<p>A malloc takes at most ${most('slices', 1)} steps, a free ${most('slices', 2)}. q is the quantum: the most words of a slice.</p>${claim('counted')}`;
+  if (tape.mode === 'quota') return `<p>A malloc takes at most ${most('quotas', 1)} steps, a free ${most('quotas', 2)}. s counts the words of its slot.</p>${claim('counted')}`;
+  if (!cost || cost.last === undefined) return `<p>The tool prints no steps for this command.</p>${claim('counted')}`;
+  const said = shown.map(it => [it, tape.runs[it][at]]).filter(([, one]) => one?.cost?.last !== undefined).map(([it, one]) => {
+    const name = { cf: 'moving', nm: 'nonmoving', tlsf: 'tags', half: 'tags' }[it], slot = one.verb === 'f' && one.ok && one.changes[0]?.from.words;
+    return `${NAMES[it]}: <span data-steps="${it}">${count(one.cost.last, 'step')}</span>; proved of ${{ m: 'a malloc', f: 'a free', z: 'a resize' }[verb]}: at most ${most(name, ' mfz'.indexOf(verb))}${slot ? `, here s = <span data-words="${it}">${slot}</span>` : ''}.`;
+  });
+  const words = { m: '', f: 's counts the words of the slot or block. ', z: 's counts the words of the old slot, t those of the smaller one. ' }[verb];
+  return `${said.map(it => `<p>${it}</p>`).join('')}<p>${words}${cost.bound ? `<code>steps</code> prints the bound that the tool as a whole claims: <span data-bound>${cost.bound}</span>.` : ''}</p>${claim('counted')}`;
 }
 
 // ---- Showing it
@@ -362,6 +440,7 @@ function drawHeap(n, animate) {
   arrow.innerHTML = '';
   if (!s || !frame && !frames.length) { grid.innerHTML = ''; cache[n] = null; return; }
   const i = Math.min(at, frames.length - 1);
+  view.setAttribute('aria-label', `${NAMES[manager]}: ${figures(manager, frames, at).map(([, label, value]) => `${value} ${label}`).join(', ')}`);
   if (tape.mode === 'quota' || tape.mode === 'large') { grid.className = ''; grid.innerHTML = (tape.mode === 'quota' ? sceneOfTasks : sceneOfParts)(frames, i); return; }
   const columns = s.pages <= 10 ? 1 : s.pages <= 32 ? 2 : s.pages <= 128 ? 4 : s.pages <= 512 ? 8 : 16;
   unit = (view.clientWidth / columns - 8) / s.words;
@@ -369,32 +448,34 @@ function drawHeap(n, animate) {
   const old = cache[n];
   if (!old || old.length !== scene.pages.length) {
     grid.className = `pages ${s.pages > 128 ? 'tiny' : ''}`;
-    grid.style.cssText = `--columns:${columns};--high:${s.pages <= 4 ? 40 : s.pages <= 10 ? 25 : s.pages <= 32 ? 24 : s.pages <= 128 ? 16 : 10}px`;
+    grid.style.cssText = `--columns:${columns};--high:${s.pages <= 4 ? 40 : s.pages <= 10 ? 20 : s.pages <= 32 ? 24 : s.pages <= 128 ? 16 : 10}px`;
     grid.innerHTML = scene.pages.map(it => `<div class="page ${it.free ? 'free' : ''}">${it.html}</div>`).join('');
   } else scene.pages.forEach((it, p) => { if (it.html !== old[p].html) { grid.children[p].className = `page ${it.free ? 'free' : ''}`; grid.children[p].innerHTML = it.html; } });
   cache[n] = scene.pages;
-  view.setAttribute('aria-label', `${NAMES[manager]}: ${figures(manager, frames, at).map(([, label, value]) => `${value} ${label}`).join(', ')}`);
   if (frame && frame.move) drawMove(grid, arrow, frame.move, s, animate);
 }
 
-// An arrow from where the object was to where it is, and the object on its way.
+// An arrow from where the object was to where it is, and the object on its way. It begins beside the name
+// there, and bends towards that row.
 function drawMove(grid, arrow, { id, from, to, words }, s, animate) {
-  const rect = word => { const box = grid.children[pageOf(word)].querySelector('.box'), own = box.getBoundingClientRect(), all = grid.getBoundingClientRect(); return { x: own.left - all.left + own.width * (word % s.words + words / 2) / s.words, y: own.top - all.top + own.height / 2 }; };
-  const a = rect(from), b = rect(to), bend = Math.min(50, Math.hypot(b.x - a.x, b.y - a.y) / 4), length = Math.hypot(b.x - a.x, b.y - a.y) || 1;
-  const c = { x: (a.x + b.x) / 2 + (b.y - a.y) / length * bend, y: (a.y + b.y) / 2 - (b.x - a.x) / length * bend }, turn = Math.atan2(b.y - c.y, b.x - c.x);
+  const slot = (word, part) => { const box = grid.children[pageOf(word)].querySelector('.box'), own = box.getBoundingClientRect(), all = grid.getBoundingClientRect(); return { x: own.left - all.left + own.width * (word % s.words + words * part) / s.words, y: own.top - all.top + own.height / 2 }; };
+  const old = slot(from, .5), b = slot(to, .5), back = b.x < old.x, a = slot(from, back ? .12 : .88), length = Math.hypot(b.x - a.x, b.y - a.y) || 1, bend = Math.min(50, length / 4) / length * ((b.x - a.x) * (b.y - a.y) < 0 ? -1 : 1);
+  const c = { x: (a.x + b.x) / 2 + (b.y - a.y) * bend, y: (a.y + b.y) / 2 - (b.x - a.x) * bend }, turn = Math.atan2(b.y - c.y, b.x - c.x);
   const head = [0, .45, -.45].map(off => off ? [b.x - 13 * Math.cos(turn - off), b.y - 13 * Math.sin(turn - off)] : [b.x, b.y]).join(' ');
+  grid.querySelector('u.left')?.classList.toggle('back', back);
   arrow.innerHTML = `<path d="M${a.x} ${a.y}Q${c.x} ${c.y} ${b.x - 7 * Math.cos(turn)} ${b.y - 7 * Math.sin(turn)}"/><circle cx="${a.x}" cy="${a.y}" r="4"/><polygon points="${head}"/>`;
   const item = animate && !matchMedia('(prefers-reduced-motion: reduce)').matches && grid.querySelector(`i[data-id="${id}"]`);
-  if (item) { const box = item.parentElement; box.style.overflow = 'visible'; item.animate([{ transform: `translate(${a.x - b.x}px, ${a.y - b.y}px)` }, { transform: 'none' }], { duration: playing ? 450 : 700, easing: 'ease-in-out' }).onfinish = () => { box.style.overflow = ''; }; }
+  if (item) { const box = item.parentElement; box.style.overflow = 'visible'; item.animate([{ transform: `translate(${old.x - b.x}px, ${old.y - b.y}px)` }, { transform: 'none' }], { duration: playing ? 450 : 700, easing: 'ease-in-out' }).onfinish = () => { box.style.overflow = ''; }; }
 }
 
 // The strip: above, what each manager did, command by command; below, a curve of bytes or of steps.
 function drawStrip() {
-  const n = Math.max(1, length()), lines = shown.length, parts = [], chart = $('chart').value;
+  $('chart').hidden = !(tape.runs[shown[0]] || []).some(it => it.cost && it.cost.last);
+  const n = Math.max(1, length()), lines = shown.length, parts = [], chart = $('chart').hidden ? 'bytes' : $('chart').value;
   shown.forEach((manager, row) => {
     const found = { m: '', f: '', v: '', x: '' };
     tape.runs[manager].forEach((frame, i) => {
-      const kind = frame.no ? 'x' : frame.move ? 'v' : frame.ok && 'mf'.includes(frame.verb) ? frame.verb : '', y = row * 12;
+      const kind = frame.no ? 'x' : frame.move || frame.carries ? 'v' : frame.ok && 'mf'.includes(frame.verb) ? frame.verb : '', y = row * 12;
       if (kind) found[kind] += { m: `M${i + .1} ${y}h.8v5h-.8z`, f: `M${i + .1} ${y + 5}h.8v5h-.8z`, v: `M${i + .1} ${y + 3}h.8v8h-.8z`, x: `M${i + .1} ${y}h.8v11h-.8z` }[kind];
     });
     for (const [kind, d] of Object.entries(found)) parts.push(`<path class="${kind}" d="${d}"/>`);
@@ -402,15 +483,15 @@ function drawStrip() {
   const frames = tape.runs[shown[0]] || [], top = lines * 12 + 2, high = 56 - top - 1;
   const values = chart === 'bytes' ? frames.map(it => [it.bytes.asked, it.bytes.held]) : frames.map(it => [it.cost ? it.cost.last || 0 : 0, it.cost ? it.cost.bound || 0 : 0]);
   const most = Math.max(1, ...values.map(it => Math.max(...it))), y = value => 56 - high * value / most;
-  const has = frames.some(it => chart === 'bytes' ? it.frag : it.cost && it.cost.last);
-  $('chart').hidden = !frames.some(it => it.frag);
+  const has = frames.some(it => chart === 'bytes' ? it.frag : it.cost && it.cost.last), tall = has ? 56 : top;
   if (has) parts.push(`<path class="asked" d="M0 56${values.map(([low], i) => `V${y(low).toFixed(2)}H${i + 1}`).join('')}V56z"/><path class="held" d="M0 56${values.map(([, all], i) => `V${y(all).toFixed(2)}H${i + 1}`).join('')}"/>`);
-  $('strip').setAttribute('viewBox', `0 0 ${n} 56`);
+  $('strip').setAttribute('viewBox', `0 0 ${n} ${tall}`);
+  $('strip').style.height = has ? '' : '18px';
   $('strip').innerHTML = parts.join('') + '<path class="here" d=""/>';
-  $('strip').setAttribute('aria-label', `What each of the ${n} commands did, and a curve of ${chart}`);
-  const mark = (kind, d, text) => `<b><svg viewBox="0 0 9 11" aria-hidden="true"><path class="${kind}" d="${d}"/></svg>${text}</b>`;
-  $('key').innerHTML = mark('m', 'M0 0h9v5h-9z', 'made') + mark('f', 'M0 5h9v5h-9z', 'freed') + mark('v', 'M0 3h9v8h-9z', 'freed, one moved') + mark('x', 'M0 0h9v11h-9z', 'refused')
-    + (lines > 1 ? `<b>rows: ${shown.map(it => NAMES[it]).join(', ')}</b>` : '') + (has ? `<b>${chart === 'bytes' ? `area: bytes asked for, line: bytes held by ${NAMES[shown[0]]}, up to ${size(most)}` : `area: steps by ${NAMES[shown[0]]}, line: their bound, up to ${most}`}</b>` : '');
+  $('strip').setAttribute('aria-label', `What each of the ${n} commands did${has ? `, and a curve of ${chart}` : ''}`);
+  const mark = (kind, d, text) => `<b><svg viewBox="0 0 9 11" aria-hidden="true"><path class="${kind}" d="${d}"/></svg>${text}</b> `;
+  $('key').firstElementChild.innerHTML = mark('m', 'M0 0h9v5h-9z', 'made') + mark('f', 'M0 5h9v5h-9z', 'freed') + mark('v', 'M0 3h9v8h-9z', 'freed, one moved') + mark('x', 'M0 0h9v11h-9z', 'refused')
+    + (lines > 1 ? `rows: ${shown.map(it => NAMES[it]).join(', ')}; ` : '') + (has ? `${chart === 'bytes' ? `area: bytes asked for, line: bytes held by ${NAMES[shown[0]]}, up to ${size(most)}` : `area: steps by ${NAMES[shown[0]]}, line: their bound, up to ${most}`} ` : '');
 }
 
 const length = () => Math.max(...Object.values(tape.runs).map(it => it.length), 0);
@@ -423,12 +504,20 @@ function show(i, animate) {
   const here = $('strip').querySelector('.here');
   if (here) here.setAttribute('d', `M${at + .5} 0V56`);
   const frame = shown.map(it => tape.runs[it][at]).find(it => it);
-  $('count').textContent = frame ? `${at + 1} of ${length()}: ${frame.text.slice(0, 20)}` : 'no command';
+  $('count').textContent = $('slide').ariaValueText = frame ? `${at + 1} of ${length()}: ${frame.text.slice(0, 20)}` : 'no command';
   const old = $('lines').querySelector('[aria-current]'), now = frame && $('lines').children[frame.line - 1];
   if (old) old.removeAttribute('aria-current');
-  if (now) { now.setAttribute('aria-current', 'true'); const list = $('lines'), y = now.offsetTop - list.offsetTop; if (y < list.scrollTop + 20 || y > list.scrollTop + list.clientHeight - 50) list.scrollTop = y - list.clientHeight / 2; }
+  if (now) { now.setAttribute('aria-current', 'true'); scrollLines(now, 5); }
   clearTimeout(show.link);
   show.link = setTimeout(link, 300);
+}
+
+// Scrolls the list to a line. Lines out of sight have a guessed height until they are near, so it looks again in the next frames.
+function scrollLines(line, frames) {
+  const list = $('lines'), y = line.offsetTop - list.offsetTop;
+  if (y < list.scrollTop + 20 || y > list.scrollTop + list.clientHeight - 50) list.scrollTop = y - list.clientHeight / 2;
+  cancelAnimationFrame(scrollLines.next);
+  if (frames) scrollLines.next = requestAnimationFrame(() => scrollLines(line, frames - 1));
 }
 
 // The link to what is shown: the example or the script, the command and the managers.
@@ -466,6 +555,7 @@ function beside(managers) {
 
 async function choose(name, first, managers) {
   play(false);
+  edit.last = null;
   row = RECORDINGS.find(it => it[0] === name) || RECORDINGS.find(it => it[0] === 'gaps') || RECORDINGS[0];
   tape = prepare(await unpack(row[2]));
   $('pick').value = row[0];
@@ -475,14 +565,17 @@ async function choose(name, first, managers) {
   document.body.dataset.ready = row[0];
 }
 
-// Runs a script on the module and shows it from command `first` on. If it can't be run, says why, and returns false.
+// Runs a script on the module and shows it from command `first` on. If it can't be run, says why, and returns false; also if
+// another script or example was asked for meanwhile.
 async function edit(script, first, managers) {
-  let made;
+  const mine = edit.last = {}, said = setTimeout(() => { $('fault').textContent = 'The script runs …'; }, 300);
+  let made, why;
   try { made = await live.record(script); } catch (fault) {
     if (!(fault instanceof live.Fault)) throw fault;
-    $('fault').textContent = `✕ ${fault.message}`;
-    return false;
-  }
+    why = fault.message;
+  } finally { clearTimeout(said); }
+  if (mine !== edit.last) { if (!edit.last) $('fault').textContent = ''; return false; }
+  if (why) { $('fault').textContent = `✕ ${why}`; return false; }
   play(false);
   const kept = made.own === tape?.own && shown.length && shown.every(it => made.runs[it]) ? shown : undefined;
   tape = Object.assign(prepare(made), { packed: await packText(script) });
@@ -542,14 +635,18 @@ async function begin() {
   for (const [id, go] of Object.entries(keys)) $(id).onclick = () => { play(false); go(); };
   $('play').onclick = () => play(!playing);
   document.onkeydown = event => {
-    if (event.target.matches('select, textarea') || event.ctrlKey || event.metaKey || event.altKey) return;
+    if (event.target.matches('select, textarea, summary') || event.ctrlKey || event.metaKey || event.altKey) return;
     const id = { ArrowRight: 'next', ArrowLeft: 'back', Home: 'first', End: 'last', ' ': 'play' }[event.key];
     if (id) { event.preventDefault(); if (event.target.blur && event.key === ' ') event.target.blur(); $(id).onclick(); }
   };
   addEventListener('resize', () => tape && shown.forEach((_, n) => drawHeap(n)));
   await openLink(location.hash);
   // Opened without a link, the page plays from just before the first move.
-  if (!location.hash && row[0] === 'gaps' && !matchMedia('(prefers-reduced-motion: reduce)').matches) { show(tape.runs.cf.findIndex(it => it.move) - 3); play(true); }
+  if (!location.hash && row[0] === 'gaps') {
+    const move = tape.runs.cf.findIndex(it => it.move), still = matchMedia('(prefers-reduced-motion: reduce)').matches;
+    show(still ? move : move - 3);
+    play(!still);
+  }
   addEventListener('hashchange', () => { const next = new URLSearchParams(location.hash.slice(1)); if ((next.get('script') ? next.get('script') !== tape.packed : tape.packed || next.get('example') !== row[0]) || +next.get('at') !== at) openLink(location.hash); });
 }
 begin();
