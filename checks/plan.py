@@ -148,10 +148,9 @@ def keeps(lines, allows):
     return True
 
 
-def certifies(program, bounds, pages):
-    """Whether the vectors of pages that the planner finds show that so many pages are enough: `IsCertificate` of `certified_pages_serve`,
-    with its definitions written anew."""
-    points = [(point.mode, point.pages) for point in program.points(bounds)]
+def certifies(program, bounds, pages, points):
+    """Whether these vectors of pages show that so many pages are enough: `IsCertificate` of `certified_pages_serve`, with its
+    definitions written anew."""
     modes = range(len(program.modes))
 
     def leads_on(mode, held, to):
@@ -165,6 +164,32 @@ def certifies(program, bounds, pages):
         and all(leads_on(mode, held, to) for mode, held in points for to in modes)
         and all(sum(held) <= pages for _, held in points)
     )
+
+
+def found(points):
+    return [(point.mode, point.pages) for point in points]
+
+
+def test_differs(seed, library):
+    """How the proved test differs from `certifies`, on the certificate of a drawn program and on false ones; None if it doesn't."""
+    draw = random.Random(seed)
+    layout = needs.Layout(draw.choice((512, 1024)), library.manager)
+    program, _, _ = drawn_modes(draw, layout)
+    bounds = [draw.choice((1, 2, 2, 3)) for _ in program.classes]
+    points = found(program.certificate(bounds))
+    most = max(sum(pages) for _, pages in points)
+    at = draw.randrange(len(points))
+    mode, pages = points[at]
+    lower = tuple(p - (c == draw.randrange(len(pages))) if p else p for c, p in enumerate(pages))
+    tried = [(most, points), (most - 1, points), (most, points[:at] + points[at + 1 :]), (most, [*points[:at], (mode, lower), *points[at + 1 :]])]
+    for pages, some in tried:
+        if not pages:
+            continue
+        right = certifies(program, bounds, pages, some)
+        rows = [(mode, plan.spread(layout, program.classes, held, 0)) for mode, held in some]
+        if library.accepts(pages, layout.page_bytes, plan.spread(layout, program.classes, bounds, 1), program.modes, rows) != right:
+            return f"seed {seed}: the proved test {'refuses' if right else 'accepts'} {pages} pages with the points {some}"
+    return None
 
 
 def drawn_modes(draw, layout):
@@ -211,7 +236,8 @@ def differs(seed):
     what = f"seed {seed}, bounds {bounds}"
     if not need.least == need.pages == most:
         return f"{what}: {need.least} to {need.pages} pages, and the search finds {most}"
-    if isinstance(program, needs.Modes) and not program.is_shared and not resizes and not certifies(program, bounds, most):
+    is_certain = isinstance(program, needs.Modes) and not program.is_shared and not resizes
+    if is_certain and not certifies(program, bounds, most, found(program.points(bounds))):
         return f"{what}: the planner's vectors of pages are no certificate"
     calls = program.script(bounds, need)
     if calls.most != most and not need.is_shared:
@@ -290,10 +316,14 @@ def demand_differs(path, name, program, folder, manager="cf", plays=None):
 
 
 def differences(program, seeds, count):
-    """What differs, line by line: of drawn programs, then of the demands."""
+    """What differs, line by line: of drawn programs, of the proved test, then of the demands."""
     for seed in range(seeds):
         yield differs(seed)
         count["drawn programs"] += 1
+    with tempfile.TemporaryDirectory() as folder:
+        for manager in "cf", "nm":
+            library = plan.proved_test.Library(manager, folder)
+            yield from (test_differs(seed, library) for seed in range(seeds))
     with tempfile.TemporaryDirectory() as folder:
         for name, text in KINDS.items():
             path = Path(folder) / "demand"

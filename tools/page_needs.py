@@ -151,10 +151,11 @@ class Modes:
             for counts in self.by_class
         )
 
-    def points(self, bounds):
+    def points(self, bounds, all_switches=None):
         """For each mode its greatest vectors of pages over all histories; if that takes too long, some, and `gave_up` is set."""
         found, waiting = [[] for _ in self.modes], collections.deque()
-        caps = [[tuple(map(most_pages, s.meet, self.m, bounds)) for s in switches] for switches in self.switches]
+        all_switches = all_switches or self.switches
+        caps = [[tuple(map(most_pages, s.meet, self.m, bounds)) for s in switches] for switches in all_switches]
         compared = 0
 
         def add(point):
@@ -172,10 +173,18 @@ class Modes:
             point = waiting.popleft()
             if point not in found[point.mode]:
                 continue
-            for switch, cap in zip(self.switches[point.mode], caps[point.mode]):
+            for switch, cap in zip(all_switches[point.mode], caps[point.mode]):
                 add(Point(switch.to, tuple(map(max, map(min, point.pages, cap), self.starts[switch.to])), switch, point))
             self.gave_up = compared > MOST_COMPARED
         return [point for mine in found for point in mine]
+
+    def certificate(self, bounds):
+        """Points as `is_certificate` of the crate `sizing` tests them: it counts what two modes share by class, not by size."""
+        by_class = [
+            [Switch(b, tuple(map(min, mine, other))) for b, other in enumerate(self.by_class) if b != a]
+            for a, mine in enumerate(self.by_class)
+        ]
+        return self.points(bounds, by_class)
 
     def need(self, bounds):
         """The pages for these bounds, one for each class."""
@@ -228,7 +237,9 @@ class Modes:
         return leave, take
 
     def is_within(self, bounds, pages):
-        """Whether so many pages are enough for these bounds."""
+        """Whether so many pages are enough for these bounds; without resizes, also by the certificate, which counts by class."""
+        if not self.resizes and len(self.modes) > 1 and max(sum(point.pages) for point in self.certificate(bounds)) > pages:
+            return False
         return self.need(bounds).pages <= pages
 
     def objects(self):

@@ -1,0 +1,60 @@
+"""The proved test whether numbers of pages are a certificate, through which tools/plan runs its answers. `rt lib` in
+crates/plan_library proves and builds it; gcc links it into a shared object, which ctypes calls.
+"""
+import ctypes
+import os
+import subprocess
+
+TOP = os.path.dirname(os.path.dirname(os.path.realpath(__file__)))
+CLASSES, ENTRIES = 67, 64
+ARCHIVE = os.path.join("crates", "plan_library", "out", "libplan_library.a")
+ByClass = ctypes.c_uint32 * CLASSES
+
+
+class Need(ctypes.Structure):
+    _fields_ = [("bytes", ctypes.c_uint32), ("count", ctypes.c_uint32)]
+
+
+class ModeObjects(ctypes.Structure):
+    _fields_ = [("objects", ByClass)]
+
+
+class PointPages(ctypes.Structure):
+    _fields_ = [("mode", ctypes.c_uint32), ("pages", ByClass)]
+
+
+def listed(kind, items):
+    """An array and its length, as C takes them."""
+    return (kind * max(1, len(items)))(*items), ctypes.c_size_t(len(items))
+
+
+class Library:
+    """The functions of crates/plan_library, for the slots of a manager."""
+
+    def __init__(self, manager, folder):
+        shared = os.path.join(folder, f"plan_library_{manager}.so")
+        whole = ["-Wl,--whole-archive", os.path.join(TOP, ARCHIVE), "-Wl,--no-whole-archive"]
+        subprocess.run(["gcc", "-shared", "-o", shared, *whole], check=True, stderr=subprocess.PIPE)
+        self.manager, self.calls, self.in_blocks = manager, ctypes.CDLL(shared), ctypes.c_bool(manager == "nm")
+        for call in self.calls.plan_pages_needed, self.calls.plan_class_objects, self.calls.plan_is_certified:
+            call.restype = ctypes.c_bool
+
+    def asked(self, call, page_bytes, mode, found):
+        """What the call writes for a mode, which has the most objects of each size, into `found`; None if it refuses the mode."""
+        needs = listed(Need, [Need(size, count) for size, count in mode.items()])
+        return found if call(ctypes.c_uint32(page_bytes), self.in_blocks, *needs, ctypes.byref(found)) else None
+
+    def needed(self, page_bytes, mode):
+        """The least pages of a program with one mode, with resizes too; None if the call refuses it."""
+        found = self.asked(self.calls.plan_pages_needed, page_bytes, mode, ctypes.c_uint32())
+        return found and found.value
+
+    def accepts(self, pages, page_bytes, bounds, modes, points):
+        """Whether the points are a certificate; each is a mode's number and the pages of each class."""
+        objects = [self.asked(self.calls.plan_class_objects, page_bytes, mode, ModeObjects()) for mode in modes]
+        if None in objects:
+            return False
+        points = [PointPages(mode, ByClass(*by_class)) for mode, by_class in points]
+        numbers = ctypes.c_uint32(pages), ctypes.c_uint32(page_bytes), self.in_blocks
+        lists = (ctypes.c_uint32, bounds), (ModeObjects, objects), (PointPages, points)
+        return self.calls.plan_is_certified(*numbers, *(part for kind, items in lists for part in listed(kind, items)))
