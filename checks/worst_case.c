@@ -1,60 +1,61 @@
 /* Makes calls on a library and prints for each its instructions and its stack. checks/worst_case compares them with the
  * bounds that tools/worst_case computes.
  *
- *   program FIRST PAST SEED COUNT LONG PAGES PAGEBYTES K PROXIES
+ *   program SEED COUNT PAGES PAGEBYTES K PROXIES
  *
- * FIRST and PAST bound the library's code, in hexadecimal. The trap flag stops after each instruction, and those within
- * the bounds are counted. A line of output has a call, its code, the instructions, the bytes of stack, the steps, and what
+ * It runs under qemu, for x86-64 or ARM64. The plugin worst_case_count.c adds 1 to `instructions` for each instruction of
+ * the library that runs. A line of output has a call, its code, the instructions, the bytes of stack, the steps, and what
  * its lengths follow from. The calls run on a stack of their own, which is painted before. The functions outside of the
- * library run on the stack of main, without the trap flag. After COUNT drawn calls it makes those that are made to be
- * long, if LONG is 1. Lines `ran ADDRESS` come last. */
-#define _GNU_SOURCE
+ * library run on the stack of main. After COUNT drawn calls it makes those that are made to be long. Lines `ran OFFSET`
+ * come last, for each instruction of the library that ran. */
 #include "norphuen.h"
 
 #include <inttypes.h>
-#include <signal.h>
 #include <stdio.h>
 #include <stdlib.h>
 #include <string.h>
-#include <ucontext.h>
 
 /* Only a library that lends has these. */
 #pragma weak nph_place
 #pragma weak nph_lend
 #pragma weak nph_return
 
-enum { STACK = 1 << 16, LIVE = 1024 };
+enum { STACK = 1 << 14, LIVE = 1024 };
 static const unsigned char paints[2] = {0xa5, 0x5a};
 static _Alignas(16) unsigned char stack[STACK];
 static nph_heap heap = NPH_HEAP;
-static uint64_t first, past, instructions, state;
+static uint64_t state;
 static uint32_t handles[LIVE], lengths[LIVE], live, page_words;
 static uint8_t buffer[1 << 17];
 static int paint;
-/* Whether the instruction at each address of the library's code was run. */
-static char ran[1 << 17];
+/* The plugin writes here: the instructions, and how often each one ran, by its distance from the library's first byte. */
+volatile uint64_t instructions, ran[1 << 16];
 /* Calls and bytes of memcpy, memmove and memset, in one call of the library. */
 static uint64_t copied[3][2];
 
-/* What the trampoline reads and writes: a function, its arguments, the flag to set, and the two stack pointers. */
-struct trampoline { uint64_t function, arguments[5], flag, top, outer, inner; } trampoline;
+/* What the trampoline reads and writes: a function, its arguments, the stack pointers where the painted stack begins, of
+ * main, and of the library, and a return address. */
+struct trampoline { uint64_t function, arguments[5], top, outer, inner, back; } trampoline;
 int32_t call_on_stack(void);
 
+#if defined(__x86_64__)
 __asm__(".text\ncall_on_stack:\n"
-        " push %rbx\n lea trampoline(%rip), %rbx\n mov %rsp, 64(%rbx)\n mov 56(%rbx), %rsp\n"
-        " mov (%rbx), %rax\n mov 8(%rbx), %rdi\n mov 16(%rbx), %rsi\n mov 24(%rbx), %rdx\n mov 32(%rbx), %rcx\n mov 40(%rbx), %r8\n"
-        " mov 48(%rbx), %r11\n pushfq\n or %r11, (%rsp)\n popfq\n call *%rax\n"
-        " pushfq\n andq $~0x100, (%rsp)\n popfq\n mov trampoline+64(%rip), %rsp\n pop %rbx\n ret\n");
+        " push %rbx\n lea trampoline(%rip), %rbx\n mov %rsp, 56(%rbx)\n mov 48(%rbx), %rsp\n"
+        " mov 8(%rbx), %rdi\n mov 16(%rbx), %rsi\n mov 24(%rbx), %rdx\n mov 32(%rbx), %rcx\n mov 40(%rbx), %r8\n"
+        " call *(%rbx)\n mov trampoline+56(%rip), %rsp\n pop %rbx\n ret\n");
 #define OUTSIDE(name) \
-    __asm__(".globl outside_" #name "\noutside_" #name ":\n" \
-            " mov %rsp, trampoline+72(%rip)\n mov trampoline+64(%rip), %rsp\n sub $136, %rsp\n and $-16, %rsp\n" \
-            " pushfq\n andq $~0x100, (%rsp)\n popfq\n call real_" #name "\n" \
-            " mov trampoline+48(%rip), %r11\n pushfq\n or %r11, (%rsp)\n popfq\n mov trampoline+72(%rip), %rsp\n ret\n");
-static void count(int number, siginfo_t *info, void *context) {
-    uint64_t at = (uint64_t)((ucontext_t *)context)->uc_mcontext.gregs[REG_RIP];
-    if (at >= first && at < past) instructions++, ran[(at - first) % sizeof ran] = 1;
-    (void)number, (void)info;
-}
+    __asm__(".globl outside_" #name "\noutside_" #name ":\n mov %rsp, trampoline+64(%rip)\n mov trampoline+56(%rip), %rsp\n" \
+            " call real_" #name "\n mov trampoline+64(%rip), %rsp\n ret\n");
+#elif defined(__aarch64__)
+#define AT " adrp x9, trampoline\n add x9, x9, :lo12:trampoline\n"
+__asm__(".text\ncall_on_stack:\n stp x29, x30, [sp, #-16]!\n" AT
+        " mov x10, sp\n str x10, [x9, #56]\n ldr x10, [x9, #48]\n mov sp, x10\n"
+        " ldp x11, x0, [x9]\n ldp x1, x2, [x9, #16]\n ldp x3, x4, [x9, #32]\n blr x11\n" AT
+        " ldr x10, [x9, #56]\n mov sp, x10\n ldp x29, x30, [sp], #16\n ret\n");
+#define OUTSIDE(name) \
+    __asm__(".globl outside_" #name "\noutside_" #name ":\n" AT " mov x10, sp\n stp x10, x30, [x9, #64]\n ldr x10, [x9, #56]\n mov sp, x10\n" \
+            " bl real_" #name "\n" AT " ldp x10, x30, [x9, #64]\n mov sp, x10\n ret\n");
+#endif
 OUTSIDE(memcpy) OUTSIDE(memmove) OUTSIDE(memset) OUTSIDE(rattle_alloc) OUTSIDE(rattle_realloc) OUTSIDE(rattle_dealloc)
 
 void *real_memcpy(void *to, const void *from, size_t n) { copied[0][0]++, copied[0][1] += n; return memcpy(to, from, n); }
@@ -68,17 +69,22 @@ nph_block real_rattle_realloc(void *at, size_t kept, size_t bytes, size_t align)
 }
 void real_rattle_dealloc(void *at) { free(at); }
 
+/* The first number of nph_bytes_needed, which has no heap. */
+static uint64_t pages;
+
 /* Makes a call of the library, and prints the first words of its line. */
 static int32_t call(const char *name, void *function, uint64_t a, uint64_t b, uint64_t c, uint64_t d) {
     uint64_t steps = 0, counted, moved[3][2];
     unsigned char *low = stack, *top = stack + STACK - 64;
     int32_t code;
-    trampoline = (struct trampoline){(uint64_t)function, {(uint64_t)&heap, a, b, c, d}, 0x100, (uint64_t)top, 0, 0};
+    uint64_t of = function == (void *)nph_bytes_needed ? pages : (uint64_t)&heap;
+    trampoline = (struct trampoline){(uint64_t)function, {of, a, b, c, d}, (uint64_t)top, 0, 0, 0};
     instructions = 0;
     memset(copied, 0, sizeof copied);
     code = call_on_stack();
     counted = instructions;
     memcpy(moved, copied, sizeof moved);
+    for (uint64_t word; low < top && (memcpy(&word, low, 8), word == paints[paint] * 0x0101010101010101u);) low += 8;
     while (low < top && *low == paints[paint]) low++;
     paint ^= 1;
     memset(stack, paints[paint], STACK);
@@ -143,27 +149,36 @@ static void release(uint32_t i) {
     read_or_write(true, handle, 0, 8), read_or_write(false, handle, 0, 8);
 }
 
+/* The calls that ask for the whole heap. */
+static void ask_heap(void) {
+    uint64_t steps;
+    nph_class c;
+    nph_heap_totals t;
+    call("has_room", (void *)nph_has_room, drawn(page_words * 8), 0, 0, 0), puts("");
+    call("figures", (void *)nph_figures, drawn(70), (uint64_t)&c, 0, 0), puts("");
+    call("totals", (void *)nph_totals, (uint64_t)&t, 0, 0, 0), puts("");
+    call("version", (void *)nph_version, 0, 0, 0, 0), puts("");
+    call("last_steps", (void *)nph_last_steps, (uint64_t)&steps, 0, 0, 0), puts("");
+}
+
+/* Calls that a closed or lent heap refuses. */
+static void refused(uint32_t handle) {
+    make(8), ask_handle(handle), release_handle(handle), resize_handle(handle, 8, 8), ask_heap();
+    read_or_write(true, handle, 0, 8), read_or_write(false, handle, 0, 8);
+}
+
 /* Lends the heap, makes calls that a lent heap refuses, and takes it back. */
-static void lend(void) {
+static void lend(uint32_t handle) {
     uint64_t *words;
     if (!nph_lend) return;
     call("return", (void *)nph_return, 0, 0, 0, 0), puts("");
     call("lend", (void *)nph_lend, (uint64_t)&words, 0, 0, 0), puts("");
     call("lend", (void *)nph_lend, (uint64_t)&words, 0, 0, 0), puts("");
-    make(8), ask_handle(handles[0]), release_handle(handles[0]), resize_handle(handles[0], 8, 8);
+    refused(handle);
     call("return", (void *)nph_return, 0, 0, 0, 0), puts("");
 }
 
-static void ask(uint32_t i) {
-    uint64_t steps;
-    nph_class c;
-    nph_heap_totals t;
-    ask_handle(handles[i]), lend();
-    call("has_room", (void *)nph_has_room, drawn(page_words * 8), 0, 0, 0), puts("");
-    call("figures", (void *)nph_figures, drawn(70), (uint64_t)&c, 0, 0), puts("");
-    call("totals", (void *)nph_totals, (uint64_t)&t, 0, 0, 0), puts("");
-    call("last_steps", (void *)nph_last_steps, (uint64_t)&steps, 0, 0, 0), puts("");
-}
+static void ask(uint32_t i) { ask_handle(handles[i]), lend(handles[i]), ask_heap(); }
 
 /* A size that often fills a slot of a small or of a large class. */
 static uint32_t size(void) {
@@ -181,9 +196,24 @@ static void draw_calls(uint64_t count) {
         case 3: case 4: resize(i, drawn(2) ? bytes : (uint32_t)drawn(lengths[i] + 9)); break;
         case 5: read_or_write(true, handles[i], at, (uint32_t)drawn(lengths[i] - at + 1)); break;
         case 6: read_or_write(false, handles[i], at, (uint32_t)drawn(lengths[i] - at + 1)); break;
-        default: ask(i); n += 4;
+        default: ask(i); n += 8;
         }
     }
+}
+
+/* Resizes an object of up to `bytes` bytes between all lengths that end within two words, and reads and writes it from and to
+ * each byte of a word. */
+static void sweep(uint32_t bytes) {
+    while (live) release(live - 1);
+    if (bytes < 40 || make(bytes) != NPH_OK) return;
+    for (uint32_t from = 0; from < 17; from++)
+        for (uint32_t to = from + 1; to < 18; to++) resize(0, bytes - from), resize(0, bytes - to);
+    resize(0, bytes);
+    for (uint32_t at = 0; at < 9; at++)
+        for (uint32_t end = 0; end < 9; end++)
+            read_or_write(true, handles[0], at, bytes - at - end), read_or_write(false, handles[0], at, bytes - at - end);
+    for (uint32_t n = 0; n < 40; n++) read_or_write(true, handles[0], n % 8, n), read_or_write(false, handles[0], n % 8, n);
+    for (uint32_t less = 24; less < bytes; less += less / 4) resize(0, bytes - less), resize(0, bytes);
 }
 
 /* Calls that are made to be long: a page's largest object written and read from each byte of a word, resizes to and from
@@ -191,8 +221,9 @@ static void draw_calls(uint64_t count) {
 static void long_calls(void) {
     uint32_t most = page_words * 8 - 8;
     while (live) release(live - 1);
+    for (uint32_t part = 1; part < 12; part += part) sweep(most / part - 8 * (part > 1));
+    while (live) release(live - 1);
     if (make(most) == NPH_OK) {
-        for (uint32_t at = 0; at < 9; at++) read_or_write(true, handles[0], at, most - at - at / 2), read_or_write(false, handles[0], at, most - at - at / 2);
         resize(0, most - 9), resize(0, most), resize(0, 8), resize(0, most), resize(0, most / 2 - 8), resize(0, most), resize(0, 0), resize(0, most);
     }
     while (live) release(live - 1);
@@ -224,23 +255,22 @@ static int32_t open_or_close(bool opens, const uint64_t *settings) {
 }
 
 int main(int argc, char **argv) {
-    static unsigned char spare[1 << 16];
-    if (argc != 10) return 1;
-    first = strtoull(argv[1], NULL, 16), past = strtoull(argv[2], NULL, 16), state = strtoull(argv[3], NULL, 10);
-    stack_t other = {.ss_sp = spare, .ss_size = sizeof spare};
-    struct sigaction action = {.sa_sigaction = count, .sa_flags = SA_SIGINFO | SA_ONSTACK};
-    if (sigaltstack(&other, NULL) || sigaction(SIGTRAP, &action, NULL)) return 1;
-    memset(stack, paints[paint], STACK);
     uint64_t settings[4];
-    for (int i = 0; i < 4; i++) settings[i] = strtoull(argv[6 + i], NULL, 10);
+    if (argc != 7) return 1;
+    state = strtoull(argv[1], NULL, 10);
+    for (int i = 0; i < 4; i++) settings[i] = strtoull(argv[3 + i], NULL, 10);
     page_words = (uint32_t)settings[1] / 8;
-    call("malloc", (void *)nph_malloc, 8, (uint64_t)buffer, 0, 0), puts("");
+    memset(stack, paints[paint], STACK);
+    refused(0);
+    nph_needed needed;
+    pages = settings[0];
+    call("bytes_needed", (void *)nph_bytes_needed, settings[1], settings[2], settings[3], (uint64_t)&needed), puts("");
     if (open_or_close(true, settings) != NPH_OK) return 1;
-    draw_calls(strtoull(argv[4], NULL, 10));
-    if (argv[5][0] == '1') long_calls();
+    draw_calls(strtoull(argv[2], NULL, 10));
+    long_calls();
     while (live) release(live - 1);
     open_or_close(false, settings);
-    for (uint64_t at = first; at < past && at - first < sizeof ran; at++)
-        if (ran[at - first]) printf("ran %" PRIx64 "\n", at);
+    for (size_t at = 0; at < sizeof ran / sizeof *ran; at++)
+        if (ran[at]) printf("ran %zx\n", at);
     return 0;
 }

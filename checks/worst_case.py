@@ -1,15 +1,18 @@
 """Compares the bounds of tools/worst_case with counted calls and with docs/SPEED.md: checks/worst_case.
 
-    checks/worst_case.py ROOM COUNT NORPHUEN NONMOVING TLSF
+    checks/worst_case.py ROOM COUNT ARCHIVES [--write]
+
+ARCHIVES has NAME.PROCESSOR.a for each library and processor. --write writes the tables of docs/SPEED.md in place of
+comparing them.
 
  counted   checks/worst_case.c is linked with each library, and makes drawn calls and ones that are made to be long, with
-           six settings. No call takes more instructions, more bytes of memcpy, memmove or memset, or more stack than its
-           bound. The longest of each kind is within NEAR of its bound, and the deepest stack is the computed one, but for
-           those of FAR and SHALLOW.
+           six settings, under qemu. No call takes more instructions, more bytes of memcpy, memmove or memset, or more
+           stack than its bound. The longest of each kind is within NEAR of its bound, and the deepest stack is the
+           computed one, but for those of SHALLOW.
  left out  No block ran that the bounds leave out.
  refused   Wrong notes, and libraries that have no bound, are refused by a line that names what to look at.
  clauses   Each clause that a note trusts is one of the function it names, and the header has each duty of the caller.
- document  The table of docs/SPEED.md has the bounds, and the longest calls that were seen; that of docs/C.md has the stacks.
+ document  The tables of docs/SPEED.md have the bounds, the longest calls that were seen, and the sums of the code.
 """
 import collections
 import concurrent.futures
@@ -35,14 +38,16 @@ SETTINGS = [(16, 512, 1, 64), (8, 512, 3, 16), (24, 2048, 2, 200), (16, 4096, 1,
 # The setting of the column "longest seen".
 SHOWN = (16, 16384, 1, 4096)
 NEAR = Fraction(11, 10)
-# A return that is refused takes longer than one that succeeds.
-FAR = {("norphuen", "nph_open"), ("norphuen", "nph_resize same"), ("norphuen", "nph_return"), ("norphuen_nonmoving", "nph_open"),
-       ("norphuen_nonmoving", "nph_resize same"), ("norphuen_nonmoving", "nph_resize move"), ("norphuen_tlsf", "nph_open")}
-# No list of numbers has to grow there; slots have no words outside of whole blocks.
-SHALLOW = {("norphuen_tlsf", "nph_open"), ("norphuen_nonmoving", "nph_free")}
-# How many turns less of a loop are seen: library, function, number of the loop.
-TIGHT = {("norphuen", "virtual_words::direct::DirectMapping::write_bytes", 1): 3,
-         ("norphuen_nonmoving", "virtual_words::mapped::MappedMapping::write_bytes", 1): 3, ("norphuen_tlsf", "nph_totals", 1): 1}
+# A frame on ARM64 is a multiple of 16 bytes, the lowest of which may be unused.
+UNUSED = {tool.X86: 0, tool.ARM: 8}
+# Whole slots have no words outside of blocks; a resize writes one word; a list that has its memory doesn't grow.
+SHALLOW = {("norphuen_nonmoving", tool.X86, "nph_free"), ("norphuen_nonmoving", tool.X86, "nph_resize"), ("norphuen_nonmoving", tool.ARM, "nph_resize"),
+           ("norphuen", tool.ARM, "nph_open"), ("norphuen_nonmoving", tool.ARM, "nph_open"),
+           ("norphuen_tlsf", tool.X86, "nph_open"), ("norphuen_tlsf", tool.ARM, "nph_open")}
+# No loop runs in these, on either processor.
+NO_LOOP = {"norphuen": {"nph_malloc", "nph_free", "nph_length", "nph_has_room", "nph_place", "nph_lend", "nph_return", "nph_version"},
+           "norphuen_nonmoving": {"nph_malloc", "nph_length", "nph_has_room", "nph_version"},
+           "norphuen_tlsf": {"nph_malloc", "nph_free", "nph_length", "nph_has_room", "nph_bytes_needed", "nph_version"}}
 # The lengths that the notes may use (docs/SPEED.md).
 NAMES = "smtcwbfpPWQ"
 failed = []
@@ -53,31 +58,35 @@ def fail(text):
     print(f"checks/worst_case: {text}", file=sys.stderr)
 
 
+# The compiler, the other tools' prefix, and the emulator of each processor.
+MACHINES = {tool.X86: ("gcc", "", "qemu-x86_64"), tool.ARM: ("aarch64-linux-gnu-gcc", "aarch64-linux-gnu-", "qemu-aarch64")}
+
+
 def build(room, name, library):
-    """The program that makes the calls, and the addresses of the library's code in it."""
-    archive = f"{room}/{name}.outside.a"
+    """The command that makes the calls, and where each function of the library stands behind its first one."""
+    compiler, prefix, emulator = MACHINES[library.processor]
+    begin = f"{room}/{name}.{library.processor}"
     outside = [f"--redefine-sym={n}=outside_{n}" for n in sorted(tool.MOVERS | tool.ALLOCATOR)]
-    subprocess.run(["objcopy", *outside, library.path, archive], check=True)
+    subprocess.run([f"{prefix}objcopy", *outside, library.path, f"{begin}.outside.a"], check=True)
     # All code of the library in one section, so that it stays together.
-    script, whole = Path(f"{room}/together"), f"{room}/{name}.o"
-    script.write_text("SECTIONS { .text : { *(.text .text.*) } }", encoding="utf-8")
-    subprocess.run(["ld", "-r", "-T", script, "-o", whole, "--whole-archive", archive], check=True)
-    program = f"{room}/{name}.counted"
-    subprocess.run(["gcc", "-std=gnu11", "-O2", "-Wall", "-Wextra", "-Werror", "-mno-red-zone", "-no-pie", "-Iinclude", "-o", program,
-                    "checks/worst_case.c", whole], check=True)
-    places = collections.defaultdict(list)
-    printed = subprocess.run(["nm", "-n", program], capture_output=True, text=True, check=True).stdout
-    code = [(int(at, 16), symbol) for at, kind, symbol in (line.split() for line in printed.splitlines() if len(line.split()) == 3) if kind in "tT"]
-    for at, symbol in code:
-        places[symbol].append(at)
+    Path(f"{room}/together").write_text("SECTIONS { .text : { *(.text .text.*) } }", encoding="utf-8")
+    subprocess.run([f"{prefix}ld", "-r", "-T", f"{room}/together", "-o", f"{begin}.o", "--whole-archive", f"{begin}.outside.a"], check=True)
+    strict = ["-std=c11", "-O2", "-Wall", "-Wextra", "-Werror", "-Iinclude"]
+    subprocess.run([compiler, *strict, "-static", "-no-pie", "-o", begin, "checks/worst_case.c", f"{begin}.o"], check=True)
+    plugin = f"{room}/count.so"
+    subprocess.run(["gcc", *strict, "-shared", "-fPIC", "-o", plugin, "checks/worst_case_count.c"], check=True)
+    printed = subprocess.run([f"{prefix}nm", "-n", begin], capture_output=True, text=True, check=True).stdout
+    places = {symbol: int(at, 16) for at, _, symbol in (line.split() for line in printed.splitlines() if len(line.split()) == 3)}
+    code = [(at, symbol) for symbol, at in places.items() if not symbol.startswith((".", "$"))]
     symbols = {function.symbol for function in library.functions.values()}
-    first = min(min(places[symbol]) for symbol in symbols)
-    last = max(max(places[symbol]) for symbol in symbols)
+    first, last = min(places[symbol] for symbol in symbols), max(places[symbol] for symbol in symbols)
     past = min([at for at, _ in code if at > last], default=last + 1)
-    strangers = {symbol for at, symbol in code if first <= at < past and not symbol.startswith(".")} - symbols
+    strangers = {symbol for at, symbol in code if first <= at < past} - symbols
     if strangers:
         raise tool.Fault(f"{name}: {sorted(strangers)[0]} stands within the library's code")
-    return program, first, past, {name: places[function.symbol][0] for name, function in library.functions.items()}
+    words = f"{plugin},first={first:x},past={past:x},instructions={places['instructions']:x},ran={places['ran']:x}"
+    return [emulator, "-B", "0", "-cpu", "max", "-plugin", words, begin], {
+        name: places[function.symbol] - first for name, function in library.functions.items()}
 
 
 def never_ran(name, library, notes, starts, ran):
@@ -92,7 +101,7 @@ def never_ran(name, library, notes, starts, ran):
 
 
 def lengths(kind, fields, steps):
-    """The lengths of a call, by the names in the notes."""
+    """The lengths of a call, by the names of the notes."""
     at = dict.fromkeys(NAMES, 0)
     at.update({n: v for n, v in fields.items() if n in "PWQ"})
     at["p"] = 1 << (at["Q"] - 1).bit_length() if at["Q"] else 0
@@ -124,8 +133,17 @@ class Seen:
     """Of each kind of call the one that is nearest to its bound, the longest one, the deepest stack, and the number of calls."""
 
     def __init__(self, bounds):
-        self.bounds, self.succeeds, self.nearest, self.longest = bounds, {}, {}, {}
-        self.deepest, self.count = collections.Counter(), 0
+        self.bounds, self.nearest, self.longest = bounds, {}, {}
+        self.deepest, self.count, self.known = collections.Counter(), 0, {}
+
+    def most(self, row, at):
+        """The most instructions of a call with these lengths, and the most calls and bytes of each function outside."""
+        key = (row, *at.values())
+        if key not in self.known:
+            own, outside = self.bounds[row]
+            self.known[key] = max(int(tool.value_at(poly, at)) for poly in own), [
+                (what, int(tool.value_at(outside.get(what, {}), at))) for name in ("memcpy", "memmove", "memset") for what in (name, f"{name} bytes")]
+        return self.known[key]
 
     def take(self, line):
         """What is above its bound in this call."""
@@ -137,45 +155,36 @@ class Seen:
         row = row if done and row in self.bounds else call
         self.count += 1
         self.deepest[call] = max(self.deepest[call], int(stack))
-        own, outside = self.bounds[row]
         # A refused call has no lengths, and returns before it works on any word.
         at = lengths(kind, fields, steps) if done else dict.fromkeys(NAMES, 0)
-        most = max(tool.value_at(poly, at) for poly in own)
-        # TLSF refuses each resize and each class: of a call that never succeeds the refused ones count.
-        if done > self.succeeds.get(row, -1):
-            self.succeeds[row] = done
-            self.nearest.pop(row, None), self.longest.pop(row, None)
-        if done == self.succeeds[row]:
-            if row not in self.nearest or most * self.nearest[row][1] < self.nearest[row][0] * counted:
-                self.nearest[row] = (most, counted, line.strip())
-            if counted > self.longest.get(row, (0, 0))[0]:
-                self.longest[row] = (counted, most)
+        most, outside = self.most(row, at)
+        if row not in self.nearest or most * self.nearest[row][1] < self.nearest[row][0] * counted:
+            self.nearest[row] = (most, counted, line.strip())
+        if counted > self.longest.get(row, (0, 0))[0]:
+            self.longest[row] = (counted, most)
         if counted > most:
-            yield f"{line.strip()} takes more than its bound {float(most):g} = {tool.formula_of(own)}"
-        for n, name in enumerate(("memcpy", "memmove", "memset")):
-            for what, number in ((name, moved[2 * n]), (f"{name} bytes", moved[2 * n + 1])):
-                if number > tool.value_at(outside.get(what, {}), at):
-                    yield f"{line.strip()}: {what} {number} is more than {tool.written(outside.get(what, {}))}"
+            yield f"{line.strip()} takes more than its bound {most} = {tool.formula_of(self.bounds[row][0])}"
+        for (what, limit), number in zip(outside, moved):
+            if number > limit:
+                yield f"{line.strip()}: {what} {number} is more than {limit}"
 
 
-def run(program, first, past, settings, count, seed=1):
+def run(command, settings, count, seed=1):
     """The lines that the program prints."""
-    # An instruction takes some microseconds to count: short runs make no long calls on large pages.
-    long = settings == SHOWN or settings[1] <= 4096 or count >= 1000
-    words = [program, f"{first:x}", f"{past:x}", str(seed), str(count), f"{long:d}", *map(str, settings)]
+    words = [*command, str(seed), str(count), *map(str, settings)]
     done = subprocess.run(words, capture_output=True, text=True, check=False)
     if done.returncode:
-        raise tool.Fault(f"{program} {settings} ended with status {done.returncode}: {done.stderr}")
+        raise tool.Fault(f"{command[-1]} {settings} ended with status {done.returncode}: {done.stderr}")
     return done.stdout.splitlines()
 
 
 def counted(name, library, notes, bounds, stacks, room, count):
     """What was seen in all calls, and the calls of the shown setting."""
-    program, first, past, starts = build(room, name, library)
-    seen, ran = Seen(bounds), set()
+    command, starts = build(room, name, library)
+    seen, ran, name = Seen(bounds), set(), f"{name}, {library.processor}"
     with concurrent.futures.ThreadPoolExecutor(4) as pool:
-        shown = pool.submit(run, program, first, past, SHOWN, 20)
-        runs = [pool.submit(run, program, first, past, settings, count, seed) for seed, settings in enumerate(SETTINGS, 1)]
+        shown = pool.submit(run, command, SHOWN, count)
+        runs = [pool.submit(run, command, settings, count, seed) for seed, settings in enumerate(SETTINGS, 1)]
         for done in [shown, *runs]:
             for line in done.result():
                 if line.startswith("ran "):
@@ -190,12 +199,13 @@ def counted(name, library, notes, bounds, stacks, room, count):
             continue  # its cases are compared
         if not line:
             fail(f"{name}: no call of {row} was made")
-        elif most > NEAR * number and (name, row) not in FAR:
-            fail(f"{name}: no call of {row} is near its bound; the nearest has {float(most):g}: {line}")
+        elif most > NEAR * number:
+            fail(f"{name}: no call of {row} is near its bound; the nearest has {most}: {line}")
         if "SHOW" in os.environ:
-            print(f"{name} {row}: {float(most / number) if number else 0:.3f} {float(most):g} {line}")
+            print(f"{name} {row}: {most / number if number else 0:.3f} {most} {line}")
     for export, stack in stacks.items():
-        if seen.deepest[export] > stack or seen.deepest[export] < stack and (name, export) not in SHALLOW:
+        less = stack - seen.deepest[export]
+        if less < 0 or less > UNUSED[library.processor] and (library.name, library.processor, export) not in SHALLOW:
             fail(f"{name}: {export} used {seen.deepest[export]} bytes of stack, not {stack}")
     return seen, [line for line in shown.result() if not line.startswith("ran ")]
 
@@ -210,43 +220,58 @@ def refuses(what, words, archive, notes):
 
 def mutations(name, library, room, lines):
     """Notes that are wrong, each in one way: the tool refuses them, or a counted call is above their bound."""
-    path = f"{tool.NOTES}/{name}.{library.processor}"
-    text, count = Path(path).read_text(encoding="utf-8"), 0
+    column, file = tool.PROCESSORS.index(library.processor), Path(room) / f"{name}.wrong"
+    text, count = Path(f"{tool.NOTES}/{name}").read_text(encoding="utf-8"), 0
+    read = lambda: [tool.Line(line) for line in text.splitlines()]
+    notes = [(n, line) for n, line in enumerate(read()) if line.columns[column]]
+    first = lambda kind, words="": next((n for n, line in notes if line.kind == kind and words in line.columns[column][0]), None)
 
-    def try_one(what, words, changed):
-        nonlocal count
-        if changed == text:
-            fail(f"{name}: no note to make wrong for: {what}")
-        file = Path(room) / f"{name}.wrong"
-        file.write_text(changed, encoding="utf-8")
-        count += refuses(f"{name}: {what}", words, library.path, str(file))
+    def write(number, change):
+        """Changes the line with this number, and writes the notes."""
+        wrong = read()
+        change(wrong[number])
+        file.write_text("".join(line.written() + "\n" for line in wrong), encoding="utf-8")
 
-    def try_small(what, changed):
+    def try_one(what, words, number, change):
         nonlocal count
-        file = Path(room) / f"{name}.wrong"
-        file.write_text(changed, encoding="utf-8")
-        found = tool.Bounds(library, tool.Notes(str(file)))
+        if number is not None:
+            write(number, change)
+            count += refuses(f"{name}, {library.processor}: {what}", words, library.path, str(file))
+
+    def is_found(number, change):
+        """Whether a counted call is above the bound of the changed notes."""
+        write(number, change)
+        found = tool.Bounds(library, tool.Notes(str(file), library.processor))
         seen = Seen({row: tool.split_cost(cost) for row, cost in found.bounds().items()})
-        if found.problems or not any(text for line in lines for text in seen.take(line)):
-            fail(f"{name}: no counted call is above the bound with {what}")
-        count += 1
+        return not found.problems and any(text for line in lines for text in seen.take(line))
 
-    for match in re.finditer(r"^  loop (\d+) \S+(?: by (\d+))?: .*[a-z].*$", text, re.M):
-        where = re.findall(r"^function (\S+)", text[: match.start()], re.M)[-1]
-        if less := TIGHT.get((name, where, int(match[1]))):
-            try_small(f"{less} turns less of loop {match[1]} of {where}", text[: match.end()] + f" - {less * int(match[2] or 1)}" + text[match.end():])
-    loop = re.search(r"^  loop \d+ \S+.*\n", text, re.M)[0]
-    call = re.search(r"^  call \d+ \S+: .*\n", text, re.M)[0]
-    head = re.search(r"^function \S+ (\w+)$", text, re.M)
-    try_one("a loop without a note", "has no note", text.replace(loop, "", 1))
-    try_one("a call without a length", "needs its (bytes|length)", text.replace(call, "", 1))
-    try_one("the print of another function", r"changed .*look at --show", text.replace(head[0], head[0][:-6] + "000000", 1))
-    try_one("a note for a loop that isn't there", "stale note: no loop 99", text.replace(loop, loop + "  loop 99 1.0000: w\n", 1))
-    try_one("a note for a function that isn't there", "stale note: no function", text + "function no_such_function 000000\n")
-    if strided := re.search(r"^  loop \d+ \S+ by (\d+):", text, re.M):
-        try_one("a wrong stride", "changes no register by 4711", text.replace(strided[0], strided[0].replace(f"by {strided[1]}", "by 4711"), 1))
-    if never := re.search(r"^  never (\d+)\.(\w+):", text, re.M):
-        try_one("a fact on another block", "stale note: no block", text.replace(never[0], never[0].replace(never[2], "0000"), 1))
+    def put(place):
+        return lambda line: line.columns[column].__setitem__(0, place)
+
+    def less(turns):
+        def change(line):
+            by = re.search(r" by (\d+)$", line.columns[column][0])
+            line.formula += f" - {turns * int(by[1] if by else 1)}"
+        return change
+
+    lines = sorted(set(lines))
+    lengths = [(n, line) for n, line in notes if line.kind in ("loop", "call") and re.search(r"\b[a-z]\b", line.formula) and "=" not in line.formula]
+    small = 0
+    for number, line in lengths:
+        small += small < 2 and is_found(number, less(6 if line.kind == "loop" else 1))
+    if not small:
+        fail(f"{name}, {library.processor}: no length can be made too small so that a counted call is above the bound")
+    count += small
+    loop, call, never = first("loop"), first("call"), first("never")
+    place = lambda number: read()[number].columns[column][0]
+    try_one("a loop without a note", "has no note", loop, lambda line: line.columns[column].pop(0))
+    try_one("a call without a length", "needs its (bytes|length)", call, lambda line: line.columns[column].pop(0))
+    try_one("a place in doubt", "is in doubt: look at --show", loop, put("?" + place(loop)))
+    try_one("the print of another function", r"changed .*look at --show", first("function"), put("000000"))
+    try_one("a note for a loop that isn't there", "stale note: no loop 99", loop, lambda line: line.columns[column].append("99.0000"))
+    try_one("a note for a function that isn't there", "stale note: no function", first("function"), lambda line: setattr(line, "name", "no_such_function"))
+    try_one("a wrong stride", "changes no register by 4711", strided := first("loop", " by "), lambda line: put(re.sub(r"by .*", "by 4711", place(strided)))(line))
+    try_one("a fact on another block", "stale note: no (block|jump)", never, lambda line: put(re.sub(r"\.\w+$", ".0000", place(never)))(line))
     return count
 
 
@@ -258,7 +283,7 @@ UNBOUNDED = [
     ("void take(char *); int nph_malloc(int n) { char a[n]; take(a); return a[0]; }", "nph_malloc: the frame isn't fixed"),
     ("void *rattle_alloc(long, long); void *nph_malloc(int n) { return rattle_alloc(n, 8); }", "nph_malloc leads to rattle_alloc: only nph_close and nph_open may"),
     ("void take(int); int nph_malloc(int n) { take(n); return n; }", "call 1 of take, which is outside and isn't known"),
-    ("int nph_malloc(volatile int *n) { while (*n) ; return 1; }", "loop 1 .* has no note: how often"),
+    ("int nph_malloc(volatile int *n) { while (*n) ; return 1; }", "loop 1\\.\\w+ has no note: how often"),
     ("int nph_malloc(volatile int *n) { if (*n) for (;;) ; return 1; }", "nph_malloc: an endless loop"),
     ("int nph_malloc(volatile int *n) { if (*n) goto b; a: ++*n; b: *n += 2; if (*n < 9) goto a; return 1; }", "nph_malloc: a loop with two entries|has no note"),
 ]
@@ -269,13 +294,15 @@ def unbounded(room):
     notes = Path(room) / "no.notes"
     notes.write_text("", encoding="utf-8")
     for number, (text, words) in enumerate(UNBOUNDED):
-        file = f"{room}/unbounded{number}"
-        Path(f"{file}.c").write_text(text, encoding="utf-8")
-        subprocess.run(["gcc", "-O1", "-fno-optimize-sibling-calls" if "nph_malloc(n - 1)" in text else "-foptimize-sibling-calls", "-w", "-c", "-o",
-                        f"{file}.o", f"{file}.c"], check=True)
-        subprocess.run(["ar", "rc", f"{file}.a", f"{file}.o"], check=True)
-        refuses(text, words, f"{file}.a", str(notes))
-    return len(UNBOUNDED)
+        for compiler, prefix, _ in MACHINES.values():
+            file = f"{room}/unbounded{number}"
+            Path(f"{file}.c").write_text(text, encoding="utf-8")
+            calls = "-fno-optimize-sibling-calls" if "nph_malloc(n - 1)" in text else "-foptimize-sibling-calls"
+            subprocess.run([compiler, "-O1", calls, "-w", "-c", "-o", f"{file}.o", f"{file}.c"], check=True)
+            subprocess.run([f"{prefix}ar", "rc", f"{file}.a", f"{file}.o"], check=True)
+            refuses(f"{text} by {compiler}", words, f"{file}.a", str(notes))
+            os.remove(f"{file}.a")
+    return len(UNBOUNDED) * len(MACHINES)
 
 
 def clauses(name, notes):
@@ -293,13 +320,12 @@ def clauses(name, notes):
                 fail(f"{name}: a note of {function}, block {place}, trusts {' '.join(words)} of {where}, which is not there")
 
 
-TABLE = re.compile(r"^\| `(cf|nm|tlsf)` \| ([^|]*) \| ([^|]*) \| ([^|]*) \| ([^|]*) \| ([^|]*) \|$", re.M)
 SHORT = {"norphuen": "cf", "norphuen_nonmoving": "nm", "norphuen_tlsf": "tlsf"}
 
 
-def rows_of(name, bounds, stacks, lines):
-    """The cells of docs/SPEED.md: library, call, instructions, the longest call seen and its bound, stack."""
-    seen, rows = Seen(bounds), []
+def cells_of(bounds, stacks, lines):
+    """Of each call its cells in docs/SPEED.md: instructions, the longest call seen and its bound, stack."""
+    seen, cells = Seen(bounds), {}
     for line in lines:
         for _ in seen.take(line):
             pass
@@ -307,53 +333,62 @@ def rows_of(name, bounds, stacks, lines):
         if row in seen.longest and not any(other.startswith(row + " ") for other in bounds):
             number, most = seen.longest[row]
             call = row.removeprefix("nph_").replace(" ", ", ")
-            rows.append((SHORT[name], call, tool.formula_of(own).replace("*", ""), f"{number:,} of {most.__floor__():,}", f"{stacks[row.split()[0]]:,}"))
-    return rows
+            cells[call] = (tool.formula_of(own).replace("*", ""), f"{number:,} of {most:,}", f"{stacks[row.split()[0]]:,}")
+    return cells
 
 
-def document(rows, codes, stacks):
-    text = Path("docs/C.md").read_text(encoding="utf-8")
-    for what, calls in (("`nph_open`", {"nph_open"}), ("`nph_close`", {"nph_close"}), ("the other calls", None)):
-        most = [max(row[call] for call in calls or row.keys() - tool.MAY_ALLOCATE) for row in stacks]
-        row = " | ".join([f"| stack of {what}, bytes", *(f"{number:,}" for number in most)]) + " |"
-        if row not in text:
-            fail(f"docs/C.md lacks the row {row}")
-    text = Path("docs/SPEED.md").read_text(encoding="utf-8")
-    for name, code in codes.items():
-        if f"{code} ({name})" not in text:
-            fail(f"docs/SPEED.md lacks the sum of the code {code} ({name})")
-    given = {(library, call): tuple(rest) for library, call, _, *rest in TABLE.findall(text)}
-    for library, call, *rest in rows:
-        if given.pop((library, call), None) != tuple(rest):
-            fail(f"docs/SPEED.md lacks the row | `{library}` | {call} | STEPS | {' | '.join(rest)} |")
-    for library, call in given:
-        fail(f"docs/SPEED.md has a row {library} {call}, and no library has the call")
+def document(cells, codes, writes):
+    """Compares the two tables of docs/SPEED.md, or writes them. The steps are proved: they stay as they stand there."""
+    path = Path("docs/SPEED.md")
+    text = path.read_text(encoding="utf-8")
+    steps = dict(re.findall(r"^(\| `(?:cf|nm|tlsf)` \| [^|]*) \| ([^|]*) \|(?=(?: [^|]* \|){6}$)", text, re.M))
+    rows, sums = [], []
+    for name in LIBRARIES:
+        of = [cells[name, processor] for processor in tool.PROCESSORS]
+        for call in of[0]:
+            start = f"| `{SHORT[name]}` | {call}"
+            rows.append(" | ".join([start, steps.get(start, ""), *of[0][call], *of[1].get(call, ("",) * 3)]) + " |")
+        sums.append(" | ".join([f"| `lib{name}.a`", *(codes[name, processor] for processor in tool.PROCESSORS)]) + " |")
+    for table, pattern in ((rows, r"^(?:\| `(?:cf|nm|tlsf)` \|(?: [^|]* \|){8}\n)+"), (sums, r"^(?:\| `libnorphuen\w*\.a` \|(?: \w{12} \|){2}\n)+")):
+        whole = "".join(row + "\n" for row in table)
+        if not (found := re.search(pattern, text, re.M)):
+            fail("docs/SPEED.md lacks the table of " + table[0])
+        elif writes:
+            text = text[: found.start()] + whole + text[found.end():]
+        else:
+            for row in sorted(set(whole.splitlines()) ^ set(found[0].splitlines())):
+                fail(f"docs/SPEED.md {'lacks' if row in table else 'has'} the row {row}")
+    if writes:
+        path.write_text(text, encoding="utf-8")
 
 
 def main():
-    room, count = sys.argv[1], int(sys.argv[2])
-    rows, codes, every, total, wrong = [], {}, [], 0, 0
-    for name, archive in zip(LIBRARIES, sys.argv[3:]):
-        library = tool.Library(archive, name)
-        notes = tool.Notes(f"{tool.NOTES}/{name}.{library.processor}")
-        found = tool.Bounds(library, notes)
-        table = found.table()
-        bounds = {row: tool.split_cost(cost) for row, cost in found.bounds().items()}
-        for text in found.problems:
-            fail(f"{name}: {text}")
-        allocator = {export for export, row in table.items() if row["allocator"]}
-        if allocator != tool.MAY_ALLOCATE:
-            fail(f"{name}: a path leads to the allocator from {sorted(allocator)}")
-        stacks = {export: row["stack"] for export, row in table.items()}
-        seen, lines = counted(name, library, notes, bounds, stacks, room, count)
-        total += seen.count
-        codes[name] = library.code
-        every.append(stacks)
-        rows += rows_of(name, bounds, stacks, lines)
-        wrong += mutations(name, library, room, lines)
-        clauses(name, notes)
+    room, count, archives, *rest = sys.argv[1:]
+    cells, codes, total, wrong = {}, {}, 0, 0
+    for name in LIBRARIES:
+        for processor in tool.PROCESSORS:
+            library = tool.Library(f"{archives}/{name}.{processor}.a", name)
+            notes = tool.Notes(f"{tool.NOTES}/{name}", processor)
+            found = tool.Bounds(library, notes)
+            table = found.table()
+            bounds = {row: tool.split_cost(cost) for row, cost in found.bounds().items()}
+            for text in found.problems:
+                fail(f"{name}, {processor}: {text}")
+            allocator = {export for export, row in table.items() if row["allocator"]}
+            if allocator != tool.MAY_ALLOCATE:
+                fail(f"{name}, {processor}: a path leads to the allocator from {sorted(allocator)}")
+            looping = NO_LOOP[name] & {export for export, row in table.items() if row["running loops"]}
+            if looping:
+                fail(f"{name}, {processor}: {sorted(looping)[0]} has a loop")
+            stacks = {export: row["stack"] for export, row in table.items()}
+            seen, lines = counted(name, library, notes, bounds, stacks, room, int(count))
+            total += seen.count
+            codes[name, processor] = library.code
+            cells[name, processor] = cells_of(bounds, stacks, lines)
+            wrong += mutations(name, library, room, lines)
+            clauses(name, notes)
     wrong += unbounded(room)
-    document(rows, codes, every)
+    document(cells, codes, bool(rest))
     if failed:
         sys.exit(1)
     print(f"checks/worst_case: of {total:,} counted calls none is above its bound, and {wrong} wrong notes and libraries are refused", file=sys.stderr)
