@@ -42,6 +42,15 @@ package Norphuen is
    --  In place of a handle in Freed and Resized: no object moved.
    None : constant Unsigned_32 := Unsigned_32'Last;
 
+   --  The memory that Nph_Open asks for: the bytes of all blocks, those of
+   --  the largest block, and how many blocks.
+   type Needed is record
+      Total   : Unsigned_64 := 0;
+      Largest : Unsigned_64 := 0;
+      Blocks  : Unsigned_32 := 0;
+   end record
+   with Convention => C;
+
    --  The words of the freed slot or block, and the object that moved to its
    --  address.
    type Freed is record
@@ -89,6 +98,11 @@ package Norphuen is
      (H : in out Heap; Pages, Page_Bytes, K, Proxies : Unsigned_32)
       return Code
    with Import, Convention => C, External_Name => "nph_open";
+
+   function Nph_Bytes_Needed
+     (Pages, Page_Bytes, K, Proxies : Unsigned_32; Result : in out Needed)
+      return Code
+   with Import, Convention => C, External_Name => "nph_bytes_needed";
 
    procedure Nph_Close (H : in out Heap)
    with Import, Convention => C, External_Name => "nph_close";
@@ -153,6 +167,10 @@ package Norphuen is
 
    function Nph_Return (H : in out Heap) return Code
    with Import, Convention => C, External_Name => "nph_return";
+
+   --  10,000 times the major number, 100 times the minor one, and the patch.
+   function Nph_Version return Unsigned_32
+   with Import, Convention => C, External_Name => "nph_version";
 
    --  The address of the bytes of an object, while the heap is lent.
    function Nph_Bytes

@@ -35,6 +35,12 @@ class heap {
         return nph_open(&raw_, pages, page_bytes, k, proxies);
     }
 
+    // What `open` with these settings asks for, as nph_bytes_needed.
+    [[nodiscard]] static nph_status bytes_needed(uint32_t pages, uint32_t page_bytes, uint32_t k, uint32_t proxies,
+                                                 nph_needed &needed) {
+        return nph_bytes_needed(pages, page_bytes, k, proxies, &needed);
+    }
+
     // Makes an object that holds a copy of `value`, as nph_malloc and nph_write.
     template <class T> [[nodiscard]] nph_status make(object<T> &made, const T &value) {
         static_assert(std::is_trivially_copyable_v<T>, "the library moves objects by copying their bytes");

@@ -1,10 +1,13 @@
-//! Norphuen for Rust: a safe wrapper over the C library. Include it as a module; it needs `core` alone. Link one of the
-//! libraries, and define the three allocator functions that `include/norphuen.h` describes.
+//! Norphuen for Rust: a safe wrapper over the C library, which `build.rs` links. It needs `core` alone, and with the feature
+//! `malloc`, which is on by default, C's malloc. Without it the program defines the three allocator functions that
+//! `include/norphuen.h` describes.
 //!
 //! A `Heap` closes itself when it is dropped. It is `Send` and not `Sync`: one caller at a time, in any thread.
 //! `Heap::objects` lends the bytes of objects in place; it needs a library that lends, as the header says.
-// A program need not use each call.
-#![allow(dead_code)]
+#![no_std]
+
+#[cfg(feature = "malloc")]
+mod malloc;
 
 /// Names an object. It stays the same wherever the object moves.
 #[derive(Clone, Copy, Debug, PartialEq, Eq)]
@@ -14,6 +17,12 @@ pub struct Handle(pub u32);
 #[derive(Clone, Copy, Debug, PartialEq, Eq)]
 #[rustfmt::skip]
 pub enum Error { Size, Proxy, Space, Unknown, Range, Kind, Closed, Open, Lent, Memory, Pages, PageBytes, Bound, Proxies, Region, NotLent }
+
+/// The memory that `Heap::open` asks for: the bytes of all blocks, those of the largest block, and how many blocks.
+#[repr(C)]
+#[derive(Clone, Copy, Debug, Default, PartialEq, Eq)]
+#[rustfmt::skip]
+pub struct Needed { pub total: u64, pub largest: u64, pub blocks: u32 }
 
 /// The header's nph_freed.
 #[repr(C)]
@@ -68,6 +77,7 @@ pub struct Heap {
 #[rustfmt::skip]
 unsafe extern "C" {
     fn nph_open(heap: *mut RawHeap, pages: u32, page_bytes: u32, k: u32, proxies: u32) -> i32;
+    fn nph_bytes_needed(pages: u32, page_bytes: u32, k: u32, proxies: u32, needed: *mut Needed) -> i32;
     fn nph_close(heap: *mut RawHeap);
     fn nph_malloc(heap: *mut RawHeap, bytes: u32, handle: *mut u32) -> i32;
     fn nph_free(heap: *mut RawHeap, handle: u32, freed: *mut RawFreed) -> i32;
@@ -82,6 +92,7 @@ unsafe extern "C" {
     fn nph_place(heap: *mut RawHeap, handle: u32, place: *mut u32) -> i32;
     fn nph_lend(heap: *mut RawHeap, words: *mut *mut u64) -> i32;
     fn nph_return(heap: *mut RawHeap) -> i32;
+    fn nph_version() -> u32;
 }
 
 /// The value if the code is that of success, else the error of the code.
@@ -113,6 +124,11 @@ fn handle_of(number: u32) -> Option<Handle> {
     (number != u32::MAX).then_some(Handle(number))
 }
 
+/// The version of the library: 10,000 times the major number, 100 times the minor one, and the patch.
+pub fn version() -> u32 {
+    unsafe { nph_version() }
+}
+
 // Why the calls are safe: each gets an open heap, references that do not overlap, and slices with their lengths. The slices of
 // `objects` borrow the heap, so none is left when a later call ends the loan. They belong to objects that differ.
 impl Heap {
@@ -130,6 +146,13 @@ impl Heap {
         let mut heap = Heap { raw, end_loan: None };
         let code = unsafe { nph_open(&mut heap.raw, pages, page_bytes, k, proxies) };
         result_of(code, heap)
+    }
+
+    /// What `open` with these settings asks of `rattle_alloc`.
+    pub fn bytes_needed(pages: u32, page_bytes: u32, k: u32, proxies: u32) -> Result<Needed, Error> {
+        let mut needed = Needed::default();
+        let code = unsafe { nph_bytes_needed(pages, page_bytes, k, proxies, &mut needed) };
+        result_of(code, needed)
     }
 
     /// Makes an object of `bytes` zeros.

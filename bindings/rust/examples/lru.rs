@@ -1,7 +1,4 @@
 //! The cache of examples/c/lru.c in Rust. It prints the same.
-#[path = "norphuen.rs"]
-mod norphuen;
-
 use norphuen::{Error, Handle, Heap};
 
 const MOST: u32 = 100;

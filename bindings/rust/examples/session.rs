@@ -1,7 +1,4 @@
 //! The session of the README, in Rust.
-#[path = "norphuen.rs"]
-mod norphuen;
-
 use norphuen::{Error, Freed, Handle, Heap};
 
 fn main() {

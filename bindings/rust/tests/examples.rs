@@ -1,0 +1,26 @@
+//! Runs the examples, which cargo has built, and compares what they print.
+use std::path::{Path, PathBuf};
+use std::process::Command;
+
+/// The folder of the built programs: that of this test is its `deps`.
+fn built() -> PathBuf {
+    let test = std::env::current_exe().expect("this test is a file");
+    test.ancestors().nth(2).expect("it lies in a folder of a folder").to_path_buf()
+}
+
+fn prints(example: &str, wanted: &str) {
+    let ran = Command::new(built().join("examples").join(example)).output().expect("it starts");
+    assert!(ran.status.success() && ran.stderr.is_empty(), "{ran:?}");
+    let file = Path::new(env!("CARGO_MANIFEST_DIR")).join(wanted);
+    assert_eq!(String::from_utf8_lossy(&ran.stdout), std::fs::read_to_string(file).expect("the output is beside the example"));
+}
+
+#[test]
+fn the_session_prints_its_replies() {
+    prints("session", "examples/session.rs.out");
+}
+
+#[test]
+fn the_cache_prints_what_it_prints_in_c() {
+    prints("lru", "../../examples/c/lru.out");
+}

@@ -1,0 +1,12 @@
+# While the major number is 0, a minor version may change calls.
+set(PACKAGE_VERSION "@VERSION@")
+string(REGEX MATCH "^(0\\.[0-9]+|[1-9][0-9]*)\\." norphuen_line "${PACKAGE_VERSION}")
+string(FIND "${PACKAGE_FIND_VERSION}." "${norphuen_line}" norphuen_at)
+if(PACKAGE_FIND_VERSION VERSION_GREATER PACKAGE_VERSION OR NOT norphuen_at EQUAL 0)
+  set(PACKAGE_VERSION_COMPATIBLE FALSE)
+else()
+  set(PACKAGE_VERSION_COMPATIBLE TRUE)
+  if(PACKAGE_FIND_VERSION VERSION_EQUAL PACKAGE_VERSION)
+    set(PACKAGE_VERSION_EXACT TRUE)
+  endif()
+endif()

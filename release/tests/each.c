@@ -1,0 +1,36 @@
+/* Calls what each library has, and prints the version of library and header if all is as it must be. */
+#include "norphuen.h"
+#include <stdio.h>
+#include <string.h>
+
+#define MUST(test) do { if (!(test)) { fprintf(stderr, "line %d: not so: %s\n", __LINE__, #test); return 1; } } while (0)
+
+int main(void) {
+    static char all[200];
+    nph_heap heap = NPH_HEAP;
+    nph_freed freed;
+    nph_heap_totals totals;
+    uint32_t object, other, bytes;
+    uint64_t steps;
+    char back[6] = "";
+    MUST(nph_version() == NPH_VERSION);
+    MUST(nph_malloc(&heap, 8, &object) == NPH_CLOSED);
+    MUST(nph_open(&heap, 4, 500, 1, 8) == NPH_PAGE_BYTES);
+    MUST(nph_open(&heap, 4, 512, 1, 2) == NPH_OK);
+    MUST(nph_open(&heap, 4, 512, 1, 2) == NPH_OPEN);
+    MUST(nph_malloc(&heap, 200, &object) == NPH_OK && nph_malloc(&heap, 8, &other) == NPH_OK);
+    MUST(nph_malloc(&heap, 8, &bytes) == NPH_PROXY && nph_has_room(&heap, 8) == NPH_PROXY);
+    MUST(nph_write(&heap, object, 194, "hello", 6) == NPH_OK && nph_read(&heap, object, 194, back, 6) == NPH_OK);
+    MUST(strcmp(back, "hello") == 0);
+    MUST(nph_read(&heap, object, 195, back, 6) == NPH_RANGE && nph_read(&heap, object, 0, all, 194) == NPH_OK);
+    for (int i = 0; i < 194; i++) MUST(all[i] == 0);
+    MUST(nph_length(&heap, object, &bytes) == NPH_OK && bytes == 200);
+    MUST(nph_totals(&heap, &totals) == NPH_OK && totals.live == 2 && totals.asked == 208);
+    MUST(nph_free(&heap, object, &freed) == NPH_OK && freed.slot_words > 25 && freed.moved == NPH_NONE);
+    MUST(nph_last_steps(&heap, &steps) == NPH_OK && steps > 0);
+    MUST(nph_free(&heap, object, NULL) == NPH_UNKNOWN && nph_resize(&heap, object, 9, NULL) == NPH_UNKNOWN);
+    nph_close(&heap);
+    MUST(nph_last_steps(&heap, &steps) == NPH_CLOSED);
+    printf("%d.%d.%d\n", NPH_VERSION / 10000, NPH_VERSION / 100 % 100, NPH_VERSION % 100);
+    return 0;
+}
