@@ -11,4 +11,7 @@ pub mod Counted
 pub mod PageNumbers
 pub mod Start
 pub mod NextSlots
+pub mod AfterCalls
+pub mod Owner
+pub mod Rewritten
 pub mod CallerLemmas

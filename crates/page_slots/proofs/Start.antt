@@ -16,12 +16,13 @@ use Rattle.cf_base.proofs.CallerLemmas.{are_sizes, page_size}
 use Rattle.size_classes.specs.Table.{ClassTable, IsClassTable}
 use Rattle.class_lists.specs.declared.Which.{Which}
 use Rattle.class_lists.specs.declared.Which.TheVariants.{Full, NotFull}
-use Rattle.class_lists.specs.PageLists.{AreApart, PageLists, empty_lists, list_number, pages_in}
+use Rattle.class_lists.specs.PageLists.{AreApart, empty_lists, list_number, pages_in}
 use Rattle.page_pool.specs.Pool.{Pool, is_in_pool}
 use Rattle.page_pool.proofs.CallerLemmas.{pooled_range}
 use Rattle.page_model.specs.Held.{Placed}
 use Rattle.page_model.specs.Paging.{Paging}
-use Rattle.page_slots.specs.Tables.{AreTables, IsOf, NoneForeign, tables, used_in}
+use Rattle.page_slots.specs.PageTables.{new_tables}
+use Rattle.page_slots.specs.Tables.{AreTables, IsOf, NoneForeign, Tables, tables, used_in}
 use Rattle.page_slots.specs.Occupying.{Occupies, FitPages, class_table}
 use Rattle.page_slots.proofs.Listing.{along}
 use Rattle.page_slots.proofs.Pages.{other_free}
@@ -94,29 +95,23 @@ module _ (classes pages : ℕ) where
     counted = λ c page of. absurd (none_of maps pool c page of);
   }
 
--- the tables of a new heap: no slot is used, no page is listed, and all pages are in the pool
-module _ (p : Paging) (n : ℕ) (maps : List (List Bool)) (lists : PageLists) (pool : Pool) (table : IsClassTable p.page_words p.sizes)
-    (small : p.pages * p.page_words < 2 ^ 32) (all : n ≡ length p.sizes) (maps_are : maps ≡ replicate p.pages (replicate 1 false))
-    (lists_are : lists ≡ empty_lists n p.pages) (pool_is : pool ≡ record { pages = p.pages; free = range_with_len 0 p.pages }) where
+-- the tables t of a new heap: no slot is used, no page is listed, and all pages are in the pool
+module _ (p : Paging) (n : ℕ) (t : Tables) (table : IsClassTable p.page_words p.sizes) (small : p.pages * p.page_words < 2 ^ 32) (all : n ≡ length p.sizes)
+    (are : t ≡ new_tables p.pages n) where
+  abbrev maps : List (List Bool)
+  maps = replicate p.pages (replicate 1 false)
+
   none_used : (page : ℕ) → used_in (get_or maps page []) ≡ 0
-  none_used page = ap (λ (ms : List (List Bool)). used_in (get_or ms page [])) maps_are ∙ elim (cases_lt page p.pages) [
+  none_used page = elim (cases_lt page p.pages) [
     | inl lt ↦ ap used_in (get_or-replicate p.pages page (replicate 1 false) [] lt)
-    | inr past ↦ ap used_in (get_or_past (replicate p.pages (replicate 1 false)) page []
-        (let e = length-replicate p.pages (replicate 1 false) in omega arith))
+    | inr past ↦ ap used_in (get_or_past maps page [] (let e = length-replicate p.pages (replicate 1 false) in omega arith))
   ]
 
-  new_tables : AreTables (class_table p) (tables maps lists pool)
-  new_tables =
-      let long : length maps ≡ p.pages = ap length maps_are ∙ length-replicate p.pages (replicate 1 false) in
-      let first = first_tables n p.pages (class_table p) maps table small long none_used all in
-      let listed = subst (λ l. AreTables (class_table p) (tables maps l (record { pages = p.pages; free = range_with_len 0 p.pages }))) (sym lists_are) first in
-      subst (λ q. AreTables (class_table p) (tables maps lists q)) (sym pool_is) listed
-
-  tables_are : tables maps lists pool ≡ tables maps (empty_lists n p.pages) (record { pages = p.pages; free = range_with_len 0 p.pages })
-  tables_are = ap (λ l. tables maps l pool) lists_are ∙ ap (tables maps (empty_lists n p.pages)) pool_is
-
-  pub new_serve : FitPages p (tables maps lists pool)
-  new_serve = record {
-    part = record { tables = new_tables; pages = ap (λ (q : Pool). q.pages) pool_is };
-    whole = subst NoneForeign (sym tables_are) (first_whole n p.pages maps);
-  }
+  pub new_serve : FitPages p t
+  new_serve = subst (FitPages p) (sym are) (record {
+    part = record {
+      tables = first_tables n p.pages (class_table p) maps table small (length-replicate p.pages (replicate 1 false)) none_used all;
+      pages = refl;
+    };
+    whole = first_whole n p.pages maps;
+  })

@@ -13,10 +13,8 @@ use Rattle.cf_model.specs.Costs.{mapped_block_steps}
 use Rattle.cf_model.specs.Families.{Family, IsPaged, paged, tiled}
 use Rattle.virtual_words.specs.Words.{frames_in}
 use Rattle.paged_heap.specs.declared.open_heap.OpenHeap.{OpenHeap}
-use Rattle.paged_heap.specs.Free.{IsObjectAt}
 use Rattle.paged_heap.specs.Heap.{seen}
-use Rattle.paged_heap.proofs.FreedObject.{it, it_found, it_inside, it_slot}
-use Rattle.paged_heap.proofs.LayoutFacts.{rules}
+use Rattle.paged_heap.proofs.LayoutFacts.{rules, owns}
 use Rattle.paged_heap.proofs.WholeBlocks.{whole_slot}
 use Rattle.cf_base.specs.declared.answers.Freed.{Freed}
 use Rattle.cf_base.specs.declared.answers.NotLive.{NotLive}
@@ -31,8 +29,10 @@ use Rattle.cf_model.specs.Steps.{BlocksStay, BlocksStayIn, IsFreeStep, IsResizeS
 use Rattle.cf_model.proofs.CallerLemmas.{blocks_after_free, blocks_after_refusal, blocks_after_resize}
 use Rattle.step_ledger.specs.Counting.{RoseBy}
 use Rattle.virtual_words.proofs.CallerLemmas.{mapped_once}
-use Rattle.paged_heap.specs.Layout.{Holds, IsValid, state_at}
+use Rattle.paged_heap.specs.Layout.{Holds, IsValid, state_at, owner_in}
 use Rattle.paged_heap.specs.PagedState.{OthersStayIn, paged_in}
+use Rattle.page_slots.proofs.CallerLemmas.{it, it_found, it_slot, it_inside}
+use Rattle.page_slots.specs.Owner.{IsObjectAt}
 
 after_free : (old : HeapState) (h : ℕ) (r : Result Freed NotLive) (new : HeapState) → old.kind ≡ NonMoving → KeepsRules old → KeepsRules new
     → IsFreeStep old h r new → BlocksStay old h new
@@ -99,13 +99,13 @@ module _ (s : HeapState) (q a b : ℕ) where
     steps_given r rose = subst (λ (m : Option Placed). RoseBy a b (mapped_block_steps m (Some r))) (sym e) rose
 
 -- a block of an object is one of the table's
-pub block_there : (x : OpenHeap) (k : IsValid (seen NonMoving x)) (q a size c : ℕ) (o : IsObjectAt (seen NonMoving x) q a size c) (t : Table)
+pub block_there : (x : OpenHeap) (k : IsValid (seen NonMoving x)) (q a size c : ℕ) (o : IsObjectAt (owner_in (seen NonMoving x)) q a size c) (t : Table)
     → x.blocks ≡ Some t → (i : ℕ) → i < get_or x.tables.classes.sizes c 0 / 4 → a / 4 + i < length t.frames
 block_there x k q a size c o t is i lt =
     let h = seen NonMoving x in
-    let inside = it_inside k o in
-    let slot = it_slot k o in
-    let whole = whole_slot h k q (it k o) (it_found k o) in
+    let inside = it_inside (owns k) o in
+    let slot = it_slot (owns k) o in
+    let whole = whole_slot h k q (it (owns k) o) (it_found (owns k) o) in
     let place : a % 4 ≡ 0 = whole.0 in
     let many = k.framed.count in
     let f : length h.frames ≡ length t.frames = ap (λ b. length (frames_in b)) is in

@@ -17,8 +17,9 @@ use Rattle.cf_model.specs.Answers.{with_bound}
 use Rattle.paged_heap.specs.Heap.{Heap}
 use Rattle.paged_heap.specs.Layout.{IsValid, held_in, paging_at, state_of}
 use Rattle.paged_heap.proofs.ByKind.{framed_kept}
-use Rattle.paged_heap.proofs.LayoutFacts.{as_many, few_classes, sizes_are}
+use Rattle.paged_heap.proofs.LayoutFacts.{few_classes, sizes_are, table_is}
 use Rattle.paged_heap.proofs.EmptyHeap.{no_objects_in}
+use Rattle.page_slots.proofs.CallerLemmas.{as_many}
 
 abbrev pub rebound : Heap → ℕ → ℕ → Heap
 rebound h c b = record h { bounds = set h.bounds c b }
@@ -29,7 +30,7 @@ module _ (h : Heap) (k : IsValid h) (none : held_in h ≡ empty) (c b : ℕ) (lt
       (let n : get {X = Placed} {R = nat_cmp} empty q ≡ None = get-empty nat_cmp q in let z : Some x ≡ None = sym e ∙ ap (λ m. get m q) none ∙ n in cc)
 
   inside : c < length h.bounds
-  inside = (let few = few_classes h k in let e = as_many h k in let long = k.bounds_long in omega arith)
+  inside = (let few = few_classes h k in let e = as_many (paging_at h) (table_is h k) in let long = k.bounds_long in omega arith)
 
   new_bound : (d : ℕ) → ((d ≡ c) × (get_or (set h.bounds c b) d 0 ≡ b)) ⊎ (get_or (set h.bounds c b) d 0 ≡ get_or h.bounds d 0)
   new_bound d = elim (cases_eq d c) [

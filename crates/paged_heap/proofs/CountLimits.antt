@@ -1,21 +1,19 @@
--- Upper bounds of an open heap's counts, so that they don't overflow: 65,536 objects, each of at most 131,072 bytes. Also: a class that the table finds is the
--- model's.
-use Rattle.std.proofs.Common.{◌≡◌, ℕ, ◌*◌, ◌<◌, ◌≤◌, length, get_or, Option, Some, None, arith, refl, sym, ◌∙◌, ap, subst, inl, inr}
+-- Upper bounds of an open heap's counts, so that they don't overflow: 65,536 objects, each of at most 131,072 bytes.
+use Rattle.std.proofs.Common.{◌≡◌, ℕ, ◌*◌, ◌<◌, ◌≤◌, length, get_or, Option, Some, None, arith, refl, sym, ◌∙◌, ap, subst}
 use Rattle.std.specs.Prelude.{nat_eq, option_map}
-use Rattle.std.proofs.lemmas.Bool.{cases_lt}
 use Rattle.std.specs.FinMap.{get, len}
-use Rattle.cf_base.specs.Classes.{need, class_of}
 use Rattle.cf_lemmas.proofs.MapValues.{get-map_values}
 use Rattle.cf_lemmas.proofs.Ranges.{one}
 use Rattle.page_model.specs.Held.{Held, Placed, objects}
 use Rattle.page_model.specs.Paging.{Paging, IsPaging, class_for, classes, slot_words}
 use Rattle.page_model.specs.Arrangement.{class_at, live, IsSound}
 use Rattle.page_model.specs.Figures.{asked_bytes, taken_bytes}
-use Rattle.page_model.proofs.CallerLemmas.{len-objects, one_le, class_fits, class_holds, class_known, class_none, slot_fits}
+use Rattle.page_model.proofs.CallerLemmas.{len-objects, one_le, class_holds, slot_fits}
 use Rattle.paged_heap.specs.Heap.{Heap}
-use Rattle.paged_heap.specs.Layout.{IsValid, held_in, paging_at}
-use Rattle.paged_heap.proofs.LayoutFacts.{held_len, paging_ok, sizes_are, table_ok, page_is}
+use Rattle.paged_heap.specs.Layout.{IsValid, held_in, paging_at, owner_in}
+use Rattle.paged_heap.proofs.LayoutFacts.{paging_ok, table_ok, page_is}
 use Rattle.cf_lemmas.proofs.Values.{sum_at_most}
+use Rattle.page_slots.proofs.CallerLemmas.{held_len}
 
 -- an object has the bytes of a page at most, and so has its slot
 module _ (p : Paging) (ok : IsPaging p) (m : Held) (s : IsSound p m) (small : p.page_words ≤ 16384) where
@@ -58,7 +56,7 @@ module _ (h : Heap) (k : IsValid h) where
   page_small = (let s = (table_ok h k).small in let e = page_is h k in omega arith)
 
   pub len_few : len (held_in h) ≤ 65536
-  len_few = (let e = held_len h k in let f = k.handles.few in let n = k.numbers in let few = h.settings.few_proxies in omega arith)
+  len_few = (let e = held_len (owner_in h) in let f = k.handles.few in let n = k.numbers in let few = h.settings.few_proxies in omega arith)
 
   pub live_room : (c : ℕ) → c < classes (paging_at h) → get_or h.live c 0 ≤ 65536
   live_room c lt = (let e = k.counted c lt in let l = live_few (paging_at h) (paging_ok h k) (held_in h) k.sound page_small c in let f = len_few in omega arith)
@@ -68,17 +66,3 @@ module _ (h : Heap) (k : IsValid h) where
 
   pub taken_room : h.taken ≤ 131072 * 65536
   taken_room = (let e = k.taken_all in let l = taken_few (paging_at h) (paging_ok h k) (held_in h) k.sound page_small in let f = len_few in omega arith)
-
-  -- if `class_of` finds a class, the request fits a page, and the class is the model's
-  pub class_is : (bytes c : ℕ) → Some c ≡ class_of h.classes.sizes bytes → (need bytes ≤ h.settings.page_words) × (class_for (paging_at h) bytes ≡ c)
-      × (c < classes (paging_at h))
-  class_is bytes c e =
-      let e' : Some c ≡ class_of (paging_at h).sizes bytes = subst (λ xs. Some c ≡ class_of xs bytes) (sizes_are h k) e in
-      elim (cases_lt h.settings.page_words (need bytes)) [
-        | inl more ↦ absurd (let z : Some c ≡ None = e' ∙ class_none (paging_at h) (paging_ok h k) bytes more in cc)
-        | inr fits ↦ (
-            let lt = class_fits (paging_at h) (paging_ok h k) bytes fits in
-            let z : Some c ≡ Some (class_for (paging_at h) bytes) = e' ∙ class_known (paging_at h) (paging_ok h k) bytes lt in
-            let is : class_for (paging_at h) bytes ≡ c = cc in
-            (fits, is, subst (λ c. c < classes (paging_at h)) is lt))
-      ]

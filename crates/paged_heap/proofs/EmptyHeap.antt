@@ -1,6 +1,5 @@
 -- For `empty`: an open heap of new parts (`IsFirst`) keeps its invariant, and its state is that of an empty heap, with pages and numbers in rising order.
-use Rattle.std.proofs.Common.{◌≡◌, ℕ, false, ◌*◌, ◌<◌, ◌≤◌, [], length, take, replicate, get_or, arith, sym, ◌∙◌, ap, subst}
-use Rattle.std.specs.List.{range_with_len}
+use Rattle.std.proofs.Common.{◌≡◌, ℕ, ◌*◌, ◌<◌, ◌≤◌, [], length, take, replicate, get_or, arith, sym, ◌∙◌, ap, subst}
 use Rattle.std.proofs.lemmas.List.{get_or-replicate, length-replicate, take-replicate}
 use Rattle.std.specs.FinMap.{empty}
 use Rattle.cf_base.specs.Classes.{sizes}
@@ -12,10 +11,9 @@ use Rattle.page_model.specs.Image.{IsSlotImage, slot_for}
 use Rattle.page_model.specs.Figures.{asked_bytes, taken_bytes}
 use Rattle.page_model.proofs.CallerLemmas.{sound_empty, image_empty, no_objects, none_asked, none_live, none_taken, nothing_held}
 use Rattle.size_classes.specs.Table.{ClassTable, table_of}
-use Rattle.class_lists.specs.PageLists.{empty_lists}
-use Rattle.page_pool.specs.Pool.{Pool}
 use Rattle.proxy_table.specs.Proxies.{Proxies, AreBelowLimit, no_proxies}
-use Rattle.page_slots.specs.Tables.{tables}
+use Rattle.page_slots.specs.PageTables.{new_tables}
+use Rattle.page_slots.specs.Tables.{Tables}
 use Rattle.page_slots.specs.Occupying.{Occupies, FitPages}
 use Rattle.page_slots.specs.Orders.{partly_full_lists}
 use Rattle.page_slots.proofs.CallerLemmas.{first_occupied, first_table, new_serve, open_empty}
@@ -39,9 +37,7 @@ pub record IsFirst (h : Heap) : Type 0 where
   pub framed : IsFramed h.kind h
   pub frames : h.frames ≡ opening_frames h.kind (profile_of h.settings)
   pub words : h.words ≡ replicate (h.settings.pages * h.settings.page_words) 0
-  pub maps : h.maps ≡ replicate h.settings.pages (replicate 1 false)
-  pub lists : h.lists ≡ empty_lists (length h.classes.sizes) h.settings.pages
-  pub pool : h.pool ≡ record { pages = h.settings.pages; free = range_with_len 0 h.settings.pages }
+  pub tables : tables_in h ≡ new_tables h.settings.pages (length h.classes.sizes)
   pub proxies : h.proxies ≡ no_proxies h.settings.proxies
   pub handles : AreBelowLimit h.proxies
 
@@ -65,8 +61,8 @@ module _ (h : Heap) (f : IsFirst h) where
   serve : FitPages (paging_at h) (tables_in h)
   serve =
       let small = h.settings.small_region in
-      new_serve (paging_at h) (length h.classes.sizes) h.maps h.lists h.pool (first_table h.settings.page_words (layout_of h.kind) h.settings.page_size)
-      (omega arith) many f.maps f.lists f.pool
+      new_serve (paging_at h) (length h.classes.sizes) (tables_in h) (first_table h.settings.page_words (layout_of h.kind) h.settings.page_size)
+      (omega arith) many f.tables
 
   bound : (c : ℕ) → c < 128 → get_or h.bounds c 0 ≡ h.settings.k
   bound c lt = ap (λ b. get_or b c 0) f.bounds ∙ get_or-replicate 128 c h.settings.k 0 lt
@@ -85,8 +81,8 @@ module _ (h : Heap) (f : IsFirst h) where
     sound = subst (IsSound (paging_at h)) (sym none) (sound_empty (paging_at h));
     serve = serve;
     occupied =
-        let o = first_occupied (length h.classes.sizes) h.settings.pages (paging_at h) h.maps h.pool in
-        let l : Occupies (paging_at h) empty (tables_in h) = subst (λ l. Occupies (paging_at h) empty (tables h.maps l h.pool)) (sym f.lists) o in
+        let o = first_occupied (length h.classes.sizes) h.settings.pages (paging_at h) _ _ in
+        let l : Occupies (paging_at h) empty (tables_in h) = subst (Occupies (paging_at h) empty) (sym f.tables) o in
         subst (λ m. Occupies (paging_at h) m (tables_in h)) (sym none) l;
     numbers = ap (λ (x : Proxies). x.limit) f.proxies;
     handles = f.handles;
@@ -106,9 +102,9 @@ module _ (h : Heap) (f : IsFirst h) where
   order_first : order_in h ≡ first_order (paging_in (empty_heap h.kind (profile_of h.settings) [])) h.settings.proxies
   order_first =
       let lists : partly_full_lists (length h.classes.sizes) h.lists ≡ replicate (length (sizes h.settings.page_words (layout_of h.kind))) [] =
-      ap (partly_full_lists (length h.classes.sizes)) f.lists ∙ open_empty (length h.classes.sizes) (length h.classes.sizes) h.settings.pages
+      ap (λ (t : Tables). partly_full_lists (length h.classes.sizes) t.lists) f.tables ∙ open_empty (length h.classes.sizes) (length h.classes.sizes) h.settings.pages
       ∙ ap (λ n. replicate n []) many in
-      let pool = ap (λ (q : Pool). q.free) f.pool in
+      let pool = ap (λ (t : Tables). t.pool.free) f.tables in
       let spare = ap (λ (x : Proxies). x.free) f.proxies in
       λ i. record { pool = pool i; not_full = lists i; spare = spare i }
 

@@ -11,10 +11,10 @@ use Rattle.page_model.specs.Figures.{asked_bytes, taken_bytes, totals_of}
 use Rattle.page_model.proofs.CallerLemmas.{len-objects, home_at_most}
 use Rattle.class_lists.specs.PageLists.{pages_in}
 use Rattle.class_lists.specs.declared.Which.TheVariants.{Full, NotFull}
-use Rattle.page_slots.proofs.CallerLemmas.{not_full_pages_are, home_pages_are, free_pages_are, pages_are}
+use Rattle.page_slots.proofs.CallerLemmas.{not_full_pages_are, home_pages_are, free_pages_are, pages_are, held_len}
 use Rattle.paged_heap.specs.Heap.{Heap}
-use Rattle.paged_heap.specs.Layout.{IsValid, held_in, paging_at, tables_in}
-use Rattle.paged_heap.proofs.LayoutFacts.{held_len, paging_ok}
+use Rattle.paged_heap.specs.Layout.{IsValid, held_in, paging_at, tables_in, owner_in}
+use Rattle.paged_heap.proofs.LayoutFacts.{paging_ok}
 
 -- all totals at once
 pub totals_same : (p : Paging) (m : Held) (l a t h u f g : ℕ) → l ≡ len (objects m) → a ≡ asked_bytes (objects m) → t ≡ taken_bytes p (objects m)
@@ -40,4 +40,4 @@ module _ (h : Heap) (k : IsValid h) where
   used_is = pages_are (paging_at h) (paging_ok h k) (held_in h) (tables_in h) k.serve.part k.occupied k.serve.whole k.sound
 
   pub live_is : len h.proxies.places ≡ len (objects (held_in h))
-  live_is = sym (held_len h k) ∙ sym (len-objects (held_in h))
+  live_is = sym (held_len (owner_in h)) ∙ sym (len-objects (held_in h))

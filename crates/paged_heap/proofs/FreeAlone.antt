@@ -1,5 +1,5 @@
 -- For `free_object`, a free that moves no other object: the heap keeps its invariant, holds the other objects, and has the order that the model computes.
-use Rattle.std.proofs.Common.{◌≡◌, ℕ, ◌-◌, length, get_or, None, sym, ◌∙◌, ap, subst}
+use Rattle.std.proofs.Common.{◌≡◌, ℕ, length, get_or, None, sym, ◌∙◌, ap, subst}
 use Rattle.std.specs.FinMap.{remove}
 use Rattle.page_model.specs.Bytes.{bytes_at}
 use Rattle.page_model.specs.Image.{Clears, slot_for}
@@ -11,16 +11,17 @@ use Rattle.proxy_table.specs.Proxies.{Proxies, AreBelowLimit, without_place}
 use Rattle.page_slots.specs.Release.{Vacates}
 use Rattle.page_slots.specs.Tables.{AreTables, page_at, slot_at}
 use Rattle.page_slots.specs.Occupying.{class_table}
-use Rattle.page_slots.proofs.CallerLemmas.{vacated_occupied, vacated_order, vacated_serve}
+use Rattle.page_slots.proofs.CallerLemmas.{vacated_occupied, vacated_order, vacated_serve, it, it_found, it_class, it_slot, page_same, slot_same, moving, as_many, places_are}
 use Rattle.page_slots.specs.Orders.{order_of}
 use Rattle.paged_heap.specs.Heap.{Heap}
-use Rattle.paged_heap.specs.Layout.{IsFramed, IsValid, held_in, order_in, paging_at, tables_in}
-use Rattle.paged_heap.specs.Free.{IsObjectAt, LeavesAlone, MustMoveInto}
-use Rattle.paged_heap.proofs.LayoutFacts.{as_many, paging_ok, table_is}
-use Rattle.paged_heap.proofs.Preserved.{Becomes, places_are, rest_from}
-use Rattle.paged_heap.proofs.FreedObject.{follows_from, goes, it, it_class, it_found, it_slot, moving, page_same, rest_held, slot_same, taken_out}
+use Rattle.paged_heap.specs.Layout.{IsFramed, IsValid, held_in, order_in, paging_at, tables_in, owner_in}
+use Rattle.paged_heap.specs.Free.{LeavesAlone}
+use Rattle.paged_heap.proofs.LayoutFacts.{paging_ok, table_is, owns}
+use Rattle.paged_heap.proofs.Preserved.{Becomes, rest_from}
+use Rattle.paged_heap.proofs.FreedObject.{follows_from, goes, rest_held, taken_out}
+use Rattle.page_slots.specs.Owner.{IsObjectAt, MustMoveInto}
 
-module _ {h : Heap} (k : IsValid h) {q a size c : ℕ} (o : IsObjectAt h q a size c) (still : MustMoveInto h a c → ⊥) {g n : Heap}
+module _ {h : Heap} (k : IsValid h) {q a size c : ℕ} (o : IsObjectAt (owner_in h) q a size c) (still : MustMoveInto (owner_in h) a c → ⊥) {g n : Heap}
     (counted : g ≡ taken_out h q size c) (left : LeavesAlone g a c n) (tables : AreTables g.classes (tables_in n)) (framed : IsFramed h.kind n)
     (handles : AreBelowLimit n.proxies) where
   -- all parts of the heap but the tables and the words, in terms of the heap before
@@ -38,7 +39,7 @@ module _ {h : Heap} (k : IsValid h) {q a size c : ℕ} (o : IsObjectAt h q a siz
 
   clears : Clears h.words n.words (record { from = a; count = slot_for (paging_at h) (length (bytes_at h.words a)) })
   clears =
-      subst (λ s. Clears h.words n.words (record { from = a; count = s })) (it_slot k o)
+      subst (λ s. Clears h.words n.words (record { from = a; count = s })) (it_slot (owns k) o)
       (subst (λ (x : Heap). Clears x.words n.words (record { from = a; count = get_or x.classes.sizes c 0 })) counted left.words)
 
   pub frames_same : n.frames ≡ h.frames
@@ -49,16 +50,17 @@ module _ {h : Heap} (k : IsValid h) {q a size c : ℕ} (o : IsObjectAt h q a siz
   alone_follows =
       let p = paging_at h in let m = held_in h in
       let before = order_of (classes p) (tables_in h) h.proxies.free in
-      let freed_order : order_of (classes p) (tables_in n) h.proxies.free ≡ slot_freed p m before (class_at p (it k o)) (page_of p a) =
+      let freed_order : order_of (classes p) (tables_in n) h.proxies.free ≡ slot_freed p m before (class_at p (it (owns k) o)) (page_of p a) =
       vacated_order (paging_ok h k) k.serve.part k.occupied kept_tables o.in_range h.proxies.free vacates
-      ∙ ap (λ d. slot_freed p m before d (page_at h.classes a)) (sym (it_class k o)) ∙ ap (slot_freed p m before (class_at p (it k o))) (sym (page_same k o)) in
+      ∙ ap (λ d. slot_freed p m before d (page_at h.classes a)) (sym (it_class (owns k) o)) ∙ ap (slot_freed p m before (class_at p (it (owns k) o)))
+      (sym (page_same (owns k) o)) in
       follows_from k o n None (ap (λ (x : Heap). x.classes) whole)
       (ap (λ (x : Proxies). x.free) proxies_are)
-      (subst (λ s. order_of s (tables_in n) h.proxies.free ≡ slot_freed p m (order_of s (tables_in h) h.proxies.free) (class_at p (it k o)) (page_of p a))
-      (sym (as_many h k)) freed_order)
+      (subst (λ s. order_of s (tables_in n) h.proxies.free ≡ slot_freed p m (order_of s (tables_in h) h.proxies.free) (class_at p (it (owns k) o)) (page_of p a))
+      (sym (as_many (paging_at h) (table_is h k))) freed_order)
 
-  pub alone : Becomes h n (rest_held k o n None (λ m. still (moving k o m)))
-  alone = goes k o n None (λ m. still (moving k o m))
+  pub alone : Becomes h n (rest_held k o n None (λ m. still (moving (owns k) o m)))
+  alone = goes k o n None (λ m. still (moving (owns k) o m))
       (record {
         live = ap (λ (x : Heap). x.live) whole;
         asked = ap (λ (x : Heap). x.asked) whole;
@@ -69,13 +71,13 @@ module _ {h : Heap} (k : IsValid h) {q a size c : ℕ} (o : IsObjectAt h q a siz
       (ap (λ (x : Heap). x.settings) whole)
       (ap (λ (x : Heap). x.classes) whole)
       (ap (λ (x : Heap). x.bounds) whole))
-      (ap (λ (x : Proxies). x.places) proxies_are ∙ ap (λ m. remove m q) (places_are h k) ∙ sym (still_places (held_in h) q a))
+      (ap (λ (x : Proxies). x.places) proxies_are ∙ ap (λ m. remove m q) (places_are (owner_in h)) ∙ sym (still_places (held_in h) q a))
       (left.long ∙ ap (λ (x : Heap). length x.words) counted)
-      (image_after_free (paging_at h) (paging_ok h k) (held_in h) k.sound h.words k.image q (it k o) (it_found k o) n.words clears)
+      (image_after_free (paging_at h) (paging_ok h k) (held_in h) k.sound h.words k.image q (it (owns k) o) (it_found (owns k) o) n.words clears)
       framed
-      (vacated_serve (paging_ok h k) k.serve.part k.occupied kept_tables k.sound q (it_found k o) vacates
-      (it_class k o) (page_same k o) (slot_same k o) k.serve.whole)
-      (vacated_occupied (paging_ok h k) k.serve.part k.occupied kept_tables k.sound q (it_found k o) vacates
-      (it_class k o) (page_same k o) (slot_same k o))
+      (vacated_serve (paging_ok h k) k.serve.part k.occupied kept_tables k.sound q (it_found (owns k) o) vacates
+      (it_class (owns k) o) (page_same (owns k) o) (slot_same (owns k) o) k.serve.whole)
+      (vacated_occupied (paging_ok h k) k.serve.part k.occupied kept_tables k.sound q (it_found (owns k) o) vacates
+      (it_class (owns k) o) (page_same (owns k) o) (slot_same (owns k) o))
       (ap (λ (x : Proxies). x.limit) proxies_are)
       handles

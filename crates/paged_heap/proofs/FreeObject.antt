@@ -12,16 +12,19 @@ use Rattle.page_slots.specs.Tables.{AreTables}
 use Rattle.proxy_table.specs.Proxies.{AreBelowLimit}
 use Rattle.virtual_words.specs.Words.{IsWhole}
 use Rattle.paged_heap.specs.Choices.{FreeChooses}
-use Rattle.paged_heap.specs.Free.{IsObjectAt, Leaves, MayLeave, MustMoveInto}
+use Rattle.paged_heap.specs.Free.{Leaves, MayLeave}
 use Rattle.paged_heap.specs.Heap.{Heap}
-use Rattle.paged_heap.specs.Layout.{IsFramed, IsValid, held_in, order_in, paging_at, state_of, tables_in}
+use Rattle.paged_heap.specs.Layout.{IsFramed, IsValid, held_in, order_in, paging_at, state_of, tables_in, owner_in}
 use Rattle.paged_heap.proofs.ByKind.{frames_stay}
 use Rattle.paged_heap.proofs.FreeAlone.{alone, alone_follows, frames_same}
-use Rattle.paged_heap.proofs.FreeAndFill.{Fills, fill_follows, filling, frames_are, free_is, is, live_still, moved_is, mover, number_shown, place_in, r, refilled, slots_apart}
-use Rattle.paged_heap.proofs.FreeAndFill.{source_in, whole, whole_source}
-use Rattle.paged_heap.proofs.FreedObject.{class_listed, goes_freed, goes_kept, it, it_found, it_inside, it_slot, it_used, moving, rest_held, some_not_full, taken_out}
-use Rattle.paged_heap.proofs.LayoutFacts.{paged_kind, tables_ok}
+use Rattle.paged_heap.proofs.FreeAndFill.{fill_follows, filling, frames_are, free_is, is, moved_is, number_shown, refilled}
+use Rattle.paged_heap.proofs.FreeAndFill.{whole, whole_source}
+use Rattle.paged_heap.proofs.FreedObject.{goes_freed, goes_kept, rest_held, taken_out}
+use Rattle.paged_heap.proofs.LayoutFacts.{paged_kind, tables_ok, owns}
 use Rattle.paged_heap.proofs.WholeBlocks.{whole_slot}
+use Rattle.page_slots.proofs.CallerLemmas.{it, it_found, it_slot, it_inside, class_listed, it_used, moving, some_not_full, Fills, mover, source_in}
+use Rattle.page_slots.proofs.CallerLemmas.{header_in, other, slots_apart, live_still}
+use Rattle.page_slots.specs.Owner.{IsObjectAt, MustMoveInto}
 
 -- a free of object q in the heap h
 pub record FreesBy (h : Heap) (q : ℕ) (freed : Freed) (n : Heap) : Type 0 where
@@ -29,35 +32,36 @@ pub record FreesBy (h : Heap) (q : ℕ) (freed : Freed) (n : Heap) : Type 0 wher
   pub kept : IsValid n
   pub choice : FreeChooses h q freed n
 
-module _ {h : Heap} (k : IsValid h) {q a size c : ℕ} (o : IsObjectAt h q a size c) (moves : Bool) (due : IsTrue moves ↔ MustMoveInto h a c) {g : Heap}
+module _ {h : Heap} (k : IsValid h) {q a size c : ℕ} (o : IsObjectAt (owner_in h) q a size c) (moves : Bool)
+    (due : IsTrue moves ↔ MustMoveInto (owner_in h) a c) {g : Heap}
     (counted : g ≡ taken_out h q size c) where
   pub may_leave : AreBelowLimit g.proxies → MayLeave g a c moves
   may_leave handles = subst (λ (x : Heap). MayLeave x a c moves) (sym counted) (record {
     tables = tables_ok h k;
-    used = it_used k o;
-    class = class_listed k o;
-    inside = it_inside k o;
+    used = it_used (owns k) o;
+    class = class_listed (owns k) o;
+    inside = it_inside (owns k) o;
     handles = subst (λ (x : Heap). AreBelowLimit x.proxies) counted handles;
-    whole = (whole_slot h k q (it k o) (it_found k o)).0;
-    whole_words = subst (IsWhole h.kind) (sym (it_slot k o)) (whole_slot h k q (it k o) (it_found k o)).1;
-    some = λ t. some_not_full k o (due.0 t);
+    whole = (whole_slot h k q (it (owns k) o) (it_found (owns k) o)).0;
+    whole_words = subst (IsWhole h.kind) (sym (it_slot (owns k) o)) (whole_slot h k q (it (owns k) o) (it_found (owns k) o)).1;
+    some = λ t. some_not_full (owns k) o (due.0 t);
     mover = λ t from new filled tables. (
-        let f : Fills h q a size c from new = record { valid = k; object = o; moves = due.0 t; filled = filled; tables = tables } in
+        let f : Fills (owner_in h) q a size c from new = record { valid = owns k; object = o; moves = due.0 t; filled = filled; tables = tables } in
         record {
-          header = place_in f;
+          header = header_in f;
           source = source_in f;
           apart = slots_apart f;
-          whole = whole_source f;
-          live = ap (λ j. is_some (get (remove h.proxies.places q) j)) (number_shown f) ∙ ap is_some (live_still f);
+          whole = whole_source k f;
+          live = ap (λ j. is_some (get (remove h.proxies.places q) j)) (number_shown k f) ∙ ap is_some (live_still f);
         });
   })
 
   pub freed_by : {n : Heap} → AreTables g.classes (tables_in n) → IsFramed h.kind n → AreBelowLimit n.proxies → (moved : Option Handle)
       → is_some moved ≡ moves → Leaves g a c moved n → (freed : Freed) → freed.slot_words ≡ get_or h.classes.sizes c 0 → freed.moved ≡ moved → FreesBy h q freed n
   freed_by {n} tables framed handles None none left freed words is_moved =
-      let still : MustMoveInto h a c → ⊥ = λ m. absurd (false≢true (none ∙ due.1 m)) in
+      let still : MustMoveInto (owner_in h) a c → ⊥ = λ m. absurd (false≢true (none ∙ due.1 m)) in
       let b = alone k o still counted left tables framed handles in
-      let no : MustMove (paging_at h) (held_in h) (it k o) → ⊥ = λ m. still (moving k o m) in
+      let no : MustMove (paging_at h) (held_in h) (it (owns k) o) → ⊥ = λ m. still (moving (owns k) o m) in
       record {
         step = goes_freed k o n None no b (frames_same k o still counted left tables framed handles
             ∙ sym (frames_stay h.kind (paged_kind h k) (state_of h) (rest_held k o n None no))) freed words (ap number_of is_moved);
@@ -69,11 +73,11 @@ module _ {h : Heap} (k : IsValid h) {q a size c : ℕ} (o : IsObjectAt h q a siz
       let d = due.0 (sym some) in
       let f = filling k o d counted left tables in
       let w = whole k o d counted left tables in let m = moved_is k o d counted left tables in
-      let e : number_of freed.moved ≡ Some (r f) = ap number_of is_moved ∙ ap Some (is k o d counted left tables) in
-      let b = refilled f w m framed refl handles in
+      let e : number_of freed.moved ≡ Some (other f) = ap number_of is_moved ∙ ap Some (is k o d counted left tables) in
+      let b = refilled k f w m framed refl handles in
       record {
-        step = goes_freed k o n (Some (r f)) (mover f) b (frames_are f w m framed refl handles) freed words e;
-        kept = goes_kept k o n (Some (r f)) (mover f) b;
+        step = goes_freed k o n (Some (other f)) (mover f) b (frames_are k f w m framed refl handles) freed words e;
+        kept = goes_kept k o n (Some (other f)) (mover f) b;
         choice = subst (λ v. FreeFollows (paging_at h) (held_in h) q v (order_in h) (order_in n)) (sym e)
-            (fill_follows f w m framed refl handles (free_is k o d counted left tables));
+            (fill_follows k f w m framed refl handles (free_is k o d counted left tables));
       }

@@ -1,33 +1,30 @@
 -- What follows from an open heap's invariant: its tables have the pages and classes of its settings, a live number's proxy has its object's address, and it
 -- keeps the rules of a manager and promises an order.
 use Rattle.std.proofs.Common.{◌≡◌, ℕ, ◌<◌, ◌≤◌, length, take, get_or, Option, Some, None, arith, refl, sym, ◌∙◌, ap, subst, inl, inr}
-use Rattle.std.specs.Prelude.{IsSome, IsTrue, is_some, option_map}
+use Rattle.std.specs.Prelude.{IsSome, IsTrue, is_some}
 use Rattle.std.proofs.lemmas.Bool.{cases_lt, false≢true}
 use Rattle.std.proofs.lemmas.List.{get_or-take, get_or_past, length-take-le}
-use Rattle.std.specs.FinMap.{get, len}
+use Rattle.std.specs.FinMap.{get}
 use Rattle.cf_base.specs.Classes.{sizes}
 use Rattle.cf_base.specs.Settings.{profile_of}
 use Rattle.page_model.specs.Held.{Placed}
-use Rattle.page_model.specs.Bytes.{bytes_at}
 use Rattle.page_model.specs.Order.{IsOrderOf}
 use Rattle.page_model.specs.Paging.{IsPaging, classes}
-use Rattle.page_model.proofs.CallerLemmas.{held_at_is, held_at_bytes, own_words, paged}
+use Rattle.page_model.proofs.CallerLemmas.{held_at_bytes, own_words, paged}
 use Rattle.size_classes.specs.Table.{ClassTable, IsClassTable}
 use Rattle.class_lists.specs.PageLists.{PageLists}
 use Rattle.page_slots.specs.declared.page_tables.PageTables.{PageTables}
 use Rattle.page_slots.specs.Tables.{AreTables}
 use Rattle.page_slots.specs.Occupying.{class_table}
 use Rattle.page_slots.specs.Orders.{order_of}
-use Rattle.page_slots.proofs.CallerLemmas.{order_is}
+use Rattle.page_slots.proofs.CallerLemmas.{order_is, held_len, no_place, place_known, OwnsObjects, as_many}
 use Rattle.cf_model.specs.State.{HeapState, layout_of}
 use Rattle.cf_model.specs.Rules.{IsPaged, KeepsRules}
 use Rattle.cf_base.specs.declared.kind.Kind.{Kind}
 use Rattle.paged_heap.specs.declared.open_heap.OpenHeap.{OpenHeap}
 use Rattle.paged_heap.specs.Heap.{Heap, seen}
-use Rattle.paged_heap.specs.Layout.{IsValid, IsValidIn, held_in, order_in, paging_at, state_in, state_of, tables_in}
+use Rattle.paged_heap.specs.Layout.{IsValid, IsValidIn, held_in, order_in, paging_at, state_in, state_of, tables_in, owner_in}
 use Rattle.paged_heap.proofs.ByKind.{paged_of, rules_by}
-use Rattle.cf_lemmas.proofs.MapValues.{get-map_values}
-use Rattle.cf_lemmas.proofs.Values.{len-map_values}
 
 -- the heap with other tables
 abbrev pub with_tables : OpenHeap → PageTables → PageLists → OpenHeap
@@ -49,22 +46,19 @@ module _ (h : Heap) (k : IsValid h) where
   pub page_is : h.classes.page_words ≡ h.settings.page_words
   page_is = ap (λ (t : ClassTable). t.page_words) k.table
 
-  pub as_many : length h.classes.sizes ≡ classes (paging_at h)
-  as_many = ap (λ (t : ClassTable). length t.sizes) k.table
-
   pub few_classes : classes (paging_at h) ≤ 67
   few_classes = k.serve.part.tables.table.are_sizes.few
 
   pub bounds_many : length (take (length h.classes.sizes) h.bounds) ≡ length h.classes.sizes
-  bounds_many = length-take-le (length h.classes.sizes) h.bounds (let few = few_classes in let e = as_many in let long = k.bounds_long in omega arith)
+  bounds_many = length-take-le (length h.classes.sizes) h.bounds (let few = few_classes in let e = as_many (paging_at h) table_is in let long = k.bounds_long in omega arith)
 
   pub bound_is : (c : ℕ) → c < length h.classes.sizes → get_or (take (length h.classes.sizes) h.bounds) c 0 ≡ get_or h.bounds c 0
   bound_is c lt = get_or-take (length h.classes.sizes) h.bounds c 0 lt
 
   pub paging_ok : IsPaging (paging_at h)
-  paging_ok = paged (profile_of h.settings) (layout_of h.kind) (take (length h.classes.sizes) h.bounds) h.settings.page_size (bounds_many ∙ as_many) (λ c lt. (
+  paging_ok = paged (profile_of h.settings) (layout_of h.kind) (take (length h.classes.sizes) h.bounds) h.settings.page_size (bounds_many ∙ as_many (paging_at h) table_is) (λ c lt. (
       let lt' : c < length h.classes.sizes = (let e = bounds_many in omega arith) in
-      let few = few_classes in let e = as_many in
+      let few = few_classes in let e = as_many (paging_at h) table_is in
       let some = k.some_bound c (omega arith) in
       let is = bound_is c lt' in
       omega arith))
@@ -78,40 +72,28 @@ module _ (h : Heap) (k : IsValid h) where
   pub bounds_low : (c : ℕ) → get_or (take (length h.classes.sizes) h.bounds) c 0 ≤ 64
   bounds_low c = elim (cases_lt c (length h.classes.sizes)) [
     | inl lt ↦ (
-        let few = few_classes in let e = as_many in
+        let few = few_classes in let e = as_many (paging_at h) table_is in
         let low = k.low_bound c (omega arith) in
         let is = bound_is c lt in
         omega arith)
     | inr past ↦ (let l = bounds_many in let e = get_or_past (take (length h.classes.sizes) h.bounds) c 0 (omega arith) in omega arith)
   ]
 
-  -- the address of a live object is the one in its proxy
-  pub place_known : (q : ℕ) (x : Placed) → get (held_in h) q ≡ Some x → get h.proxies.places q ≡ Some x.place
-  place_known q x e = (held_at_is h.words h.proxies.places q x e).0
-
   pub number_small : (q : ℕ) (x : Placed) → get (held_in h) q ≡ Some x → q < h.settings.proxies
-  number_small q x e = (let lt = k.handles.below q x.place (place_known q x e) in let s = k.numbers in omega arith)
-
-  pub held_len : len (held_in h) ≡ len h.proxies.places
-  held_len = len-map_values (λ a. record { place = a; bytes = bytes_at h.words a }) h.proxies.places
+  number_small q x e = (let lt = k.handles.below q x.place (place_known (owner_in h) q x e) in let s = k.numbers in omega arith)
 
   -- the heap's kind is one with pages
   pub paged_kind : IsPaged h.kind
   paged_kind = paged_of h.kind h k.framed
 
-  -- a number without a proxy address is not live
-  pub no_place : (q : ℕ) → get h.proxies.places q ≡ None → get (held_in h) q ≡ None
-  no_place q e = get-map_values (λ a. record { place = a; bytes = bytes_at h.words a }) h.proxies.places q
-      ∙ ap (option_map (λ a. record { place = a; bytes = bytes_at h.words a })) e
-
   -- the order in the heap's tables is an order of its objects
   order_ok : IsOrderOf (paging_at h) (held_in h) h.settings.proxies (order_in h)
   order_ok =
       let many = k.numbers in
-      subst (λ n. IsOrderOf (paging_at h) (held_in h) h.settings.proxies (order_of n (tables_in h) h.proxies.free)) (sym as_many)
+      subst (λ n. IsOrderOf (paging_at h) (held_in h) h.settings.proxies (order_of n (tables_in h) h.proxies.free)) (sym (as_many (paging_at h) table_is))
       (order_is paging_ok k.serve k.occupied h.settings.proxies h.proxies.free
-      (λ q among. (let lt = k.handles.free_below q among in omega arith, no_place q (k.handles.not_live q among)))
-      k.handles.once (let all = k.handles.counted in let l = held_len in omega arith))
+      (λ q among. (let lt = k.handles.free_below q among in omega arith, no_place (owner_in h) q (k.handles.not_live q among)))
+      k.handles.once (let all = k.handles.counted in let l = held_len (owner_in h) in omega arith))
 
   pub rules : KeepsRules (state_of h)
   rules = record {
@@ -129,7 +111,7 @@ module _ (h : Heap) (k : IsValid h) where
     numbers = record {
       handles = number_small;
       bytes = held_at_bytes h.words h.proxies.places;
-      few = (let e = held_len in let f = k.handles.few in let s = k.numbers in omega arith);
+      few = (let e = held_len (owner_in h) in let f = k.handles.few in let s = k.numbers in omega arith);
     };
     of_kind = rules_by h.kind h k.framed k.words_long (record {
       paging = paging_ok;
@@ -141,6 +123,18 @@ module _ (h : Heap) (k : IsValid h) where
       order = order_ok;
     });
   }
+
+-- the heap owns its objects
+pub owns : {h : Heap} → IsValid h → OwnsObjects (owner_in h)
+owns {h} k = record {
+  table = table_is h k;
+  paged = paging_ok h k;
+  serve = k.serve.part;
+  sound = k.sound;
+  occupied = k.occupied;
+  long = k.words_long;
+  bounds = λ c lt. sym (bound_is h k c (let e = as_many (paging_at h) (table_is h k) in omega arith));
+}
 
 -- an open heap keeps its rules
 pub rules_in : (kind : Kind) (o : Option OpenHeap) → IsValidIn kind o → IsTrue (is_some o) → KeepsRules (state_in kind o)

@@ -1,6 +1,7 @@
 -- For `malloc_inner` and `has_room`: when a slot and a number are free, why a malloc is refused otherwise, and the parts of a malloc put together: the slot,
 -- the number, the counts.
-use Rattle.std.proofs.Common.{◌≡◌, ◌≢◌, ℕ, ◌+◌, ◌*◌, ◌<◌, ◌≤◌, List, [], ◌∷◌, true, length, get_or, set, None, Some, Result, Ok, Err, arith, refl, sym, ◌∙◌, ap, subst, inl, inr}
+use Rattle.std.proofs.Common.{◌≡◌, ◌≢◌, ℕ, ◌+◌, ◌*◌, ◌<◌, ◌≤◌, List, [], ◌∷◌, true, length, get_or, set, None, Some, Result, Ok, Err, arith, refl}
+use Rattle.std.proofs.Common.{sym, ◌∙◌, ap, subst, inl, inr}
 use Rattle.std.proofs.lemmas.Bool.{cases_lt}
 use Rattle.std.specs.FinMap.{get, len}
 use Rattle.cf_base.specs.Classes.{class_of}
@@ -19,19 +20,18 @@ use Rattle.proxy_table.specs.Proxies.{Proxies, AreBelowLimit, with_place}
 use Rattle.page_slots.specs.Tables.{AreTables, Tables}
 use Rattle.page_slots.specs.Take.{TakesAt}
 use Rattle.page_slots.specs.Occupying.{class_table}
-use Rattle.page_slots.proofs.CallerLemmas.{free_bare}
+use Rattle.page_slots.proofs.CallerLemmas.{free_bare, class_is, held_len}
 use Rattle.page_slots.proofs.CallerLemmas.{free_page}
 use Rattle.page_slots.proofs.CallerLemmas.{refused_lacks_room, taken_is_free}
 use Rattle.cf_model.specs.Rules.{IsPaged}
 use Rattle.cf_model.specs.State.{HeapState}
 use Rattle.cf_model.specs.Steps.{ChangesCost, IsMallocStep, IsRefusedBy, LacksProxy, LacksSpace}
 use Rattle.paged_heap.specs.Heap.{Heap}
-use Rattle.paged_heap.specs.Layout.{IsValid, held_in, paging_at, state_of, tables_in}
+use Rattle.paged_heap.specs.Layout.{IsValid, held_in, paging_at, state_of, tables_in, owner_in}
 use Rattle.paged_heap.specs.Room.{HasSlot}
 use Rattle.paged_heap.proofs.FigureLemmas.{not_full_is}
 use Rattle.paged_heap.proofs.ByKind.{lacks_in, lacks_of, placed_same}
-use Rattle.paged_heap.proofs.LayoutFacts.{held_len, paged_kind, paging_ok, sizes_are, table_is}
-use Rattle.paged_heap.proofs.CountLimits.{class_is}
+use Rattle.paged_heap.proofs.LayoutFacts.{paged_kind, paging_ok, sizes_are, table_is}
 use Rattle.paged_heap.proofs.Preserved.{rest_from}
 use Rattle.paged_heap.proofs.MallocPreserves.{IsAdded}
 
@@ -66,27 +66,27 @@ module _ (h : Heap) (k : IsValid h) (c : ℕ) where
 
 module _ (h : Heap) (k : IsValid h) (bytes c : ℕ) (found : Some c ≡ class_of h.classes.sizes bytes) where
   pub lacks_proxy : len h.proxies.places ≡ h.settings.proxies → LacksProxy (state_of h) bytes
-  lacks_proxy all = record { fits = (class_is h k bytes c found).0; all = held_len h k ∙ all }
+  lacks_proxy all = record { fits = (class_is (paging_ok h k) (table_is h k) bytes c found).0; all = held_len (owner_in h) ∙ all }
 
   few_proxies : len h.proxies.places ≢ h.settings.proxies → len h.proxies.places < h.settings.proxies
   few_proxies ne = (let f = k.handles.few in let e = k.numbers in omega arith)
 
   pub lacks_space : len h.proxies.places ≢ h.settings.proxies → length (pages_in h.lists c NotFull) + length h.pool.free ≡ 0 → LacksSpace (state_of h) bytes
   lacks_space ne none =
-      let is = class_is h k bytes c found in
+      let is = class_is (paging_ok h k) (table_is h k) bytes c found in
       record {
         fits = is.0;
-        few = (let e = held_len h k in let lt = few_proxies ne in omega arith);
+        few = (let e = held_len (owner_in h) in let lt = few_proxies ne in omega arith);
         lacking = lacks_in h.kind (paged_kind h k) (state_of h) bytes
             (subst (LacksRoom (paging_at h) (held_in h)) (sym is.1) (lacks_slots h k c none));
       }
 
   -- if a number and a slot are free, a malloc has no cause for a refusal
   pub not_refused : len h.proxies.places ≢ h.settings.proxies → HasSlot h.lists h.pool c → (e : Refusal) → IsRefusedBy (state_of h) bytes e → ⊥
-  not_refused ne some refusal.Size cause = (let is = class_is h k bytes c found in let fits = is.0 in absurd (omega arith))
-  not_refused ne some refusal.Proxy cause = ne (sym (held_len h k) ∙ cause.all)
+  not_refused ne some refusal.Size cause = (let is = class_is (paging_ok h k) (table_is h k) bytes c found in let fits = is.0 in absurd (omega arith))
+  not_refused ne some refusal.Proxy cause = ne (sym (held_len (owner_in h)) ∙ cause.all)
   not_refused ne some refusal.Space cause =
-      let is = class_is h k bytes c found in
+      let is = class_is (paging_ok h k) (table_is h k) bytes c found in
       slot_is_room h k c some (subst (LacksRoom (paging_at h) (held_in h)) is.1 (lacks_of h.kind (paged_kind h k) (state_of h) bytes cause.lacking))
 
   module _ (new : Tables) (a : ℕ) (t : TakesAt h.classes (tables_in h) c a new) (tables : AreTables h.classes new) where
@@ -99,7 +99,7 @@ module _ (h : Heap) (k : IsValid h) (bytes c : ℕ) (found : Some c ≡ class_of
     -- the address is in the region
     pub place_inside : a < length h.words
     place_inside =
-        let is = class_is h k bytes c found in
+        let is = class_is (paging_ok h k) (table_is h k) bytes c found in
         let lt = is.2 in
         let free = taken_is_free (paging_ok h k) k.serve.part k.occupied of_table lt at_table bytes is.1 in
         let inside = slot_inside (paging_at h) (class_for (paging_at h) bytes) a free.slot in
@@ -116,7 +116,7 @@ module _ (h : Heap) (k : IsValid h) (bytes c : ℕ) (found : Some c ≡ class_of
       → n ≡ record b { live = set b.live c (get_or b.live c 0 + 1); asked = b.asked + bytes; taken = b.taken + 8 * get_or b.classes.sizes c 0 }
       → IsAdded h n c a bytes q
   comes t b n a q ne taken tables et unused below first eb handles en =
-      let is = class_is h k bytes c found in
+      let is = class_is (paging_ok h k) (table_is h k) bytes c found in
       let pt : t.proxies ≡ h.proxies = ap (λ (x : Heap). x.proxies) et in
       let on : tables_in n ≡ tables_in t = ap tables_in en ∙ ap tables_in eb in
       record {

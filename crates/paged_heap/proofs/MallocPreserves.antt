@@ -21,15 +21,15 @@ use Rattle.page_slots.specs.Tables.{AreTables}
 use Rattle.page_slots.specs.Take.{TakesAt}
 use Rattle.page_slots.specs.Occupying.{class_table}
 use Rattle.page_slots.specs.Orders.{order_of}
-use Rattle.page_slots.proofs.CallerLemmas.{taken_is_free, taken_next, taken_occupied, taken_serve}
+use Rattle.page_slots.proofs.CallerLemmas.{taken_is_free, taken_next, taken_occupied, taken_serve, held_len, no_place, as_many, places_are}
 use Rattle.cf_model.specs.Answers.{place_of}
 use Rattle.cf_model.specs.Steps.{AddsObject}
 use Rattle.paged_heap.specs.Heap.{Heap}
-use Rattle.paged_heap.specs.Layout.{IsValid, held_in, order_in, paging_at, state_of, tables_in}
+use Rattle.paged_heap.specs.Layout.{IsValid, held_in, order_in, paging_at, state_of, tables_in, owner_in}
 use Rattle.cf_lemmas.proofs.Tallies.{counted_in}
 use Rattle.paged_heap.proofs.ByKind.{framed_kept, placed_in}
-use Rattle.paged_heap.proofs.LayoutFacts.{as_many, few_classes, held_len, no_place, paged_kind, paging_ok}
-use Rattle.paged_heap.proofs.Preserved.{Becomes, becomes_kept, becomes_state, held_is, places_are, stored, with_parts}
+use Rattle.paged_heap.proofs.LayoutFacts.{few_classes, paged_kind, paging_ok, table_is}
+use Rattle.paged_heap.proofs.Preserved.{Becomes, becomes_kept, becomes_state, held_is, stored, with_parts}
 
 -- the heap n is h with a new object of `bytes` bytes in the free slot of class c at the address a, under number q
 pub record IsAdded (h n : Heap) (c a bytes q : ℕ) : Type 0 where
@@ -56,7 +56,7 @@ module _ (h n : Heap) (k : IsValid h) (c a bytes q : ℕ) (co : IsAdded h n c a 
   after = insert (held_in h) q (zeros_at a bytes)
 
   none : get (held_in h) q ≡ None
-  none = no_place h k q co.unused
+  none = no_place (owner_in h) q co.unused
 
   size : length (replicate {A = ℕ} bytes 0) ≡ bytes
   size = length-replicate {A = ℕ} bytes 0
@@ -92,7 +92,7 @@ module _ (h n : Heap) (k : IsValid h) (c a bytes q : ℕ) (co : IsAdded h n c a 
   becomes = record {
     rest = co.rest;
     framed = framed_kept h.kind h n co.frames (ap length co.words ∙ length-set h.words a (header_word q bytes)) k.framed;
-    places = ap (λ (x : Proxies). x.places) co.proxies ∙ ap (λ m. insert m q a) (places_are h k) ∙ sym (malloc_places (held_in h) q a bytes);
+    places = ap (λ (x : Proxies). x.places) co.proxies ∙ ap (λ m. insert m q a) (places_are (owner_in h)) ∙ sym (malloc_places (held_in h) q a bytes);
     storable = storable_added (held_in h) q (zeros_at a bytes) (stored h k) small (zeros_are_bytes bytes);
     long = ap length co.words ∙ length-set h.words a (header_word q bytes);
     image = subst (λ w. IsSlotImage (paging_at h) after w) (sym co.words)
@@ -130,7 +130,7 @@ module _ (h n : Heap) (k : IsValid h) (c a bytes q : ℕ) (co : IsAdded h n c a 
         let of_class = subst (λ d. TakesNext (paging_at h) (held_in h) (order_of (classes (paging_at h)) (tables_in h) n.proxies.free) d a
         (order_of (classes (paging_at h)) (tables_in n) n.proxies.free)) (sym co.class) next in
         let old = subst (λ s. TakesNext (paging_at h) (held_in h) (order_of s (tables_in h) n.proxies.free) (class_for (paging_at h) bytes) a
-        (order_of s (tables_in n) n.proxies.free)) (sym (as_many h k)) of_class in
+        (order_of s (tables_in n) n.proxies.free)) (sym (as_many (paging_at h) (table_is h k))) of_class in
         subst (λ s. TakesNext (paging_at h) (held_in h) (order_of (length h.classes.sizes) (tables_in h) n.proxies.free) (class_for (paging_at h) bytes) a
         (order_of s (tables_in n) n.proxies.free)) (sym (ap (λ (x : Heap). length x.classes.sizes) co.rest)) old;
   }
@@ -147,7 +147,7 @@ module _ (h n : Heap) (k : IsValid h) (c a bytes q : ℕ) (co : IsAdded h n c a 
   pub comes_given : AddsObject (state_of h) (record { number = q; length = bytes }) (state_of n)
   comes_given = record {
     fits = co.fits;
-    few = (let e = held_len h k in let f = co.few in omega arith);
+    few = (let e = held_len (owner_in h) in let f = co.few in omega arith);
     in_range = (let lt = co.below in let e = k.numbers in omega arith);
     unused = none;
     place = a;

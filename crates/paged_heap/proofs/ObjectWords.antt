@@ -5,13 +5,14 @@ use Rattle.std.proofs.lemmas.List.{get_or_past}
 use Rattle.page_model.specs.Bytes.{AreBytes, byte_of, bytes_at}
 use Rattle.page_model.specs.Image.{object_word, slot_for}
 use Rattle.page_model.specs.Steps.{resized}
-use Rattle.page_model.proofs.CallerLemmas.{bytes_at-AreBytes, length-resized, byte_of_object, object_word_small, resized_before, resized_behind, word_by_bytes}
+use Rattle.page_model.proofs.CallerLemmas.{bytes_at-AreBytes, length-resized, byte_of_object, object_word_small, resized_before, resized_behind}
+use Rattle.page_model.proofs.CallerLemmas.{word_by_bytes}
 use Rattle.paged_heap.specs.Heap.{Heap}
-use Rattle.paged_heap.specs.Layout.{IsValid, paging_at}
-use Rattle.paged_heap.specs.Free.{IsObjectAt}
+use Rattle.paged_heap.specs.Layout.{IsValid, paging_at, owner_in}
 use Rattle.paged_heap.proofs.Preserved.{stored}
-use Rattle.paged_heap.proofs.FreedObject.{it, it_found}
-use Rattle.paged_heap.proofs.ReadLemmas.{bytes_few}
+use Rattle.page_slots.proofs.CallerLemmas.{bytes_few, it, it_found}
+use Rattle.page_slots.specs.Owner.{IsObjectAt}
+use Rattle.paged_heap.proofs.LayoutFacts.{owns}
 
 -- byte j of word i after the header
 pub word_byte : (q : ℕ) (v : List ℕ) (i j : ℕ) → j < 8 → AreBytes v → byte_of j (object_word q v (suc i)) ≡ get_or v (8 * i + j) 0
@@ -41,18 +42,18 @@ module _ (v : List ℕ) (size : ℕ) where
     | inr past ↦ get_or_past v b 0 past ∙ sym (resized_behind v size b past)
   ]
 
-module _ {h : Heap} (k : IsValid h) {q a m c : ℕ} (o : IsObjectAt h q a m c) where
+module _ {h : Heap} (k : IsValid h) {q a m c : ℕ} (o : IsObjectAt (owner_in h) q a m c) where
   abbrev old : List ℕ
   old = bytes_at h.words a
 
   pub few : q < 2 ^ 32
-  few = (stored h k q _ (it_found k o)).0
+  few = (stored h k q _ (it_found (owns k) o)).0
 
   old_small : length old < 2 ^ 32
-  old_small = (let f = bytes_few h k q a o.known in omega arith)
+  old_small = (let f = bytes_few (owns k) q a o.known in omega arith)
 
   pub stood : (i : ℕ) → suc i < slot_for (paging_at h) (length old) → get_or h.words (a + suc i) 0 ≡ object_word q old (suc i)
-  stood i lt = k.image.held q (it k o) (it_found k o) (suc i) lt
+  stood i lt = k.image.held q (it (owns k) o) (it_found (owns k) o) (suc i) lt
 
   pub was_small : (i : ℕ) → suc i < slot_for (paging_at h) (length old) → get_or h.words (a + suc i) 0 < 2 ^ 64
   was_small i lt = (let e = stood i lt in let s = object_word_small q old (suc i) few old_small (bytes_at-AreBytes h.words a) in omega arith)

@@ -17,18 +17,17 @@ use Rattle.cf_model.specs.Rules.{KeepsRules}
 use Rattle.cf_model.specs.Steps.{WritesBytes}
 use Rattle.paged_heap.specs.declared.open_heap.OpenHeap.{OpenHeap}
 use Rattle.cf_base.specs.declared.kind.Kind.TheVariants.{Moving}
-use Rattle.paged_heap.specs.Access.{HoldsBytesAt}
 use Rattle.paged_heap.specs.Heap.{seen}
-use Rattle.paged_heap.specs.Layout.{Holds, IsValid, IsValidIn, held_in, state_at}
+use Rattle.paged_heap.specs.Layout.{Holds, IsValid, IsValidIn, held_in, state_at, owner_in}
 use Rattle.paged_heap.specs.PagedState.{PagedState, paged_in}
 use Rattle.paged_heap.specs.PayloadLoan.{words_found, with_payload_at, with_payload_in, with_payload_of, with_run}
 use Rattle.paged_heap.specs.Payload.{bytes_of_words, lent_back, payload_of, whole_words, with_object}
 use Rattle.page_model.proofs.CallerLemmas.{byte_below}
-use Rattle.paged_heap.proofs.Preserved.{has_place}
-use Rattle.paged_heap.proofs.LayoutFacts.{no_place, rules_in}
-use Rattle.paged_heap.proofs.ReadLemmas.{lies}
+use Rattle.paged_heap.proofs.LayoutFacts.{rules_in, owns}
 use Rattle.paged_heap.proofs.WriteLemmas.{wrote, wrote_kept}
 use Rattle.paged_heap.proofs.PayloadWords.{count_is, run_inside}
+use Rattle.page_slots.proofs.CallerLemmas.{no_place, held}
+use Rattle.page_slots.specs.Owner.{HoldsBytesAt}
 
 -- the bytes of words
 module _ (ws : List ℕ) where
@@ -89,8 +88,8 @@ module _ (h : OpenHeap) (k : IsValid (seen Moving h)) (q a : ℕ) (some : get h.
   pub left_is : (n : ℕ) → n ≡ many → with_run h (a + 1) n ws ≡ with_payload_at h a ws
   left_is n is = ap (λ n. with_run h (a + 1) n ws) (is ∙ sym (count_is h a (get_or h.region a 0 / 2 ^ 32) refl))
 
-  lies_there : HoldsBytesAt (seen Moving h) (record { number = q; from = 0 }) (length patch) a
-  lies_there = (let long = length-patch in lies (seen Moving h) k q a some 0 (length patch) (omega arith))
+  lies_there : HoldsBytesAt (owner_in (seen Moving h)) q 0 (length patch) a
+  lies_there = (let long = length-patch in record { found = some; within = omega arith })
 
   overwrites : Overwrites h.region left.region (record { from = a + 1 + 0 / 8; count = (0 % 8 + length patch + 7) / 8 }) (0 % 8) patch
   overwrites =
@@ -105,13 +104,13 @@ module _ (h : OpenHeap) (k : IsValid (seen Moving h)) (q a : ℕ) (some : get h.
   left_kept = wrote_kept (seen Moving h) (seen Moving left) k q 0 a patch lies_there (bytes_of_words_are (fit many ws)) refl overwrites
 
   left_state : paged_in Moving (Some left) ≡ lent_back (paged_in Moving (Some h)) q ws
-  left_state = rw (has_place (seen Moving h) k q a some) whole
+  left_state = rw (held (owns k) q a some) whole
     where
       w : WritesBytes (state_at Moving h) (record { number = q; from = 0 }) patch (state_at Moving left)
       w = wrote (seen Moving h) (seen Moving left) k q 0 a patch lies_there (bytes_of_words_are (fit many ws)) refl overwrites
 
       same : w.object ≡ record { place = a; bytes = was }
-      same = (let f = w.found in let g = has_place (seen Moving h) k q a some in cc)
+      same = (let f = w.found in let g = held (owns k) q a some in cc)
 
       whole : paged_in Moving (Some left) ≡ with_object (paged_in Moving (Some h)) q (record { place = a; bytes = was }) ws
       whole =
@@ -134,7 +133,7 @@ of_kept h k q (Some a) e ws = payload_kept h k q a e ws
 
 of_state : (h : OpenHeap) → IsValid (seen Moving h) → (q : ℕ) (p : Option ℕ) → get h.proxies.places q ≡ p → (ws : List ℕ)
     → paged_in Moving (Some (with_payload_of h p ws)) ≡ lent_back (paged_in Moving (Some h)) q ws
-of_state h k q None e ws = rw (no_place (seen Moving h) k q e) refl
+of_state h k q None e ws = rw (no_place (owner_in (seen Moving h)) q e) refl
 of_state h k q (Some a) e ws = payload_state h k q a e ws
 
 -- to write over a run of no words changes nothing; below, to write over the run that `find_words` finds is to write over the object's whole words

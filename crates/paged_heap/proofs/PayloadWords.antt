@@ -13,21 +13,20 @@ use Rattle.page_model.specs.Image.{word_of_bytes}
 use Rattle.paged_heap.specs.declared.open_heap.OpenHeap.{OpenHeap}
 use Rattle.cf_base.specs.declared.kind.Kind.TheVariants.{Moving}
 use Rattle.paged_heap.specs.Heap.{seen}
-use Rattle.paged_heap.specs.Layout.{IsValid, state_at}
+use Rattle.paged_heap.specs.Layout.{IsValid, state_at, owner_in}
 use Rattle.paged_heap.specs.PayloadLoan.{words_found}
 use Rattle.paged_heap.specs.Payload.{payload_bound, payload_of, whole_words, words_lent}
 use Rattle.step_ledger.specs.Counting.{RoseAtMost, RoseBy}
-use Rattle.paged_heap.proofs.Preserved.{has_place}
-use Rattle.paged_heap.proofs.LayoutFacts.{no_place}
-use Rattle.paged_heap.proofs.ReadLemmas.{holds, slot_there}
+use Rattle.paged_heap.proofs.LayoutFacts.{owns}
 use Rattle.page_model.proofs.CallerLemmas.{bytes_long}
+use Rattle.page_slots.proofs.CallerLemmas.{no_place, held, slot_there, holds}
 
 pub length-whole_words : (v : List ℕ) → length (whole_words v) ≡ length v / 8
 length-whole_words v = length-map-range_with_len _ 0 _
 
 -- a number without an address has no words
 pub none_lent : (h : OpenHeap) → IsValid (seen Moving h) → (q : ℕ) → get h.proxies.places q ≡ None → payload_of (state_at Moving h) q ≡ None
-none_lent h k q none = ap (option_map (λ (x : Placed). whole_words x.bytes)) (no_place (seen Moving h) k q none)
+none_lent h k q none = ap (option_map (λ (x : Placed). whole_words x.bytes)) (no_place (owner_in (seen Moving h)) q none)
 
 -- the number of words, as it is read from the header
 pub count_is : (h : OpenHeap) (a read : ℕ) → read ≡ get_or h.region a 0 / 2 ^ 32 → read / 8 ≡ length (bytes_at h.region a) / 8
@@ -39,7 +38,7 @@ module _ (h : OpenHeap) (k : IsValid (seen Moving h)) (q a : ℕ) (some : get h.
   bytes = bytes_at h.region a
 
   pub run_inside : a + 1 + length bytes / 8 ≤ length h.region
-  run_inside = (let s = slot_there (seen Moving h) k q a some in let o = holds (seen Moving h) k q a some in omega arith)
+  run_inside = (let s = slot_there (owns k) q a some in let o = holds (owns k) q a some in omega arith)
 
   pub run_small : a + 1 < 2 ^ 32
   run_small = (let r = run_inside in let long = k.words_long in let small = h.settings.small_region in omega arith)
@@ -48,7 +47,7 @@ module _ (h : OpenHeap) (k : IsValid (seen Moving h)) (q a : ℕ) (some : get h.
   pub words_are : take (length bytes / 8) (drop (a + 1) h.region) ≡ whole_words bytes
   words_are =
       let inside = run_inside in
-      let o = holds (seen Moving h) k q a some in
+      let o = holds (owns k) q a some in
       let left = length-drop (a + 1) h.region in
       let words = drop (a + 1) h.region in
       let long : length (take (length bytes / 8) words) ≡ length bytes / 8 = length-take-le (length bytes / 8) words (omega arith) in
@@ -56,11 +55,11 @@ module _ (h : OpenHeap) (k : IsValid (seen Moving h)) (q a : ℕ) (some : get h.
       same_number_lists (take (length bytes / 8) (drop (a + 1) h.region)) (whole_words bytes) (long ∙ sym whole) (λ j lt.
       let place : a + 1 + j ≡ a + suc j = omega arith in
       get_or-take (length bytes / 8) (drop (a + 1) h.region) j 0 (omega arith) ∙ get_or-drop (a + 1) h.region j 0 ∙ ap (λ i. get_or h.region i 0) place
-      ∙ k.image.held q (record { place = a; bytes = bytes }) (has_place (seen Moving h) k q a some) (suc j) (omega arith)
+      ∙ k.image.held q (record { place = a; bytes = bytes }) (held (owns k) q a some) (suc j) (omega arith)
       ∙ sym (get_or-map-range_with_len (λ i. word_of_bytes (take 8 (drop (8 * i) bytes))) 0 (length bytes / 8) j j 0 (omega arith) (omega arith)))
 
   pub some_lent : payload_of (state_at Moving h) q ≡ Some (whole_words bytes)
-  some_lent = ap (option_map (λ (x : Placed). whole_words x.bytes)) (has_place (seen Moving h) k q a some)
+  some_lent = ap (option_map (λ (x : Placed). whole_words x.bytes)) (held (owns k) q a some)
 
   -- the words after the header, as many as the length in the header says, are those that `payload` lends
   pub lent_is : (n : ℕ) → n ≡ length bytes / 8 → (ws : List ℕ) → ws ≡ take n (drop (a + 1) h.region) → Some ws ≡ payload_of (state_at Moving h) q

@@ -1,18 +1,15 @@
 -- For all calls: an open heap keeps its invariant if its objects, words, tables, proxies and counts change together (`Becomes`). Its state then has the new
 -- objects.
-use Rattle.std.proofs.Common.{◌≡◌, ℕ, ◌<◌, length, get_or, Some, arith, sym, ◌∙◌, ap, subst}
-use Rattle.std.specs.FinMap.{get}
-use Rattle.std.specs.Prelude.{option_map}
+use Rattle.std.proofs.Common.{◌≡◌, ℕ, ◌<◌, length, get_or, arith, sym, ◌∙◌, ap, subst}
 use Rattle.cf_base.specs.declared.kind.Kind.{Kind}
 use Rattle.cf_base.specs.declared.kind.Kind.TheVariants.{Moving, NonMoving, Tlsf, HalfFit}
 use Rattle.page_model.specs.Held.{Held, objects, places}
-use Rattle.page_model.specs.Bytes.{AreStorable, bytes_at}
+use Rattle.page_model.specs.Bytes.{AreStorable}
 use Rattle.page_model.specs.Paging.{classes}
 use Rattle.page_model.specs.Arrangement.{IsSound, live}
 use Rattle.page_model.specs.Image.{IsSlotImage}
 use Rattle.page_model.specs.Figures.{asked_bytes, taken_bytes}
-use Rattle.page_model.proofs.CallerLemmas.{held_from_image, held_at_bytes, places-held_at, own_words}
-use Rattle.cf_lemmas.proofs.MapValues.{get-map_values}
+use Rattle.page_model.proofs.CallerLemmas.{held_from_image, held_at_bytes, own_words}
 use Rattle.proxy_table.specs.Proxies.{AreBelowLimit}
 use Rattle.page_slots.specs.Occupying.{Occupies, FitPages}
 use Rattle.paged_heap.specs.Heap.{Heap}
@@ -116,14 +113,6 @@ cost_kept h cost k = record {
 module _ (h : Heap) (k : IsValid h) where
   pub stored : AreStorable (held_in h)
   stored q x e = (let s = number_small h k q x e in let few = h.settings.few_proxies in omega arith, held_at_bytes h.words h.proxies.places q x e)
-
-  pub places_are : h.proxies.places ≡ places (held_in h)
-  places_are = sym (places-held_at h.words h.proxies.places)
-
-  -- a number with a proxy address is live, at that address
-  pub has_place : (q a : ℕ) → get h.proxies.places q ≡ Some a → get (held_in h) q ≡ Some (record { place = a; bytes = bytes_at h.words a })
-  has_place q a e = get-map_values (λ a. record { place = a; bytes = bytes_at h.words a }) h.proxies.places q
-      ∙ ap (option_map (λ a. record { place = a; bytes = bytes_at h.words a })) e
 
 -- the heap n has the fields of h that no call changes
 pub rest_from : (h n : Heap) → n.kind ≡ h.kind → n.settings ≡ h.settings → n.classes ≡ h.classes → n.bounds ≡ h.bounds → n ≡ with_parts h n

@@ -11,17 +11,19 @@ use Rattle.page_slots.specs.Tables.{AreTables}
 use Rattle.size_classes.specs.Table.{ClassTable}
 use Rattle.virtual_words.specs.Words.{IsWhole}
 use Rattle.paged_heap.specs.Choices.{ResizeChooses}
-use Rattle.paged_heap.specs.Free.{Leaves, MayLeave, MustMoveInto}
+use Rattle.paged_heap.specs.Free.{Leaves, MayLeave}
 use Rattle.paged_heap.specs.Heap.{Heap}
-use Rattle.paged_heap.specs.Layout.{IsFramed, IsValid, state_of, tables_in}
+use Rattle.paged_heap.specs.Layout.{IsFramed, IsValid, state_of, tables_in, owner_in}
 use Rattle.paged_heap.specs.ResizeClass.{EntersAt, IsChange, old_words}
 use Rattle.paged_heap.specs.declared.resize_class.Change.{Change}
 use Rattle.proxy_table.specs.Proxies.{AreBelowLimit}
-use Rattle.paged_heap.proofs.FreedObject.{class_listed, it_inside, it_slot}
 use Rattle.paged_heap.proofs.ResizeClass.{change_chosen, change_kept, change_resized, entered_long, found, object, old_used}
 use Rattle.paged_heap.proofs.ResizeClassAlone as alone
 use Rattle.paged_heap.proofs.ResizeClassFilled as filled
 use Rattle.paged_heap.proofs.WholeBlocks.{whole_slot}
+use Rattle.page_slots.proofs.CallerLemmas.{it_slot, it_inside, class_listed}
+use Rattle.page_slots.specs.Owner.{MustMoveInto}
+use Rattle.paged_heap.proofs.LayoutFacts.{owns}
 
 -- a resize to another class in the heap h
 pub record ChangesBy (h : Heap) (asked : Request) (done : Resized) (m : Heap) : Type 0 where
@@ -30,7 +32,7 @@ pub record ChangesBy (h : Heap) (asked : Request) (done : Resized) (m : Heap) : 
   pub choice : ResizeChooses h asked done m
 
 module _ {h : Heap} (k : IsValid h) {x : Change} (is : IsChange h x) {b : ℕ} {n : Heap} (en : EntersAt h x b n) (moves : Bool)
-    (due : IsTrue moves ↔ MustMoveInto h x.place x.class) where
+    (due : IsTrue moves ↔ MustMoveInto (owner_in h) x.place x.class) where
   size_is : get_or n.classes.sizes x.class 0 ≡ old_words h x
   size_is = ap (λ (t : ClassTable). get_or t.sizes x.class 0) en.classes
 
@@ -38,12 +40,12 @@ module _ {h : Heap} (k : IsValid h) {x : Change} (is : IsChange h x) {b : ℕ} {
   may_leave = record {
     tables = subst (λ (t : ClassTable). AreTables t (tables_in n)) (sym en.classes) en.tables;
     used = old_used k is en;
-    class = (let l = class_listed k is.object in let e = ap (λ (t : ClassTable). length t.sizes) en.classes in omega arith);
-    inside = (let i = it_inside k is.object in let l = entered_long k is en in let e = size_is in omega arith);
+    class = (let l = class_listed (owns k) is.object in let e = ap (λ (t : ClassTable). length t.sizes) en.classes in omega arith);
+    inside = (let i = it_inside (owns k) is.object in let l = entered_long k is en in let e = size_is in omega arith);
     handles = en.handles;
     whole = subst (λ kind. IsWhole kind x.place) (sym en.kind) (whole_slot h k x.handle.0 (object k is en) (found k is en)).0;
     whole_words = subst (λ kind. IsWhole kind (get_or n.classes.sizes x.class 0)) (sym en.kind)
-        (subst (IsWhole h.kind) (sym (size_is ∙ it_slot k is.object)) (whole_slot h k x.handle.0 (object k is en) (found k is en)).1);
+        (subst (IsWhole h.kind) (sym (size_is ∙ it_slot (owns k) is.object)) (whole_slot h k x.handle.0 (object k is en) (found k is en)).1);
     some = λ t. filled.some_fills k is en (due.0 t);
     mover = λ t from new fills tables. (
         let f : filled.Refills h x b n from new =
@@ -61,7 +63,7 @@ module _ {h : Heap} (k : IsValid h) {x : Change} (is : IsChange h x) {b : ℕ} {
       → is_some moved ≡ moves → Leaves n x.place x.class moved m → (done : Resized) → done.old_slot_words ≡ get_or h.classes.sizes x.class 0
       → done.slot_words ≡ get_or h.classes.sizes x.to 0 → done.moved ≡ moved → ChangesBy h (record { number = x.handle.0; length = x.bytes }) done m
   changed_by {m} tables framed handles None none left done was words is_moved =
-      let still : MustMoveInto h x.place x.class → ⊥ = λ m. absurd (false≢true (none ∙ due.1 m)) in
+      let still : MustMoveInto (owner_in h) x.place x.class → ⊥ = λ m. absurd (false≢true (none ∙ due.1 m)) in
       let no = alone.never k is en still left tables framed in let ke = alone.keeps k is en still left tables framed in
       let be = alone.changed_alone k is en still left tables framed in
       let e = ap number_of is_moved in

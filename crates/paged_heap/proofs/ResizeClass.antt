@@ -26,31 +26,31 @@ use Rattle.proxy_table.specs.Proxies.{AreBelowLimit}
 use Rattle.page_slots.specs.Tables.{IsUsed, page_at, slot_at}
 use Rattle.page_slots.specs.Occupying.{Occupies, FitPages, class_table}
 use Rattle.page_slots.specs.Orders.{order_of}
-use Rattle.page_slots.proofs.CallerLemmas.{taken_next, taken_occupied, taken_serve}
+use Rattle.page_slots.proofs.CallerLemmas.{taken_next, taken_occupied, taken_serve, it, it_found, it_class, it_slot, it_bytes, as_many}
 use Rattle.cf_model.specs.Steps.{ResizesObject, frames_left, number_of}
 use Rattle.paged_heap.specs.Heap.{Heap}
 use Rattle.paged_heap.specs.declared.resize_class.Change.{Change}
 use Rattle.paged_heap.specs.ResizeClass.{EntersAt, IsChange, old_words}
 use Rattle.paged_heap.specs.Layout.{IsFramed, IsValid, held_in, order_in, paging_at, state_of, tables_in}
-use Rattle.paged_heap.proofs.LayoutFacts.{as_many, few_classes, paged_kind, paging_ok, sizes_are, table_is}
+use Rattle.paged_heap.proofs.LayoutFacts.{few_classes, paged_kind, paging_ok, sizes_are, table_is, owns}
 use Rattle.paged_heap.proofs.Preserved.{Becomes, becomes_kept, becomes_state, held_is, rest_from, stored}
 use Rattle.cf_lemmas.proofs.Tallies.{counted_in, counted_out}
 use Rattle.paged_heap.proofs.TwoWrites.{between, cleared_then, moved_then, written_first}
 use Rattle.paged_heap.proofs.ResizeCopy.{are_now, arrived, carried_long, untouched}
 use Rattle.paged_heap.proofs.ResizeEnter.{at_table, is_free, new_inside, none_spare, of_table, slots_apart}
-use Rattle.paged_heap.proofs.FreedObject.{asked_some, it, it_bytes, it_class, it_found, it_slot, live_some, taken_some}
+use Rattle.paged_heap.proofs.FreedObject.{asked_some, live_some, taken_some}
 use Rattle.paged_heap.proofs.ObjectWords.{few}
 use Rattle.paged_heap.proofs.WriteLemmas.{asked_changed, live_changed, taken_changed}
 
 module _ {h : Heap} (k : IsValid h) {x : Change} (is : IsChange h x) {b : ℕ} {n : Heap} (en : EntersAt h x b n) where
   abbrev pub object : Placed
-  object = it k is.object
+  object = it (owns k) is.object
 
   pub found : get (held_in h) x.handle.0 ≡ Some object
-  found = it_found k is.object
+  found = it_found (owns k) is.object
 
   object_class : class_at (paging_at h) object ≡ x.class
-  object_class = it_class k is.object
+  object_class = it_class (owns k) is.object
 
   pub place_free : IsFreePlace (paging_at h) (held_in h) x.bytes b
   place_free = is_free k is en.taken en.tables
@@ -138,7 +138,7 @@ module _ {h : Heap} (k : IsValid h) {x : Change} (is : IsChange h x) {b : ℕ} {
       let of_class = subst (λ d. TakesNext (paging_at h) (held_in h) (order_of (classes (paging_at h)) (tables_in h) h.proxies.free) d b
       (order_of (classes (paging_at h)) (tables_in n) h.proxies.free)) (sym is.class) next in
       subst (λ s. TakesNext (paging_at h) (held_in h) (order_of s (tables_in h) h.proxies.free) (class_for (paging_at h) x.bytes) b
-      (order_of s (tables_in n) h.proxies.free)) (sym (as_many h k)) of_class
+      (order_of s (tables_in n) h.proxies.free)) (sym (as_many (paging_at h) (table_is h k))) of_class
 
   pub old_used : IsUsed (tables_in n) x.class (page_at n.classes x.place) (slot_at n.classes x.class x.place)
   old_used =
@@ -168,7 +168,7 @@ module _ {h : Heap} (k : IsValid h) {x : Change} (is : IsChange h x) {b : ℕ} {
 
   pub then_cleared : (last : List ℕ) → Clears n.words last (record { from = x.place; count = old_words h x })
       → Clears middle last (record { from = x.place; count = slot_for (paging_at h) (length object.bytes) })
-  then_cleared last c = subst (λ l. Clears middle last (record { from = x.place; count = l })) (it_slot k is.object)
+  then_cleared last c = subst (λ l. Clears middle last (record { from = x.place; count = l })) (it_slot (owns k) is.object)
       (cleared_then h.words n.words b (slot_for (paging_at h) x.bytes) x.place (old_words h x) (new_inside k is place_free) new_there
       (object_word x.handle.0 new.bytes) (slots_apart k is place_free)
       (arrived k is place_free en.words) (untouched k is place_free en.words) last c)
@@ -229,7 +229,7 @@ module _ {h : Heap} (k : IsValid h) {x : Change} (is : IsChange h x) {b : ℕ} {
 
     counts : (d : ℕ) → d < classes (paging_at h) → get_or n.live d 0 ≡ live (paging_at h) (objects after) d
     counts d lt =
-        let e = live_changed (paging_at h) (objects (held_in h)) x.handle.0 object.bytes new.bytes (it_bytes k is.object) d in
+        let e = live_changed (paging_at h) (objects (held_in h)) x.handle.0 object.bytes new.bytes (it_bytes (owns k) is.object) d in
         let was = k.counted d lt in
         let all : live (paging_at h) (objects after) d ≡ live (paging_at h) (insert (objects (held_in h)) x.handle.0 new.bytes) d =
         ap (λ o. live (paging_at h) o d) objects_are in
@@ -280,15 +280,15 @@ module _ {h : Heap} (k : IsValid h) {x : Change} (is : IsChange h x) {b : ℕ} {
             ∙ length-set h.live x.class (get_or h.live x.class 0 - 1) ∙ k.live_long;
         counted = λ d lt. ap (λ l. get_or l d 0) same.live ∙ counts d lt;
         asked_all = (
-            let e = asked_changed (paging_at h) (objects (held_in h)) x.handle.0 object.bytes new.bytes (it_bytes k is.object) in
+            let e = asked_changed (paging_at h) (objects (held_in h)) x.handle.0 object.bytes new.bytes (it_bytes (owns k) is.object) in
             let all = ap asked_bytes objects_are in let was = k.asked_all in let now = en.asked in let s = same.asked in
             let l = is.object.long in let l' = length-resized object.bytes x.bytes in
             let some = asked_some k is.object in
             omega arith);
         taken_all = (
-            let e = taken_changed (paging_at h) (objects (held_in h)) x.handle.0 object.bytes new.bytes (it_bytes k is.object) in
+            let e = taken_changed (paging_at h) (objects (held_in h)) x.handle.0 object.bytes new.bytes (it_bytes (owns k) is.object) in
             let all = ap (taken_bytes (paging_at h)) objects_are in let was = k.taken_all in let now = en.all_taken in let s = same.taken in
-            let l = it_slot k is.object in
+            let l = it_slot (owns k) is.object in
             let l' : slot_words (paging_at h) (class_for (paging_at h) (length new.bytes)) ≡ slot_words (paging_at h) x.to =
             ap (slot_words (paging_at h)) new_class in
             let l'' : get_or h.classes.sizes x.to 0 ≡ slot_words (paging_at h) x.to = ap (λ xs. get_or xs x.to 0) (sizes_are h k) in
@@ -308,7 +308,7 @@ module _ {h : Heap} (k : IsValid h) {x : Change} (is : IsChange h x) {b : ℕ} {
           fits = is.fits;
           object = object;
           found = found;
-          old_slot = was_words ∙ it_slot k is.object;
+          old_slot = was_words ∙ it_slot (owns k) is.object;
           slot = words ∙ ap (λ xs. get_or xs x.to 0) (sizes_are h k) ∙ ap (slot_words (paging_at h)) (sym is.class);
           step = subst (λ g. IsResizedBy (paging_at h) (held_in h) asked (record { held = g; moved = number_of done.moved })) (sym (held_is h m k after be))
               (subst (λ v. IsResizedBy (paging_at h) (held_in h) asked (record { held = after; moved = v })) (sym none) (inr step));

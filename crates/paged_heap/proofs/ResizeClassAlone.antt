@@ -18,21 +18,24 @@ use Rattle.page_slots.specs.Release.{Vacates}
 use Rattle.page_slots.specs.Tables.{AreTables, page_at, slot_at}
 use Rattle.page_slots.specs.Occupying.{Occupies, class_table}
 use Rattle.page_slots.specs.Orders.{order_of}
-use Rattle.page_slots.proofs.CallerLemmas.{renumbered_occupied, vacated_occupied, vacated_order, vacated_serve}
+use Rattle.page_slots.proofs.CallerLemmas.{renumbered_occupied, vacated_occupied, vacated_order, vacated_serve, it_class, page_same, slot_same, must, moving, as_many, places_are}
 use Rattle.paged_heap.specs.Heap.{Heap}
 use Rattle.paged_heap.specs.declared.resize_class.Change.{Change}
 use Rattle.paged_heap.specs.ResizeClass.{EntersAt, IsChange, old_words}
-use Rattle.paged_heap.specs.Free.{LeavesAlone, MustMoveInto}
-use Rattle.paged_heap.specs.Layout.{IsFramed, IsValid, held_in, paging_at, state_of, tables_in}
+use Rattle.paged_heap.specs.Free.{LeavesAlone}
+use Rattle.paged_heap.specs.Layout.{IsFramed, IsValid, held_in, paging_at, state_of, tables_in, owner_in}
 use Rattle.cf_model.specs.Steps.{frames_left}
 use Rattle.paged_heap.proofs.ByKind.{frames_stay}
-use Rattle.paged_heap.proofs.LayoutFacts.{as_many, paged_kind, paging_ok, table_is}
-use Rattle.paged_heap.proofs.Preserved.{Becomes, places_are}
-use Rattle.paged_heap.proofs.FreedObject.{it_class, moving, page_same, slot_same}
-use Rattle.paged_heap.proofs.ResizeClass.{Keeps, after, after_is, both, both_occupied, both_sound, both_serve, changes, entered_long, found, found_still, middle}
-use Rattle.paged_heap.proofs.ResizeClass.{freed_same, must_before, new, new_free, object, order_between, rewritten, spare, spare_is_other, then_cleared, unused}
+use Rattle.paged_heap.proofs.LayoutFacts.{paged_kind, paging_ok, table_is, owns}
+use Rattle.paged_heap.proofs.Preserved.{Becomes}
+use Rattle.paged_heap.proofs.ResizeClass.{Keeps, after, after_is, both, both_occupied, both_sound, both_serve, changes, entered_long, found}
+use Rattle.paged_heap.proofs.ResizeClass.{found_still, middle}
+use Rattle.paged_heap.proofs.ResizeClass.{freed_same, must_before, new, new_free, object, order_between, rewritten, spare, spare_is_other}
+use Rattle.paged_heap.proofs.ResizeClass.{then_cleared, unused}
+use Rattle.page_slots.specs.Owner.{MustMoveInto}
 
-module _ {h : Heap} (k : IsValid h) {x : Change} (is : IsChange h x) {b : ℕ} {n : Heap} (en : EntersAt h x b n) (stays : MustMoveInto h x.place x.class → ⊥)
+module _ {h : Heap} (k : IsValid h) {x : Change} (is : IsChange h x) {b : ℕ} {n : Heap} (en : EntersAt h x b n)
+    (stays : MustMoveInto (owner_in h) x.place x.class → ⊥)
     {m : Heap} (left : LeavesAlone n x.place x.class m) (tables : AreTables n.classes (tables_in m)) (framed : IsFramed h.kind m) where
   long : length m.words ≡ length h.words
   long = left.long ∙ entered_long k is en
@@ -41,7 +44,7 @@ module _ {h : Heap} (k : IsValid h) {x : Change} (is : IsChange h x) {b : ℕ} {
   gone = subst (λ (t : ClassTable). Clears n.words m.words (record { from = x.place; count = get_or t.sizes x.class 0 })) en.classes left.words
 
   pub never : MustMove (paging_at h) (both k is en) (object k is en) → ⊥
-  never must = stays (moving k is.object (must_before k is en must))
+  never must = stays (moving (owns k) is.object (must_before k is en must))
 
   pub keeps : Keeps k is en None never m
   keeps = record {
@@ -64,7 +67,7 @@ module _ {h : Heap} (k : IsValid h) {x : Change} (is : IsChange h x) {b : ℕ} {
   less : Occupies (paging_at h) (remove (both k is en) x.handle.0) (tables_in m)
   less = vacated_occupied (paging_ok h k) (both_serve k is en).part (both_occupied k is en) kept_tables (both_sound k is en) x.handle.0
       (found_still k is en) vacates
-      (it_class k is.object) (page_same k is.object) (slot_same k is.object)
+      (it_class (owns k) is.object) (page_same (owns k) is.object) (slot_same (owns k) is.object)
 
   occupied : Occupies (paging_at h) (after k is en None never) (tables_in m)
   occupied = renumbered_occupied less (spare k is en)
@@ -85,7 +88,7 @@ module _ {h : Heap} (k : IsValid h) {x : Change} (is : IsChange h x) {b : ℕ} {
       ap places (after_is k is en None never) ∙ map_values-insert (λ (y : Placed). y.place) (remove (held_in h) x.handle.0) x.handle.0 (new k is en)
       ∙ ap (λ g. insert g x.handle.0 b) (still_places (held_in h) x.handle.0 x.place)
       ∙ insert_again (places (held_in h)) x.handle.0 b
-      ∙ ap (λ g. insert g x.handle.0 b) (sym (places_are h k))
+      ∙ ap (λ g. insert g x.handle.0 b) (sym (places_are (owner_in h)))
 
   -- its old slot becomes free
   pub alone_follows : SlotFollows (paging_at h) (held_in h) (object k is en) None (order_between k is en)
@@ -95,11 +98,11 @@ module _ {h : Heap} (k : IsValid h) {x : Change} (is : IsChange h x) {b : ℕ} {
       let before = order_of (classes p) (tables_in n) h.proxies.free in
       let freed_order : order_of (classes p) (tables_in m) h.proxies.free ≡ slot_freed p (held_in h) before c (page_of p x.place) =
       vacated_order (paging_ok h k) (both_serve k is en).part (both_occupied k is en) kept_tables is.object.in_range h.proxies.free vacates
-      ∙ ap (λ d. slot_freed p (both k is en) before d (page_at h.classes x.place)) (sym (it_class k is.object))
-      ∙ ap (slot_freed p (both k is en) before c) (sym (page_same k is.object))
+      ∙ ap (λ d. slot_freed p (both k is en) before d (page_at h.classes x.place)) (sym (it_class (owns k) is.object))
+      ∙ ap (slot_freed p (both k is en) before c) (sym (page_same (owns k) is.object))
       ∙ freed_same k is en before (page_of p x.place) in
       subst (λ s. order_of s (tables_in m) h.proxies.free ≡ slot_freed p (held_in h) (order_of s (tables_in n) h.proxies.free) c (page_of p x.place))
-      (sym (as_many h k)) freed_order
+      (sym (as_many (paging_at h) (table_is h k))) freed_order
 
   pub free_same : m.proxies.free ≡ h.proxies.free
   free_same = ap (λ (o : Heap). o.proxies.free) left.rest ∙ en.free
@@ -114,6 +117,6 @@ module _ {h : Heap} (k : IsValid h) {x : Change} (is : IsChange h x) {b : ℕ} {
       long
       image
       (vacated_serve (paging_ok h k) (both_serve k is en).part (both_occupied k is en) kept_tables (both_sound k is en) x.handle.0 (found_still k is en) vacates
-      (it_class k is.object) (page_same k is.object) (slot_same k is.object) (both_serve k is en).whole)
+      (it_class (owns k) is.object) (page_same (owns k) is.object) (slot_same (owns k) is.object) (both_serve k is en).whole)
       occupied
       (subst AreBelowLimit (sym (ap (λ (o : Heap). o.proxies) left.rest)) en.handles)

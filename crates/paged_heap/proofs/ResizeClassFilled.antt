@@ -25,24 +25,26 @@ use Rattle.size_classes.specs.Table.{ClassTable}
 use Rattle.page_slots.specs.Tables.{AreTables, Tables}
 use Rattle.page_slots.specs.Occupying.{Occupies, FitPages, class_table}
 use Rattle.page_slots.specs.Orders.{order_of}
-use Rattle.page_slots.proofs.CallerLemmas.{filled_occupied, filled_serve, filler, filler_in, filler_is, filler_may, filler_next, moves_some}
+use Rattle.page_slots.proofs.CallerLemmas.{filled_occupied, filled_serve, filler, filler_in, filler_is, filler_may, filler_next, moves_some, as_many, places_are}
+use Rattle.page_slots.proofs.CallerLemmas.{place_known, it_class, it_slot, must}
 use Rattle.page_slots.proofs.CallerLemmas.{renumbered_occupied, vacated_order}
 use Rattle.class_lists.specs.PageLists.{pages_in}
 use Rattle.class_lists.specs.declared.Which.TheVariants.{NotFull}
 use Rattle.paged_heap.specs.Heap.{Heap}
 use Rattle.paged_heap.specs.declared.resize_class.Change.{Change}
 use Rattle.paged_heap.specs.ResizeClass.{EntersAt, IsChange, old_words}
-use Rattle.paged_heap.specs.Free.{LeavesFilled, MovesSlot, MustMoveInto}
-use Rattle.paged_heap.specs.Layout.{IsFramed, IsValid, held_in, paging_at, state_of, tables_in}
+use Rattle.paged_heap.specs.Free.{LeavesFilled, MovesSlot}
+use Rattle.paged_heap.specs.Layout.{IsFramed, IsValid, held_in, paging_at, state_of, tables_in, owner_in}
 use Rattle.paged_heap.proofs.ByKind.{frames_change}
 use Rattle.paged_heap.proofs.WholeBlocks.{whole_slot}
-use Rattle.paged_heap.proofs.LayoutFacts.{as_many, number_small, paging_ok, place_known, table_is}
-use Rattle.paged_heap.proofs.Preserved.{Becomes, places_are}
+use Rattle.paged_heap.proofs.LayoutFacts.{number_small, paging_ok, table_is, owns}
+use Rattle.paged_heap.proofs.Preserved.{Becomes}
 use Rattle.paged_heap.proofs.ResizeCopy.{untouched}
-use Rattle.paged_heap.proofs.FreedObject.{it_class, it_slot, must}
-use Rattle.paged_heap.proofs.ResizeClass.{Keeps, after, after_is, both, both_occupied, both_sound, both_serve, changes, entered_long, found, found_still, left}
+use Rattle.paged_heap.proofs.ResizeClass.{Keeps, after, after_is, both, both_occupied, both_sound, both_serve, changes, entered_long, found}
+use Rattle.paged_heap.proofs.ResizeClass.{found_still, left}
 use Rattle.paged_heap.proofs.ResizeClass.{middle, moves_before, must_still, new, new_free, object, place_free, rewritten, spare, spare_is_other, then_moved}
 use Rattle.paged_heap.proofs.ResizeClass.{freed_same, next_same, order_between, unused}
+use Rattle.page_slots.specs.Owner.{MustMoveInto}
 
 -- two numbers can get their addresses in either order
 pub placed_in_turn : (m : FinMap nat_cmp ℕ) (q r a b : ℕ) → r ≢ q → insert (insert m q b) r a ≡ insert (insert (remove m q) r a) q b
@@ -55,14 +57,15 @@ placed_in_turn m q r a b ne = equal_maps _ _ (λ t. elim (cases_eq t q) [
   ]
 ])
 
-module _ {h : Heap} (k : IsValid h) {x : Change} (is : IsChange h x) {b : ℕ} {n : Heap} (en : EntersAt h x b n) (moves : MustMoveInto h x.place x.class) where
+module _ {h : Heap} (k : IsValid h) {x : Change} (is : IsChange h x) {b : ℕ} {n : Heap} (en : EntersAt h x b n)
+    (moves : MustMoveInto (owner_in h) x.place x.class) where
   still_due : MustMove (paging_at h) (both k is en) (object k is en)
-  still_due = must_still k is en (must k is.object moves)
+  still_due = must_still k is en (must (owns k) is.object moves)
 
   -- the old class has a partly full page, so there is an object that can fill the slot
   pub some_fills : 1 ≤ length (pages_in n.lists x.class NotFull)
   some_fills =
-      let e = it_class k is.object in
+      let e = it_class (owns k) is.object in
       let l = moves_some (paging_ok h k) (both_serve k is en).part (both_occupied k is en) x.handle.0 (found_still k is en) still_due
       (let lt = is.object.in_range in omega arith) in
       subst (λ d. 1 ≤ length (pages_in n.lists d NotFull)) e l
@@ -73,7 +76,7 @@ pub record Refills (h : Heap) (x : Change) (b : ℕ) (n : Heap) (f : ℕ) (t : T
   pub valid : IsValid h
   pub change : IsChange h x
   pub enters : EntersAt h x b n
-  pub moves : MustMoveInto h x.place x.class
+  pub moves : MustMoveInto (owner_in h) x.place x.class
   pub filled : FillsFrom n.classes (tables_in n) x.class f t
   pub tables : AreTables n.classes t
 
@@ -94,7 +97,7 @@ module _ {h : Heap} {x : Change} {b : ℕ} {n : Heap} {f : ℕ} {t : Tables} (fs
   words = old_words h x
 
   fills : FillsFrom (class_table (paging_at h)) (tables_in n) (class_at (paging_at h) (object k is en)) f t
-  fills = subst (λ d. FillsFrom (class_table (paging_at h)) (tables_in n) d f t) (sym (it_class k is.object))
+  fills = subst (λ d. FillsFrom (class_table (paging_at h)) (tables_in n) d f t) (sym (it_class (owns k) is.object))
       (subst (λ u. FillsFrom u (tables_in n) x.class f t) (en.classes ∙ sym (table_is h k)) fs.filled)
 
   kept_tables : AreTables (class_table (paging_at h)) t
@@ -156,7 +159,7 @@ module _ {h : Heap} {x : Change} {b : ℕ} {n : Heap} {f : ℕ} {t : Tables} (fs
       may_before
 
   same_slot : words ≡ slot_for (paging_at h) (length stood.bytes)
-  same_slot = it_slot k is.object ∙ sym (ap (slot_words (paging_at h)) may_before.class)
+  same_slot = it_slot (owns k) is.object ∙ sym (ap (slot_words (paging_at h)) may_before.class)
 
   -- the words of the filler's slot are in the region, and apart from those of the old slot
   pub source_in : f + words ≤ length n.words
@@ -168,14 +171,14 @@ module _ {h : Heap} {x : Change} {b : ℕ} {n : Heap} {f : ℕ} {t : Tables} (fs
   pub place_in : f < length n.words
   place_in = (
       let s = source_in in
-      let e = it_slot k is.object in
+      let e = it_slot (owns k) is.object in
       let least = (paging_ok h k).sized.least (class_at (paging_at h) (object k is en)) (k.sound.slots x.handle.0 (object k is en) (found k is en)).class in
       omega arith)
 
   pub slots_apart : (f + words ≤ x.place) ⊎ (x.place + words ≤ f)
   slots_apart =
       let d = sound_apart_from (paging_at h) (held_in h) k.sound r stood stood_there x.handle.0 (object k is en) (found k is en) (λ e. is_other (sym e)) in
-      let e = same_slot in let g = it_slot k is.object in let p = stood_at in
+      let e = same_slot in let g = it_slot (owns k) is.object in let p = stood_at in
       elim d [ inl l ↦ inl (omega arith) | inr l ↦ inr (omega arith) ]
 
   new_apart : IsDisjoint b (slot_for (paging_at h) x.bytes) f words
@@ -187,7 +190,7 @@ module _ {h : Heap} {x : Change} {b : ℕ} {n : Heap} {f : ℕ} {t : Tables} (fs
 
   words_some : 0 < words
   words_some = (
-      let e = it_slot k is.object in
+      let e = it_slot (owns k) is.object in
       let least = (paging_ok h k).sized.least (class_at (paging_at h) (object k is en)) (k.sound.slots x.handle.0 (object k is en) (found k is en)).class in
       omega arith)
 
@@ -206,7 +209,7 @@ module _ {h : Heap} {x : Change} {b : ℕ} {n : Heap} {f : ℕ} {t : Tables} (fs
   -- the filler is live
   pub live_still : IsSome (get n.proxies.places r)
   live_still = ap is_some (ap (λ (p : Proxies). get p.places r) en.proxies ∙ get_insert_other h.proxies.places x.handle.0 b r is_other
-      ∙ place_known h k r stood stood_there)
+      ∙ place_known (owner_in h) r stood stood_there)
 
   far_from : IsDisjoint x.place words f words
   far_from = elim slots_apart [ inl l ↦ inr l | inr l ↦ inl l ]
@@ -240,7 +243,7 @@ module _ {h : Heap} {x : Change} {b : ℕ} {n : Heap} {f : ℕ} {t : Tables} (fs
       ∙ ap (λ g. insert g x.handle.0 b)
       (moved_places (paging_at h) (paging_ok h k) (held_in h) k.sound x.handle.0 (object k is en) (found k is en) r stood stood_there due_before may_before)
       ∙ sym (placed_in_turn (places (held_in h)) x.handle.0 r x.place b is_other)
-      ∙ ap (λ g. insert (insert g x.handle.0 b) r x.place) (sym (places_are h k))
+      ∙ ap (λ g. insert (insert g x.handle.0 b) r x.place) (sym (places_are (owner_in h)))
 
   refilled : Occupies (paging_at h) (left k is en (Some r) mover) t
   refilled = filled_occupied (paging_ok h k) (both_serve k is en).part (both_occupied k is en) kept_tables x.handle.0 (found_still k is en) fills
@@ -298,7 +301,7 @@ module _ {h : Heap} {x : Change} {b : ℕ} {n : Heap} {f : ℕ} {t : Tables} (fs
         let slot : SlotFollows p (held_in h) (object k is en) (Some r) before (order_of (classes p) (tables_in m) h.proxies.free) =
         (stood, stood_there, once, freed_order) in
         subst (λ s. SlotFollows p (held_in h) (object k is en) (Some r) (order_of s (tables_in n) h.proxies.free) (order_of s (tables_in m) h.proxies.free))
-        (sym (as_many h k)) slot
+        (sym (as_many (paging_at h) (table_is h k))) slot
 
     pub free_same : m.proxies.free ≡ h.proxies.free
     free_same = free ∙ en.free
@@ -330,7 +333,7 @@ module _ {h : Heap} {x : Change} {b : ℕ} {n : Heap} {f : ℕ} {t : Tables} (fs
         handles
 
 -- The heap m after `leave_slot`, which begins at the heap n. Object i moves.
-module _ {h : Heap} (k : IsValid h) {x : Change} (is : IsChange h x) {b : ℕ} {n : Heap} (en : EntersAt h x b n) (due : MustMoveInto h x.place x.class)
+module _ {h : Heap} (k : IsValid h) {x : Change} (is : IsChange h x) {b : ℕ} {n : Heap} (en : EntersAt h x b n) (due : MustMoveInto (owner_in h) x.place x.class)
     {m : Heap} {i : ℕ} (left : LeavesFilled n x.place x.class i m) (tables : AreTables n.classes (tables_in m)) where
   abbrev pub refills : Refills h x b n left.from (tables_in m)
   refills = record { valid = k; change = is; enters = en; moves = due; filled = left.filled; tables = tables }

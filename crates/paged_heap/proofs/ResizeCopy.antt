@@ -14,9 +14,9 @@ use Rattle.paged_heap.specs.ResizeClass.{CopiesToSlot, IsChange, kept_words, old
 use Rattle.paged_heap.specs.Layout.{IsValid, held_in, paging_at}
 use Rattle.paged_heap.proofs.ResizeInPlace.{holds_bytes}
 use Rattle.paged_heap.proofs.ResizeEnter.{new_holds, new_inside, none_spare, slots_apart}
-use Rattle.paged_heap.proofs.LayoutFacts.{paging_ok}
-use Rattle.paged_heap.proofs.FreedObject.{it_inside, it_slot}
+use Rattle.paged_heap.proofs.LayoutFacts.{paging_ok, owns}
 use Rattle.paged_heap.proofs.ObjectWords.{before, few, past_new, past_old, was_byte, was_small, word_is, zero_byte}
+use Rattle.page_slots.proofs.CallerLemmas.{it_slot, it_inside}
 
 module _ {h : Heap} (k : IsValid h) {x : Change} (is : IsChange h x) {b : ℕ} (free : IsFreePlace (paging_at h) (held_in h) x.bytes b) {new : List ℕ}
     (ca : CopiesToSlot h.words new x b) where
@@ -47,10 +47,10 @@ module _ {h : Heap} (k : IsValid h) {x : Change} (is : IsChange h x) {b : ℕ} (
   w = kept_words x
 
   s_is : old_words h x ≡ slot_for (paging_at h) (length old)
-  s_is = it_slot k is.object
+  s_is = it_slot (owns k) is.object
 
   s_in : x.place + s ≤ length h.words
-  s_in = it_inside k is.object
+  s_in = it_inside (owns k) is.object
 
   s_holds : 1 + (x.length + 7) / 8 ≤ s
   s_holds = holds_bytes k is.object

@@ -24,18 +24,19 @@ use Rattle.step_ledger.proofs.CallerLemmas.{rose_both, rose_by}
 use Rattle.step_ledger.specs.Counting.{RoseBy}
 use Rattle.virtual_words.specs.Words.{IsWhole, copy_steps}
 use Rattle.cf_model.specs.ExactCosts.{carrying_cost, leaving_cost, resize_cost, resized_cost, tail_steps}
-use Rattle.paged_heap.specs.Free.{IsObjectAt, Leaves, leaving_steps}
+use Rattle.paged_heap.specs.Free.{Leaves, leaving_steps}
 use Rattle.paged_heap.specs.Heap.{Heap}
-use Rattle.paged_heap.specs.Layout.{IsValid, held_in, order_in, paging_at, state_of, tables_in}
+use Rattle.paged_heap.specs.Layout.{IsValid, held_in, order_in, paging_at, state_of, tables_in, owner_in}
 use Rattle.paged_heap.specs.ResizeClass.{EntersAt, IsChange, changing_cost, entering_cost, kept_words}
 use Rattle.paged_heap.specs.declared.resize_class.Change.{Change}
 use Rattle.paged_heap.proofs.CostLemmas.{leaving_is, takes_by}
 use Rattle.paged_heap.proofs.CountLimits.{page_small}
-use Rattle.paged_heap.proofs.FreedObject.{it, it_class, it_found, it_used}
-use Rattle.paged_heap.proofs.LayoutFacts.{as_many, paging_ok, tables_ok}
+use Rattle.paged_heap.proofs.LayoutFacts.{paging_ok, tables_ok, owns, table_is}
 use Rattle.paged_heap.proofs.StepLemmas.{copy_along, tail_along}
 use Rattle.paged_heap.proofs.TakeKeeps.{drop_keeps, fill_keeps, lists_keep}
 use Rattle.paged_heap.proofs.WholeBlocks.{whole_slot}
+use Rattle.page_slots.proofs.CallerLemmas.{it, it_found, it_class, it_used, as_many}
+use Rattle.page_slots.specs.Owner.{IsObjectAt}
 
 module _ {h : Heap} (k : IsValid h) {x : Change} (is : IsChange h x) where
   -- the steps of taking a slot and copying the object there
@@ -45,23 +46,24 @@ module _ {h : Heap} (k : IsValid h) {x : Change} (is : IsChange h x) where
       → RoseBy s u (entering_cost h x)
   entering_sum b new taken whole s t u r1 r2 =
       let take = takes_by h k x.to b new is.in_range taken in
-      let along = copy_along h.kind x.place 1 (x.place + 1) (kept_words x) (whole_slot h k x.handle.0 (it k is.object) (it_found k is.object)).0 (omega arith) in
+      let along = copy_along h.kind x.place 1 (x.place + 1) (kept_words x) (whole_slot h k x.handle.0 (it (owns k) is.object)
+      (it_found (owns k) is.object)).0 (omega arith) in
       let tail = tail_along h.kind b x.bytes (8 * kept_words x) whole in
       rose_by s u _ _ (omega arith) (rose_both s t u _ _ r1 r2)
 
   in_to : x.to < length h.classes.sizes
-  in_to = (let lt = is.in_range in let e = as_many h k in omega arith)
+  in_to = (let lt = is.in_range in let e = as_many (paging_at h) (table_is h k) in omega arith)
 
   module _ {b : ℕ} {n : Heap} (en : EntersAt h x b n) where
     differ : x.class ≡ x.to → ⊥
     differ e = is.other (sym e)
 
     used_of : IsOf (tables_in h) x.class (page_at h.classes x.place)
-    used_of = (it_used k is.object).of
+    used_of = (it_used (owns k) is.object).of
 
     -- the steps if then the old slot is left (`leave_slot`)
     pub left_sum : (m : Heap) (r : Option Handle) → Leaves n x.place x.class r m → (s t u : ℕ) → RoseBy s t (entering_cost h x)
-        → RoseBy t u (leaving_steps n x.place x.class r) → RoseBy s u (entering_cost h x + leaving_cost (state_of h) (order_in h) (it k is.object) r)
+        → RoseBy t u (leaving_steps n x.place x.class r) → RoseBy s u (entering_cost h x + leaving_cost (state_of h) (order_in h) (it (owns k) is.object) r)
     left_sum m r left s t u r1 r2 =
         let drop = drop_keeps h.classes (tables_in h) (tables_in n) (tables_ok h k) en.tables x.to b in_to en.taken x.class differ (page_at h.classes x.place) used_of in
         let fill = fill_keeps h.classes (tables_in h) (tables_in n) (tables_ok h k) en.tables x.to b in_to en.taken x.class differ in
@@ -81,12 +83,12 @@ module _ {h : Heap} (k : IsValid h) {x : Change} (is : IsChange h x) where
       → RoseBy u v (word_steps h.kind) → RoseBy v w 1 → RoseBy w z (1 + changing_cost h x r)
       → RoseBy s z (resize_cost (state_of h) (order_in h) (record { number = x.handle.0; length = x.bytes }) r)
   change_sum (Ok done) cause s t u v w z r1 r2 r3 r4 r5 =
-      let p = paging_at h in let o = it k is.object in
+      let p = paging_at h in let o = it (owns k) is.object in
       let found : resize_cost (state_of h) (order_in h) (record { number = x.handle.0; length = x.bytes }) (Ok done)
       ≡ resized_cost (state_of h) (order_in h) x.bytes o done.moved =
-      ap (λ (m : Option Placed). elim m [ None ↦ 0 | Some y ↦ resized_cost (state_of h) (order_in h) x.bytes y done.moved ]) (it_found k is.object) in
+      ap (λ (m : Option Placed). elim m [ None ↦ 0 | Some y ↦ resized_cost (state_of h) (order_in h) x.bytes y done.moved ]) (it_found (owns k) is.object) in
       let other : nat_eq (class_for p x.bytes) (class_at p o) ≡ false =
-      eq_no (class_for p x.bytes) (class_at p o) (λ e. is.other (sym is.class ∙ e ∙ it_class k is.object)) in
+      eq_no (class_for p x.bytes) (class_at p o) (λ e. is.other (sym is.class ∙ e ∙ it_class (owns k) is.object)) in
       let total : resized_cost (state_of h) (order_in h) x.bytes o done.moved ≡ 4 + word_steps h.kind
       + Order.steps_to_take p (held_in h) (order_in h) (class_for p x.bytes) + carrying_cost h.kind (length o.bytes) x.bytes
       + leaving_cost (state_of h) (order_in h) o done.moved =
@@ -101,20 +103,20 @@ module _ {h : Heap} (k : IsValid h) {x : Change} (is : IsChange h x) where
       (rose_by s z _ _ (omega arith) (rose_both s w z _ _ (rose_both s v w _ _ (rose_both s u v _ _ (rose_both s t u _ _ r1 r2) r3) r4) r5))
 
 -- the steps of a resize in the same slot
-pub stay_sum : (h : Heap) (k : IsValid h) {q a size c : ℕ} (o : IsObjectAt h q a size c) (n : ℕ) → class_for (paging_at h) n ≡ c → (done : Resized)
+pub stay_sum : (h : Heap) (k : IsValid h) {q a size c : ℕ} (o : IsObjectAt (owner_in h) q a size c) (n : ℕ) → class_for (paging_at h) n ≡ c → (done : Resized)
     → (s t u v w z : ℕ) → RoseBy s t 1 → RoseBy t u 1 → RoseBy u v (word_steps h.kind) → RoseBy v w 1
     → RoseBy w z (tail_steps h.kind a n size + word_steps h.kind)
     → RoseBy s z (resize_cost (state_of h) (order_in h) (record { number = q; length = n }) (Ok done))
 stay_sum h k {q} {a} {size} {c} o n same done s t u v w z r1 r2 r3 r4 r5 =
-    let p = paging_at h in let y = it k o in
+    let p = paging_at h in let y = it (owns k) o in
     let found : resize_cost (state_of h) (order_in h) (record { number = q; length = n }) (Ok done) ≡ resized_cost (state_of h) (order_in h) n y done.moved =
-    ap (λ (m : Option Placed). elim m [ None ↦ 0 | Some y ↦ resized_cost (state_of h) (order_in h) n y done.moved ]) (it_found k o) in
-    let one : nat_eq (class_for p n) (class_at p y) ≡ true = eq_yes (class_for p n) (class_at p y) (same ∙ sym (it_class k o)) in
+    ap (λ (m : Option Placed). elim m [ None ↦ 0 | Some y ↦ resized_cost (state_of h) (order_in h) n y done.moved ]) (it_found (owns k) o) in
+    let one : nat_eq (class_for p n) (class_at p y) ≡ true = eq_yes (class_for p n) (class_at p y) (same ∙ sym (it_class (owns k) o)) in
     let total : resized_cost (state_of h) (order_in h) n y done.moved ≡ 3 + 2 * word_steps h.kind + tail_steps h.kind 0 n (length y.bytes) =
     ap (λ b. if b then 3 + 2 * word_steps h.kind + tail_steps h.kind 0 n (length y.bytes) else 4 + word_steps h.kind
     + Order.steps_to_take p (held_in h) (order_in h) (class_for p n) + carrying_cost h.kind (length y.bytes) n
     + leaving_cost (state_of h) (order_in h) y done.moved) one in
-    let along = tail_along h.kind a n size (whole_slot h k q y (it_found k o)).0 in
+    let along = tail_along h.kind a n size (whole_slot h k q y (it_found (owns k) o)).0 in
     let long = ap (tail_steps h.kind 0 n) o.long in
     rose_by s z _ _ (omega arith) (rose_both s w z _ _ (rose_both s v w _ _ (rose_both s u v _ _ (rose_both s t u _ _ r1 r2) r3) r4) r5)
 

@@ -21,15 +21,13 @@ use Rattle.page_model.specs.Steps.{IsFreePlace, resized_at}
 use Rattle.page_slots.specs.Tables.{AreTables, Tables}
 use Rattle.page_slots.specs.Take.{TakesAt}
 use Rattle.page_slots.specs.Occupying.{class_table}
-use Rattle.page_slots.proofs.CallerLemmas.{taken_is_free}
+use Rattle.page_slots.proofs.CallerLemmas.{taken_is_free, holds, it, it_found, it_class, it_slot}
 use Rattle.paged_heap.specs.Heap.{Heap}
 use Rattle.paged_heap.specs.declared.resize_class.Change.{Change}
 use Rattle.paged_heap.specs.ResizeClass.{CopiesToSlot, EntersAt, FindsNoRoom, IsChange, kept_words, old_words}
 use Rattle.paged_heap.specs.Layout.{IsValid, held_in, paging_at, state_of, tables_in}
 use Rattle.paged_heap.proofs.ByKind.{unmoved}
-use Rattle.paged_heap.proofs.LayoutFacts.{number_small, paged_kind, paging_ok, table_is}
-use Rattle.paged_heap.proofs.FreedObject.{it, it_class, it_found, it_slot}
-use Rattle.paged_heap.proofs.ReadLemmas.{holds}
+use Rattle.paged_heap.proofs.LayoutFacts.{number_small, paged_kind, paging_ok, table_is, owns}
 use Rattle.paged_heap.proofs.MallocLemmas.{same_state}
 
 -- no object has the number `proxies` of the settings, since all numbers are below it
@@ -59,13 +57,13 @@ module _ {h : Heap} (k : IsValid h) {x : Change} (is : IsChange h x) where
     new_holds = class_holds (paging_at h) (paging_ok h k) x.bytes free.slot.class
 
     pub slots_apart : IsDisjoint b (slot_for (paging_at h) x.bytes) x.place (old_words h x)
-    slots_apart = subst (λ n. IsDisjoint b (slot_for (paging_at h) x.bytes) x.place n) (sym (it_slot k is.object))
+    slots_apart = subst (λ n. IsDisjoint b (slot_for (paging_at h) x.bytes) x.place n) (sym (it_slot (owns k) is.object))
         (place_apart (paging_at h) (paging_ok h k) (held_in h) k.sound x.bytes b free h.settings.proxies (none_spare h k) x.handle.0
-        (it k is.object) (it_found k is.object))
+        (it (owns k) is.object) (it_found (owns k) is.object))
 
     pub new_whole : IsWhole h.kind b
     new_whole =
-        let y = resized_at b (it k is.object) x.bytes in
+        let y = resized_at b (it (owns k) is.object) x.bytes in
         let there : IsFreePlace (paging_at h) (held_in h) (length y.bytes) b =
         subst (λ m. IsFreePlace (paging_at h) (held_in h) m b) (sym (length-resized (bytes_at h.words x.place) x.bytes)) free in
         let sound = sound_placed (paging_at h) (held_in h) h.settings.proxies y (none_spare h k) (paging_ok h k) k.sound there in
@@ -84,11 +82,11 @@ module _ (h : Heap) (k : IsValid h) (x : Change) (is : IsChange h x) (n : Heap) 
   pub refused : IsResizeStep (state_of h) (record { number = x.handle.0; length = x.bytes }) (Err resize.Space) (state_of n)
   refused = (
     record {
-      object = it k is.object;
-      found = it_found k is.object;
+      object = it (owns k) is.object;
+      found = it_found (owns k) is.object;
       pages = paged_kind h k;
       fits = is.fits;
-      other = λ e. is.other (sym is.class ∙ e ∙ it_class k is.object);
+      other = λ e. is.other (sym is.class ∙ e ∙ it_class (owns k) is.object);
       lacking = subst (LacksRoom (paging_at h) (held_in h)) (sym is.class) none.lacking;
     },
     unmoved h.kind (paged_kind h k) (state_of h) (state_of n) (same_state h n (unchanged h x n none)),
@@ -141,7 +139,7 @@ entered h x is b t c o n taken tables et ec free carries handles eo en =
 -- the kept words are fewer than those of the old slot
 pub kept_few : (h : Heap) (k : IsValid h) (x : Change) (is : IsChange h x) → kept_words x + 1 ≤ old_words h x
 kept_few h k x is =
-    let o = holds h k x.handle.0 x.place is.object.known in
+    let o = holds (owns k) x.handle.0 x.place is.object.known in
     let l = is.object.long in
-    let e = it_slot k is.object in
+    let e = it_slot (owns k) is.object in
     omega arith

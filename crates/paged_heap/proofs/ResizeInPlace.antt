@@ -19,17 +19,17 @@ use Rattle.page_model.proofs.CallerLemmas.{bytes_at-AreBytes, length-resized, im
 use Rattle.region.proofs.CallerLemmas.{overwritten_before, overwritten_inside}
 use Rattle.cf_model.specs.Steps.{ResizesObject, frames_left, number_of}
 use Rattle.paged_heap.specs.Heap.{Heap}
-use Rattle.paged_heap.specs.Layout.{IsValid, held_in, order_in, paging_at, state_of}
+use Rattle.paged_heap.specs.Layout.{IsValid, held_in, order_in, paging_at, state_of, owner_in}
 use Rattle.region.specs.Overwriting.{Overwrites, words_with}
 use Rattle.paged_heap.specs.ZeroTail.{Cuts}
-use Rattle.paged_heap.specs.Free.{IsObjectAt}
 use Rattle.paged_heap.proofs.ByKind.{frames_stay}
-use Rattle.paged_heap.proofs.LayoutFacts.{paged_kind, paging_ok}
+use Rattle.paged_heap.proofs.LayoutFacts.{paged_kind, paging_ok, owns}
 use Rattle.paged_heap.proofs.Preserved.{Becomes, becomes_kept, becomes_state, held_is}
-use Rattle.paged_heap.proofs.FreedObject.{asked_some, it_class, it_found, it_inside, it_slot}
-use Rattle.paged_heap.proofs.ReadLemmas.{holds, slot_small}
+use Rattle.paged_heap.proofs.FreedObject.{asked_some}
 use Rattle.paged_heap.proofs.ObjectWords.{before, few, past_new, past_old, was_byte, was_small, word_is, zero_byte}
 use Rattle.paged_heap.proofs.WriteLemmas.{changes}
+use Rattle.page_slots.proofs.CallerLemmas.{holds, slot_small, it_found, it_class, it_slot, it_inside}
+use Rattle.page_slots.specs.Owner.{IsObjectAt}
 
 -- the zeros up to the end of a word are in one word
 pub zero_part : (n : ℕ) → n < 8 → words_with n (length (take (8 - n) (drop n (replicate {A = ℕ} 8 0)))) ≡ 1
@@ -93,7 +93,7 @@ module _ (old mid new : List ℕ) (a n m : ℕ) (less : n < m) (inside : a + 1 +
   }
 
 -- The object gets another length in its slot: what is known of the words.
-module _ (h t n : Heap) (k : IsValid h) (q a m c : ℕ) (o : IsObjectAt h q a m c) (size : ℕ) (same : class_for (paging_at h) size ≡ c)
+module _ (h t n : Heap) (k : IsValid h) (q a m c : ℕ) (o : IsObjectAt (owner_in h) q a m c) (size : ℕ) (same : class_for (paging_at h) size ≡ c)
     (et : t ≡ record h { words = t.words }) (cut : size < m → Cuts h.words t.words a size m) (kept : m ≤ size → t ≡ h)
     (en : n ≡ record t { words = set t.words a (header_word q size); asked = t.asked - m + size }) where
   abbrev old : List ℕ
@@ -109,10 +109,10 @@ module _ (h t n : Heap) (k : IsValid h) (q a m c : ℕ) (o : IsObjectAt h q a m 
   are = resized_are_bytes old size (bytes_at-AreBytes h.words a)
 
   old_holds : need m ≤ slot_for (paging_at h) (length old)
-  old_holds = (let l = o.long in let r = class_holds (paging_at h) (paging_ok h k) (length old) (k.sound.slots q _ (it_found k o)).class in omega arith)
+  old_holds = (let l = o.long in let r = class_holds (paging_at h) (paging_ok h k) (length old) (k.sound.slots q _ (it_found (owns k) o)).class in omega arith)
 
   same_slot : slot_words (paging_at h) (class_for (paging_at h) size) ≡ slot_for (paging_at h) (length old)
-  same_slot = ap (slot_words (paging_at h)) (same ∙ sym (it_class k o))
+  same_slot = ap (slot_words (paging_at h)) (same ∙ sym (it_class (owns k) o))
 
   new_holds : need size ≤ slot_for (paging_at h) (length old)
   new_holds =
@@ -120,10 +120,10 @@ module _ (h t n : Heap) (k : IsValid h) (q a m c : ℕ) (o : IsObjectAt h q a m 
       let e = same_slot in omega arith
 
   pub size_few : size ≤ 131072
-  size_few = (let r = new_holds in let s = slot_small h k q a o.known in omega arith)
+  size_few = (let r = new_holds in let s = slot_small (owns k) q a o.known in omega arith)
 
   in_slot : a + slot_for (paging_at h) (length old) ≤ length h.words
-  in_slot = (let i = it_inside k o in let e = it_slot k o in omega arith)
+  in_slot = (let i = it_inside (owns k) o in let e = it_slot (owns k) o in omega arith)
 
   -- each word after the header after the cut, as bytes and as a number of 64 bits
   cut_word : size < m → (i : ℕ) → suc i < slot_for (paging_at h) (length old)
@@ -219,17 +219,17 @@ module _ (h t n : Heap) (k : IsValid h) (q a m c : ℕ) (o : IsObjectAt h q a m 
           ∙ any_word i lt
 
   class_new : class_for (paging_at h) (length new) ≡ class_for (paging_at h) (length old)
-  class_new = ap (class_for (paging_at h)) new_long ∙ same ∙ sym (it_class k o)
+  class_new = ap (class_for (paging_at h)) new_long ∙ same ∙ sym (it_class (owns k) o)
 
   image : IsSlotImage (paging_at h) (insert (held_in h) q (record { place = a; bytes = new })) n.words
-  image = image_after_write (paging_at h) (paging_ok h k) (held_in h) k.sound h.words k.image q (record { place = a; bytes = old }) (it_found k o)
+  image = image_after_write (paging_at h) (paging_ok h k) (held_in h) k.sound h.words k.image q (record { place = a; bytes = old }) (it_found (owns k) o)
       n.words new class_new rewrites
 
   asked_t : t.asked ≡ h.asked
   asked_t = ap (λ (x : Heap). x.asked) et
 
   becomes : Becomes h n (insert (held_in h) q (record { place = a; bytes = new }))
-  becomes = changes h n k q a (it_found k o) new class_new are
+  becomes = changes h n k q a (it_found (owns k) o) new class_new are
       (en ∙ ap (λ (x : Heap). record x { words = set t.words a (header_word q size); asked = t.asked - m + size }) et
       ∙ ap (λ ws. record h { words = ws; asked = t.asked - m + size }) (sym region_is)
       ∙ ap (λ x. record h { words = n.words; asked = x }) (sym (ap (λ (x : Heap). x.asked) en)))
@@ -251,13 +251,13 @@ module _ (h t n : Heap) (k : IsValid h) (q a m c : ℕ) (o : IsObjectAt h q a m 
     pages = paged_kind h k;
     fits = fits;
     object = record { place = a; bytes = old };
-    found = it_found k o;
-    old_slot = was_words ∙ it_slot k o;
-    slot = words ∙ it_slot k o ∙ sym same_slot;
+    found = it_found (owns k) o;
+    old_slot = was_words ∙ it_slot (owns k) o;
+    slot = words ∙ it_slot (owns k) o ∙ sym same_slot;
     step = inl (record {
       object = record { place = a; bytes = old };
-      found = it_found k o;
-      same = same ∙ sym (it_class k o);
+      found = it_found (owns k) o;
+      same = same ∙ sym (it_class (owns k) o);
       placed = held_is h n k (insert (held_in h) q (record { place = a; bytes = new })) becomes;
       still = ap number_of none;
     });
@@ -288,18 +288,18 @@ module _ (h t n : Heap) (k : IsValid h) (q a m c : ℕ) (o : IsObjectAt h q a m 
   pub fits_chosen : (after : CallResult) → ResizeFollows (paging_at h) (held_in h) (record { number = q; length = size }) after (order_in h) (order_in n)
   fits_chosen after = record {
     object = record { place = a; bytes = old };
-    found = it_found k o;
+    found = it_found (owns k) o;
     stays = λ _. ap order_in en ∙ ap order_in et;
-    changes = λ other. absurd (other (same ∙ sym (it_class k o)));
+    changes = λ other. absurd (other (same ∙ sym (it_class (owns k) o)));
   }
 
 -- an object's slot has at least the words of its bytes
-module _ {h : Heap} (k : IsValid h) {q a m c : ℕ} (o : IsObjectAt h q a m c) where
+module _ {h : Heap} (k : IsValid h) {q a m c : ℕ} (o : IsObjectAt (owner_in h) q a m c) where
   pub holds_bytes : 1 + (m + 7) / 8 ≤ get_or h.classes.sizes c 0
-  holds_bytes = (let r = holds h k q a o.known in let e = it_slot k o in let l = o.long in omega arith)
+  holds_bytes = (let r = holds (owns k) q a o.known in let e = it_slot (owns k) o in let l = o.long in omega arith)
 
   pub bytes_in : a + 1 + (m + 7) / 8 ≤ length h.words
-  bytes_in = (let i = it_inside k o in let r = holds_bytes in omega arith)
+  bytes_in = (let i = it_inside (owns k) o in let r = holds_bytes in omega arith)
 
   pub bytes_low : a + 1 + (m + 7) / 8 ≤ 2 ^ 23
   bytes_low = (let i = bytes_in in let l = k.words_long in let s = h.settings.small_region in omega arith)

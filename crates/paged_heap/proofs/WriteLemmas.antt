@@ -1,38 +1,35 @@
 -- For `write` and `resize_in_place`: the heap keeps its invariant when an object gets other bytes of its class in its slot. A write replaces just the bytes of
 -- its range; without bytes it changes nothing.
-use Rattle.std.proofs.Common.{◌≡◌, ℕ, suc, ◌+◌, ◌-◌, ◌*◌, ◌/◌, ◌%◌, ◌<◌, ◌≤◌, List, [], ◌∷◌, length, get_or, Some, arith, refl, sym, ◌∙◌, ap, subst, inl, inr}
+use Rattle.std.proofs.Common.{◌≡◌, ℕ, ◌+◌, ◌-◌, ◌*◌, ◌/◌, ◌%◌, List, [], ◌∷◌, length, get_or, Some, arith, refl, sym, ◌∙◌, ap, subst}
 use Rattle.std.specs.Prelude.{nat_eq}
-use Rattle.std.proofs.lemmas.Bool.{cases_lt}
 use Rattle.std.specs.FinMap.{get, insert, remove}
 use Rattle.cf_lemmas.proofs.Maps.{get_removed}
 use Rattle.cf_lemmas.proofs.MapValues.{map_values-insert}
 use Rattle.cf_lemmas.proofs.Sums.{insert_again}
 use Rattle.cf_lemmas.proofs.Ranges.{one}
 use Rattle.page_model.specs.Held.{Held, Objects, Placed, objects, places}
-use Rattle.page_model.specs.Bytes.{AreBytes, byte_of, bytes_at, written}
+use Rattle.page_model.specs.Bytes.{AreBytes, bytes_at, written}
 use Rattle.page_model.specs.Paging.{Paging, class_for, slot_words}
 use Rattle.page_model.specs.Arrangement.{IsSound, live}
 use Rattle.page_model.specs.Figures.{asked_bytes, taken_bytes}
-use Rattle.page_model.specs.Image.{IsSlotImage, Rewrites, object_word, slot_for}
-use Rattle.page_model.proofs.CallerLemmas.{asked_added, asked_taken, live_added, live_taken, taken_added, taken_taken, sound_exchanged, inserted_there, bytes_held, rewritten_places}
+use Rattle.page_model.specs.Image.{IsSlotImage, Rewrites, object_word}
+use Rattle.page_model.proofs.CallerLemmas.{asked_added, asked_taken, live_added, live_taken, taken_added, taken_taken, sound_exchanged}
+use Rattle.page_model.proofs.CallerLemmas.{inserted_there, bytes_held, rewritten_places}
 use Rattle.page_model.proofs.CallerLemmas.{bytes_at-AreBytes}
-use Rattle.page_model.proofs.CallerLemmas.{byte_of_object, image_after_bytes, length-written, object_word_small, storable_added, word_by_bytes}
+use Rattle.page_model.proofs.CallerLemmas.{image_after_bytes, length-written, storable_added}
 use Rattle.page_model.proofs.CallerLemmas.{written_are_bytes}
-use Rattle.page_model.proofs.CallerLemmas.{written_before, written_behind, written_inside, written_nothing}
-use Rattle.region.specs.Cells.{overwritten}
-use Rattle.region.proofs.CallerLemmas.{overwritten_before, overwritten_behind, overwritten_inside}
+use Rattle.page_model.proofs.CallerLemmas.{written_nothing}
 use Rattle.page_slots.specs.Occupying.{Occupies, FitPages}
-use Rattle.page_slots.proofs.CallerLemmas.{rewritten_occupied}
+use Rattle.page_slots.proofs.CallerLemmas.{rewritten_occupied, held, rewrites, places_are}
 use Rattle.proxy_table.specs.Proxies.{AreBelowLimit}
 use Rattle.cf_model.specs.Steps.{WritesBytes}
 use Rattle.paged_heap.specs.Heap.{Heap}
-use Rattle.paged_heap.specs.Layout.{IsValid, held_in, paging_at, state_of, tables_in}
-use Rattle.paged_heap.specs.Access.{HoldsBytesAt}
+use Rattle.paged_heap.specs.Layout.{IsValid, held_in, paging_at, state_of, tables_in, owner_in}
 use Rattle.region.specs.Overwriting.{Overwrites}
 use Rattle.paged_heap.proofs.ByKind.{framed_kept, outside_in}
-use Rattle.paged_heap.proofs.LayoutFacts.{paged_kind, paging_ok}
-use Rattle.paged_heap.proofs.Preserved.{Becomes, becomes_kept, becomes_state, places_are, rest_from, stored}
-use Rattle.paged_heap.proofs.ReadLemmas.{bytes_few, holds, lies_place}
+use Rattle.paged_heap.proofs.LayoutFacts.{paged_kind, paging_ok, owns}
+use Rattle.paged_heap.proofs.Preserved.{Becomes, becomes_kept, becomes_state, rest_from, stored}
+use Rattle.page_slots.specs.Owner.{HoldsBytesAt}
 
 -- the counts after the bytes v of object q are replaced by u
 module _ (p : Paging) (o : Objects) (q : ℕ) (v u : List ℕ) (some : get o q ≡ Some v) where
@@ -81,7 +78,7 @@ module _ (h n : Heap) (k : IsValid h) (q a : ℕ) (some : get (held_in h) q ≡ 
     rest = rest_from h n (ap (λ (x : Heap). x.kind) rest) (ap (λ (x : Heap). x.settings) rest) (ap (λ (x : Heap). x.classes) rest)
         (ap (λ (x : Heap). x.bounds) rest);
     framed = framed_kept h.kind h n (ap (λ (x : Heap). x.frames) rest) long k.framed;
-    places = ap (λ (x : Heap). x.proxies.places) rest ∙ places_are h k
+    places = ap (λ (x : Heap). x.proxies.places) rest ∙ places_are (owner_in h)
         ∙ sym (rewritten_places (held_in h) q (record { place = a; bytes = bytes_at h.words a }) (record { place = a; bytes = u }) some refl);
     storable = storable_added (held_in h) q (record { place = a; bytes = u }) (stored h k) (stored h k q _ some).0 are;
     long = long;
@@ -115,7 +112,7 @@ module _ (h n : Heap) (k : IsValid h) (q a : ℕ) (some : get (held_in h) q ≡ 
   }
 
 -- `bytes` are written into object q from byte `at` on
-module _ (h n : Heap) (k : IsValid h) (q at a : ℕ) (bytes : List ℕ) (l : HoldsBytesAt h (record { number = q; from = at }) (length bytes) a)
+module _ (h n : Heap) (k : IsValid h) (q at a : ℕ) (bytes : List ℕ) (l : HoldsBytesAt (owner_in h) q at (length bytes) a)
     (each : AreBytes bytes) (rest : n ≡ record h { words = n.words })
     (w : Overwrites h.words n.words (record { from = a + 1 + at / 8; count = (at % 8 + length bytes + 7) / 8 }) (at % 8) bytes) where
   abbrev old : List ℕ
@@ -130,74 +127,18 @@ module _ (h n : Heap) (k : IsValid h) (q at a : ℕ) (bytes : List ℕ) (l : Hol
   size : length new ≡ length old
   size = length-written old at bytes l.within
 
-  -- byte b of the object's words, and of the new ones
-  old_byte : (b : ℕ) → 1 + b / 8 < slot_for (paging_at h) (length old) → byte_of (b % 8) (get_or h.words (a + 1 + b / 8) 0) ≡ get_or old b 0
-  old_byte b lt =
-      let word = k.image.held q (record { place = a; bytes = old }) l.found (suc (b / 8)) (omega arith) in
-      let place : a + 1 + b / 8 ≡ a + suc (b / 8) = omega arith in
-      ap (λ i. byte_of (b % 8) (get_or h.words i 0)) place ∙ ap (byte_of (b % 8)) word ∙ byte_of_object q old b (bytes_at-AreBytes h.words a)
-
-  -- byte j of the words that are written is that of the new bytes
-  new_byte : (j : ℕ) → j < 8 * ((at % 8 + length bytes + 7) / 8)
-      → overwritten (λ b. byte_of (b % 8) (get_or h.words (a + 1 + at / 8 + b / 8) 0)) (at % 8) bytes j ≡ get_or new (8 * (at / 8) + j) 0
-  new_byte j lt =
-      let fits = l.within in
-      let o = holds h k q a (lies_place h k q at (length bytes) a l) in
-      let was : byte_of (j % 8) (get_or h.words (a + 1 + at / 8 + j / 8) 0) ≡ get_or old (8 * (at / 8) + j) 0 =
-      (let place : a + 1 + at / 8 + j / 8 ≡ a + 1 + (8 * (at / 8) + j) / 8 = omega arith in
-      let byte : j % 8 ≡ (8 * (at / 8) + j) % 8 = omega arith in
-      ap (λ i. byte_of (j % 8) (get_or h.words i 0)) place ∙ ap (λ b. byte_of b (get_or h.words (a + 1 + (8 * (at / 8) + j) / 8) 0)) byte
-      ∙ old_byte (8 * (at / 8) + j) (omega arith)) in
-      elim (cases_lt j (at % 8)) [
-        | inl before ↦ overwritten_before (λ b. byte_of (b % 8) (get_or h.words (a + 1 + at / 8 + b / 8) 0)) (at % 8) bytes j before ∙ was
-            ∙ sym (written_before old at bytes fits (8 * (at / 8) + j) (omega arith))
-        | inr from ↦ elim (cases_lt j (at % 8 + length bytes)) [
-          | inl inside ↦ (
-              let e : at + (j - at % 8) ≡ 8 * (at / 8) + j = omega arith in
-              overwritten_inside (λ b. byte_of (b % 8) (get_or h.words (a + 1 + at / 8 + b / 8) 0)) (at % 8) bytes j from inside
-              ∙ sym (written_inside old at bytes fits (j - at % 8) (omega arith)) ∙ ap (λ i. get_or new i 0) e)
-          | inr behind ↦ overwritten_behind (λ b. byte_of (b % 8) (get_or h.words (a + 1 + at / 8 + b / 8) 0)) (at % 8) bytes j behind ∙ was
-              ∙ sym (written_behind old at bytes fits (8 * (at / 8) + j) (omega arith))
-        ]
-      ]
-
-  rewrites : Rewrites h.words n.words (record { from = a + 1 + at / 8; count = (at % 8 + length bytes + 7) / 8 }) (λ i. object_word q new (1 + at / 8 + i))
-  rewrites = record {
-    within = λ i lt.
-        let few = (stored h k q _ l.found).0 in
-        let fits = l.within in
-        let sz = size in
-        let o = holds h k q a (lies_place h k q at (length bytes) a l) in
-        let as_suc : 1 + at / 8 + i ≡ suc (at / 8 + i) = omega arith in
-        let short = length_small in
-        rw as_suc (word_by_bytes (get_or n.words (a + 1 + at / 8 + i) 0) (object_word q new (suc (at / 8 + i))) (w.small i lt)
-        (object_word_small q new (suc (at / 8 + i)) few (omega arith) are) (λ j less.
-        let div : (8 * i + j) / 8 ≡ i = omega arith in
-        let rem : (8 * i + j) % 8 ≡ j = omega arith in
-        let v = w.value (8 * i + j) (omega arith) ∙ new_byte (8 * i + j) (omega arith) in
-        let b = byte_of_object q new (8 * (at / 8 + i) + j) are in
-        let div' : (8 * (at / 8 + i) + j) / 8 ≡ at / 8 + i = omega arith in
-        let rem' : (8 * (at / 8 + i) + j) % 8 ≡ j = omega arith in
-        let same : 8 * (at / 8) + (8 * i + j) ≡ 8 * (at / 8 + i) + j = omega arith in
-        sym (ap (λ d. byte_of ((8 * i + j) % 8) (get_or n.words (a + 1 + at / 8 + d) 0)) div ∙ ap (λ b. byte_of b (get_or n.words (a + 1 + at / 8 + i) 0)) rem)
-        ∙ v ∙ ap (λ i. get_or new i 0) same ∙ sym b
-        ∙ ap (λ d. byte_of ((8 * (at / 8 + i) + j) % 8) (object_word q new (suc d))) div' ∙ ap (λ b. byte_of b (object_word q new (suc (at / 8 + i)))) rem'));
-    others = w.others;
-  }
-    where
-      length_small : length old ≤ 131072
-      length_small = bytes_few h k q a (lies_place h k q at (length bytes) a l)
-
   image : IsSlotImage (paging_at h) (insert (held_in h) q (record { place = a; bytes = new })) n.words
   image =
       let from : a + 1 + at / 8 ≡ a + (1 + at / 8) = omega arith in
-      image_after_bytes (paging_at h) (paging_ok h k) (held_in h) k.sound h.words k.image q (record { place = a; bytes = old }) l.found n.words at bytes
+      image_after_bytes (paging_at h) (paging_ok h k) (held_in h) k.sound h.words k.image q (record { place = a; bytes = old }) (held (owns k) q a l.found)
+      n.words at bytes
       l.within
       (subst (λ f. Rewrites h.words n.words (record { from = f; count = (at % 8 + length bytes + 7) / 8 }) (λ i. object_word q new (1 + at / 8 + i)))
-      from rewrites)
+      from (rewrites (owns k) q at a bytes l each q (stored h k q _ (held (owns k) q a l.found)).0
+      (k.image.held q (record { place = a; bytes = old }) (held (owns k) q a l.found)) n.words w))
 
   becomes : Becomes h n (insert (held_in h) q (record { place = a; bytes = new }))
-  becomes = changes h n k q a l.found new (ap (class_for (paging_at h)) size) are
+  becomes = changes h n k q a (held (owns k) q a l.found) new (ap (class_for (paging_at h)) size) are
       (rest ∙ ap (λ x. record h { words = n.words; asked = x }) (sym (ap (λ (x : Heap). x.asked) rest)))
       w.long image (let e = ap (λ (x : Heap). x.asked) rest in let s = size in omega arith)
 
@@ -207,7 +148,7 @@ module _ (h n : Heap) (k : IsValid h) (q at a : ℕ) (bytes : List ℕ) (l : Hol
   pub wrote : WritesBytes (state_of h) (record { number = q; from = at }) bytes (state_of n)
   wrote = record {
     object = record { place = a; bytes = old };
-    found = l.found;
+    found = held (owns k) q a l.found;
     within = l.within;
     outside = outside_in h.kind (paged_kind h k) (state_of h) (record { place = a; bytes = old }) (state_of n);
     whole = becomes_state h n k (insert (held_in h) q (record { place = a; bytes = new })) becomes
@@ -222,10 +163,10 @@ module _ (h n : Heap) (k : IsValid h) (q at a : ℕ) (bytes : List ℕ) (l : Hol
 
 -- to write no bytes changes nothing
 pub wrote_nothing : (h : Heap) → IsValid h → (q at a : ℕ) (bytes : List ℕ) → length bytes ≡ 0
-    → HoldsBytesAt h (record { number = q; from = at }) (length bytes) a → WritesBytes (state_of h) (record { number = q; from = at }) bytes (state_of h)
+    → HoldsBytesAt (owner_in h) q at (length bytes) a → WritesBytes (state_of h) (record { number = q; from = at }) bytes (state_of h)
 wrote_nothing h k q at a [] none l = record {
   object = record { place = a; bytes = bytes_at h.words a };
-  found = l.found;
+  found = held (owns k) q a l.found;
   within = l.within;
   outside = outside_in h.kind (paged_kind h k) (state_of h) (record { place = a; bytes = bytes_at h.words a }) (state_of h);
   whole =
@@ -233,6 +174,6 @@ wrote_nothing h k q at a [] none l = record {
       let same = written_nothing (bytes_at h.words a) at (omega arith) in
       ap (λ m. record (state_of h) { held = m })
       (sym (ap (λ v. insert (held_in h) q (record { place = a; bytes = v })) same
-      ∙ inserted_there (held_in h) q (record { place = a; bytes = bytes_at h.words a }) l.found));
+      ∙ inserted_there (held_in h) q (record { place = a; bytes = bytes_at h.words a }) (held (owns k) q a l.found)));
 }
 wrote_nothing h k q at a (x ∷ xs) none l = absurd (omega arith)

@@ -14,6 +14,7 @@ use Rattle.page_model.specs.Image.{IsSlotImage}
 use Rattle.page_model.specs.Order.{Order}
 use Rattle.size_classes.specs.Table.{table_of}
 use Rattle.proxy_table.specs.Proxies.{AreBelowLimit}
+use Rattle.page_slots.specs.Owner.{Owner}
 use Rattle.page_slots.specs.Tables.{Tables, tables}
 use Rattle.page_slots.specs.Occupying.{Occupies, FitPages}
 use Rattle.page_slots.specs.Orders.{order_of}
@@ -52,6 +53,17 @@ state_of h = record {
 -- the number and size of the pages of the heap, its slot sizes and its bounds
 abbrev pub paging_at : Heap → Paging
 paging_at h = paging_in (state_of h)
+
+-- the heap as an owner of pages
+abbrev pub owner_in : Heap → Owner
+owner_in h = record {
+  paging = paging_at h;
+  classes = h.classes;
+  bound = slice_index h.bounds;
+  words = h.words;
+  places = h.proxies.places;
+  tables = tables_in h;
+}
 
 -- the block table is a permutation of the blocks of four words that the region has
 pub record AreMapped (h : Heap) : Type 0 where

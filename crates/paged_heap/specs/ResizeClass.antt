@@ -17,12 +17,12 @@ use Rattle.cf_model.specs.ExactCosts.{carrying_cost, leaving_cost}
 use Rattle.paged_heap.specs.Heap.{Heap}
 use Rattle.paged_heap.specs.declared.resize_class.Change.{Change}
 use Rattle.paged_heap.specs.ZeroTail.{Cuts}
-use Rattle.paged_heap.specs.Free.{IsObjectAt, placed_at}
-use Rattle.paged_heap.specs.Layout.{held_in, order_in, paging_at, state_of, tables_in}
+use Rattle.page_slots.specs.Owner.{IsObjectAt, placed_at}
+use Rattle.paged_heap.specs.Layout.{held_in, order_in, owner_in, paging_at, state_of, tables_in}
 
 -- x describes a resize of a live object whose new length has another class
 pub record IsChange (h : Heap) (x : Change) : Type 0 where
-  pub object : IsObjectAt h x.handle.0 x.place x.length x.class
+  pub object : IsObjectAt (owner_in h) x.handle.0 x.place x.length x.class
   pub fits : need x.bytes ≤ h.settings.page_words
   pub class : class_for (paging_at h) x.bytes ≡ x.to
   pub in_range : x.to < classes (paging_at h)
@@ -87,5 +87,5 @@ entering_cost h x = steps_to_take (paging_at h) (held_in h) (order_in h) x.to + 
 
 -- the exact steps of a change of class: those of `enter_class`, and those of freeing or filling the old slot; none if refused
 abbrev pub changing_cost : Heap → Change → Result Resized ResizeFault → ℕ
-changing_cost h x (Ok done) = entering_cost h x + leaving_cost (state_of h) (order_in h) (placed_at h x.place) done.moved
+changing_cost h x (Ok done) = entering_cost h x + leaving_cost (state_of h) (order_in h) (placed_at (owner_in h) x.place) done.moved
 changing_cost h x (Err e) = 0

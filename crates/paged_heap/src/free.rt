@@ -9,13 +9,14 @@ ghost use Rattle.cf_model.specs.Steps.{FreesObject, IsFreeStep};
 ghost use Rattle.page_slots.specs.Tables.{AreTables};
 ghost use Rattle.proxy_table.specs.Proxies.{AreBelowLimit, with_place};
 ghost use Rattle.virtual_words.specs.Words.{FitTable, IsWhole, slot_steps};
+ghost use Rattle.page_slots.specs.Owner.{IsObjectAt, MustMoveInto, placed_at};
 ghost use Rattle.paged_heap.specs.Costs.{free_steps};
 ghost use Rattle.cf_model.specs.ExactCosts.{free_cost, leaving_cost};
 ghost use Rattle.cf_model.specs.Ordered.{IsOrderedFree};
 ghost use Rattle.paged_heap.specs.Choices.{FreeChooses};
-ghost use Rattle.paged_heap.specs.Free.{IsObjectAt, Leaves, MayLeave, MustMoveInto, MovesSlot, leaving_steps, placed_at};
+ghost use Rattle.paged_heap.specs.Free.{Leaves, MayLeave, MovesSlot, leaving_steps};
 ghost use Rattle.paged_heap.specs.Heap.{seen};
-ghost use Rattle.paged_heap.specs.Layout.{Holds, order_in, state_at, tables_in};
+ghost use Rattle.paged_heap.specs.Layout.{Holds, order_in, owner_in, state_at, tables_in};
 
 use crate::open_heap::OpenHeap;
 use cf_base::{Freed, Handle, NotLive};
@@ -79,14 +80,14 @@ impl OpenHeap {
         steps: &mut Steps,
     ) -> Freed
         requires kept { Holds A.kind self.old }
-        requires object { IsObjectAt (seen A.kind self.old) h.0 place length c }
-        requires due { IsTrue moves ↔ MustMoveInto (seen A.kind self.old) place c }
+        requires object { IsObjectAt (owner_in (seen A.kind self.old)) h.0 place length c }
+        requires due { IsTrue moves ↔ MustMoveInto (owner_in (seen A.kind self.old)) place c }
         ensures step { FreesObject (state_at A.kind self.old) h.0 result (state_at A.kind self.new) }
         ensures kept { Holds A.kind self.new }
         ensures choice { FreeChooses (seen A.kind self.old) h.0 result (seen A.kind self.new) }
         ensures steps { RoseAtMost steps.old steps.new (15 + word_steps A.kind + slot_steps A.kind result.slot_words) }
         ensures cost { RoseBy steps.old steps.new
-            (2 + leaving_cost (state_at A.kind self.old) (order_in (seen A.kind self.old)) (placed_at (seen A.kind self.old) place) result.moved) }
+            (2 + leaving_cost (state_at A.kind self.old) (order_in (seen A.kind self.old)) (placed_at (owner_in (seen A.kind self.old)) place) result.moved) }
     {
         let slot_words = self.tables.classes.slot_words(c);
         self.proxies.release(h, steps);

@@ -7,14 +7,14 @@ ghost use Rattle.cf_base.specs.Classes.{need};
 ghost use Rattle.cf_model.specs.Costs.{resize_bound};
 ghost use Rattle.cf_model.specs.Steps.{IsResizeStep, ResizesObject};
 ghost use Rattle.virtual_words.specs.Words.{FitTable};
+ghost use Rattle.page_slots.specs.Owner.{IsObjectAt};
 ghost use Rattle.paged_heap.specs.Costs.{resize_steps};
 ghost use Rattle.paged_heap.specs.ZeroTail.{Cuts};
 ghost use Rattle.cf_model.specs.ExactCosts.{resize_cost, tail_steps};
 ghost use Rattle.cf_model.specs.Ordered.{IsOrderedResize};
 ghost use Rattle.paged_heap.specs.Choices.{ResizeChooses};
-ghost use Rattle.paged_heap.specs.Free.{IsObjectAt};
 ghost use Rattle.paged_heap.specs.Heap.{seen};
-ghost use Rattle.paged_heap.specs.Layout.{Holds, order_in, paging_at, state_at};
+ghost use Rattle.paged_heap.specs.Layout.{Holds, order_in, owner_in, paging_at, state_at};
 
 use crate::open_heap::OpenHeap;
 use crate::resize_class::Change;
@@ -102,7 +102,7 @@ impl OpenHeap {
         steps: &mut Steps,
     ) -> Resized
         requires kept { Holds A.kind self.old }
-        requires object { IsObjectAt (seen A.kind self.old) h.0 place length c }
+        requires object { IsObjectAt (owner_in (seen A.kind self.old)) h.0 place length c }
         requires same { class_for (paging_at (seen A.kind self.old)) bytes ≡ c }
         requires fits { need bytes ≤ self.old.settings.page_words }
         ensures step { ResizesObject (state_at A.kind self.old) (record { number = h.0; length = bytes }) result (state_at A.kind self.new) }

@@ -8,11 +8,11 @@ ghost use Rattle.page_model.specs.Order.{word_steps};
 ghost use Rattle.cf_model.specs.Steps.{IsResizeStep};
 ghost use Rattle.proxy_table.specs.Proxies.{AreBelowLimit, with_place};
 ghost use Rattle.virtual_words.specs.Words.{AreInStep, FitTable, copy_steps};
+ghost use Rattle.page_slots.specs.Owner.{MustMoveInto};
 ghost use Rattle.paged_heap.specs.ResizeClass.{CopiesToSlot, EntersClass, IsChange, changing_cost, changing_steps, entering_cost, kept_words};
 ghost use Rattle.paged_heap.specs.Choices.{ResizeChooses};
-ghost use Rattle.paged_heap.specs.Free.{MustMoveInto};
+ghost use Rattle.paged_heap.specs.Layout.{Holds, owner_in, state_at};
 ghost use Rattle.paged_heap.specs.Heap.{seen};
-ghost use Rattle.paged_heap.specs.Layout.{Holds, state_at};
 ghost use Rattle.cf_model.specs.ExactCosts.{tail_steps};
 
 use crate::open_heap::OpenHeap;
@@ -77,7 +77,7 @@ impl OpenHeap {
     ) -> Result<Resized, ResizeFault>
         requires kept { Holds A.kind self.old }
         requires change { IsChange (seen A.kind self.old) x }
-        requires due { IsTrue moves ↔ MustMoveInto (seen A.kind self.old) x.place x.class }
+        requires due { IsTrue moves ↔ MustMoveInto (owner_in (seen A.kind self.old)) x.place x.class }
         ensures step { IsResizeStep (state_at A.kind self.old) (record { number = x.handle.0; length = x.bytes }) result (state_at A.kind self.new) }
         ensures kept { Holds A.kind self.new }
         ensures cause { IfErr result (λ e. e ≡ ResizeFault.Space) }

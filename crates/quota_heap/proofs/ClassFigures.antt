@@ -9,13 +9,13 @@ use Rattle.page_model.specs.Figures.{figures_of}
 use Rattle.page_model.specs.Held.{Held, objects}
 use Rattle.page_model.specs.Paging.{Paging, classes, slot_words, slots_of}
 use Rattle.page_model.proofs.CallerLemmas.{home_at_most}
-use Rattle.page_slots.proofs.CallerLemmas.{home_pages_are, not_full_pages_are}
+use Rattle.page_slots.proofs.CallerLemmas.{home_pages_are, not_full_pages_are, as_many}
 use Rattle.quota_heap.specs.Layout.{ArePages, IsTask, IsTaskIn, IsValid, held_of, paging_at, state_of, tables_of}
 use Rattle.quota_heap.specs.State.{held_by}
 use Rattle.quota_heap.specs.declared.shared_pages.SharedPages.{SharedPages}
 use Rattle.quota_heap.specs.declared.open_tasks.OpenTasks.{OpenTasks}
 use Rattle.quota_heap.specs.declared.task.Task.{Task}
-use Rattle.quota_heap.proofs.Facts.{as_many, few_classes, paging_ok, size_is, table_is}
+use Rattle.quota_heap.proofs.Facts.{few_classes, paging_ok, size_is, table_is}
 use Rattle.quota_heap.proofs.Tasks.{part_is}
 use Rattle.size_classes.specs.Table.{ClassTable}
 use Rattle.cf_base.specs.Classes.{slots}
@@ -29,7 +29,7 @@ module _ (g : SharedPages) (k : ArePages g) (t : ℕ) (x : Task) (i : IsTask g t
   class_in = (let e = i.serve.tables.classes in omega arith)
 
   pub class_listed : c < length g.tables.classes.sizes
-  class_listed = (let e = as_many g k in omega arith)
+  class_listed = (let e = as_many (paging_at g) (table_is g k) in omega arith)
 
   pub class_few : c < 128
   class_few = (let few = few_classes g k t x i in omega arith)

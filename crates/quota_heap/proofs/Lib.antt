@@ -10,11 +10,9 @@ pub mod MallocLemmas
 pub mod FreedObject
 pub mod FreeKinds
 pub mod Parts
-pub mod ObjectFacts
 pub mod Rules
 pub mod OpenLemmas
 pub mod SetQuota
 pub mod ClassFigures
-pub mod Filler
 pub mod PartlyFull
 pub mod StepCounts

@@ -20,7 +20,7 @@ use Rattle.page_model.proofs.CallerLemmas.{bytes_missing, live_added, malloc_obj
 use Rattle.page_slots.specs.Occupying.{Occupies, FitPagesShared, class_table}
 use Rattle.page_slots.specs.Tables.{AreTables, IsForeign, IsOf, Tables}
 use Rattle.page_slots.specs.Take.{TakesAt}
-use Rattle.page_slots.proofs.CallerLemmas.{taken_is_free, taken_occupied, taken_part}
+use Rattle.page_slots.proofs.CallerLemmas.{taken_is_free, taken_occupied, taken_part, no_place}
 use Rattle.proxy_table.specs.Proxies.{Proxies}
 use Rattle.quota_model.specs.Joined.{joined}
 use Rattle.quota_model.proofs.CallerLemmas.{image_of_malloc, joined_insert}
@@ -28,12 +28,13 @@ use Rattle.quota_model.specs.Parts.{key_of, number_of, objects_of_task, task_of}
 use Rattle.quota_model.specs.Shared.{PlacesForTask}
 use Rattle.quota_model.proofs.CallerLemmas.{found_part, others_stay, part_inserted, quotas_stay, stays_shared}
 use Rattle.quota_heap.specs.Calls.{IsAdded}
-use Rattle.quota_heap.specs.Layout.{ArePages, IsTask, IsTaskIn, IsValid, held_in, held_of, objects_of, paging_at, places_of, quotas_of, state_of, tables_of}
+use Rattle.quota_heap.specs.Layout.{ArePages, IsTask, IsTaskIn, IsValid, held_in, held_of, objects_of, paging_at, places_of, quotas_of, state_of}
+use Rattle.quota_heap.specs.Layout.{tables_of, as_owner}
 use Rattle.quota_heap.specs.Steps.{AddsObjectOfTask}
 use Rattle.quota_heap.specs.declared.shared_pages.SharedPages.{SharedPages}
 use Rattle.quota_heap.specs.declared.open_tasks.OpenTasks.{OpenTasks}
 use Rattle.quota_heap.specs.declared.task.Task.{Task}
-use Rattle.quota_heap.proofs.Facts.{few_classes, no_place, paging_ok, table_is}
+use Rattle.quota_heap.proofs.Facts.{few_classes, paging_ok, table_is}
 use Rattle.quota_heap.proofs.PageAccount.{take_accounts}
 use Rattle.quota_heap.proofs.PagesAfter.{pages_after, used_after}
 use Rattle.quota_heap.proofs.Preserved.{Becomes, becomes_kept, becomes_state, places_are, stored}
@@ -82,7 +83,7 @@ module _ (g : SharedPages) (k : ArePages g) (t : ℕ) (x : Task) (i : IsTask g t
   pub taken_account : (q n : ℕ) → get x.proxies.places q ≡ None → class_for (paging_at g) n ≡ c → length new.pool.free ≤ x.pages + length g.tables.pool.free
   taken_account q n unused class =
       let e = used_after g k t x i c lt (insert (held_of g x) q (zeros_at a n)) new taken_serves
-      (taken_occupies q (zeros_at a n) (no_place g k t x i q unused) refl (class_of_zeros (paging_at g) a n c class))
+      (taken_occupies q (zeros_at a n) (no_place (as_owner g x) q unused) refl (class_of_zeros (paging_at g) a n c class))
       (take_accounts g.tables.classes (tables_of g x) (tables_ok g k t x i) c new a taken) in
       omega arith
 
@@ -112,7 +113,7 @@ module _ (h n : OpenTasks) (k : IsValid h) (t : ℕ) (x x' : Task) (at : IsTaskI
   small = (let b = below in let f = few in omega arith)
 
   unused : get (held_of h.shared_pages x) q ≡ None
-  unused = no_place h.shared_pages k.shared_pages t x i q co.unused
+  unused = no_place (as_owner h.shared_pages x) q co.unused
 
   occupied_own : Occupies (paging_at h.shared_pages) (insert (held_of h.shared_pages x) q (zeros_at co.place bytes)) (tables_of n.shared_pages x')
   occupied_own = taken_occupies h.shared_pages k.shared_pages t x i c lt co.place (tables_of n.shared_pages x') co.taken co.rest.tables q (zeros_at co.place bytes) unused refl

@@ -102,8 +102,8 @@ module _ (s : Settings) (h : OpenTasks) (f : AreFirstPages s h.shared_pages) (n 
       subst (λ t. AreFirst t Words h.shared_pages.tables) (sym f.settings) f.tables in
       let t = first_table h.shared_pages.settings.page_words Words h.shared_pages.settings.page_size in
       let small = h.shared_pages.settings.small_region in
-      (new_serve (paging_at h.shared_pages) n h.shared_pages.tables.maps.pages (empty_lists n s.pages) h.shared_pages.tables.pool t (omega arith) many_classes
-      first.maps (ap (empty_lists n) (sym pages_is)) first.pool).part
+      (new_serve (paging_at h.shared_pages) n (tables_with h.shared_pages.tables (empty_lists n s.pages)) t (omega arith) many_classes
+      (λ i. record { maps = first.maps i; lists = ap (empty_lists n) (sym pages_is) i; pool = first.pool i })).part
 
   held_none : held_of h.shared_pages (first_task n s.pages s.proxies) ≡ empty
   held_none = nothing_held h.shared_pages.region

@@ -1,42 +1,39 @@
 -- For `find`, `read` and `write`: the object found for a task, or the fault, is the one that contracts show; a read returns its bytes, and a write changes
 -- these bytes alone and leaves the heap valid.
-use Rattle.std.proofs.Common.{◌≡◌, ℕ, suc, ◌+◌, ◌-◌, ◌*◌, ◌/◌, ◌%◌, ◌^◌, ◌<◌, ◌≤◌, List, [], ◌∷◌, length, get_or, set, take, drop, Some, None, Result}
-use Rattle.std.proofs.Common.{Ok, Err, arith, refl, sym, ◌∙◌, ap, subst, inl, inr}
+use Rattle.std.proofs.Common.{◌≡◌, ℕ, ◌+◌, ◌-◌, ◌/◌, ◌%◌, ◌^◌, ◌<◌, ◌≤◌, List, [], ◌∷◌, length, get_or, set, Some, None, Result}
+use Rattle.std.proofs.Common.{Ok, Err, arith, refl, sym, ◌∙◌, ap, subst}
 use Rattle.std.specs.Prelude.{IfNone, IfSome, Option}
-use Rattle.std.proofs.lemmas.Bool.{cases_lt}
-use Rattle.std.proofs.lemmas.Grind.{same_number_lists}
-use Rattle.std.proofs.lemmas.List.{get_or-drop, get_or-take, length-drop, length-take, set-get_or}
+use Rattle.std.proofs.lemmas.List.{set-get_or}
 use Rattle.std.proofs.lemmas.Option.{get_or_from_slice_get}
 use Rattle.std.specs.FinMap.{get, insert}
 use Rattle.cf_base.specs.Settings.{profile_of}
 use Rattle.cf_base.specs.declared.answers.AccessFault.{AccessFault}
 use Rattle.cf_base.specs.declared.answers.AccessFault.TheVariants.{Unknown, Range}
 use Rattle.page_model.specs.Arrangement.{live, pages_needed}
-use Rattle.page_model.specs.Bytes.{AreBytes, byte_of, bytes_at, written}
+use Rattle.page_model.specs.Bytes.{AreBytes, bytes_at, written}
 use Rattle.page_model.specs.Held.{Held, Placed, objects}
-use Rattle.page_model.specs.Image.{IsSlotImage, Rewrites, object_word, slot_for}
+use Rattle.page_model.specs.Image.{IsSlotImage, Rewrites, object_word}
 use Rattle.page_model.specs.Paging.{class_for}
-use Rattle.page_model.proofs.CallerLemmas.{byte_is, byte_of_object, bytes_at-AreBytes, inserted_there, length-written, object_word_small, rewritten_places, storable_added}
-use Rattle.page_model.proofs.CallerLemmas.{word_by_bytes, written_are_bytes, written_before, written_behind, written_inside, written_nothing}
+use Rattle.page_model.proofs.CallerLemmas.{bytes_at-AreBytes, inserted_there, length-written, rewritten_places, storable_added}
+use Rattle.page_model.proofs.CallerLemmas.{written_are_bytes, written_nothing}
 use Rattle.page_slots.specs.Occupying.{Occupies}
-use Rattle.page_slots.proofs.CallerLemmas.{rewritten_occupied}
+use Rattle.page_slots.proofs.CallerLemmas.{bytes_read, rewrites, words_in, rewritten_occupied, no_place, held}
 use Rattle.quota_model.specs.Joined.{joined}
 use Rattle.quota_model.proofs.CallerLemmas.{image_of_write, live_same, needed_same, others_rewritten, own_rewritten, rewritten_quotas, rewritten_shared}
 use Rattle.quota_model.specs.Parts.{key_of, objects_of_task}
 use Rattle.quota_model.proofs.CallerLemmas.{found_whole}
 use Rattle.cf_model.specs.Steps.{Position}
-use Rattle.region.specs.Cells.{overwritten}
 use Rattle.region.specs.Overwriting.{Overwrites, byte_from}
-use Rattle.region.proofs.CallerLemmas.{overwritten_before, overwritten_behind, overwritten_inside}
-use Rattle.quota_heap.specs.Calls.{IsFound, IsFoundIn, IsMissing, HoldsBytesAt}
-use Rattle.quota_heap.specs.Layout.{IsTask, IsTaskIn, IsValid, held_in, held_of, paging_at, places_of, quotas_of, state_of, tables_of}
+use Rattle.quota_heap.specs.Calls.{IsFound, IsFoundIn, IsMissing}
+use Rattle.quota_heap.specs.Layout.{IsTask, IsTaskIn, IsValid, held_in, held_of, paging_at, places_of, quotas_of, state_of, tables_of, as_owner}
 use Rattle.quota_heap.specs.State.{held_by}
 use Rattle.quota_heap.specs.Steps.{IsFault, ReadsOfTask, WritesForTask, with_held}
 use Rattle.quota_heap.specs.declared.open_tasks.OpenTasks.{OpenTasks}
 use Rattle.quota_heap.specs.declared.task.Task.{Task}
-use Rattle.quota_heap.proofs.Facts.{bytes_few, has_place, holds, no_place, number_small, slot_there, tables_ok}
+use Rattle.quota_heap.proofs.Facts.{number_small, tables_ok, owns}
 use Rattle.quota_heap.proofs.Preserved.{Becomes, becomes_kept, becomes_state, places_are, stored}
 use Rattle.quota_heap.proofs.Tasks.{part_is, task_below}
+use Rattle.page_slots.specs.Owner.{HoldsBytesAt}
 
 module _ (h : OpenTasks) (k : IsValid h) (t : ℕ) (x : Task) (at : IsTaskIn h t x) where
   abbrev i : IsTask h.shared_pages t x
@@ -44,10 +41,10 @@ module _ (h : OpenTasks) (k : IsValid h) (t : ℕ) (x : Task) (at : IsTaskIn h t
 
   -- the object at the address of a live number, as contracts show it
   pub object_by : (q a : ℕ) → get x.proxies.places q ≡ Some a → get (held_by (state_of h) t) q ≡ Some (record { place = a; bytes = bytes_at h.shared_pages.region a })
-  object_by q a e = ap (λ m. get m q) (part_is h k t x at) ∙ has_place h.shared_pages k.shared_pages t x i q a e
+  object_by q a e = ap (λ m. get m q) (part_is h k t x at) ∙ held (owns k.shared_pages i) q a e
 
   pub no_object : (q : ℕ) → get x.proxies.places q ≡ None → get (held_by (state_of h) t) q ≡ None
-  no_object q e = ap (λ m. get m q) (part_is h k t x at) ∙ no_place h.shared_pages k.shared_pages t x i q e
+  no_object q e = ap (λ m. get m q) (part_is h k t x at) ∙ no_place (as_owner h.shared_pages x) q e
 
   -- the cause of a fault of `find`, as contracts show it
   pub fault_is : (position : Position) (count : ℕ) (e : AccessFault) → IsMissing h.shared_pages x position count e → IsFault (state_of h) t position count e
@@ -63,7 +60,7 @@ module _ (h : OpenTasks) (k : IsValid h) (t : ℕ) (x : Task) (at : IsTaskIn h t
   found_in position count (Ok place) l = λ y e. (
       let z : Some x ≡ Some y = sym at ∙ e in
       let same : x ≡ y = cc in
-      subst (λ (z : Task). HoldsBytesAt h.shared_pages z position count place) same l)
+      subst (λ (z : Task). HoldsBytesAt (as_owner h.shared_pages z) position.number position.from count place) same l)
   found_in position count (Err e) m = fault_is position count e m
 
 pub none_to : {X A B : Type 0} (r : Option X) → (A → B) → IfNone r A → IfNone r B
@@ -74,26 +71,18 @@ pub some_to : {X : Type 0} {P Q : X → Type 0} (r : Option X) → ((x : X) → 
 some_to None f p = p
 some_to (Some x) f p = f x p
 
--- the words that hold the `count` bytes of a found object are in the region
-module _ (h : OpenTasks) (k : IsValid h) (t : ℕ) (x : Task) (at : IsTaskIn h t x) (position : Position) (count a : ℕ) (l : HoldsBytesAt h.shared_pages x position count a) where
+-- the `count` bytes of a found object
+module _ (h : OpenTasks) (k : IsValid h) (t : ℕ) (x : Task) (at : IsTaskIn h t x) (position : Position) (count a : ℕ)
+    (l : HoldsBytesAt (as_owner h.shared_pages x) position.number position.from count a) where
   abbrev task : IsTask h.shared_pages t x
   task = k.task t x at
 
   abbrev pub from : ℕ
   from = position.from
 
-  pub words_in : 1 ≤ count → a + 1 + position.from / 8 + (position.from % 8 + count + 7) / 8 ≤ length h.shared_pages.region
-  words_in some =
-      let s = slot_there h.shared_pages k.shared_pages t x task position.number a l.found in
-      let o = holds h.shared_pages k.shared_pages t x task position.number a l.found in
-      let w = l.within in
-      omega arith
-
   pub place_small : 1 ≤ count → a + 1 + position.from / 8 ≤ 2 ^ 23
-  place_small some = (let w = words_in some in let long = k.shared_pages.words_long in let small = h.shared_pages.settings.small_region in omega arith)
-
-  pub count_few : count ≤ 131072
-  count_few = (let f = bytes_few h.shared_pages k.shared_pages t x task position.number a l.found in let w = l.within in omega arith)
+  place_small some = (let w = words_in (owns k.shared_pages task) position.number position.from count a l some in let long = k.shared_pages.words_long in
+      let small = h.shared_pages.settings.small_region in omega arith)
 
   -- the bytes that the code reads are those of the object
   pub read_is : (out : List ℕ) → length out ≡ count
@@ -103,17 +92,7 @@ module _ (h : OpenTasks) (k : IsValid h) (t : ℕ) (x : Task) (at : IsTaskIn h t
     object = record { place = a; bytes = bytes_at h.shared_pages.region a };
     found = object_by h k t x at position.number a l.found;
     within = l.within;
-    value =
-        let w = l.within in
-        let lt = length-take count (drop position.from (bytes_at h.shared_pages.region a)) in
-        let ld = length-drop position.from (bytes_at h.shared_pages.region a) in
-        same_number_lists out (take count (drop position.from (bytes_at h.shared_pages.region a))) (omega arith) (λ j less.
-        let same : a + 1 + position.from / 8 + (position.from % 8 + j) / 8 ≡ a + 1 + (position.from + j) / 8 = omega arith in
-        let rest : (position.from % 8 + j) % 8 ≡ (position.from + j) % 8 = omega arith in
-        each j less ∙ ap (λ d. byte_of ((position.from % 8 + j) % 8) (get_or h.shared_pages.region d 0)) same
-        ∙ ap (λ r. byte_of r (get_or h.shared_pages.region (a + 1 + (position.from + j) / 8) 0)) rest
-        ∙ sym (byte_is h.shared_pages.region a (position.from + j) (omega arith)) ∙ sym (get_or-drop position.from (bytes_at h.shared_pages.region a) j 0)
-        ∙ sym (get_or-take count (drop position.from (bytes_at h.shared_pages.region a)) j 0 (omega arith)));
+    value = bytes_read (owns k.shared_pages task) position.number position.from count a l out long each;
   }
 
   -- a read of no bytes meets the contract of a read
@@ -122,7 +101,7 @@ module _ (h : OpenTasks) (k : IsValid h) (t : ℕ) (x : Task) (at : IsTaskIn h t
 
 -- a write of `bytes` to the found object at address a, after which the region has the words `words`
 module _ (h : OpenTasks) (k : IsValid h) (t : ℕ) (x : Task) (at : IsTaskIn h t x) (position : Position) (a : ℕ) (bytes : List ℕ)
-    (l : HoldsBytesAt h.shared_pages x position (length bytes) a) (each : AreBytes bytes) (words : List ℕ)
+    (l : HoldsBytesAt (as_owner h.shared_pages x) position.number position.from (length bytes) a) (each : AreBytes bytes) (words : List ℕ)
     (w : Overwrites h.shared_pages.region words (record { from = a + 1 + position.from / 8; count = (position.from % 8 + length bytes + 7) / 8 }) (position.from % 8) bytes) where
   abbrev own : IsTask h.shared_pages t x
   own = k.task t x at
@@ -149,7 +128,7 @@ module _ (h : OpenTasks) (k : IsValid h) (t : ℕ) (x : Task) (at : IsTaskIn h t
   it = record { place = a; bytes = bytes_at h.shared_pages.region a }
 
   found : get (held_of h.shared_pages x) q ≡ Some it
-  found = has_place h.shared_pages k.shared_pages t x own q a l.found
+  found = held (owns k.shared_pages own) q a l.found
 
   part_found : get (objects_of_task (held_in h) t) q ≡ Some it
   part_found = ap (λ m. get m q) (part_is h k t x at) ∙ found
@@ -169,70 +148,6 @@ module _ (h : OpenTasks) (k : IsValid h) (t : ℕ) (x : Task) (at : IsTaskIn h t
   key_few : key < 2 ^ 32
   key_few = (let f = few in let s = task_below h k t x at in omega arith)
 
-  short : length old ≤ 131072
-  short = bytes_few h.shared_pages k.shared_pages t x own q a l.found
-
-  holds_all : 1 + (length old + 7) / 8 ≤ slot_for (paging_at h.shared_pages) (length old)
-  holds_all = holds h.shared_pages k.shared_pages t x own q a l.found
-
-  -- byte b of the object's words, and of the new ones
-  old_byte : (b : ℕ) → 1 + b / 8 < slot_for (paging_at h.shared_pages) (length old) → byte_of (b % 8) (get_or h.shared_pages.region (a + 1 + b / 8) 0) ≡ get_or old b 0
-  old_byte b lt =
-      let word = k.image.held key it whole_found (suc (b / 8)) (omega arith) in
-      let place : a + 1 + b / 8 ≡ a + suc (b / 8) = omega arith in
-      ap (λ j. byte_of (b % 8) (get_or h.shared_pages.region j 0)) place ∙ ap (byte_of (b % 8)) word
-      ∙ byte_of_object key old b (bytes_at-AreBytes h.shared_pages.region a)
-
-  -- byte j of the words that are written is that of the new bytes
-  new_byte : (j : ℕ) → j < 8 * ((pos % 8 + length bytes + 7) / 8)
-      → overwritten (λ b. byte_of (b % 8) (get_or h.shared_pages.region (a + 1 + pos / 8 + b / 8) 0)) (pos % 8) bytes j ≡ get_or new (8 * (pos / 8) + j) 0
-  new_byte j lt =
-      let fits = l.within in
-      let o = holds_all in
-      let was : byte_of (j % 8) (get_or h.shared_pages.region (a + 1 + pos / 8 + j / 8) 0) ≡ get_or old (8 * (pos / 8) + j) 0 =
-      (let place : a + 1 + pos / 8 + j / 8 ≡ a + 1 + (8 * (pos / 8) + j) / 8 = omega arith in
-      let byte : j % 8 ≡ (8 * (pos / 8) + j) % 8 = omega arith in
-      ap (λ d. byte_of (j % 8) (get_or h.shared_pages.region d 0)) place
-      ∙ ap (λ b. byte_of b (get_or h.shared_pages.region (a + 1 + (8 * (pos / 8) + j) / 8) 0)) byte
-      ∙ old_byte (8 * (pos / 8) + j) (omega arith)) in
-      elim (cases_lt j (pos % 8)) [
-        | inl before ↦ overwritten_before (λ b. byte_of (b % 8) (get_or h.shared_pages.region (a + 1 + pos / 8 + b / 8) 0)) (pos % 8) bytes j before ∙ was
-            ∙ sym (written_before old pos bytes fits (8 * (pos / 8) + j) (omega arith))
-        | inr later ↦ elim (cases_lt j (pos % 8 + length bytes)) [
-          | inl inside ↦ (
-              let e : pos + (j - pos % 8) ≡ 8 * (pos / 8) + j = omega arith in
-              overwritten_inside (λ b. byte_of (b % 8) (get_or h.shared_pages.region (a + 1 + pos / 8 + b / 8) 0)) (pos % 8) bytes j later inside
-              ∙ sym (written_inside old pos bytes fits (j - pos % 8) (omega arith)) ∙ ap (λ d. get_or new d 0) e)
-          | inr behind ↦ overwritten_behind (λ b. byte_of (b % 8) (get_or h.shared_pages.region (a + 1 + pos / 8 + b / 8) 0)) (pos % 8) bytes j behind ∙ was
-              ∙ sym (written_behind old pos bytes fits (8 * (pos / 8) + j) (omega arith))
-        ]
-      ]
-
-  rewrites : Rewrites h.shared_pages.region words (record { from = a + 1 + pos / 8; count = (pos % 8 + length bytes + 7) / 8 })
-      (λ j. object_word key new (1 + pos / 8 + j))
-  rewrites = record {
-    within = λ j lt.
-        let fits = l.within in
-        let sz = size in
-        let o = holds_all in
-        let s = short in
-        let as_suc : 1 + pos / 8 + j ≡ suc (pos / 8 + j) = omega arith in
-        rw as_suc (word_by_bytes (get_or words (a + 1 + pos / 8 + j) 0) (object_word key new (suc (pos / 8 + j))) (w.small j lt)
-        (object_word_small key new (suc (pos / 8 + j)) key_few (omega arith) are) (λ b less.
-        let div : (8 * j + b) / 8 ≡ j = omega arith in
-        let rem : (8 * j + b) % 8 ≡ b = omega arith in
-        let v = w.value (8 * j + b) (omega arith) ∙ new_byte (8 * j + b) (omega arith) in
-        let c = byte_of_object key new (8 * (pos / 8 + j) + b) are in
-        let div' : (8 * (pos / 8 + j) + b) / 8 ≡ pos / 8 + j = omega arith in
-        let rem' : (8 * (pos / 8 + j) + b) % 8 ≡ b = omega arith in
-        let same : 8 * (pos / 8) + (8 * j + b) ≡ 8 * (pos / 8 + j) + b = omega arith in
-        sym (ap (λ d. byte_of ((8 * j + b) % 8) (get_or words (a + 1 + pos / 8 + d) 0)) div ∙ ap (λ b. byte_of b (get_or words (a + 1 + pos / 8 + j) 0)) rem)
-        ∙ v ∙ ap (λ d. get_or new d 0) same ∙ sym c
-        ∙ ap (λ d. byte_of ((8 * (pos / 8 + j) + b) % 8) (object_word key new (suc d))) div'
-        ∙ ap (λ b. byte_of b (object_word key new (suc (pos / 8 + j)))) rem'));
-    others = w.others;
-  }
-
   abbrev pub changed : Held
   changed = insert (held_in h) (key_of t position.number) (record { place = a; bytes = written (bytes_at h.shared_pages.region a) position.from bytes })
 
@@ -242,7 +157,7 @@ module _ (h : OpenTasks) (k : IsValid h) (t : ℕ) (x : Task) (at : IsTaskIn h t
       image_of_write (profile_of h.shared_pages.settings) (held_in h) k.shared h.shared_pages.settings.page_size h.shared_pages.region k.image t q it part_found words pos bytes
       l.within
       (subst (λ f. Rewrites h.shared_pages.region words (record { from = f; count = (pos % 8 + length bytes + 7) / 8 }) (λ j. object_word key new (1 + pos / 8 + j)))
-      first rewrites)
+      first (rewrites (owns k.shared_pages own) q pos a bytes l each key key_few (k.image.held key it whole_found) words w))
 
   class : class_for (paging_at h.shared_pages) (length new) ≡ class_for (paging_at h.shared_pages) (length old)
   class = ap (class_for (paging_at h.shared_pages)) size
@@ -299,7 +214,7 @@ module _ (h : OpenTasks) (k : IsValid h) (t : ℕ) (x : Task) (at : IsTaskIn h t
 
 -- a write of no bytes changes nothing
 pub wrote_nothing : (h : OpenTasks) (k : IsValid h) (t : ℕ) (x : Task) (at : IsTaskIn h t x) (position : Position) (a : ℕ) (bytes : List ℕ) → length bytes ≡ 0
-    → HoldsBytesAt h.shared_pages x position (length bytes) a → WritesForTask (state_of h) t position bytes (state_of h)
+    → HoldsBytesAt (as_owner h.shared_pages x) position.number position.from (length bytes) a → WritesForTask (state_of h) t position bytes (state_of h)
 wrote_nothing h k t x at position a [] none l =
     let it : Placed = record { place = a; bytes = bytes_at h.shared_pages.region a } in
     let found = object_by h k t x at position.number a l.found in

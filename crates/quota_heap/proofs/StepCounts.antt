@@ -1,6 +1,7 @@
 -- For the clauses on steps of `malloc` and `free`: the steps by the task's tables are those that the number of its objects determines, and the parts of a call
 -- sum to its exact cost; the most that these costs can be.
-use Rattle.std.proofs.Common.{◌≡◌, ℕ, ◌+◌, ◌%◌, ◌<◌, ◌≤◌, List, [], ◌∷◌, length, Option, Some, None, Result, Ok, Err, Bool, true, false, arith, refl, sym, ◌∙◌, ap, inr}
+use Rattle.std.proofs.Common.{◌≡◌, ℕ, ◌+◌, ◌%◌, ◌<◌, ◌≤◌, List, [], ◌∷◌, length, Option, Some, None, Result, Ok, Err, Bool, true, false, arith, refl}
+use Rattle.std.proofs.Common.{sym, ◌∙◌, ap, inr}
 use Rattle.std.specs.Prelude.{if◌then◌else◌, nat_eq, slice_get}
 use Rattle.std.specs.FinMap.{get}
 use Rattle.cf_base.specs.Classes.{class_of}
@@ -21,24 +22,25 @@ use Rattle.page_slots.specs.Release.{steps_to_drop as table_drop, steps_to_fill 
 use Rattle.page_slots.specs.Take.{steps_to_take as table_take}
 use Rattle.page_slots.specs.Tables.{page_at, slots_on, used_in}
 use Rattle.page_slots.specs.Occupying.{class_table}
-use Rattle.page_slots.proofs.CallerLemmas.{drop_same, front_listed, not_full_pages_are}
+use Rattle.page_slots.proofs.CallerLemmas.{drop_same, front_listed, not_full_pages_are, class_is, it, it_found, it_class, it_slot, page_same}
+use Rattle.page_slots.proofs.CallerLemmas.{it_used, some_not_full}
 use Rattle.page_slots.proofs.Pages.{listed_page, placed_in}
 use Rattle.step_ledger.specs.Counting.{RoseAtMost, RoseBy}
 use Rattle.step_ledger.proofs.CallerLemmas.{rose_both, rose_by}
 use Rattle.quota_model.specs.Refusals.{task_paging}
-use Rattle.quota_heap.specs.Calls.{IsObjectAt, IsRemoved, leaving_steps}
+use Rattle.quota_heap.specs.Calls.{IsRemoved, leaving_steps}
 use Rattle.quota_heap.specs.Costs.{free_cost, free_steps, leaving_cost, malloc_cost, on_partly_full, taking_steps}
-use Rattle.quota_heap.specs.Layout.{ArePages, IsTask, IsTaskIn, IsValid, held_of, objects_of, paging_at, state_of, tables_of}
+use Rattle.quota_heap.specs.Layout.{ArePages, IsTask, IsTaskIn, IsValid, held_of, objects_of, paging_at, state_of, tables_of, as_owner}
 use Rattle.quota_heap.specs.State.{QuotaState, held_by}
 use Rattle.quota_heap.specs.Steps.{IsFreeStep}
 use Rattle.quota_heap.specs.declared.shared_pages.SharedPages.{SharedPages}
 use Rattle.quota_heap.specs.declared.open_tasks.OpenTasks.{OpenTasks}
 use Rattle.quota_heap.specs.declared.task.Task.{Task}
-use Rattle.quota_heap.proofs.Facts.{at_one, class_is, paging_ok, table_is}
-use Rattle.quota_heap.proofs.FreedObject.{it, it_class, it_found, it_slot, it_used, page_same, some_not_full}
+use Rattle.quota_heap.proofs.Facts.{at_one, paging_ok, table_is, owns}
 use Rattle.quota_heap.proofs.PartlyFull.{none_left, partly_left}
 use Rattle.quota_heap.proofs.Refusals.{objects_same}
 use Rattle.quota_heap.proofs.Tasks.{part_is}
+use Rattle.page_slots.specs.Owner.{IsObjectAt}
 
 module _ (g : SharedPages) (k : ArePages g) (t : ℕ) (x : Task) (i : IsTask g t x) (c : ℕ) (lt : c < classes (paging_at g)) where
   abbrev rest : ℕ
@@ -102,12 +104,12 @@ module _ (g : SharedPages) (k : ArePages g) (t : ℕ) (x : Task) (i : IsTask g t
   fill_is some = fills_by (pages_in x.lists c NotFull) refl some
 
 -- of the freed object
-module _ {g : SharedPages} (k : ArePages g) {t : ℕ} {x : Task} (i : IsTask g t x) {q a size c : ℕ} (o : IsObjectAt g x q a size c) where
+module _ {g : SharedPages} (k : ArePages g) {t : ℕ} {x : Task} (i : IsTask g t x) {q a size c : ℕ} (o : IsObjectAt (as_owner g x) q a size c) where
   drops_by : table_drop (tables_of g x) (page_at g.tables.classes a)
-      ≡ steps_to_drop (paging_at g) (held_of g x) (class_at (paging_at g) (it k i o)) (page_of (paging_at g) a)
-  drops_by = drop_same i.serve i.occupied o.in_range x.proxies.free (page_at g.tables.classes a) (it_used k i o).of
-      ∙ ap (λ d. steps_to_drop (paging_at g) (held_of g x) d (page_at g.tables.classes a)) (sym (it_class k i o))
-      ∙ ap (steps_to_drop (paging_at g) (held_of g x) (class_at (paging_at g) (it k i o))) (sym (page_same k i o))
+      ≡ steps_to_drop (paging_at g) (held_of g x) (class_at (paging_at g) (it (owns k i) o)) (page_of (paging_at g) a)
+  drops_by = drop_same i.serve i.occupied o.in_range x.proxies.free (page_at g.tables.classes a) (it_used (owns k i) o).of
+      ∙ ap (λ d. steps_to_drop (paging_at g) (held_of g x) d (page_at g.tables.classes a)) (sym (it_class (owns k i) o))
+      ∙ ap (steps_to_drop (paging_at g) (held_of g x) (class_at (paging_at g) (it (owns k i) o))) (sym (page_same (owns k i) o))
 
 -- a task of an open heap
 module _ (h : OpenTasks) (k : IsValid h) (t : ℕ) (x : Task) (at : IsTaskIn h t x) where
@@ -125,7 +127,7 @@ module _ (h : OpenTasks) (k : IsValid h) (t : ℕ) (x : Task) (at : IsTaskIn h t
       → (pages_in x.lists c NotFull ≡ [] → h.shared_pages.tables.pool.free ≡ [] → ⊥) → (q : Handle) (s u v : ℕ) → RoseBy s u 1
       → RoseBy u v (table_take h.shared_pages.tables.classes (tables_of h.shared_pages x) c + 3) → RoseBy s v (malloc_cost (state_of h) t bytes (Ok q))
   malloc_sum bytes c found room q s u v one more =
-      let is = class_is g k.shared_pages bytes c found in
+      let is = class_is (paging_ok g) (table_is g k.shared_pages) bytes c found in
       let take = take_is g k.shared_pages t x i c is.2 room in
       let same : taking_steps (on_partly_full (state_of h) t (class_for (paging_at g) bytes)) (slots_of (paging_at g) (class_for (paging_at g) bytes))
       ≡ taking_steps (live (paging_at g) (objects_of g x) c % slots_of (paging_at g) c) (slots_of (paging_at g) c) =
@@ -134,28 +136,28 @@ module _ (h : OpenTasks) (k : IsValid h) (t : ℕ) (x : Task) (at : IsTaskIn h t
       rose_by s v (1 + (table_take h.shared_pages.tables.classes (tables_of h.shared_pages x) c + 3)) (malloc_cost (state_of h) t bytes (Ok q)) (omega arith)
       (rose_both s u v 1 _ one more)
 
-  module _ (q a size c : ℕ) (o : IsObjectAt h.shared_pages x q a size c) where
+  module _ (q a size c : ℕ) (o : IsObjectAt (as_owner h.shared_pages x) q a size c) where
     abbrev y : Placed
-    y = it k.shared_pages i o
+    y = it (owns k.shared_pages i) o
 
-    found : get (held_by (state_of h) t) q ≡ Some (it k.shared_pages i o)
-    found = ap (λ m. get m q) (part_is h k t x at) ∙ it_found k.shared_pages i o
+    found : get (held_by (state_of h) t) q ≡ Some (it (owns k.shared_pages i) o)
+    found = ap (λ m. get m q) (part_is h k t x at) ∙ it_found (owns k.shared_pages i) o
 
     leaves_by : (moved : Option Handle) (g' : SharedPages) (x' : Task) → IsRemoved h.shared_pages x q a c (number_of moved) g' x'
         → leaving_steps h.shared_pages x a c (number_of moved)
-        ≡ 2 + slot_for (paging_at h.shared_pages) (length (it k.shared_pages i o).bytes) + leaving_cost (state_of h) t (it k.shared_pages i o) moved
+        ≡ 2 + slot_for (paging_at h.shared_pages) (length (it (owns k.shared_pages i) o).bytes) + leaving_cost (state_of h) t (it (owns k.shared_pages i) o) moved
     leaves_by None g' x' removed =
-        let slot = it_slot k.shared_pages i o in
+        let slot = it_slot (owns k.shared_pages i) o in
         let drop = drops_by k.shared_pages i o in
         let held : steps_to_drop (paging_at g) (held_by (state_of h) t) (class_at (paging_at g) y) (page_of (paging_at g) a)
         ≡ steps_to_drop (paging_at g) (held_of g x) (class_at (paging_at g) y) (page_of (paging_at g) a) =
         ap (λ m. steps_to_drop (paging_at g) m (class_at (paging_at g) y) (page_of (paging_at g) a)) (part_is h k t x at) in
         omega arith
     leaves_by (Some r) g' x' removed =
-        let slot = it_slot k.shared_pages i o in
-        let fill = fill_is g k.shared_pages t x i c o.in_range (some_not_full k.shared_pages i o removed.0) in
+        let slot = it_slot (owns k.shared_pages i) o in
+        let fill = fill_is g k.shared_pages t x i c o.in_range (some_not_full (owns k.shared_pages i) o removed.0) in
         let same : fill_steps (on_partly_full (state_of h) t (class_at (paging_at g) y)) ≡ fill_steps (live (paging_at g) (objects_of g x) c % slots_of (paging_at g) c) =
-        ap (λ d. fill_steps (on_partly_full (state_of h) t d)) (it_class k.shared_pages i o) ∙ ap fill_steps (rest_same c) in
+        ap (λ d. fill_steps (on_partly_full (state_of h) t d)) (it_class (owns k.shared_pages i) o) ∙ ap fill_steps (rest_same c) in
         omega arith
 
     -- the steps of a free's parts sum to its exact cost
@@ -169,9 +171,6 @@ module _ (h : OpenTasks) (k : IsValid h) (t : ℕ) (x : Task) (at : IsTaskIn h t
         (rose_both s u v 3 _ first more)
 
 -- ---- bounds
-
-rose_within : (a b m n : ℕ) → m ≤ n → RoseBy a b m → RoseAtMost a b n
-rose_within a b m n le rose = (let k = rose.kept in let l = rose.bound in record { kept = omega arith; bound = omega arith })
 
 module _ (s : QuotaState) (t : ℕ) where
   malloc_within : (bytes : ℕ) (r : Result Handle Refusal) → malloc_cost s t bytes r ≤ 17
@@ -201,11 +200,11 @@ module _ (s : QuotaState) (t : ℕ) where
       by false = omega arith
 
   pub malloc_most : (bytes : ℕ) (r : Result Handle Refusal) (a b : ℕ) → RoseBy a b (malloc_cost s t bytes r) → RoseAtMost a b 17
-  malloc_most bytes r a b = rose_within a b (malloc_cost s t bytes r) 17 (malloc_within bytes r)
+  malloc_most bytes r a b rose = (let l = rose.bound in let w = malloc_within bytes r in record { kept = rose.kept; bound = omega arith })
 
   pub free_most : (q : ℕ) (r : Result Freed NotLive) (new : QuotaState) → IsFreeStep s t q r new → (a b : ℕ) → RoseBy a b (free_cost s t q r)
       → RoseAtMost a b (free_steps r)
-  free_most q (Err e) new step a b rose = rose_within a b 1 1 (omega arith) rose
+  free_most q (Err e) new step a b rose = record { kept = rose.kept; bound = rose.bound }
   free_most q (Ok freed) new step a b rose =
       let y = step.removed.freed in
       let is : free_cost s t q (Ok freed) ≡ 6 + slot_for (task_paging s.profile) (length y.bytes) + leaving_cost s t y freed.moved =
@@ -213,4 +212,5 @@ module _ (s : QuotaState) (t : ℕ) where
       step.removed.found in
       let slot = step.slot in
       let few = leaving_within y freed.moved in
-      rose_within a b (free_cost s t q (Ok freed)) (free_steps (Ok freed)) (omega arith) rose
+      let l = rose.bound in
+      record { kept = rose.kept; bound = omega arith }

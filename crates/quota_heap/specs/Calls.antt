@@ -1,22 +1,21 @@
 -- What a call of one task finds and does in what all tasks share (g: settings, region, used slots, free pages) and in the task (x); after it they are g' and
 -- x'. No public clause cites this module.
-use Rattle.std.specs.Prelude.{◌≡◌, ℕ, ◌+◌, ◌-◌, ◌<◌, ◌≤◌, Option, Some, None, Result, Ok, Err, length, slice_get, slice_index, slice_set}
+use Rattle.std.specs.Prelude.{◌≡◌, ℕ, ◌+◌, ◌-◌, ◌<◌, Option, Some, None, Result, Ok, Err, length, slice_get, slice_index, slice_set}
 use Rattle.std.specs.FinMap.{get}
-use Rattle.class_lists.specs.PageLists.{pages_in}
-use Rattle.class_lists.specs.declared.Which.TheVariants.{NotFull}
 use Rattle.cf_base.specs.declared.answers.AccessFault.{AccessFault}
 use Rattle.cf_base.specs.declared.answers.AccessFault.TheVariants.{Unknown, Range}
 use Rattle.cf_model.specs.Steps.{Position}
 use Rattle.page_model.specs.Bytes.{bytes_at}
 use Rattle.page_model.specs.Image.{Clears, MovesWords, header_word}
-use Rattle.page_model.specs.Paging.{class_for, classes}
-use Rattle.page_slots.specs.Release.{FillsFrom, MovesObject, Vacates, steps_to_drop, steps_to_fill}
-use Rattle.page_slots.specs.Tables.{AreTables, KeepsForeign, page_at, slot_at, slots_on}
+use Rattle.page_model.specs.Paging.{classes}
+use Rattle.page_slots.specs.Owner.{HoldsBytesAt, MustMoveInto}
+use Rattle.page_slots.specs.Release.{FillsFrom, Vacates, steps_to_drop, steps_to_fill}
+use Rattle.page_slots.specs.Tables.{AreTables, KeepsForeign, page_at, slot_at}
 use Rattle.page_slots.specs.Take.{TakesAt}
 use Rattle.proxy_table.specs.Proxies.{AreBelowLimit, with_place, without_place}
 use Rattle.quota_model.specs.Parts.{key_of}
 use Rattle.quota_heap.specs.Costs.{fault_steps}
-use Rattle.quota_heap.specs.Layout.{paging_at, state_of, tables_of}
+use Rattle.quota_heap.specs.Layout.{as_owner, state_of, tables_of}
 use Rattle.quota_heap.specs.Steps.{IsFault}
 use Rattle.quota_heap.specs.declared.shared_pages.SharedPages.{SharedPages}
 use Rattle.quota_heap.specs.declared.open_tasks.OpenTasks.{OpenTasks}
@@ -44,18 +43,7 @@ pub record IsAdded (g : SharedPages) (x : Task) (t c bytes q : ℕ) (g' : Shared
   pub words : g'.region ≡ slice_set g.region place (header_word (key_of t q) bytes)
   pub live : x'.live ≡ slice_set x.live c (slice_index x.live c + 1)
 
--- object q of task x is live, has the address `place` and `bytes` bytes, and is of class c
-pub record IsObjectAt (g : SharedPages) (x : Task) (q place bytes c : ℕ) : Type 0 where
-  pub known : get x.proxies.places q ≡ Some place
-  pub long : length (bytes_at g.region place) ≡ bytes
-  pub class : class_for (paging_at g) bytes ≡ c
-  pub in_range : c < classes (paging_at g)
-
--- a free of task x's object at the address `place`, of class c, must move another object to its slot
-abbrev pub MustMoveInto : SharedPages → Task → ℕ → ℕ → Type 0
-MustMoveInto g x place c = MovesObject (slots_on (tables_of g x) (page_at g.tables.classes place)) (length (pages_in x.lists c NotFull)) 1
-
--- what `free_alone` does: it removes object q from task x, and frees and clears its slot, at the address `place` and of class c
+-- what `free_inner` does if no other object must move: it removes object q from task x, and frees and clears its slot, at the address `place` and of class c
 pub record FreesAlone (g : SharedPages) (x : Task) (q place c : ℕ) (g' : SharedPages) (x' : Task) : Type 0 where
   pub rest : KeepsRest g x g' x'
   pub vacated : Vacates (tables_of g x) c (page_at g.tables.classes place) (slot_at g.tables.classes c place) (tables_of g' x')
@@ -64,7 +52,7 @@ pub record FreesAlone (g : SharedPages) (x : Task) (q place c : ℕ) (g' : Share
   pub words_long : length g'.region ≡ length g.region
   pub live : x'.live ≡ slice_set x.live c (slice_index x.live c - 1)
 
--- what `free_and_fill` does: it removes object q, whose slot of class c is at `place`; moves object r of task x from the address `from` to that slot; and
+-- what `free_inner` does if object r must move: it removes object q, whose slot of class c is at `place`; moves r from the address `from` to that slot; and
 -- frees the slot that r leaves
 pub record FreesAndFills (g : SharedPages) (x : Task) (q place c r : ℕ) (g' : SharedPages) (x' : Task) : Type 0 where
   pub rest : KeepsRest g x g' x'
@@ -75,11 +63,6 @@ pub record FreesAndFills (g : SharedPages) (x : Task) (q place c r : ℕ) (g' : 
   pub words : MovesWords g.region g'.region (record { from = from; count = slice_index g.tables.classes.sizes c }) place
   pub words_long : length g'.region ≡ length g.region
   pub live : x'.live ≡ slice_set x.live c (slice_index x.live c - 1)
-
--- object `position.number` of task x has the address `place`, and `count` bytes from byte `position.from` on
-pub record HoldsBytesAt (g : SharedPages) (x : Task) (position : Position) (count place : ℕ) : Type 0 where
-  pub found : get x.proxies.places position.number ≡ Some place
-  pub within : position.from + count ≤ length (bytes_at g.region place)
 
 -- object `position.number` of task x is live, but has fewer than `count` bytes from byte `position.from` on
 pub record IsPastEnd (g : SharedPages) (x : Task) (position : Position) (count : ℕ) : Type 0 where
@@ -94,14 +77,14 @@ IsMissing g x position count Range = IsPastEnd g x position count
 
 -- what `find` returns for the object `position.number` of task x: its address, or the fault, whose cause holds
 abbrev pub IsFound : SharedPages → Task → Position → ℕ → Result ℕ AccessFault → Type 0
-IsFound g x position count (Ok place) = HoldsBytesAt g x position count place
+IsFound g x position count (Ok place) = HoldsBytesAt (as_owner g x) position.number position.from count place
 IsFound g x position count (Err e) = IsMissing g x position count e
 
 -- what `free_inner` does to the object q of class c at the address `place`: it removes the object, and moves object r into its slot if and only if the slot
 -- must be filled
 abbrev pub IsRemoved : SharedPages → Task → ℕ → ℕ → ℕ → Option ℕ → SharedPages → Task → Type 0
-IsRemoved g x q place c None g' x' = (MustMoveInto g x place c → ⊥) × FreesAlone g x q place c g' x'
-IsRemoved g x q place c (Some r) g' x' = MustMoveInto g x place c × FreesAndFills g x q place c r g' x'
+IsRemoved g x q place c None g' x' = (MustMoveInto (as_owner g x) place c → ⊥) × FreesAlone g x q place c g' x'
+IsRemoved g x q place c (Some r) g' x' = MustMoveInto (as_owner g x) place c × FreesAndFills g x q place c r g' x'
 
 -- the steps of leaving the slot of class c at the address `place`, by the tables: releasing the proxy of its object (2), its words, and freeing it; or, if object
 -- r moves in, finding it and freeing its slot, reading its header and setting its proxy
@@ -116,5 +99,6 @@ find_steps (Err e) = fault_steps e
 
 -- as `IsFound`, for task t of an open heap
 abbrev pub IsFoundIn : OpenTasks → ℕ → Position → ℕ → Result ℕ AccessFault → Type 0
-IsFoundIn h t position count (Ok place) = (x : Task) → slice_get h.tasks.items t ≡ Some x → HoldsBytesAt h.shared_pages x position count place
+IsFoundIn h t position count (Ok place) =
+    (x : Task) → slice_get h.tasks.items t ≡ Some x → HoldsBytesAt (as_owner h.shared_pages x) position.number position.from count place
 IsFoundIn h t position count (Err e) = IsFault (state_of h) t position count e

@@ -13,6 +13,7 @@ use Rattle.page_model.specs.Held.{Held, Objects, Placed, objects}
 use Rattle.page_model.specs.Image.{IsSlotImage, header_word}
 use Rattle.page_model.specs.Paging.{Paging, classes}
 use Rattle.page_slots.specs.Occupying.{Occupies, FitPagesShared}
+use Rattle.page_slots.specs.Owner.{Owner}
 use Rattle.page_slots.specs.PageTables.{AreFirst, tables_with}
 use Rattle.page_slots.specs.Tables.{AreOthers, Tables}
 use Rattle.proxy_table.specs.Proxies.{AreBelowLimit, no_proxies}
@@ -33,6 +34,17 @@ paging_at g = task_paging (profile_of g.settings)
 -- the tables that one task sees: used slots, its own page lists, and the free pages
 abbrev pub tables_of : SharedPages → Task → Tables
 tables_of g x = tables_with g.tables x.lists
+
+-- task x as an owner of pages
+abbrev pub as_owner : SharedPages → Task → Owner
+as_owner g x = record {
+  paging = paging_at g;
+  classes = g.tables.classes;
+  bound = λ c. 1;
+  words = g.region;
+  places = x.proxies.places;
+  tables = tables_of g x;
+}
 
 -- a task's live objects by number; the words at each address hold the length and the bytes
 abbrev pub held_of : SharedPages → Task → Held

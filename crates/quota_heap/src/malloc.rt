@@ -11,7 +11,7 @@ ghost use Rattle.quota_heap.specs.Calls.{IsAdded};
 ghost use Rattle.quota_heap.specs.Layout.{ArePages, IsTask, paging_at, tables_of};
 
 use crate::shared_pages::SharedPages;
-use crate::task::Task;
+use crate::task::{NUMBERS, Task};
 use cf_base::Handle;
 use region::Header;
 use step_ledger::Steps;
@@ -19,7 +19,7 @@ use step_ledger::Steps;
 impl SharedPages {
     /// Makes an object of `bytes` zeros, of class `c`, for task `t`, and returns its handle. The task must
     /// have a free proxy. It must also have a partly full page of the class, or the pool a free page. The
-    /// header holds `t` and the handle in one number: t · 65,536 plus the handle.
+    /// header holds `t` and the handle in one number.
     pub(crate) fn malloc_inner(
         &mut self,
         task: &mut Task,
@@ -47,9 +47,8 @@ impl SharedPages {
         let Some(number) = task.proxies.bind(place, steps) else {
             unreachable!();
         };
-        // The header of object h of task t has the number 65,536 t + h.
         let header = Header {
-            handle: Handle(t * 65536 + number.0),
+            handle: Handle(t * NUMBERS + number.0),
             length: bytes,
         };
         self.region.write(place, header.pack(), steps);

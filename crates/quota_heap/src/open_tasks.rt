@@ -9,9 +9,10 @@ ghost use Rattle.page_model.specs.Arrangement.{pages_needed};
 ghost use Rattle.page_model.specs.Figures.{figures_of};
 ghost use Rattle.page_model.specs.Paging.{class_for, classes};
 ghost use Rattle.quota_model.specs.Refusals.{malloc_refusal, quota_refusal};
-ghost use Rattle.quota_heap.specs.Calls.{IsFoundIn, IsObjectAt, find_steps};
+ghost use Rattle.page_slots.specs.Owner.{IsObjectAt};
+ghost use Rattle.quota_heap.specs.Calls.{IsFoundIn, find_steps};
 ghost use Rattle.quota_heap.specs.Costs.{access_steps, free_cost, malloc_cost, peek_steps};
-ghost use Rattle.quota_heap.specs.Layout.{IsValid, paging_at, state_of};
+ghost use Rattle.quota_heap.specs.Layout.{IsValid, as_owner, paging_at, state_of};
 ghost use Rattle.quota_heap.specs.Needed.{quota_bytes};
 ghost use Rattle.quota_heap.specs.declared.task.Task.{Task};
 ghost use Rattle.quota_heap.specs.State.{empty_state, held_by, objects_by, quota_of};
@@ -196,7 +197,7 @@ impl OpenTasks {
         requires sixteen { t < 16 }
         ensures none { IfNone result (get (held_by (state_of self.now) t) h.0 ≡ None) }
         ensures found { IfSome result (λ f. (x : Task) → slice_get self.now.tasks.items t ≡ Some x
-            → IsObjectAt self.now.shared_pages x h.0 f.place f.length f.class) }
+            → IsObjectAt (as_owner self.now.shared_pages x) h.0 f.place f.length f.class) }
         ensures steps { RoseBy steps.old steps.new (if is_some result then 3 else 1) }
     {
         let task = &self.tasks[t as usize];

@@ -1,12 +1,12 @@
 //! What all tasks share (`SharedPages`): the settings, the region, the used slots of each page, and the free
-//! pages. Also the lookup of a task's object, and the clearing and moving of a slot's words.
+//! pages. Also the lookup of a task's object.
 ghost use Rattle.std.specs.Prelude.{◌≡◌, ℕ, ◌*◌, ◌+◌, ◌<◌, ◌≤◌, false, length, replicate, slice_get, slice_index, None, IfNone, IfOk, IfSome, if◌then◌else◌, is_some};
 ghost use Rattle.std.specs.List.{range_with_len};
 ghost use Rattle.std.specs.FinMap.{get};
 ghost use Rattle.step_ledger.specs.Counting.{RoseBy};
-ghost use Rattle.page_model.specs.Image.{Clears, IsDisjoint, MovesWords};
-ghost use Rattle.quota_heap.specs.Calls.{IsFound, IsObjectAt, find_steps};
-ghost use Rattle.quota_heap.specs.Layout.{AreFirstPages, ArePages, IsTask};
+ghost use Rattle.page_slots.specs.Owner.{IsObjectAt};
+ghost use Rattle.quota_heap.specs.Calls.{IsFound, find_steps};
+ghost use Rattle.quota_heap.specs.Layout.{AreFirstPages, ArePages, IsTask, as_owner};
 
 use crate::task::Task;
 use cf_base::{AccessFault, Handle, Layout, OutOfMemory, Settings};
@@ -51,7 +51,7 @@ impl SharedPages {
         requires shared_pages { ArePages self.now }
         requires kept { (t : ℕ) × IsTask self.now t task.now }
         ensures none { IfNone result (get task.now.proxies.places h.0 ≡ None) }
-        ensures found { IfSome result (λ f. IsObjectAt self.now task.now h.0 f.place f.length f.class) }
+        ensures found { IfSome result (λ f. IsObjectAt (as_owner self.now task.now) h.0 f.place f.length f.class) }
         ensures steps { RoseBy steps.old steps.new (if is_some result then 3 else 1) }
     {
         let Some(place) = task.proxies.lookup(h, steps) else {
@@ -92,26 +92,4 @@ impl SharedPages {
         }
         Ok(place)
     }
-}
-
-/// Clears the `slot_words` words of the slot at `place`; each becomes 0.
-pub(crate) fn wipe(region: &mut Region, place: u32, slot_words: u32, steps: &mut Steps)
-    requires within { place + slot_words ≤ length region.old }
-    ensures words { Clears region.old region.new (record { from = place; count = slot_words }) }
-    ensures len { length region.new ≡ length region.old }
-    ensures steps { RoseBy steps.old steps.new slot_words }
-{
-    region.clear(place, slot_words, steps);
-}
-
-/// Moves the `slot_words` words of the slot at `from` to the slot at `to`, and leaves zeros at `from`.
-pub(crate) fn shift(region: &mut Region, from: u32, to: u32, slot_words: u32, steps: &mut Steps)
-    requires source { from + slot_words ≤ length region.old }
-    requires target { to + slot_words ≤ length region.old }
-    requires apart { IsDisjoint from slot_words to slot_words }
-    ensures words { MovesWords region.old region.new (record { from = from; count = slot_words }) to }
-    ensures len { length region.new ≡ length region.old }
-    ensures steps { RoseBy steps.old steps.new slot_words }
-{
-    region.move_words(from, to, slot_words, steps);
 }

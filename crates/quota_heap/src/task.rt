@@ -14,6 +14,10 @@ use std::mem::size_of;
 /// The number of tasks.
 pub(crate) const TASKS: u32 = 16;
 
+/// A task numbers its objects below this. The header of object h of task t has the number
+/// `t * NUMBERS + h`.
+pub(crate) const NUMBERS: u32 = 65_536;
+
 /// The length of the array `live` of a task, with a count for each size class. No heap has more classes.
 pub(crate) const CLASSES: usize = 128;
 

@@ -1,6 +1,6 @@
 -- For all other files here: what follows from the invariant of an open sliced heap (`IsValid`) for its pages and classes, its tables, and the addresses and
 -- bytes of its objects.
-use Rattle.std.proofs.Common.{◌≡◌, ℕ, ◌≤◌, length, Some, None, arith, refl, sym, ◌∙◌, ap, subst}
+use Rattle.std.proofs.Common.{◌≡◌, ℕ, ◌≤◌, Some, None, arith, refl, sym, ◌∙◌, ap, subst}
 use Rattle.std.specs.Prelude.{option_map}
 use Rattle.std.specs.FinMap.{get, len}
 use Rattle.cf_base.specs.declared.kind.Layout.TheVariants.{Words}
@@ -33,9 +33,6 @@ module _ (h : Heap) (k : IsValid h) where
   -- the classes are those of the paging
   pub table_is : class_table (paging_at h) ≡ h.classes
   table_is = sym k.table
-
-  pub as_many : length h.classes.sizes ≡ classes (paging_at h)
-  as_many = ap (λ (t : ClassTable). length t.sizes) k.table
 
   pub few_classes : classes (paging_at h) ≤ 67
   few_classes = k.serve.part.tables.table.are_sizes.few

@@ -1,5 +1,5 @@
 -- For `start_clearing`: while no job is pending, the object with a given number and address, the length that its header holds, and its class.
-use Rattle.std.proofs.Common.{◌≡◌, ℕ, ◌+◌, ◌/◌, ◌^◌, ◌<◌, length, get_or, Some, None, arith, sym, ◌∙◌, ap}
+use Rattle.std.proofs.Common.{◌≡◌, ℕ, ◌+◌, ◌/◌, ◌^◌, ◌<◌, length, get_or, Some, None, arith, sym, ◌∙◌, ap, subst}
 use Rattle.std.specs.FinMap.{get}
 use Rattle.cf_base.specs.Classes.{class_of}
 use Rattle.page_model.specs.Arrangement.{class_at}
@@ -8,8 +8,10 @@ use Rattle.slice_model.specs.State.{Idle}
 use Rattle.slice_model.specs.Words.{word_at}
 use Rattle.sliced_heap.specs.Heap.{Heap}
 use Rattle.sliced_heap.specs.Layout.{IsValid, paging_at, state_of}
-use Rattle.sliced_heap.proofs.Facts.{has_place}
-use Rattle.sliced_heap.proofs.Headers.{class_known_at, head_length, holds, inside}
+use Rattle.page_model.specs.Paging.{class_for, classes}
+use Rattle.page_slots.proofs.CallerLemmas.{class_is, class_some}
+use Rattle.sliced_heap.proofs.Facts.{has_place, paging_ok, table_is}
+use Rattle.sliced_heap.proofs.Headers.{head_length, holds, in_class, inside}
 
 pub found : (h : Heap) (k : IsValid h) (q a : ℕ) → get h.proxies.places q ≡ Some a → (x : Placed) × (get (state_of h).held q ≡ Some x) × (x.place ≡ a)
 found h k q a known = has_place h k q a known
@@ -29,11 +31,9 @@ module _ (h : Heap) (k : IsValid h) (idle : h.job ≡ Idle) (q a : ℕ) (known :
     pub length_shown : size ≡ length (found h k q a known).0.bytes
     length_shown = shown ∙ head_length h k q w.0 w.1 a head_at
 
-    known_class : class_of h.classes.sizes size ≡ Some (class_at (paging_at h) w.0)
-    known_class = ap (class_of h.classes.sizes) length_shown ∙ class_known_at h k q w.0 w.1
-
     pub has_class : None ≡ class_of h.classes.sizes size → ⊥
-    has_class none = (let z : None ≡ Some (class_at (paging_at h) w.0) = none ∙ known_class in cc)
+    has_class = class_some (paging_ok h k) (table_is h k) size
+        (subst (λ n. class_for (paging_at h) n < classes (paging_at h)) (sym length_shown) (in_class h k q w.0 w.1))
 
     pub class_found : (c : ℕ) → Some c ≡ class_of h.classes.sizes size → class_at (paging_at h) (found h k q a known).0 ≡ c
-    class_found c is = (let z : Some c ≡ Some (class_at (paging_at h) w.0) = is ∙ known_class in cc)
+    class_found c is = ap (class_for (paging_at h)) (sym length_shown) ∙ (class_is (paging_ok h k) (table_is h k) size c is).1

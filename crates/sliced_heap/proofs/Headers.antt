@@ -1,15 +1,12 @@
--- For `find`, `start_clearing` and `malloc`: an object's slot is in the region, its header holds its number and its length, and the class table has the class
--- of a length just if it fits a page.
-use Rattle.std.proofs.Common.{◌≡◌, ℕ, ◌+◌, ◌*◌, ◌/◌, ◌%◌, ◌^◌, ◌<◌, ◌≤◌, length, get_or, Some, None, arith, ◌∙◌, ap, subst, inl, inr}
-use Rattle.std.proofs.lemmas.Bool.{cases_lt}
+-- For `find`, `start_clearing` and `malloc`: an object's slot is in the region, and its header holds its number and its length.
+use Rattle.std.proofs.Common.{◌≡◌, ℕ, ◌+◌, ◌*◌, ◌/◌, ◌%◌, ◌^◌, ◌<◌, ◌≤◌, length, get_or, Some, arith, ◌∙◌, ap}
 use Rattle.std.specs.FinMap.{get}
-use Rattle.cf_base.specs.Classes.{need, class_of}
+use Rattle.cf_base.specs.Classes.{need}
 use Rattle.page_model.specs.Arrangement.{class_at}
 use Rattle.page_model.specs.Held.{Placed}
 use Rattle.page_model.specs.Image.{slot_for}
-use Rattle.page_model.specs.Paging.{class_for, classes}
-use Rattle.page_model.proofs.CallerLemmas.{class_fits, class_holds, class_known, class_none, slot_fits}
-use Rattle.size_classes.specs.Table.{ClassTable}
+use Rattle.page_model.specs.Paging.{classes}
+use Rattle.page_model.proofs.CallerLemmas.{class_holds, slot_fits}
 use Rattle.slice_model.specs.Words.{word_at}
 use Rattle.slice_model.proofs.CallerLemmas.{object_slot, object_within}
 use Rattle.sliced_heap.specs.Heap.{Heap}
@@ -47,21 +44,3 @@ module _ (h : Heap) (k : IsValid h) (q : ℕ) (x : Placed) (there : get (state_o
   pub head_length : (w : ℕ) → w ≡ word_at h.job q x 0 → get_or h.words w 0 / 2 ^ 32 ≡ length x.bytes
   head_length w is = (let low = number_low in let e = head in let f : get_or h.words w 0 ≡ q + 2 ^ 32 * length x.bytes = ap (λ a. get_or h.words a 0) is
       ∙ e in omega arith)
-
-  -- the object's length has a class
-  pub class_known_at : class_of h.classes.sizes (length x.bytes) ≡ Some (class_at (paging_at h) x)
-  class_known_at = ap (λ (t : ClassTable). class_of t.sizes (length x.bytes)) k.table ∙ class_known (paging_at h) (paging_ok h k) (length x.bytes) in_class
-
--- if the class table has a class for `bytes` bytes, an object of this length fits a page, and the class is that of the model
-pub class_is : (h : Heap) → IsValid h → (bytes c : ℕ) → Some c ≡ class_of h.classes.sizes bytes → (need bytes ≤ h.settings.page_words)
-    × (class_for (paging_at h) bytes ≡ c) × (c < classes (paging_at h))
-class_is h k bytes c e =
-    let e' : Some c ≡ class_of (paging_at h).sizes bytes = e ∙ ap (λ (t : ClassTable). class_of t.sizes bytes) k.table in
-    elim (cases_lt h.settings.page_words (need bytes)) [
-      | inl more ↦ absurd (let z : Some c ≡ None = e' ∙ class_none (paging_at h) (paging_ok h k) bytes more in cc)
-      | inr fits ↦ (
-          let lt = class_fits (paging_at h) (paging_ok h k) bytes fits in
-          let z : Some c ≡ Some (class_for (paging_at h) bytes) = e' ∙ class_known (paging_at h) (paging_ok h k) bytes lt in
-          let is : class_for (paging_at h) bytes ≡ c = cc in
-          (fits, is, subst (λ c. c < classes (paging_at h)) is lt))
-    ]

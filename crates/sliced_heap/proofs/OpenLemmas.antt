@@ -1,8 +1,7 @@
 -- For `empty`: a sliced heap whose tables are empty and whose words are 0 is valid, has no object and no job, and its order lists pages and numbers in rising
 -- order.
-use Rattle.std.proofs.Common.{◌≡◌, ℕ, false, ◌*◌, ◌<◌, ◌≤◌, length, replicate, get_or, [], Some, None, arith, sym}
+use Rattle.std.proofs.Common.{◌≡◌, ℕ, ◌*◌, ◌<◌, ◌≤◌, length, replicate, get_or, [], Some, None, arith, sym}
 use Rattle.std.proofs.Common.{◌∙◌, ap, subst, inl, inr}
-use Rattle.std.specs.List.{range_with_len}
 use Rattle.std.proofs.lemmas.Bool.{cases_lt}
 use Rattle.std.proofs.lemmas.List.{get_or-replicate, get_or_past, length-replicate}
 use Rattle.std.specs.Ordering.{nat_cmp}
@@ -18,10 +17,9 @@ use Rattle.page_model.specs.Order.{first_order}
 use Rattle.page_model.specs.Paging.{IsPaging, classes}
 use Rattle.page_model.proofs.CallerLemmas.{first_paged, sound_empty, no_objects, none_needed, none_live}
 use Rattle.size_classes.specs.Table.{ClassTable, table_of}
-use Rattle.class_lists.specs.PageLists.{empty_lists}
 use Rattle.proxy_table.specs.Proxies.{Proxies, AreBelowLimit, no_proxies}
-use Rattle.page_slots.specs.Tables.{tables}
-use Rattle.page_pool.specs.Pool.{Pool}
+use Rattle.page_slots.specs.PageTables.{new_tables}
+use Rattle.page_slots.specs.Tables.{Tables}
 use Rattle.page_slots.specs.Occupying.{Occupies, FitPages}
 use Rattle.page_slots.specs.Orders.{partly_full_lists}
 use Rattle.page_slots.proofs.CallerLemmas.{first_occupied, first_table, new_serve, open_empty}
@@ -39,9 +37,7 @@ pub record IsFirst (s : Settings) (n : ℕ) (h : Heap) : Type 0 where
   pub live : h.live ≡ replicate 128 0
   pub needed : h.needed ≡ 0
   pub words : h.words ≡ replicate (h.settings.pages * h.settings.page_words) 0
-  pub maps : h.maps ≡ replicate h.settings.pages (replicate 1 false)
-  pub lists : h.lists ≡ empty_lists (length h.classes.sizes) h.settings.pages
-  pub pool : h.pool ≡ record { pages = h.settings.pages; free = range_with_len 0 h.settings.pages }
+  pub tables : tables_in h ≡ new_tables h.settings.pages (length h.classes.sizes)
   pub proxies : h.proxies ≡ no_proxies h.settings.proxies
   pub handles : AreBelowLimit h.proxies
   pub job : h.job ≡ Idle
@@ -72,8 +68,8 @@ module _ (s : Settings) (n : ℕ) (h : Heap) (f : IsFirst s n h) where
   serve : FitPages (paging_at h) (tables_in h)
   serve =
       let small = h.settings.small_region in
-      new_serve (paging_at h) (length h.classes.sizes) h.maps h.lists h.pool (first_table h.settings.page_words Words h.settings.page_size) (omega arith) many
-      f.maps f.lists f.pool
+      new_serve (paging_at h) (length h.classes.sizes) (tables_in h) (first_table h.settings.page_words Words h.settings.page_size) (omega arith) many
+      f.tables
 
   kept_first : IsKept (plan_of h) first
   kept_first = record {
@@ -104,8 +100,8 @@ module _ (s : Settings) (n : ℕ) (h : Heap) (f : IsFirst s n h) where
     words = subst (λ z. HasWords (paging_at h) z h.words) (sym state_is) words_first;
     serve = serve;
     occupied =
-        let o = first_occupied (length h.classes.sizes) h.settings.pages (paging_at h) h.maps h.pool in
-        let l : Occupies (paging_at h) empty (tables_in h) = subst (λ l. Occupies (paging_at h) empty (tables h.maps l h.pool)) (sym f.lists) o in
+        let o = first_occupied (length h.classes.sizes) h.settings.pages (paging_at h) _ _ in
+        let l : Occupies (paging_at h) empty (tables_in h) = subst (Occupies (paging_at h) empty) (sym f.tables) o in
         subst (λ z. Occupies (paging_at h) (occupied (plan_of h) z) (tables_in h)) (sym state_is) l;
     numbers = ap (λ (x : Proxies). x.limit) f.proxies;
     handles = f.handles;
@@ -123,8 +119,8 @@ module _ (s : Settings) (n : ℕ) (h : Heap) (f : IsFirst s n h) where
   order_first : order_in h ≡ first_order (paging_at h) h.settings.proxies
   order_first =
       let lists : partly_full_lists (classes (paging_at h)) h.lists ≡ replicate (classes (paging_at h)) [] =
-      ap (partly_full_lists (classes (paging_at h))) f.lists ∙ open_empty (classes (paging_at h)) (length h.classes.sizes) h.settings.pages in
-      let pool = ap (λ (q : Pool). q.free) f.pool in
+      ap (λ (t : Tables). partly_full_lists (classes (paging_at h)) t.lists) f.tables ∙ open_empty (classes (paging_at h)) (length h.classes.sizes) h.settings.pages in
+      let pool = ap (λ (t : Tables). t.pool.free) f.tables in
       let spare = ap (λ (x : Proxies). x.free) f.proxies in
       λ i. record { pool = pool i; not_full = lists i; spare = spare i }
 

@@ -1,12 +1,11 @@
 use Rattle.std.proofs.Common.{◌/◌, ◌^◌, sym, arith, ap, ◌∙◌}
 use Rattle.paged_heap.proofs.PayloadWords.{count_is, run_inside, run_small}
-use Rattle.paged_heap.proofs.ReadLemmas.{place_in}
-use Rattle.cf_base.specs.declared.kind.Kind.TheVariants.{Moving}
-use Rattle.paged_heap.specs.Heap.{seen}
+use Rattle.page_slots.proofs.CallerLemmas.{place_in}
+use Rattle.paged_heap.proofs.LayoutFacts.{owns}
 use Rattle.paged_heap.proofs.payload.find_words.Goals as goal
 
 pub read-requires : goal.read-requires
-read-requires c = record { within = place_in (seen Moving c.args.heap.now) c.requires.kept.kept c.args.h.0 c.in-Some.place (sym c.in-Some.ensures.found) }
+read-requires c = record { within = place_in (owns c.requires.kept.kept) c.args.h.0 c.in-Some.place (sym c.in-Some.ensures.found) }
 
 pub overflow_add-result : goal.overflow_add-result
 overflow_add-result c = record { fits = run_small c.args.heap.now c.requires.kept.kept c.args.h.0 c.in-Some.place (sym c.in-Some.ensures.found) }

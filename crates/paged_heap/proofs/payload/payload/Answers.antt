@@ -2,16 +2,15 @@ use Rattle.std.proofs.Common.{◌/◌, ◌^◌, sym, arith, ap, subst, rules, �
 use Rattle.step_ledger.specs.Counting.{RoseAtMost}
 use Rattle.paged_heap.specs.Payload.{payload_bound}
 use Rattle.paged_heap.proofs.PayloadWords.{count_is, lent_is, none_lent, run_inside, run_small}
-use Rattle.paged_heap.proofs.ReadLemmas.{place_in}
-use Rattle.cf_base.specs.declared.kind.Kind.TheVariants.{Moving}
-use Rattle.paged_heap.specs.Heap.{seen}
+use Rattle.page_slots.proofs.CallerLemmas.{place_in}
+use Rattle.paged_heap.proofs.LayoutFacts.{owns}
 use Rattle.paged_heap.proofs.payload.payload.Goals as goal
 
 pub returns-in_default-clause-value : goal.returns-in_default-clause-value
 returns-in_default-clause-value c = sym (none_lent c.args.heap.now c.requires.kept.kept c.args.h.0 (sym c.in_default.ensures.found))
 
 pub read-requires : goal.read-requires
-read-requires c = record { within = place_in (seen Moving c.args.heap.now) c.requires.kept.kept c.args.h.0 c.in-Some.place (sym c.in-Some.ensures.found) }
+read-requires c = record { within = place_in (owns c.requires.kept.kept) c.args.h.0 c.in-Some.place (sym c.in-Some.ensures.found) }
 
 pub overflow_add-place : goal.overflow_add-place
 overflow_add-place c = record { fits = run_small c.args.heap.now c.requires.kept.kept c.args.h.0 c.in-Some.place (sym c.in-Some.ensures.found) }

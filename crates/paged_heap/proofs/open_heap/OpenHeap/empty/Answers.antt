@@ -17,9 +17,7 @@ returns-clause-kept g c = record {
     asked = refl;
     taken = refl;
     cost = refl;
-    maps = c.requires.tables.maps;
-    lists = c.requires.lists;
-    pool = c.requires.tables.pool;
+    tables = λ i. record { maps = c.requires.tables.maps i; lists = c.requires.lists i; pool = c.requires.tables.pool i };
     proxies = c.requires.proxies;
     handles = c.requires.handles;
   });
@@ -37,9 +35,7 @@ returns-clause-empty g c = first_empty _ (record {
   asked = refl;
   taken = refl;
   cost = refl;
-  maps = c.requires.tables.maps;
-  lists = c.requires.lists;
-  pool = c.requires.tables.pool;
+  tables = λ i. record { maps = c.requires.tables.maps i; lists = c.requires.lists i; pool = c.requires.tables.pool i };
   proxies = c.requires.proxies;
   handles = c.requires.handles;
 })

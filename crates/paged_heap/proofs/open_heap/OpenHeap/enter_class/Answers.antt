@@ -6,21 +6,23 @@ use Rattle.paged_heap.specs.declared.open_heap.OpenHeap.{OpenHeap}
 use Rattle.paged_heap.specs.ResizeClass.{kept_words}
 use Rattle.paged_heap.specs.Heap.{Heap, seen}
 use Rattle.paged_heap.proofs.ByKind.{in_region, in_step}
-use Rattle.paged_heap.proofs.LayoutFacts.{as_many, retabled, tables_ok, with_tables}
+use Rattle.paged_heap.specs.Layout.{paging_at}
+use Rattle.paged_heap.proofs.LayoutFacts.{retabled, tables_ok, with_tables, owns, table_is}
 use Rattle.paged_heap.proofs.MallocLemmas.{lacks_slots}
 use Rattle.paged_heap.proofs.ResizeInPlace.{holds_bytes}
 use Rattle.paged_heap.proofs.ResizeEnter.{entered, is_free, new_holds, new_whole, slots_apart, target, words_apart}
-use Rattle.paged_heap.proofs.FreedObject.{asked_some, it, it_found, it_inside, live_some, taken_some}
+use Rattle.paged_heap.proofs.FreedObject.{asked_some, live_some, taken_some}
 use Rattle.paged_heap.proofs.CountLimits.{asked_room, live_room, taken_room}
 use Rattle.paged_heap.proofs.ResizeCosts.{entering_sum}
 use Rattle.paged_heap.proofs.StepLemmas.{copy_along, tail_few}
 use Rattle.paged_heap.proofs.WholeBlocks.{whole_slot}
+use Rattle.page_slots.proofs.CallerLemmas.{it, it_found, it_inside, as_many}
 use Rattle.paged_heap.proofs.open_heap.OpenHeap.enter_class.Goals as goal
 
 pub has_slot-requires : goal.has_slot-requires
 has_slot-requires g c =
     let h = seen g.A.Mapping.kind c.args.self.now in let k = c.requires.kept.kept in
-    let lt = c.requires.change.in_range in let many = as_many h k in
+    let lt = c.requires.change.in_range in let many = as_many (paging_at h) (table_is h k) in
     let all = (tables_ok h k).classes in
     omega arith
 
@@ -32,7 +34,7 @@ returns-then-not-has_slot-clause-entered g c =
 pub copy_to_slot-requires-clause-source : goal.copy_to_slot-requires-clause-source
 copy_to_slot-requires-clause-source g c =
     let kind = g.A.Mapping.kind in let h = seen kind c.args.self.now in let k = c.requires.kept.kept in let x = c.args.x in let is = c.requires.change in
-    let i = it_inside k is.object in
+    let i = it_inside (owns k) is.object in
     let l = in_region kind c.args.self.now c.requires.kept.laid in
     let o = holds_bytes k is.object in
     omega arith
@@ -57,7 +59,7 @@ pub copy_to_slot-requires-clause-in_step : goal.copy_to_slot-requires-clause-in_
 copy_to_slot-requires-clause-in_step g c =
     let kind = g.A.Mapping.kind in let h = seen kind c.args.self.now in let k = c.requires.kept.kept in let x = c.args.x in let is = c.requires.change in
     let free = is_free k is c.in-Some.ensures.taken c.in-Some.ensures.kept in
-    in_step kind x.place c.in-Some.to (whole_slot h k x.handle.0 (it k is.object) (it_found k is.object)).0 (new_whole k is free)
+    in_step kind x.place c.in-Some.to (whole_slot h k x.handle.0 (it (owns k) is.object) (it_found (owns k) is.object)).0 (new_whole k is free)
 
 pub count_out-requires-clause-live : goal.count_out-requires-clause-live
 count_out-requires-clause-live g c =
@@ -118,7 +120,8 @@ returns-clause-entered g c =
 pub returns-clause-steps : goal.returns-clause-steps
 returns-clause-steps g c =
     let kind = g.A.Mapping.kind in let h = seen kind c.args.self.now in let k = c.requires.kept.kept in let x = c.args.x in let is = c.requires.change in
-    let along = copy_along kind x.place 1 (x.place + 1) (kept_words x) (whole_slot h k x.handle.0 (it k is.object) (it_found k is.object)).0 (omega arith) in
+    let along = copy_along kind x.place 1 (x.place + 1) (kept_words x) (whole_slot h k x.handle.0 (it (owns k) is.object) (it_found (owns k) is.object)).0
+    (omega arith) in
     let few = tail_few kind c.in-Some.to x.bytes (kept_words x) (omega arith) in
     let a = c.in-Some.ensures.bound in let b = c.copy_to_slot.ensures.steps in
     let ak = a.kept in let ab = a.bound in let bk = b.kept in let bb = b.bound in

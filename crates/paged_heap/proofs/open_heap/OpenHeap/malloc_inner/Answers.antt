@@ -4,17 +4,19 @@ use Rattle.paged_heap.specs.declared.open_heap.OpenHeap.{OpenHeap}
 use Rattle.paged_heap.specs.Heap.{Heap, seen}
 use Rattle.paged_heap.proofs.ByKind.{in_region, laid_same}
 use Rattle.paged_heap.proofs.CostLemmas.{malloc_sum}
-use Rattle.paged_heap.proofs.CountLimits.{asked_room, class_is, live_room, taken_room}
-use Rattle.paged_heap.proofs.LayoutFacts.{as_many, retabled, with_tables}
+use Rattle.paged_heap.proofs.CountLimits.{asked_room, live_room, taken_room}
+use Rattle.paged_heap.specs.Layout.{paging_at}
+use Rattle.paged_heap.proofs.LayoutFacts.{retabled, with_tables, table_is, paging_ok}
 use Rattle.paged_heap.proofs.MallocPreserves.{comes_chosen, comes_given, comes_kept}
 use Rattle.paged_heap.proofs.MallocLemmas.{comes, place_inside}
+use Rattle.page_slots.proofs.CallerLemmas.{class_is, as_many}
 use Rattle.paged_heap.proofs.open_heap.OpenHeap.malloc_inner.Goals as goal
 
 pub take_slot-requires-clause-class : goal.take_slot-requires-clause-class
 take_slot-requires-clause-class g c =
     let h = seen g.A.Mapping.kind c.args.self.now in
-    let is = class_is h c.requires.kept c.args.bytes c.in_ok-c.c c.in_ok-c.ensures.class in let lt = is.2 in
-    let many = as_many h c.requires.kept in
+    let is = class_is (paging_ok h c.requires.kept) (table_is h c.requires.kept) c.args.bytes c.in_ok-c.c c.in_ok-c.ensures.class in let lt = is.2 in
+    let many = as_many (paging_at h) (table_is h c.requires.kept) in
     omega arith
 
 pub bind-handle-requires-clause-within : goal.bind-handle-requires-clause-within
@@ -26,7 +28,8 @@ bind-handle-requires-clause-within g c =
 
 pub count_in-requires-clause-live : goal.count_in-requires-clause-live
 count_in-requires-clause-live g c =
-    let is = class_is (seen g.A.Mapping.kind c.args.self.now) c.requires.kept c.args.bytes c.in_ok-c.c c.in_ok-c.ensures.class in
+    let is = class_is (paging_ok (seen g.A.Mapping.kind c.args.self.now) c.requires.kept) (table_is (seen g.A.Mapping.kind c.args.self.now) c.requires.kept)
+    c.args.bytes c.in_ok-c.c c.in_ok-c.ensures.class in
     let l = live_room (seen g.A.Mapping.kind c.args.self.now) c.requires.kept c.in_ok-c.c is.2 in
     let e = ap (λ (x : Heap). get_or x.live c.in_ok-c.c 0) c.bind-handle.ensures.whole in
     omega arith

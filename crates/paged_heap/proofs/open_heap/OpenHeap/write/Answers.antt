@@ -4,10 +4,14 @@ use Rattle.step_ledger.proofs.CallerLemmas.{rose_both}
 use Rattle.virtual_words.specs.Words.{words_of}
 use Rattle.paged_heap.specs.Heap.{Heap, seen}
 use Rattle.paged_heap.proofs.ByKind.{in_region}
-use Rattle.paged_heap.proofs.ReadLemmas.{object, place_small, words_in}
+use Rattle.paged_heap.proofs.ReadLemmas.{place_small}
 use Rattle.paged_heap.proofs.StepLemmas.{empty_steps, touched_steps}
 use Rattle.paged_heap.proofs.WholeBlocks.{whole_slot}
 use Rattle.paged_heap.proofs.WriteLemmas.{wrote, wrote_kept, wrote_nothing}
+use Rattle.page_slots.proofs.CallerLemmas.{held, words_in}
+use Rattle.page_slots.specs.Owner.{placed_at}
+use Rattle.paged_heap.proofs.LayoutFacts.{owns}
+use Rattle.paged_heap.specs.Layout.{owner_in}
 use Rattle.paged_heap.proofs.open_heap.OpenHeap.write.Goals as goal
 
 pub returns-then-len-eq0-clause-step : goal.returns-then-len-eq0-clause-step
@@ -27,7 +31,7 @@ overflow_add-first-2 g c =
 
 pub write_bytes-requires-clause-within : goal.write_bytes-requires-clause-within
 write_bytes-requires-clause-within g c =
-    let w = words_in (seen g.A.Mapping.kind c.args.self.now) c.requires.kept c.args.h.0 c.args.at _ c.in_ok-place.place c.in_ok-place.ensures.found
+    let w = words_in (owns c.requires.kept) c.args.h.0 c.args.at _ c.in_ok-place.place c.in_ok-place.ensures.found
     (let ne = c.if-len-eq0.false in omega arith) in
     let e = in_region g.A.Mapping.kind c.args.self.now c.requires.laid in
     omega arith
@@ -56,7 +60,7 @@ returns-then-len-eq0-clause-steps g c =
 pub returns-clause-steps : goal.returns-clause-steps
 returns-clause-steps g c =
     let kind = g.A.Mapping.kind in let h = seen kind c.args.self.now in
-    let whole = (whole_slot h c.requires.kept c.args.h.0 (object h c.requires.kept c.args.h.0 c.args.at _ c.in_ok-place.place c.in_ok-place.ensures.found)
-    c.in_ok-place.ensures.found.found).0 in
+    let whole = (whole_slot h c.requires.kept c.args.h.0 (placed_at (owner_in h) c.in_ok-place.place)
+    (held (owns c.requires.kept) c.args.h.0 c.in_ok-place.place c.in_ok-place.ensures.found.found)).0 in
     subst (RoseBy _ _) (touched_steps kind c.in_ok-place.place c.args.at (length c.args.bytes.now) whole c.if-len-eq0.false)
     (rose_both _ _ _ _ _ c.in_ok-place.ensures.steps c.write_bytes.ensures.steps)

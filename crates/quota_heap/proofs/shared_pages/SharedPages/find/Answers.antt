@@ -1,15 +1,13 @@
 use Rattle.std.proofs.Common.{◌/◌, ◌^◌, arith, sym, ap}
 use Rattle.page_model.proofs.CallerLemmas.{bytes_long}
-use Rattle.quota_heap.proofs.Facts.{place_in}
+use Rattle.quota_heap.proofs.Facts.{owns}
 use Rattle.quota_heap.proofs.shared_pages.SharedPages.find.Goals as goal
 use Rattle.quota_heap.proofs.shared_pages.SharedPages.find.Goals.{then-length-count-via-then-length-count}
 use Rattle.quota_heap.proofs.shared_pages.SharedPages.find.Goals.{then-length-count-via-else-length-count+then-length-count-2}
+use Rattle.page_slots.proofs.CallerLemmas.{place_in}
 
 pub read-requires : goal.read-requires
-read-requires c = record {
-  within = place_in c.args.self.now c.requires.shared_pages c.requires.kept.0 c.args.task.now c.requires.kept.1 c.args.h.0 c.in-Some.place
-      (sym c.in-Some.ensures.found);
-}
+read-requires c = record { within = place_in (owns c.requires.shared_pages c.requires.kept.1) c.args.h.0 c.in-Some.place (sym c.in-Some.ensures.found) }
 
 pub returns-then-length-count-clause-found : goal.returns-then-length-count-clause-found
 returns-then-length-count-clause-found c =

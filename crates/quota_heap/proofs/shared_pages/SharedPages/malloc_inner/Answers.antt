@@ -2,7 +2,7 @@ use Rattle.std.proofs.Common.{arith}
 use Rattle.page_slots.specs.PageTables.{tables_with}
 use Rattle.quota_heap.proofs.Facts.{live_room}
 use Rattle.quota_heap.proofs.MallocLemmas.{taken_inside}
-use Rattle.quota_heap.proofs.ObjectFacts.{pool_few}
+use Rattle.quota_heap.proofs.Facts.{pool_few}
 use Rattle.quota_heap.proofs.shared_pages.SharedPages.malloc_inner.Goals as goal
 
 pub overflow_add-task : goal.overflow_add-task

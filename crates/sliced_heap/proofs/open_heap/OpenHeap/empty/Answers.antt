@@ -11,9 +11,7 @@ returns-clause-kept c = first_valid c.args.s.now c.args.quantum _ (record {
   live = refl;
   needed = refl;
   words = c.requires.region;
-  maps = c.requires.tables.maps;
-  lists = c.requires.lists;
-  pool = c.requires.tables.pool;
+  tables = λ i. record { maps = c.requires.tables.maps i; lists = c.requires.lists i; pool = c.requires.tables.pool i };
   proxies = c.requires.proxies;
   handles = c.requires.handles;
   job = refl;
@@ -28,9 +26,7 @@ returns-clause-new c = first_new c.args.s.now c.args.quantum _ (record {
   live = refl;
   needed = refl;
   words = c.requires.region;
-  maps = c.requires.tables.maps;
-  lists = c.requires.lists;
-  pool = c.requires.tables.pool;
+  tables = λ i. record { maps = c.requires.tables.maps i; lists = c.requires.lists i; pool = c.requires.tables.pool i };
   proxies = c.requires.proxies;
   handles = c.requires.handles;
   job = refl;
