@@ -336,7 +336,7 @@ const CLAIM = {
   cost: ['A refused malloc, free or, with pages, resize changes only the recorded cost.', ''],
   read: ['A read prints the bytes last written through its id, whatever moved.', 'reads_give_what_was_written'],
   output: ['With pages and every bound 1 the output is a function of the script, unless it asks for addresses, words or costs.', 'one_transcript'],
-  equal: ['If each line is answered, equal arguments and scripts give equal output, in every mode and however chunked: each address, choice, word and cost.', 'equal_scripts_get_equal_output'],
+  equal: ['If each line is answered, and the managers are of equal kinds and promise an order, as those of main do, equal arguments and scripts give equal output, in every mode and however chunked: each address, choice, word and cost.', 'equal_scripts_get_equal_output'],
   physical: ["On NonMovingHeap an object keeps its physical blocks until it is freed or resized to another class", 'PagedHeap::free'],
   bad: ['a line within the limit is not in the grammar at its place', ''],
   slice: ['a function of script and quantum, but for the word p prints', 'MeetsSliced'],

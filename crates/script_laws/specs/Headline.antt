@@ -2,8 +2,9 @@
 -- and `new` the heap after it, as lines and replies show them; `id` is the command's id, `x` the object that it names, `n` the bytes asked for.
 --
 -- The replies meet the headline if there is one for each item, and heaps between them, such that each reply and each heap follow from the heap before and the
--- item. `IsAnswer` defines how, command by command. All is fixed but these choices of the manager: which of the free places a malloc takes, which object moves,
--- how many steps a call takes within its bound, which unused number an object gets (only its header shows the number), and with blocks word 1 of a free block.
+-- item. `IsAnswer` defines how, command by command. All is fixed but these choices of the manager: which of the free places a malloc takes, or a resize to another
+-- class; which object moves; how many steps a call takes within its bound; which unused number an object gets (only its header shows the number); and with blocks
+-- word 1 of a free block.
 use Rattle.std.specs.Prelude.{◌≡◌, ◌≢◌, ℕ, ◌⊎◌, ◌+◌, ◌*◌, ◌≤◌, ◌<◌, List, ◌++◌, Option, Some, None, Err, codes, if◌then◌else◌, length, max, nat_le, nat_lt}
 use Rattle.std.specs.FinMap.{get, insert, len, remove}
 use Rattle.cf_base.specs.Classes.{need}

@@ -20,7 +20,7 @@ fn taken_out(
     Some(read_and_free(heap, object, meter))
 }
 
-// `first_object`, which the README prints, stores two bytes, and `read_and_free` returns them and frees the
+// `first_object` stores two bytes, and `read_and_free` returns them and frees the
 // object.
 #[test]
 fn what_was_stored_is_taken_out(rt: HostRuntime) -> Result<(), Fail> {

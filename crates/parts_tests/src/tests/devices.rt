@@ -46,21 +46,23 @@ fn sinks_take_what_they_have_room_for(rt: HostRuntime) -> Result<(), Fail> {
     Ok(())
 }
 
-/// A reader and writer of std for tests. Each call reads or writes at most `moves` bytes; if `moves` is
-/// `None`, each call fails. A flush fails unless `flushes` is true.
+/// A reader and writer of std for tests. Each call reads or writes at most `moves` bytes. If `breaks`, the first
+/// call fails, and unless `flushes` the first flush does. No later one fails, so that a second try would show.
 #[derive(Drop)]
 struct Pipe {
-    moves: Option<usize>,
+    moves: usize,
+    breaks: bool,
     flushes: bool,
 }
 
 impl Pipe {
     /// How many of `len` bytes a call reads or writes, or its failure.
-    fn turn(&self, len: usize) -> io::Result<usize> {
-        match self.moves {
-            Some(n) => Ok(n.min(len)),
-            None => Err(io::Error::from(io::ErrorKind::BrokenPipe)),
+    fn turn(&mut self, len: usize) -> io::Result<usize> {
+        if self.breaks {
+            self.breaks = false;
+            return Err(io::Error::from(io::ErrorKind::BrokenPipe));
         }
+        Ok(self.moves.min(len))
     }
 }
 
@@ -77,37 +79,33 @@ impl Write for Pipe {
         Ok(self.turn(buf.len())?.min(buf.len()))
     }
 
-    // Fails unless `flushes` is true.
     fn flush(&mut self) -> io::Result<()> {
         if self.flushes {
-            Ok(())
-        } else {
-            Err(io::Error::from(io::ErrorKind::BrokenPipe))
+            return Ok(());
         }
+        self.flushes = true;
+        Err(io::Error::from(io::ErrorKind::BrokenPipe))
     }
 }
 
-// Each row has the two fields of a `Pipe`, and the results of `StdSource` and of `StdSink` over it. The
+// Each row has the three fields of a `Pipe`, and the results of `StdSource` and of `StdSink` over it. The
 // source fails if the reader does. The sink also fails if the writer takes none of the bytes, or if the
-// flush fails. Over a vector the sink appends all bytes.
+// flush fails. Neither tries a second time. Over a vector the sink appends all bytes.
 #[test]
 fn devices_of_std_fail_as_their_reader_or_writer_does(rt: HostRuntime) -> Result<(), Fail> {
-    for (moves, flushes, taken, put) in [
-        (Some(2), true, Ok(2), Ok(2)),
-        (Some(0), true, Ok(0), Err(Failed)),
-        (Some(2), false, Ok(2), Err(Failed)),
-        (None, true, Err(Failed), Err(Failed)),
+    for (moves, breaks, flushes, taken, put) in [
+        (2, false, true, Ok(2), Ok(2)),
+        (0, false, true, Ok(0), Err(Failed)),
+        (2, false, false, Ok(2), Err(Failed)),
+        (2, true, true, Err(Failed), Err(Failed)),
     ] {
-        takes_each(
-            &rt,
-            StdSource::new(Pipe { moves, flushes }),
-            &[(4, taken, b"....")],
-        );
-        puts_each(
-            &rt,
-            &mut StdSink::new(Pipe { moves, flushes }),
-            &[(b"abc", put)],
-        );
+        let pipe = || Pipe {
+            moves,
+            breaks,
+            flushes,
+        };
+        takes_each(&rt, StdSource::new(pipe()), &[(4, taken, b"....")]);
+        puts_each(&rt, &mut StdSink::new(pipe()), &[(b"abc", put)]);
     }
     let mut text = Vec::new(rt.alloc());
     assert_eq!(rt; put_all(&mut StdSink::new(&mut text), b"ok\n"), Ok(()));
