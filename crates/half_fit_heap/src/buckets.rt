@@ -18,12 +18,10 @@ impl Buckets for HalfFitBuckets {
 
     ghost rule = { half_fit_lists };
 
-    // Returns the number of the free list for blocks of `size` words.
     fn bucket(size: u32) -> u32 {
         half_fit::bucket_of(size)
     }
 
-    // Returns the number of the first free list that is searched for a block of `need` words.
     fn search(need: u32) -> u32 {
         half_fit::search_for(need)
     }

@@ -12,7 +12,6 @@ pub type HalfFitHeap = TagHeap<HalfFitBuckets>;
 impl FitPolicy for HalfFitBuckets {
     ghost kind = { HalfFit };
 
-    // Returns the kind `HalfFit`.
     fn kind() -> Kind {
         Kind::HalfFit
     }

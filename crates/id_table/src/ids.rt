@@ -13,8 +13,7 @@ use std::marker::Model;
 const IDS: usize = 65_536;
 
 /// The live ids, each with the handle of its object: a finite map from the ids 0 to 65,535 to the
-/// numbers of handles. `numbers` has an entry for each id, `live` counts those with a handle. Each
-/// call but `new` takes constant time.
+/// numbers of handles. `numbers` has an entry for each id, `live` counts those with a handle.
 #[derive(Drop)]
 pub struct IdTable {
     numbers: Vec<Option<u32>>,

@@ -64,7 +64,6 @@ impl<A: PageKind> StepBounds for PagedHeap<A> {
 impl<A: PageKind> Manager for PagedHeap<A> {
     ghost state = { λ h. h.state };
 
-    // Returns the kind `A`.
     fn kind(&self) -> Kind {
         // For the proof: reading a field brings in the invariant of the type.
         let _inner = &self.inner;
@@ -81,7 +80,6 @@ impl<A: PageKind> Manager for PagedHeap<A> {
         self.inner.is_some()
     }
 
-    // Opens an empty heap.
     fn open_heap(&mut self, s: &Settings) -> Result<(), OutOfMemory>
         ensures ok { OnOk result (IsEmptyHeap self.old.state.kind s.now self.new.state) }
         ensures rules { OnOk result (KeepsRules self.new.state) }
@@ -176,8 +174,6 @@ impl<A: PageKind> Manager for PagedHeap<A> {
         }
     }
 
-    // Sets the bound of the class whose slots have `slot_words` words to `k`, as the trait says.
-    // Returns false, and changes nothing, if there is no such class.
     fn set_bound(&mut self, slot_words: u32, k: u32) -> bool {
         match &mut self.inner {
             Some(open) => open.set_bound::<A>(slot_words, k),
@@ -185,7 +181,6 @@ impl<A: PageKind> Manager for PagedHeap<A> {
         }
     }
 
-    // Returns the address of the object; none if the handle is not live.
     fn place(&self, h: Handle, steps: &mut Steps) -> Option<u32> {
         self.open().place::<A>(h, steps)
     }
@@ -204,12 +199,10 @@ impl<A: PageKind> Manager for PagedHeap<A> {
         A::block(self.open(), h, i, steps)
     }
 
-    // Returns the number of size classes.
     fn classes(&self) -> u32 {
         self.open().class_count::<A>()
     }
 
-    // Returns the figures of class c; none if there is no such class.
     fn figures(&self, c: u32) -> Option<Figures> {
         self.open().figures::<A>(c)
     }
@@ -219,7 +212,6 @@ impl<A: PageKind> Manager for PagedHeap<A> {
         self.open().totals::<A>()
     }
 
-    // Returns the number of bytes of an object; none if the handle is not live.
     fn length(&self, h: Handle, steps: &mut Steps) -> Option<u32> {
         self.open().length::<A>(h, steps)
     }
@@ -234,8 +226,6 @@ impl<A: PageKind> Manager for PagedHeap<A> {
         Usage::of(&self.open().totals::<A>())
     }
 
-    // Returns the steps of the last malloc, free or resize since the opening, 0 before the first
-    // one.
     fn cost(&self) -> u64 {
         self.open().cost
     }

@@ -12,7 +12,6 @@ pub type TlsfHeap = TagHeap<TlsfBuckets>;
 impl FitPolicy for TlsfBuckets {
     ghost kind = { Tlsf };
 
-    // Returns the kind `Tlsf`.
     fn kind() -> Kind {
         Kind::Tlsf
     }
