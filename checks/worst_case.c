@@ -16,9 +16,17 @@
 #include <string.h>
 
 /* Only a library that lends has these. */
-#pragma weak nph_place
-#pragma weak nph_lend
-#pragma weak nph_return
+#if defined NPH_USE_NONMOVING || defined NPH_USE_TLSF
+enum { LENDS = 0 };
+#undef nph_place
+#undef nph_lend
+#undef nph_return
+#define nph_place NULL
+#define nph_lend NULL
+#define nph_return NULL
+#else
+enum { LENDS = 1 };
+#endif
 
 enum { STACK = 1 << 14, LIVE = 1024 };
 static const unsigned char paints[2] = {0xa5, 0x5a};
@@ -136,7 +144,7 @@ static void read_or_write(bool writes, uint32_t handle, uint32_t at, uint32_t n)
 static void ask_handle(uint32_t handle) {
     uint32_t number;
     call("length", (void *)nph_length, handle, (uint64_t)&number, 0, 0), puts("");
-    if (nph_place) call("place", (void *)nph_place, handle, (uint64_t)&number, 0, 0), puts("");
+    if (LENDS) call("place", (void *)nph_place, handle, (uint64_t)&number, 0, 0), puts("");
 }
 
 /* Frees an object. Some handles are used once more: each call with them is refused. */
@@ -170,7 +178,7 @@ static void refused(uint32_t handle) {
 /* Lends the heap, makes calls that a lent heap refuses, and takes it back. */
 static void lend(uint32_t handle) {
     uint64_t *words;
-    if (!nph_lend) return;
+    if (!LENDS) return;
     call("return", (void *)nph_return, 0, 0, 0, 0), puts("");
     call("lend", (void *)nph_lend, (uint64_t)&words, 0, 0, 0), puts("");
     call("lend", (void *)nph_lend, (uint64_t)&words, 0, 0, 0), puts("");

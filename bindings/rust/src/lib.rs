@@ -2,6 +2,8 @@
 //! `malloc`, which is on by default, C's malloc. Without it the program defines the three allocator functions that
 //! `include/norphuen.h` describes.
 //!
+//! The features `nonmoving` and `tlsf` choose that library in place of the moving one.
+//!
 //! A `Heap` closes itself when it is dropped. It is `Send` and not `Sync`: one caller at a time, in any thread.
 //! `Heap::objects` lends the bytes of objects in place; it needs a library that lends, as the header says.
 #![no_std]
@@ -74,25 +76,38 @@ pub struct Heap {
     end_loan: Option<unsafe extern "C" fn(*mut RawHeap) -> i32>,
 }
 
+/// The name of a call in the library.
+#[cfg(not(any(feature = "nonmoving", feature = "tlsf")))]
+#[rustfmt::skip]
+macro_rules! named { ($call:literal) => { concat!("nph_", $call) } }
+#[cfg(all(feature = "nonmoving", not(feature = "tlsf")))]
+#[rustfmt::skip]
+macro_rules! named { ($call:literal) => { concat!("nph_nm_", $call) } }
+#[cfg(feature = "tlsf")]
+#[rustfmt::skip]
+macro_rules! named { ($call:literal) => { concat!("nph_tlsf_", $call) } }
+#[cfg(all(feature = "nonmoving", feature = "tlsf"))]
+compile_error!("the features nonmoving and tlsf name two libraries");
+
 #[rustfmt::skip]
 unsafe extern "C" {
-    fn nph_open(heap: *mut RawHeap, pages: u32, page_bytes: u32, k: u32, proxies: u32) -> i32;
-    fn nph_bytes_needed(pages: u32, page_bytes: u32, k: u32, proxies: u32, needed: *mut Needed) -> i32;
-    fn nph_close(heap: *mut RawHeap);
-    fn nph_malloc(heap: *mut RawHeap, bytes: u32, handle: *mut u32) -> i32;
-    fn nph_free(heap: *mut RawHeap, handle: u32, freed: *mut RawFreed) -> i32;
-    fn nph_resize(heap: *mut RawHeap, handle: u32, bytes: u32, resized: *mut RawResized) -> i32;
-    fn nph_write(heap: *mut RawHeap, handle: u32, at: u32, bytes: *const u8, count: usize) -> i32;
-    fn nph_read(heap: *mut RawHeap, handle: u32, at: u32, bytes: *mut u8, count: usize) -> i32;
-    fn nph_length(heap: *mut RawHeap, handle: u32, bytes: *mut u32) -> i32;
-    fn nph_has_room(heap: *mut RawHeap, bytes: u32) -> i32;
-    fn nph_figures(heap: *mut RawHeap, size_class: u32, figures: *mut Class) -> i32;
-    fn nph_totals(heap: *mut RawHeap, totals: *mut HeapTotals) -> i32;
-    fn nph_last_steps(heap: *mut RawHeap, steps: *mut u64) -> i32;
-    fn nph_place(heap: *mut RawHeap, handle: u32, place: *mut u32) -> i32;
-    fn nph_lend(heap: *mut RawHeap, words: *mut *mut u64) -> i32;
-    fn nph_return(heap: *mut RawHeap) -> i32;
-    fn nph_version() -> u32;
+    #[link_name = named!("open")] fn nph_open(heap: *mut RawHeap, pages: u32, page_bytes: u32, k: u32, proxies: u32) -> i32;
+    #[link_name = named!("bytes_needed")] fn nph_bytes_needed(pages: u32, page_bytes: u32, k: u32, proxies: u32, needed: *mut Needed) -> i32;
+    #[link_name = named!("close")] fn nph_close(heap: *mut RawHeap);
+    #[link_name = named!("malloc")] fn nph_malloc(heap: *mut RawHeap, bytes: u32, handle: *mut u32) -> i32;
+    #[link_name = named!("free")] fn nph_free(heap: *mut RawHeap, handle: u32, freed: *mut RawFreed) -> i32;
+    #[link_name = named!("resize")] fn nph_resize(heap: *mut RawHeap, handle: u32, bytes: u32, resized: *mut RawResized) -> i32;
+    #[link_name = named!("write")] fn nph_write(heap: *mut RawHeap, handle: u32, at: u32, bytes: *const u8, count: usize) -> i32;
+    #[link_name = named!("read")] fn nph_read(heap: *mut RawHeap, handle: u32, at: u32, bytes: *mut u8, count: usize) -> i32;
+    #[link_name = named!("length")] fn nph_length(heap: *mut RawHeap, handle: u32, bytes: *mut u32) -> i32;
+    #[link_name = named!("has_room")] fn nph_has_room(heap: *mut RawHeap, bytes: u32) -> i32;
+    #[link_name = named!("figures")] fn nph_figures(heap: *mut RawHeap, size_class: u32, figures: *mut Class) -> i32;
+    #[link_name = named!("totals")] fn nph_totals(heap: *mut RawHeap, totals: *mut HeapTotals) -> i32;
+    #[link_name = named!("last_steps")] fn nph_last_steps(heap: *mut RawHeap, steps: *mut u64) -> i32;
+    #[link_name = named!("place")] fn nph_place(heap: *mut RawHeap, handle: u32, place: *mut u32) -> i32;
+    #[link_name = named!("lend")] fn nph_lend(heap: *mut RawHeap, words: *mut *mut u64) -> i32;
+    #[link_name = named!("return")] fn nph_return(heap: *mut RawHeap) -> i32;
+    #[link_name = named!("version")] fn nph_version() -> u32;
 }
 
 /// The value if the code is that of success, else the error of the code.

@@ -1,7 +1,7 @@
 //! The TLSF manager as a library for C, to compare it with the other two. `include/norphuen.h` describes each
 //! export for C. An export calls the function of `held_heap` that its comment names, and its contract is that
-//! function's. Each export but `nph_close` returns a code: 0 (`DONE`) if the call is done, else the cause
-//! (`held_heap`, file `codes`). While the heap is closed, each export but `nph_open` and `nph_close` returns
+//! function's. Each export but `nph_tlsf_close` returns a code: 0 (`DONE`) if the call is done, else the cause
+//! (`held_heap`, file `codes`). While the heap is closed, each export but `nph_tlsf_open` and `nph_tlsf_close` returns
 //! `CLOSED` and changes nothing (`IsCallOnOpen`).
 #![tactic(auto)]
 
@@ -21,9 +21,9 @@ use std::rt::Memory;
 
 /// Opens the heap with these settings: a region of `pages` times `page_bytes` bytes, and at most `proxies` live
 /// objects. `k` must be in its range, 1 to 64, and has no other effect (`NphHeap::open`). `memory`, here and in
-/// `nph_close`, is the kit's value for the memory of the process; a caller in C passes none.
+/// `nph_tlsf_close`, is the kit's value for the memory of the process; a caller in C passes none.
 #[unsafe(no_mangle)]
-pub extern "C" fn nph_open(
+pub extern "C" fn nph_tlsf_open(
     heap: &mut NphHeap,
     memory: Memory,
     pages: u32,
@@ -36,11 +36,11 @@ pub extern "C" fn nph_open(
     heap.open(memory, pages, page_bytes, k, proxies)
 }
 
-/// Writes into `needed` what `nph_open` with these settings asks of the functions that take and return memory: how many
+/// Writes into `needed` what `nph_tlsf_open` with these settings asks of the functions that take and return memory: how many
 /// blocks, the bytes of all, and those of the largest. The caller's own memory for `heap` isn't counted, nor what the
 /// functions need for a block. Returns 0, or the code of the first setting out of range (`NphHeap::bytes_needed`).
 #[unsafe(no_mangle)]
-pub extern "C" fn nph_bytes_needed(
+pub extern "C" fn nph_tlsf_bytes_needed(
     pages: u32,
     page_bytes: u32,
     k: u32,
@@ -54,7 +54,7 @@ pub extern "C" fn nph_bytes_needed(
 
 /// Closes the heap and frees its memory; does nothing if it is closed (`NphHeap::close`).
 #[unsafe(no_mangle)]
-pub extern "C" fn nph_close(heap: &mut NphHeap, memory: Memory)
+pub extern "C" fn nph_tlsf_close(heap: &mut NphHeap, memory: Memory)
     ensures { held_in heap.new ≡ closed_by (held_in heap.old) }
 {
     heap.close(memory);
@@ -62,7 +62,7 @@ pub extern "C" fn nph_close(heap: &mut NphHeap, memory: Memory)
 
 /// Makes an object of `bytes` zeros and writes its handle into `handle` (`Held::malloc`).
 #[unsafe(no_mangle)]
-pub extern "C" fn nph_malloc(heap: &mut NphHeap, bytes: u32, handle: &mut u32) -> i32
+pub extern "C" fn nph_tlsf_malloc(heap: &mut NphHeap, bytes: u32, handle: &mut u32) -> i32
     ensures { IsCallOnOpen (held_in heap.old) result (held_in heap.new) (handle.new ≡ handle.old)
         (λ h h2. IsMallocCall bounds h bytes handle.old result handle.new h2) }
 {
@@ -75,7 +75,7 @@ pub extern "C" fn nph_malloc(heap: &mut NphHeap, bytes: u32, handle: &mut u32) -
 
 /// Frees an object. Writes into `freed` the words of its block; no object moves (`Held::free`).
 #[unsafe(no_mangle)]
-pub extern "C" fn nph_free(heap: &mut NphHeap, handle: u32, freed: &mut NphFreed) -> i32
+pub extern "C" fn nph_tlsf_free(heap: &mut NphHeap, handle: u32, freed: &mut NphFreed) -> i32
     ensures { IsCallOnOpen (held_in heap.old) result (held_in heap.new) (freed.new ≡ freed.old)
         (λ h h2. IsFreeCall bounds h handle freed.old result freed.new h2) }
 {
@@ -88,7 +88,7 @@ pub extern "C" fn nph_free(heap: &mut NphHeap, handle: u32, freed: &mut NphFreed
 
 /// Changes no length: returns the code `KIND`, or `UNKNOWN` if the handle is not live (`Held::resize`).
 #[unsafe(no_mangle)]
-pub extern "C" fn nph_resize(
+pub extern "C" fn nph_tlsf_resize(
     heap: &mut NphHeap,
     handle: u32,
     bytes: u32,
@@ -106,7 +106,7 @@ pub extern "C" fn nph_resize(
 
 /// Writes `bytes` into an object, from its byte `at` on (`Held::write`).
 #[unsafe(no_mangle)]
-pub extern "C" fn nph_write(heap: &mut NphHeap, handle: u32, at: u32, bytes: &[u8]) -> i32
+pub extern "C" fn nph_tlsf_write(heap: &mut NphHeap, handle: u32, at: u32, bytes: &[u8]) -> i32
     ensures { IsCallOnOpen (held_in heap.old) result (held_in heap.new) (Unit {0})
         (λ h h2. IsWriteCall bounds h handle at bytes.now result h2) }
 {
@@ -119,7 +119,7 @@ pub extern "C" fn nph_write(heap: &mut NphHeap, handle: u32, at: u32, bytes: &[u
 
 /// Fills `out` with bytes of an object, from its byte `at` on (`Held::read`).
 #[unsafe(no_mangle)]
-pub extern "C" fn nph_read(heap: &mut NphHeap, handle: u32, at: u32, out: &mut [u8]) -> i32
+pub extern "C" fn nph_tlsf_read(heap: &mut NphHeap, handle: u32, at: u32, out: &mut [u8]) -> i32
     ensures { IsCallOnOpen (held_in heap.old) result (held_in heap.new) (out.new ≡ out.old)
         (λ h h2. IsReadCall bounds h handle at out.old result out.new h2) }
 {
@@ -132,7 +132,7 @@ pub extern "C" fn nph_read(heap: &mut NphHeap, handle: u32, at: u32, out: &mut [
 
 /// Writes the object's length in bytes into `bytes` (`Held::length`).
 #[unsafe(no_mangle)]
-pub extern "C" fn nph_length(heap: &mut NphHeap, handle: u32, bytes: &mut u32) -> i32
+pub extern "C" fn nph_tlsf_length(heap: &mut NphHeap, handle: u32, bytes: &mut u32) -> i32
     ensures { IsCallOnOpen (held_in heap.old) result (held_in heap.new) (bytes.new ≡ bytes.old)
         (λ h h2. IsLengthCall Tlsf h handle bytes.old result bytes.new h2) }
 {
@@ -145,7 +145,7 @@ pub extern "C" fn nph_length(heap: &mut NphHeap, handle: u32, bytes: &mut u32) -
 
 /// Returns the code that a malloc of `bytes` bytes would return now (`Held::has_room`).
 #[unsafe(no_mangle)]
-pub extern "C" fn nph_has_room(heap: &mut NphHeap, bytes: u32) -> i32
+pub extern "C" fn nph_tlsf_has_room(heap: &mut NphHeap, bytes: u32) -> i32
     ensures { IsCallOnOpen (held_in heap.old) result (held_in heap.new) (Unit {0})
         (λ h h2. IsRoomCall bounds h bytes result h2) }
 {
@@ -158,7 +158,7 @@ pub extern "C" fn nph_has_room(heap: &mut NphHeap, bytes: u32) -> i32
 
 /// Returns `UNKNOWN` on an open heap, since TLSF has no classes (`Held::figures`).
 #[unsafe(no_mangle)]
-pub extern "C" fn nph_figures(heap: &mut NphHeap, class: u32, figures: &mut NphClass) -> i32
+pub extern "C" fn nph_tlsf_figures(heap: &mut NphHeap, class: u32, figures: &mut NphClass) -> i32
     ensures { IsCallOnOpen (held_in heap.old) result (held_in heap.new) (figures.new ≡ figures.old)
         (λ h h2. IsFiguresCall h class figures.old result figures.new h2) }
 {
@@ -171,7 +171,7 @@ pub extern "C" fn nph_figures(heap: &mut NphHeap, class: u32, figures: &mut NphC
 
 /// Writes the figures of the whole heap into `totals` (`Held::totals`).
 #[unsafe(no_mangle)]
-pub extern "C" fn nph_totals(heap: &mut NphHeap, totals: &mut NphHeapTotals) -> i32
+pub extern "C" fn nph_tlsf_totals(heap: &mut NphHeap, totals: &mut NphHeapTotals) -> i32
     ensures { IsCallOnOpen (held_in heap.old) result (held_in heap.new) (totals.new ≡ totals.old)
         (λ h h2. IsTotalsCall bounds h result totals.new h2) }
 {
@@ -182,10 +182,10 @@ pub extern "C" fn nph_totals(heap: &mut NphHeap, totals: &mut NphHeapTotals) -> 
     }
 }
 
-/// Writes the steps of the last call into `steps` (`Held::last_steps`). `nph_figures` and this call count
+/// Writes the steps of the last call into `steps` (`Held::last_steps`). `nph_tlsf_figures` and this call count
 /// none, and leave that number unchanged.
 #[unsafe(no_mangle)]
-pub extern "C" fn nph_last_steps(heap: &mut NphHeap, steps: &mut u64) -> i32
+pub extern "C" fn nph_tlsf_last_steps(heap: &mut NphHeap, steps: &mut u64) -> i32
     ensures { IsCallOnOpen (held_in heap.old) result (held_in heap.new) (steps.new ≡ steps.old)
         (λ h h2. IsStepsCall h result steps.new h2) }
 {
@@ -198,7 +198,7 @@ pub extern "C" fn nph_last_steps(heap: &mut NphHeap, steps: &mut u64) -> i32
 
 /// Returns the version of this library (`VERSION`).
 #[unsafe(no_mangle)]
-pub extern "C" fn nph_version() -> u32
+pub extern "C" fn nph_tlsf_version() -> u32
     ensures { result ≡ version }
 {
     VERSION
