@@ -18,6 +18,8 @@ ADA = {'u8': 'Unsigned_8', 'u32': 'Unsigned_32', 'u64': 'Unsigned_64', 'bool': '
 PREFIXES = {'norphuen': 'nph_', 'norphuen_nonmoving': 'nph_nm_', 'norphuen_tlsf': 'nph_tlsf_'}
 # The exports that a library may lack, if an object's words are not side by side there.
 LOAN = {'place', 'lend', 'return'}
+# The exports of a library with pages.
+PAGED = {'slot_words', 'class_of'}
 # Parameters with another name in C: `class` is a word of C++.
 IN_C = {'out': 'bytes', 'class': 'size_class'}
 
@@ -120,10 +122,10 @@ def declarations(text):
     found = {}
     call = '__attribute__((nonnull, warn_unused_result)) '
     expanded = subprocess.run(['gcc', '-E', '-P', HEADER], capture_output=True, text=True, check=True).stdout
-    for attribute, kind, name, inside in re.findall(r'(__attribute__\(\([^;{}]*\)\) )?\b(nph_status|void|uint32_t) (nph_\w+)\(([^();]*)\);', expanded):
+    for attribute, kind, name, inside in re.findall(r'(__attribute__\(\([^;{}]*\)\) )?\b(nph_status|void|uint32_t|uint64_t) (nph_\w+)\(([^();]*)\);', expanded):
         if [PREFIXES[crate]] != sorted((it for it in PREFIXES.values() if name.startswith(it)), key=len)[-1:]:
             continue
-        if attribute != {'nph_status': call, 'void': '__attribute__((nonnull)) ', 'uint32_t': ''}[kind]:
+        if attribute != {'nph_status': call, 'void': '__attribute__((nonnull)) ', 'uint32_t': '', 'uint64_t': ''}[kind]:
             fail(f'the header declares {name} with another attribute')
         if not re.search(rf'\*/\n(?:NPH_\w+ )?{kind} nph_{bare(name)}\(', text):
             fail(f'the header has no comment above nph_{bare(name)}')
@@ -181,6 +183,8 @@ def header(crate):
     print(f'SAME(NPH_NONE == {none}u, "NPH_NONE");')
     version = re.search(r'pub const VERSION: u32 = (\d+);', (HELD / 'codes.rt').read_text())[1]
     print(f'SAME(NPH_VERSION == {version}, "NPH_VERSION");')
+    for name, value in re.findall(r'Kind::(Moving|NonMoving|Tlsf) => (\d),', (HELD / 'most.rt').read_text().split('pub fn kind(')[1].split('\n}')[0]):
+        print(f'SAME(NPH_{name.upper()} == {value}, "NPH_{name.upper()}");')
     print('nph_block (*const takes)(size_t, size_t) = rattle_alloc;')
 
 
@@ -195,7 +199,7 @@ def bindings(crate):
     condition = f'feature = "{folder}"' if crate != 'norphuen' else 'not(any('
     if not re.search(rf'#\[cfg\([^\n]*{re.escape(condition)}[^\n]*\n[^\n]*\nmacro_rules! named {{ \(\$call:literal\) => {{ concat!\("{PREFIXES[crate]}", \$call\)', rust_text):
         fail(f'bindings/rust/src/lib.rs does not name the calls of {crate}')
-    names = {bare(name) for name, _, _ in exports(crate)} | LOAN
+    names = {bare(name) for name, _, _ in exports(crate)} | LOAN | PAGED
     for where, found in (('Rust', rust_names), ('Ada', ada_names)):
         if sorted(found) != sorted(names):
             fail(f'the binding in {where} declares {sorted(found)}, {crate} exports {sorted(names)}')

@@ -196,6 +196,13 @@ NPH_CALL nph_status nph_length(nph_heap *heap, uint32_t handle, uint32_t *bytes)
 /* Returns what nph_malloc of `bytes` bytes would return now. Makes no object. */
 NPH_CALL nph_status nph_has_room(nph_heap *heap, uint32_t bytes);
 
+/* Writes the words of the slot of an object: what nph_free of it would write. Fails with NPH_UNKNOWN. */
+NPH_CALL nph_status nph_slot_words(nph_heap *heap, uint32_t handle, uint32_t *words);
+
+/* Writes the size class of an object of `bytes` bytes, for nph_figures. Fails with NPH_SIZE. TLSF has neither this call nor
+ * the one above. */
+NPH_CALL nph_status nph_class_of(nph_heap *heap, uint32_t bytes, uint32_t *size_class);
+
 /* Writes the figures of a size class; the classes are numbered from 0. Fails with NPH_UNKNOWN if there is no such class. */
 NPH_CALL nph_status nph_figures(nph_heap *heap, uint32_t size_class, nph_class *figures);
 
@@ -207,6 +214,34 @@ NPH_CALL nph_status nph_last_steps(nph_heap *heap, uint64_t *steps);
 
 /* Returns the version of the library, in the form of NPH_VERSION. */
 uint32_t nph_version(void);
+
+/* Bounds for a plan: the most steps of a call, before it is made. These take no heap, and are those of the library's contracts.
+ * A refused call takes at most as many. nph_place takes one step. */
+
+/* Returns the kind of the library's heaps: NPH_MOVING, NPH_NONMOVING or NPH_TLSF. */
+uint32_t nph_kind(void);
+enum { NPH_MOVING = 0, NPH_NONMOVING = 1, NPH_TLSF = 2 };
+
+/* Returns the most steps of nph_malloc. */
+uint64_t nph_most_malloc(void);
+
+/* Returns the most steps of nph_free of an object whose slot or block has `slot_words` words. */
+uint64_t nph_most_free(uint32_t slot_words);
+
+/* Returns the most steps of nph_resize to `bytes` bytes, from a slot of `old_slot_words` words to one of `slot_words`. */
+uint64_t nph_most_resize(uint32_t bytes, uint32_t old_slot_words, uint32_t slot_words);
+
+/* Returns the most steps of nph_read or nph_write of `count` bytes from byte `at` on. One that is not refused takes just these. */
+uint64_t nph_most_access(uint32_t at, uint32_t count);
+
+/* Returns the most steps of nph_has_room. */
+uint64_t nph_most_has_room(void);
+
+/* Returns the most steps of nph_totals on a heap with `free_count` free pages or blocks. */
+uint64_t nph_most_totals(uint32_t free_count);
+
+/* Returns the most steps of nph_length. */
+uint64_t nph_most_length(void);
 
 /* Pointers to objects. Call nph_place for each object, then nph_lend. Until nph_return the bytes of an object are at
  * nph_bytes(words, place), aligned to 8, and the program reads and writes them there. Each other call but nph_close
@@ -240,9 +275,19 @@ static inline void *nph_bytes(uint64_t *words, uint32_t place) { return words + 
     NPH_CALL nph_status nph##_figures(nph##_heap *heap, uint32_t size_class, nph_class *figures); \
     NPH_CALL nph_status nph##_totals(nph##_heap *heap, nph_heap_totals *totals); \
     NPH_CALL nph_status nph##_last_steps(nph##_heap *heap, uint64_t *steps); \
-    uint32_t nph##_version(void);
+    uint32_t nph##_version(void); \
+    uint32_t nph##_kind(void); \
+    uint64_t nph##_most_malloc(void); \
+    uint64_t nph##_most_free(uint32_t slot_words); \
+    uint64_t nph##_most_resize(uint32_t bytes, uint32_t old_slot_words, uint32_t slot_words); \
+    uint64_t nph##_most_access(uint32_t at, uint32_t count); \
+    uint64_t nph##_most_has_room(void); \
+    uint64_t nph##_most_totals(uint32_t free_count); \
+    uint64_t nph##_most_length(void);
 NPH_CALLS_OF(nph_nm)
 NPH_CALLS_OF(nph_tlsf)
+NPH_CALL nph_status nph_nm_slot_words(nph_nm_heap *heap, uint32_t handle, uint32_t *words);
+NPH_CALL nph_status nph_nm_class_of(nph_nm_heap *heap, uint32_t bytes, uint32_t *size_class);
 
 /* These let `freed` and `resized` be NULL. The libraries' own functions need a pointer. */
 #define NPH_OR_NULL_OF(nph) \
@@ -289,10 +334,20 @@ NPH_OR_NULL_OF(nph_tlsf)
 #define nph_read NPH_NAME(read)
 #define nph_length NPH_NAME(length)
 #define nph_has_room NPH_NAME(has_room)
+#define nph_slot_words NPH_NAME(slot_words)
+#define nph_class_of NPH_NAME(class_of)
 #define nph_figures NPH_NAME(figures)
 #define nph_totals NPH_NAME(totals)
 #define nph_last_steps NPH_NAME(last_steps)
 #define nph_version NPH_NAME(version)
+#define nph_kind NPH_NAME(kind)
+#define nph_most_malloc NPH_NAME(most_malloc)
+#define nph_most_free NPH_NAME(most_free)
+#define nph_most_resize NPH_NAME(most_resize)
+#define nph_most_access NPH_NAME(most_access)
+#define nph_most_has_room NPH_NAME(most_has_room)
+#define nph_most_totals NPH_NAME(most_totals)
+#define nph_most_length NPH_NAME(most_length)
 #define nph_place NPH_NAME(place)
 #define nph_lend NPH_NAME(lend)
 #define nph_return NPH_NAME(return)

@@ -145,6 +145,17 @@ package Norphuen is
    function Nph_Has_Room (H : in out Heap; Bytes : Unsigned_32) return Code
    with Import, Convention => C, External_Name => Prefix & "has_room";
 
+   function Nph_Slot_Words
+     (H : in out Heap; Handle : Unsigned_32; Words : in out Unsigned_32)
+      return Code
+   with Import, Convention => C, External_Name => Prefix & "slot_words";
+
+   function Nph_Class_Of
+     (H          : in out Heap; Bytes : Unsigned_32;
+      Size_Class : in out Unsigned_32)
+      return Code
+   with Import, Convention => C, External_Name => Prefix & "class_of";
+
    function Nph_Figures
      (H : in out Heap; Size_Class : Unsigned_32; Result : in out Class)
       return Code
@@ -173,6 +184,33 @@ package Norphuen is
    --  10,000 times the major number, 100 times the minor one, and the patch.
    function Nph_Version return Unsigned_32
    with Import, Convention => C, External_Name => Prefix & "version";
+
+   --  Moving, Nonmoving or TLSF: 0, 1 or 2.
+   function Nph_Kind return Unsigned_32
+   with Import, Convention => C, External_Name => Prefix & "kind";
+
+   --  The most steps of a call, before it is made.
+   function Nph_Most_Malloc return Unsigned_64
+   with Import, Convention => C, External_Name => Prefix & "most_malloc";
+
+   function Nph_Most_Free (Slot_Words : Unsigned_32) return Unsigned_64
+   with Import, Convention => C, External_Name => Prefix & "most_free";
+
+   function Nph_Most_Resize
+     (Bytes, Old_Slot_Words, Slot_Words : Unsigned_32) return Unsigned_64
+   with Import, Convention => C, External_Name => Prefix & "most_resize";
+
+   function Nph_Most_Access (At_Byte, Count : Unsigned_32) return Unsigned_64
+   with Import, Convention => C, External_Name => Prefix & "most_access";
+
+   function Nph_Most_Has_Room return Unsigned_64
+   with Import, Convention => C, External_Name => Prefix & "most_has_room";
+
+   function Nph_Most_Totals (Free_Count : Unsigned_32) return Unsigned_64
+   with Import, Convention => C, External_Name => Prefix & "most_totals";
+
+   function Nph_Most_Length return Unsigned_64
+   with Import, Convention => C, External_Name => Prefix & "most_length";
 
    --  The address of the bytes of an object, while the heap is lent.
    function Nph_Bytes

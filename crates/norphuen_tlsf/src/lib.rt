@@ -10,13 +10,15 @@ ghost use Rattle.cf_base.specs.declared.kind.Kind.TheVariants.{Tlsf};
 ghost use Rattle.held_heap.specs.Calls.{IsFiguresCall, IsFreeCall, IsLengthCall, IsMallocCall, IsReadCall, IsResizeCall, IsRoomCall, IsStepsCall, IsTotalsCall, IsWriteCall};
 ghost use Rattle.held_heap.specs.AtPlace.{IsOpenCall, IsCallOnOpen};
 ghost use Rattle.held_heap.specs.CallerHeap.{closed_by};
+ghost use Rattle.held_heap.specs.Most.{IsMostAccess, IsMostFree, IsMostLength, IsMostMalloc, IsMostResize, IsMostRoom, IsMostTotals, kind_code};
 ghost use Rattle.held_heap.specs.Needed.{IsNeededCall};
 ghost use Rattle.held_heap.specs.TlsfPlace.{held_in};
 ghost use Rattle.held_heap.specs.Tlsf.{bounds};
 ghost use Rattle.held_heap.specs.Version.{version};
 
+use cf_base::Kind;
 use held_heap::tlsf::NphHeap;
-use held_heap::{CLOSED, NphClass, NphFreed, NphHeapTotals, NphNeeded, NphResized, VERSION};
+use held_heap::{CLOSED, NphClass, NphFreed, NphHeapTotals, NphNeeded, NphResized, VERSION, most};
 use std::rt::Memory;
 
 /// Opens the heap with these settings: a region of `pages` times `page_bytes` bytes, and at most `proxies` live
@@ -202,4 +204,69 @@ pub extern "C" fn nph_tlsf_version() -> u32
     ensures { result ≡ version }
 {
     VERSION
+}
+
+/// Returns the kind of this library's heaps (`most::kind`). It and the calls below take no heap. Each of those returns the
+/// most steps of a call, which are those of the bound in its contract (`bounds`).
+#[unsafe(no_mangle)]
+pub extern "C" fn nph_tlsf_kind() -> u32
+    ensures { result ≡ kind_code Tlsf }
+{
+    most::kind(Kind::Tlsf)
+}
+
+/// Returns the most steps of a malloc (`most_malloc`).
+#[unsafe(no_mangle)]
+pub extern "C" fn nph_tlsf_most_malloc() -> u64
+    ensures { IsMostMalloc bounds result }
+{
+    most::most_malloc(Kind::Tlsf)
+}
+
+/// Returns the most steps of a free of an object whose block has this many words (`most_free`).
+#[unsafe(no_mangle)]
+pub extern "C" fn nph_tlsf_most_free(slot_words: u32) -> u64
+    ensures { IsMostFree bounds slot_words result }
+{
+    most::most_free(Kind::Tlsf, slot_words)
+}
+
+/// Returns the most steps of a resize to `bytes` bytes between slots of these words (`most_resize`).
+#[unsafe(no_mangle)]
+pub extern "C" fn nph_tlsf_most_resize(bytes: u32, old_slot_words: u32, slot_words: u32) -> u64
+    ensures { IsMostResize bounds bytes old_slot_words slot_words result }
+{
+    most::most_resize(Kind::Tlsf, bytes, old_slot_words, slot_words)
+}
+
+/// Returns the steps of a read or a write of `count` bytes from byte `at` on (`most_access`).
+#[unsafe(no_mangle)]
+pub extern "C" fn nph_tlsf_most_access(at: u32, count: u32) -> u64
+    ensures { IsMostAccess bounds at count result }
+{
+    most::most_access(Kind::Tlsf, at, count)
+}
+
+/// Returns the most steps of `nph_tlsf_has_room` (`most_has_room`).
+#[unsafe(no_mangle)]
+pub extern "C" fn nph_tlsf_most_has_room() -> u64
+    ensures { IsMostRoom bounds result }
+{
+    most::most_has_room(Kind::Tlsf)
+}
+
+/// Returns the most steps of `nph_tlsf_totals` on a heap with this many free pages or blocks (`most_totals`).
+#[unsafe(no_mangle)]
+pub extern "C" fn nph_tlsf_most_totals(free_count: u32) -> u64
+    ensures { IsMostTotals bounds free_count result }
+{
+    most::most_totals(Kind::Tlsf, free_count)
+}
+
+/// Returns the most steps of `nph_tlsf_length` (`most_length`).
+#[unsafe(no_mangle)]
+pub extern "C" fn nph_tlsf_most_length() -> u64
+    ensures { IsMostLength Tlsf result }
+{
+    most::most_length(Kind::Tlsf)
 }
