@@ -6,7 +6,7 @@ bindings. checks/c_library compiles it.
   checks/c_library.py names CRATE    the names of its exports, one a line
   checks/c_library.py bindings CRATE compares the bindings for Rust and Ada
 """
-import re, sys
+import re, subprocess, sys
 from pathlib import Path
 
 HEADER, HELD = Path('include/norphuen.h'), Path('crates/held_heap/src')
@@ -14,8 +14,12 @@ NUMBERS = {'u8': 'uint8_t', 'u32': 'uint32_t', 'u64': 'uint64_t', 'i32': 'nph_st
 RUST = {'NphHeap': 'RawHeap', 'NphNeeded': 'Needed', 'NphFreed': 'RawFreed', 'NphResized': 'RawResized', 'NphClass': 'Class', 'NphHeapTotals': 'HeapTotals'}
 ADA = {'u8': 'Unsigned_8', 'u32': 'Unsigned_32', 'u64': 'Unsigned_64', 'bool': 'Unsigned_8', '*mut u64': 'System.Address',
        'NphHeap': 'Heap', 'NphNeeded': 'Needed', 'NphFreed': 'Freed', 'NphResized': 'Resized', 'NphClass': 'Class', 'NphHeapTotals': 'Heap_Totals'}
+# The names of each library begin with this; its heap is named so too.
+PREFIXES = {'norphuen': 'nph_', 'norphuen_nonmoving': 'nph_nm_', 'norphuen_tlsf': 'nph_tlsf_'}
 # The exports that a library may lack, if an object's words are not side by side there.
-LOAN = {'nph_place', 'nph_lend', 'nph_return'}
+LOAN = {'place', 'lend', 'return'}
+# The exports of a library with pages.
+PAGED = {'slot_words', 'class_of'}
 # Parameters with another name in C: `class` is a word of C++.
 IN_C = {'out': 'bytes', 'class': 'size_class'}
 
@@ -25,9 +29,14 @@ def fail(text):
     sys.exit('checks/c_library: ' + text)
 
 
-# The name in C of a struct in Rattle: NphFreed is nph_freed.
+# The name in C of a struct in Rattle: NphFreed is nph_freed. Each library has a type of heap.
 def snake(name):
-    return re.sub(r'(?<!^)([A-Z])', r'_\1', name).lower()
+    return PREFIXES[crate] + 'heap' if name == 'NphHeap' else re.sub(r'(?<!^)([A-Z])', r'_\1', name).lower()
+
+
+# The name of an export without its library's prefix.
+def bare(name):
+    return name.removeprefix(PREFIXES[crate])
 
 
 def c_type(rust):
@@ -41,8 +50,8 @@ def exports(crate):
     found = []
     for marked, name, inside, result in re.findall(
             r'(#\[unsafe\(no_mangle\)\]\s*)?pub extern "C" fn (\w+)\(([^)]*)\)(?: -> (\w+))?', text):
-        if not marked:
-            fail(f'{crate}: {name} is not exported under its name')
+        if not marked or not name.startswith(PREFIXES[crate]):
+            fail(f'{crate}: {name} is not exported under its name, which begins with {PREFIXES[crate]}')
         parameters = []
         for part in filter(None, (part.strip() for part in inside.split(','))):
             match = re.fullmatch(r'(\w+): (&mut |&)?(\[\w+\]|\*mut \w+|\w+)', part) or fail(f'{crate}: cannot read the parameter {part} of {name}')
@@ -56,7 +65,7 @@ def exports(crate):
 
 # Whether the library has the calls of a loan: all of them or none.
 def lends(crate):
-    found = LOAN & {name for name, _, _ in exports(crate)}
+    found = LOAN & {bare(name) for name, _, _ in exports(crate)}
     if found not in (set(), LOAN):
         fail(f'{crate} exports {sorted(found)} alone')
     return bool(found)
@@ -107,12 +116,19 @@ def compare_fields(crate, where, name, given, wanted):
         fail(f'{where} has {given}, {name} of {crate} has {wanted}')
 
 
-# The declarations of the header: each name with its parameters' names. A comment is above each, and an attribute in front.
-def declarations(exported, text):
+# The declarations of the library in the header: each name with its parameters' names. Each has its attribute, and in those of
+# the short names a comment stands above.
+def declarations(text):
     found = {}
-    for above, attribute, kind, name, inside in re.findall(r'(.*)\n(NPH_\w+ )?(nph_status|void|u?int32_t) (nph_\w+)\(([^)]*)\);', text):
-        if not above.endswith('*/') or attribute != {'nph_status': 'NPH_CALL ', 'void': 'NPH_NONNULL ', 'uint32_t': ''}.get(kind):
-            fail(f'the header declares {name} without a comment above or with another attribute')
+    call = '__attribute__((nonnull, warn_unused_result)) '
+    expanded = subprocess.run(['gcc', '-E', '-P', HEADER], capture_output=True, text=True, check=True).stdout
+    for attribute, kind, name, inside in re.findall(r'(__attribute__\(\([^;{}]*\)\) )?\b(nph_status|void|uint32_t|uint64_t) (nph_\w+)\(([^();]*)\);', expanded):
+        if [PREFIXES[crate]] != sorted((it for it in PREFIXES.values() if name.startswith(it)), key=len)[-1:]:
+            continue
+        if attribute != {'nph_status': call, 'void': '__attribute__((nonnull)) ', 'uint32_t': '', 'uint64_t': ''}[kind]:
+            fail(f'the header declares {name} with another attribute')
+        if not re.search(rf'\*/\n(?:NPH_\w+ )?{kind} nph_{bare(name)}\(', text):
+            fail(f'the header has no comment above nph_{bare(name)}')
         found[name] = [re.search(r'(\w+)$', part)[1] for part in inside.split(', ') if part != 'void']
     return found
 
@@ -129,7 +145,7 @@ def header(crate):
         print(f'struct twin_{name} {{\n' + '\n'.join(twin_field(*field) for field in all_structs.get(name) or fail(f'no struct {name}')) + '\n};')
     for name in sorted(named):
         c, fields = snake(name), all_structs[name]
-        match = re.search(rf'typedef struct {c} \{{\n(.*?)\n\}} {c};', text, re.S) or fail(f'the header has no {c}')
+        match = re.search(rf'typedef struct {c} \{{(.*?)\}} {c};', text, re.S) or fail(f'the header has no {c}')
         written = re.findall(r'(\w+);', match[1])
         inner = ['at' if rust == 'HeapBlock' else field for field, rust in fields]
         compare_fields(crate, f'{c} of the header', name, written, inner)
@@ -141,9 +157,12 @@ def header(crate):
     for name, parameters, result in exported:
         kind = f'{c_type(result)} (*)({", ".join(c_parameters(parameters)) or "void"})'
         print(f'SAME(_Generic(&{name}, {kind}: 1, default: 0), "prototype of {name}");')
-    declared = declarations(exported, text)
-    if set(declared) - (set() if lends(crate) else LOAN) != {name for name, _, _ in exported}:
+    declared = declarations(text)
+    if set(declared) != {name for name, _, _ in exported}:
         fail(f'the header declares {sorted(declared)}, {crate} exports {sorted(name for name, _, _ in exported)}')
+    short = set(re.findall(r'^#define nph_(\w+) NPH_NAME\(\1\)$', text, re.M))
+    if missing := {'heap', *map(bare, declared)} - short:
+        fail(f'the header has no short names of {sorted(missing)}')
     for name, parameters, _ in exported:
         if declared[name] != c_names(parameters):
             fail(f'the header declares {name} with {declared[name]}, {crate} with {c_names(parameters)}')
@@ -164,15 +183,23 @@ def header(crate):
     print(f'SAME(NPH_NONE == {none}u, "NPH_NONE");')
     version = re.search(r'pub const VERSION: u32 = (\d+);', (HELD / 'codes.rt').read_text())[1]
     print(f'SAME(NPH_VERSION == {version}, "NPH_VERSION");')
+    for name, value in re.findall(r'Kind::(Moving|NonMoving|Tlsf) => (\d),', (HELD / 'most.rt').read_text().split('pub fn kind(')[1].split('\n}')[0]):
+        print(f'SAME(NPH_{name.upper()} == {value}, "NPH_{name.upper()}");')
     print('nph_block (*const takes)(size_t, size_t) = rattle_alloc;')
 
 
 def bindings(crate):
     """The prototypes of the Rust binding, the profiles of the Ada binding, and the fields and codes of both."""
     rust_text, ada_text = Path('bindings/rust/src/lib.rs').read_text(), Path('bindings/ada/norphuen.ads').read_text()
-    rust_names = re.findall(r'fn (nph_\w+)\(', rust_text.split('unsafe extern "C" {')[1].split('\n}')[0])
-    ada_names = re.findall(r'External_Name => "(\w+)"', ada_text)
-    names = {name for name, _, _ in exports(crate)} | LOAN
+    rust_names = re.findall(r'#\[link_name = named!\("(\w+)"\)\] fn nph_\1\(', rust_text.split('unsafe extern "C" {')[1].split('\n}')[0])
+    ada_names = re.findall(r'External_Name => Prefix & "(\w+)"', ada_text)
+    folder = crate.partition('_')[2] or 'moving'
+    if f'Prefix : constant String := "{PREFIXES[crate]}";' not in Path(f'bindings/ada/{folder}/norphuen_library.ads').read_text():
+        fail(f'bindings/ada/{folder} is not for {crate}')
+    condition = f'feature = "{folder}"' if crate != 'norphuen' else 'not(any('
+    if not re.search(rf'#\[cfg\([^\n]*{re.escape(condition)}[^\n]*\n[^\n]*\nmacro_rules! named {{ \(\$call:literal\) => {{ concat!\("{PREFIXES[crate]}", \$call\)', rust_text):
+        fail(f'bindings/rust/src/lib.rs does not name the calls of {crate}')
+    names = {bare(name) for name, _, _ in exports(crate)} | LOAN | PAGED
     for where, found in (('Rust', rust_names), ('Ada', ada_names)):
         if sorted(found) != sorted(names):
             fail(f'the binding in {where} declares {sorted(found)}, {crate} exports {sorted(names)}')
@@ -183,7 +210,7 @@ def bindings(crate):
             pointer = {'&mut ': '*mut ', '&': '*const ', None: ''}[reference or None]
             kinds.append(pointer + (RUST.get(rust) or rust.strip('[]')))
             kinds += ['usize'] if rust[0] == '[' else []
-        inside = re.search(rf'fn {name}\((.*?)\)(?: -> (\w+))?;', rust_text)
+        inside = re.search(rf'fn nph_{bare(name)}\((.*?)\)(?: -> (\w+))?;', rust_text)
         kinds = [f'{part}: {kind}' for part, kind in zip(c_names(parameters), kinds)]
         if [part for part in inside[1].split(', ') if part] != kinds or (inside[2] or '') != result:
             fail(f'bindings/rust/src/lib.rs: {name}({inside[1]}) is not the export, which takes {kinds}')
@@ -192,7 +219,7 @@ def bindings(crate):
             mode = 'in out ' if reference == '&mut ' else ''
             wanted.append(mode + ('Bytes' if rust[0] == '[' else ADA[rust]))
             wanted += ['size_t'] if rust[0] == '[' else []
-        profile = re.search(r'(?:function|procedure) \w+(?: \(([^()]*)\))?(?: return (\w+))? with Import, Convention => C, External_Name => "' + name + '"', ada_flat)
+        profile = re.search(r'(?:function|procedure) \w+(?: \(([^()]*)\))?(?: return (\w+))? with Import, Convention => C, External_Name => Prefix & "' + bare(name) + '"', ada_flat)
         given = []
         for part in filter(None, ((profile or fail(f'bindings/ada/norphuen.ads: cannot read {name}'))[1] or '').split(';')):
             left, kind = part.split(':')

@@ -18,6 +18,9 @@ int main(void) {
     if (nph_free(NULL, object, NULL) != NPH_OK) return 1;
 #elif MISUSE == 5 /* misuse 5: qualifiers */
     if (nph_length(other, object, &object) != NPH_OK) return 1;
+#elif MISUSE == 6 /* misuse 6: incompatible */
+    nph_nm_heap unmoved = NPH_NM_HEAP;
+    if (nph_malloc(&unmoved, 100, &object) != NPH_OK) return 1;
 #endif
     nph_close(&heap);
     return other == NULL;

@@ -1,6 +1,7 @@
 /* Drawn calls beside a plain model: each object's handle, bytes and place. Bytes are written and read by copies and in place,
  * two objects at once. Handles of objects that were freed of late are refused, drawn numbers unless a live object has them;
- * a lent heap refuses each call, and no call that fails writes anything. Ends with 1 at the first difference. Arguments: the
+ * a lent heap refuses each call, and no call that fails writes anything. No call takes more steps than its bound, and the
+ * words of a slot are known before its free. Ends with 1 at the first difference. Arguments: the
  * number of calls, and the seed. */
 #include "norphuen.h"
 #include <stdio.h>
@@ -22,6 +23,13 @@ static uint32_t live, stale[STALE], freed;
 static uint64_t state, asked, moves, loans, refused, full;
 
 #define CHECK(x) do { if (!(x)) { printf("line %d: not %s\n", __LINE__, #x); exit(1); } } while (0)
+
+/* The steps of the last call. */
+static uint64_t taken(void) {
+    uint64_t steps;
+    CHECK(nph_last_steps(&heap, &steps) == NPH_OK);
+    return steps;
+}
 
 /* A drawn number below `n`. */
 static uint32_t draw(uint32_t n) {
@@ -53,7 +61,10 @@ static void note_move(uint32_t handle) {
 static void make(void) {
     object *o = &objects[live];
     uint32_t length = draw_length(), handle = 77;
-    nph_status room = nph_has_room(&heap, length), status = nph_malloc(&heap, length, &handle);
+    nph_status room = nph_has_room(&heap, length), status;
+    CHECK(taken() <= nph_most_has_room());
+    status = nph_malloc(&heap, length, &handle);
+    CHECK(taken() <= nph_most_malloc());
     CHECK(room == status && (status == NPH_OK || status == NPH_SPACE));
     if (status != NPH_OK) { CHECK(handle == 77); full++; return; }
     CHECK(with(handle) == NULL && handle != NPH_NONE);
@@ -65,9 +76,26 @@ static void make(void) {
     live++;
 }
 
+/* The words of the slot of an object; 0 with TLSF. */
+static uint32_t slot_words(object *o) {
+    uint32_t words = 0;
+#ifndef NPH_USE_TLSF
+    uint32_t c = 77;
+    nph_class figures;
+    CHECK(nph_slot_words(&heap, o->handle, &words) == NPH_OK && nph_class_of(&heap, o->length, &c) == NPH_OK);
+    CHECK(nph_figures(&heap, c, &figures) == NPH_OK && figures.slot_words == words);
+#else
+    (void)o;
+#endif
+    return words;
+}
+
 static void release(object *o) {
     nph_freed f = {0, NPH_NONE};
+    uint32_t words = slot_words(o);
     CHECK(nph_free(&heap, o->handle, draw(2) ? &f : NULL) == NPH_OK);
+    CHECK(words == 0 || taken() <= nph_most_free(words));
+    CHECK(words == 0 || f.slot_words == 0 || f.slot_words == words);
     stale[freed++ % STALE] = o->handle;
     asked -= o->length;
     uint32_t moved = f.moved;
@@ -80,6 +108,7 @@ static void resize(object *o) {
     uint32_t length = draw_length();
     nph_resized r = {0, 0, 77};
     nph_status status = nph_resize(&heap, o->handle, length, &r);
+    CHECK(status != NPH_OK || taken() <= nph_most_resize(length, r.old_slot_words, r.slot_words));
     if (status != NPH_OK) { CHECK((status == NPH_SPACE || status == NPH_KIND) && r.moved == 77); full++; return; }
     if (length < o->length) memset(o->bytes + length, 0, PAGE - length);
     asked = asked - o->length + length;
@@ -96,6 +125,7 @@ static void copy(object *o) {
     memset(back, 7, 16);
     nph_status wanted = n <= o->length - at ? NPH_OK : NPH_RANGE;
     CHECK(nph_write(&heap, o->handle, at, bytes, n) == wanted && nph_read(&heap, o->handle, at, back, n) == wanted);
+    CHECK(wanted == NPH_OK ? taken() == nph_most_access(at, n) : taken() <= nph_most_access(at, n));
     if (wanted == NPH_OK) memcpy(o->bytes + at, bytes, n);
     for (uint32_t i = 0; i < 16; i++) CHECK(back[i] == (wanted == NPH_OK && i < n ? bytes[i] : 7));
 }

@@ -16,9 +16,27 @@
 #include <string.h>
 
 /* Only a library that lends has these. */
-#pragma weak nph_place
-#pragma weak nph_lend
-#pragma weak nph_return
+#if defined NPH_USE_NONMOVING || defined NPH_USE_TLSF
+enum { LENDS = 0 };
+#undef nph_place
+#undef nph_lend
+#undef nph_return
+#define nph_place NULL
+#define nph_lend NULL
+#define nph_return NULL
+#else
+enum { LENDS = 1 };
+#endif
+/* Only a library with pages has these. */
+#ifdef NPH_USE_TLSF
+enum { PAGED = 0 };
+#undef nph_slot_words
+#undef nph_class_of
+#define nph_slot_words NULL
+#define nph_class_of NULL
+#else
+enum { PAGED = 1 };
+#endif
 
 enum { STACK = 1 << 14, LIVE = 1024 };
 static const unsigned char paints[2] = {0xa5, 0x5a};
@@ -69,16 +87,12 @@ nph_block real_rattle_realloc(void *at, size_t kept, size_t bytes, size_t align)
 }
 void real_rattle_dealloc(void *at) { free(at); }
 
-/* The first number of nph_bytes_needed, which has no heap. */
-static uint64_t pages;
-
 /* Makes a call of the library, and prints the first words of its line. */
-static int32_t call(const char *name, void *function, uint64_t a, uint64_t b, uint64_t c, uint64_t d) {
+static int32_t call_with(uint64_t first, const char *name, void *function, uint64_t a, uint64_t b, uint64_t c, uint64_t d) {
     uint64_t steps = 0, counted, moved[3][2];
     unsigned char *low = stack, *top = stack + STACK - 64;
     int32_t code;
-    uint64_t of = function == (void *)nph_bytes_needed ? pages : (uint64_t)&heap;
-    trampoline = (struct trampoline){(uint64_t)function, {of, a, b, c, d}, (uint64_t)top, 0, 0, 0};
+    trampoline = (struct trampoline){(uint64_t)function, {first, a, b, c, d}, (uint64_t)top, 0, 0, 0};
     instructions = 0;
     memset(copied, 0, sizeof copied);
     code = call_on_stack();
@@ -92,6 +106,11 @@ static int32_t call(const char *name, void *function, uint64_t a, uint64_t b, ui
     printf("%s %" PRId32 " %" PRIu64 " %d %" PRIu64, name, function == (void *)nph_close ? 0 : code, counted, (int)(top - low), steps);
     for (int i = 0; i < 3; i++) printf(" %" PRIu64 " %" PRIu64, moved[i][0], moved[i][1]);
     return code;
+}
+
+/* The same for a call on the heap. */
+static int32_t call(const char *name, void *function, uint64_t a, uint64_t b, uint64_t c, uint64_t d) {
+    return call_with((uint64_t)&heap, name, function, a, b, c, d);
 }
 
 static uint64_t drawn(uint64_t below) {
@@ -136,7 +155,8 @@ static void read_or_write(bool writes, uint32_t handle, uint32_t at, uint32_t n)
 static void ask_handle(uint32_t handle) {
     uint32_t number;
     call("length", (void *)nph_length, handle, (uint64_t)&number, 0, 0), puts("");
-    if (nph_place) call("place", (void *)nph_place, handle, (uint64_t)&number, 0, 0), puts("");
+    if (PAGED) call("slot_words", (void *)nph_slot_words, handle, (uint64_t)&number, 0, 0), puts("");
+    if (LENDS) call("place", (void *)nph_place, handle, (uint64_t)&number, 0, 0), puts("");
 }
 
 /* Frees an object. Some handles are used once more: each call with them is refused. */
@@ -149,15 +169,32 @@ static void release(uint32_t i) {
     read_or_write(true, handle, 0, 8), read_or_write(false, handle, 0, 8);
 }
 
+/* The bounds. */
+static void ask_most(void) {
+    uint64_t n = drawn(page_words);
+    call_with(0, "most_malloc", (void *)nph_most_malloc, 0, 0, 0, 0), puts("");
+    call_with(n, "most_free", (void *)nph_most_free, 0, 0, 0, 0), puts("");
+    call_with(8 * n, "most_resize", (void *)nph_most_resize, n + 4, n + 4, 0, 0), puts("");
+    call_with(8 * n, "most_resize", (void *)nph_most_resize, n + 4, page_words, 0, 0), puts("");
+    call_with(drawn(8), "most_access", (void *)nph_most_access, n, 0, 0, 0), puts("");
+    call_with(0, "most_has_room", (void *)nph_most_has_room, 0, 0, 0, 0), puts("");
+    call_with(n, "most_totals", (void *)nph_most_totals, 0, 0, 0, 0), puts("");
+    call_with(0, "most_length", (void *)nph_most_length, 0, 0, 0, 0), puts("");
+}
+
 /* The calls that ask for the whole heap. */
 static void ask_heap(void) {
     uint64_t steps;
     nph_class c;
     nph_heap_totals t;
+    uint32_t size_class;
+    if (PAGED) call("class_of", (void *)nph_class_of, drawn(page_words * 8), (uint64_t)&size_class, 0, 0), puts("");
     call("has_room", (void *)nph_has_room, drawn(page_words * 8), 0, 0, 0), puts("");
     call("figures", (void *)nph_figures, drawn(70), (uint64_t)&c, 0, 0), puts("");
     call("totals", (void *)nph_totals, (uint64_t)&t, 0, 0, 0), puts("");
-    call("version", (void *)nph_version, 0, 0, 0, 0), puts("");
+    call_with(0, "version", (void *)nph_version, 0, 0, 0, 0), puts("");
+    call_with(0, "kind", (void *)nph_kind, 0, 0, 0, 0), puts("");
+    ask_most();
     call("last_steps", (void *)nph_last_steps, (uint64_t)&steps, 0, 0, 0), puts("");
 }
 
@@ -170,7 +207,7 @@ static void refused(uint32_t handle) {
 /* Lends the heap, makes calls that a lent heap refuses, and takes it back. */
 static void lend(uint32_t handle) {
     uint64_t *words;
-    if (!nph_lend) return;
+    if (!LENDS) return;
     call("return", (void *)nph_return, 0, 0, 0, 0), puts("");
     call("lend", (void *)nph_lend, (uint64_t)&words, 0, 0, 0), puts("");
     call("lend", (void *)nph_lend, (uint64_t)&words, 0, 0, 0), puts("");
@@ -263,8 +300,7 @@ int main(int argc, char **argv) {
     memset(stack, paints[paint], STACK);
     refused(0);
     nph_needed needed;
-    pages = settings[0];
-    call("bytes_needed", (void *)nph_bytes_needed, settings[1], settings[2], settings[3], (uint64_t)&needed), puts("");
+    call_with(settings[0], "bytes_needed", (void *)nph_bytes_needed, settings[1], settings[2], settings[3], (uint64_t)&needed), puts("");
     if (open_or_close(true, settings) != NPH_OK) return 1;
     draw_calls(strtoull(argv[2], NULL, 10));
     long_calls();

@@ -45,11 +45,14 @@ SHALLOW = {("norphuen_nonmoving", tool.X86, "nph_free"), ("norphuen_nonmoving", 
            ("norphuen", tool.ARM, "nph_open"), ("norphuen_nonmoving", tool.ARM, "nph_open"),
            ("norphuen_tlsf", tool.X86, "nph_open"), ("norphuen_tlsf", tool.ARM, "nph_open")}
 # No loop runs in these, on either processor.
-NO_LOOP = {"norphuen": {"nph_malloc", "nph_free", "nph_length", "nph_has_room", "nph_place", "nph_lend", "nph_return", "nph_version"},
-           "norphuen_nonmoving": {"nph_malloc", "nph_length", "nph_has_room", "nph_version"},
-           "norphuen_tlsf": {"nph_malloc", "nph_free", "nph_length", "nph_has_room", "nph_bytes_needed", "nph_version"}}
+BOUNDS = {f"nph_{it}" for it in "kind most_malloc most_free most_resize most_access most_has_room most_totals most_length".split()}
+NO_LOOP = {"norphuen": BOUNDS | {"nph_slot_words", "nph_class_of", "nph_malloc", "nph_free", "nph_length", "nph_has_room", "nph_place", "nph_lend", "nph_return", "nph_version"},
+           "norphuen_nonmoving": BOUNDS | {"nph_slot_words", "nph_class_of", "nph_malloc", "nph_length", "nph_has_room", "nph_version"},
+           "norphuen_tlsf": BOUNDS | {"nph_malloc", "nph_free", "nph_length", "nph_has_room", "nph_bytes_needed", "nph_version"}}
 # The lengths that the notes may use (docs/SPEED.md).
 NAMES = "smtcwbfpPWQ"
+# What puts a library under the short names of the header.
+USES = {"norphuen_nonmoving": ["-DNPH_USE_NONMOVING"], "norphuen_tlsf": ["-DNPH_USE_TLSF"]}
 failed = []
 
 
@@ -72,7 +75,7 @@ def build(room, name, library):
     Path(f"{room}/together").write_text("SECTIONS { .text : { *(.text .text.*) } }", encoding="utf-8")
     subprocess.run([f"{prefix}ld", "-r", "-T", f"{room}/together", "-o", f"{begin}.o", "--whole-archive", f"{begin}.outside.a"], check=True)
     strict = ["-std=c11", "-O2", "-Wall", "-Wextra", "-Werror", "-Iinclude"]
-    subprocess.run([compiler, *strict, "-static", "-no-pie", "-o", begin, "checks/worst_case.c", f"{begin}.o"], check=True)
+    subprocess.run([compiler, *strict, *USES.get(name, []), "-static", "-no-pie", "-o", begin, "checks/worst_case.c", f"{begin}.o"], check=True)
     plugin = f"{room}/count.so"
     subprocess.run(["gcc", *strict, "-shared", "-fPIC", "-o", plugin, "checks/worst_case_count.c"], check=True)
     printed = subprocess.run([f"{prefix}nm", "-n", begin], capture_output=True, text=True, check=True).stdout

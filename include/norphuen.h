@@ -2,13 +2,18 @@
  * handle, and asks for the object's address.
  *
  * A heap has one region. nph_open takes all memory, so that later calls take none. Each call on an open heap takes a
- * bounded number of steps (docs/C.md); nph_last_steps returns the steps of the last one. Link one of three libraries:
+ * bounded number of steps (docs/C.md); nph_last_steps returns the steps of the last one. There are three libraries, and a
+ * program may link several:
  *
  *   libnorphuen.a            Compact-fit, moving: a free may move one object, whose handle stays the same
  *   libnorphuen_nonmoving.a  Compact-fit, non-moving: a free may exchange entries of a block table. Lends nothing, since
  *                            an object's words are not side by side
  *   libnorphuen_tlsf.a       TLSF, for comparison: blocks in place of pages. No object moves or changes its length. Lends
  *                            nothing
+ *
+ * Each has names and a type of heap of its own: nph_open and nph_heap, nph_nm_open and nph_nm_heap, nph_tlsf_open and
+ * nph_tlsf_heap, and so on. The comments below speak of the short names, those of the moving library. With the macro
+ * NPH_USE_NONMOVING or NPH_USE_TLSF, defined before the header is included, the short names mean that library instead.
  *
  * The program defines the three functions rattle_alloc, rattle_realloc and rattle_dealloc, by which the library takes
  * and returns memory: examples/c/malloc.c does so over malloc, src/norphuen_arena.c over a static array.
@@ -52,18 +57,19 @@ extern "C" {
 #endif
 
 /* A heap: closed, open or lent. Its fields are the library's own. */
-typedef struct nph_heap {
-    void *at;
-    uint32_t last;
-    bool is_open;
-    bool is_lent;
-} nph_heap;
+typedef struct nph_heap { void *at; uint32_t last; bool is_open; bool is_lent; } nph_heap;
+typedef struct nph_nm_heap { void *at; uint32_t last; bool is_open; bool is_lent; } nph_nm_heap;
+typedef struct nph_tlsf_heap { void *at; uint32_t last; bool is_open; bool is_lent; } nph_tlsf_heap;
 
 /* A closed heap, to initialize or to assign. A static heap needs none, and with gcc -pedantic may have none. */
 #ifdef __cplusplus
 #define NPH_HEAP nph_heap{}
+#define NPH_NM_HEAP nph_nm_heap{}
+#define NPH_TLSF_HEAP nph_tlsf_heap{}
 #else
 #define NPH_HEAP (nph_heap){ NULL, 0, false, false }
+#define NPH_NM_HEAP (nph_nm_heap){ NULL, 0, false, false }
+#define NPH_TLSF_HEAP (nph_tlsf_heap){ NULL, 0, false, false }
 #endif
 
 /* What a call returns. A call that does not return NPH_OK writes nothing through its pointers. */
@@ -190,6 +196,13 @@ NPH_CALL nph_status nph_length(nph_heap *heap, uint32_t handle, uint32_t *bytes)
 /* Returns what nph_malloc of `bytes` bytes would return now. Makes no object. */
 NPH_CALL nph_status nph_has_room(nph_heap *heap, uint32_t bytes);
 
+/* Writes the words of the slot of an object: what nph_free of it would write. Fails with NPH_UNKNOWN. */
+NPH_CALL nph_status nph_slot_words(nph_heap *heap, uint32_t handle, uint32_t *words);
+
+/* Writes the size class of an object of `bytes` bytes, for nph_figures. Fails with NPH_SIZE. TLSF has neither this call nor
+ * the one above. */
+NPH_CALL nph_status nph_class_of(nph_heap *heap, uint32_t bytes, uint32_t *size_class);
+
 /* Writes the figures of a size class; the classes are numbered from 0. Fails with NPH_UNKNOWN if there is no such class. */
 NPH_CALL nph_status nph_figures(nph_heap *heap, uint32_t size_class, nph_class *figures);
 
@@ -201,6 +214,34 @@ NPH_CALL nph_status nph_last_steps(nph_heap *heap, uint64_t *steps);
 
 /* Returns the version of the library, in the form of NPH_VERSION. */
 uint32_t nph_version(void);
+
+/* Bounds for a plan: the most steps of a call, before it is made. These take no heap, and are those of the library's contracts.
+ * A refused call takes at most as many. nph_place takes one step. */
+
+/* Returns the kind of the library's heaps: NPH_MOVING, NPH_NONMOVING or NPH_TLSF. */
+uint32_t nph_kind(void);
+enum { NPH_MOVING = 0, NPH_NONMOVING = 1, NPH_TLSF = 2 };
+
+/* Returns the most steps of nph_malloc. */
+uint64_t nph_most_malloc(void);
+
+/* Returns the most steps of nph_free of an object whose slot or block has `slot_words` words. */
+uint64_t nph_most_free(uint32_t slot_words);
+
+/* Returns the most steps of nph_resize to `bytes` bytes, from a slot of `old_slot_words` words to one of `slot_words`. */
+uint64_t nph_most_resize(uint32_t bytes, uint32_t old_slot_words, uint32_t slot_words);
+
+/* Returns the most steps of nph_read or nph_write of `count` bytes from byte `at` on. One that is not refused takes just these. */
+uint64_t nph_most_access(uint32_t at, uint32_t count);
+
+/* Returns the most steps of nph_has_room. */
+uint64_t nph_most_has_room(void);
+
+/* Returns the most steps of nph_totals on a heap with `free_count` free pages or blocks. */
+uint64_t nph_most_totals(uint32_t free_count);
+
+/* Returns the most steps of nph_length. */
+uint64_t nph_most_length(void);
 
 /* Pointers to objects. Call nph_place for each object, then nph_lend. Until nph_return the bytes of an object are at
  * nph_bytes(words, place), aligned to 8, and the program reads and writes them there. Each other call but nph_close
@@ -219,21 +260,98 @@ NPH_CALL nph_status nph_return(nph_heap *heap);
 /* The address of the bytes of an object. */
 static inline void *nph_bytes(uint64_t *words, uint32_t place) { return words + place + 1; }
 
-/* These let `freed` and `resized` be NULL. The library's own functions need a pointer. */
-NPH_CALL_OR_NULL
-static inline nph_status nph_free_or_null(nph_heap *heap, uint32_t handle, nph_freed *freed) {
-    nph_freed ignored;
-    return nph_free(heap, handle, freed ? freed : &ignored);
-}
+/* The calls of the other libraries. Each is as the one above with the short name. */
+#define NPH_CALLS_OF(nph) \
+    NPH_CALL nph_status nph##_open(nph##_heap *heap, uint32_t pages, uint32_t page_bytes, uint32_t k, uint32_t proxies); \
+    NPH_CALL nph_status nph##_bytes_needed(uint32_t pages, uint32_t page_bytes, uint32_t k, uint32_t proxies, nph_needed *needed); \
+    NPH_NONNULL void nph##_close(nph##_heap *heap); \
+    NPH_CALL nph_status nph##_malloc(nph##_heap *heap, uint32_t bytes, uint32_t *handle); \
+    NPH_CALL nph_status nph##_free(nph##_heap *heap, uint32_t handle, nph_freed *freed); \
+    NPH_CALL nph_status nph##_resize(nph##_heap *heap, uint32_t handle, uint32_t bytes, nph_resized *resized); \
+    NPH_CALL nph_status nph##_write(nph##_heap *heap, uint32_t handle, uint32_t at, const void *bytes, size_t count); \
+    NPH_CALL nph_status nph##_read(nph##_heap *heap, uint32_t handle, uint32_t at, void *bytes, size_t count); \
+    NPH_CALL nph_status nph##_length(nph##_heap *heap, uint32_t handle, uint32_t *bytes); \
+    NPH_CALL nph_status nph##_has_room(nph##_heap *heap, uint32_t bytes); \
+    NPH_CALL nph_status nph##_figures(nph##_heap *heap, uint32_t size_class, nph_class *figures); \
+    NPH_CALL nph_status nph##_totals(nph##_heap *heap, nph_heap_totals *totals); \
+    NPH_CALL nph_status nph##_last_steps(nph##_heap *heap, uint64_t *steps); \
+    uint32_t nph##_version(void); \
+    uint32_t nph##_kind(void); \
+    uint64_t nph##_most_malloc(void); \
+    uint64_t nph##_most_free(uint32_t slot_words); \
+    uint64_t nph##_most_resize(uint32_t bytes, uint32_t old_slot_words, uint32_t slot_words); \
+    uint64_t nph##_most_access(uint32_t at, uint32_t count); \
+    uint64_t nph##_most_has_room(void); \
+    uint64_t nph##_most_totals(uint32_t free_count); \
+    uint64_t nph##_most_length(void);
+NPH_CALLS_OF(nph_nm)
+NPH_CALLS_OF(nph_tlsf)
+NPH_CALL nph_status nph_nm_slot_words(nph_nm_heap *heap, uint32_t handle, uint32_t *words);
+NPH_CALL nph_status nph_nm_class_of(nph_nm_heap *heap, uint32_t bytes, uint32_t *size_class);
 
-NPH_CALL_OR_NULL
-static inline nph_status nph_resize_or_null(nph_heap *heap, uint32_t handle, uint32_t bytes, nph_resized *resized) {
-    nph_resized ignored;
-    return nph_resize(heap, handle, bytes, resized ? resized : &ignored);
-}
+/* These let `freed` and `resized` be NULL. The libraries' own functions need a pointer. */
+#define NPH_OR_NULL_OF(nph) \
+    NPH_CALL_OR_NULL static inline nph_status nph##_free_or_null(nph##_heap *heap, uint32_t handle, nph_freed *freed) { \
+        nph_freed ignored; \
+        return nph##_free(heap, handle, freed ? freed : &ignored); \
+    } \
+    NPH_CALL_OR_NULL static inline nph_status nph##_resize_or_null(nph##_heap *heap, uint32_t handle, uint32_t bytes, nph_resized *resized) { \
+        nph_resized ignored; \
+        return nph##_resize(heap, handle, bytes, resized ? resized : &ignored); \
+    }
+NPH_OR_NULL_OF(nph)
+NPH_OR_NULL_OF(nph_nm)
+NPH_OR_NULL_OF(nph_tlsf)
+#undef NPH_CALLS_OF
+#undef NPH_OR_NULL_OF
 
+#define nph_nm_free(heap, handle, freed) nph_nm_free_or_null(heap, handle, freed)
+#define nph_nm_resize(heap, handle, bytes, resized) nph_nm_resize_or_null(heap, handle, bytes, resized)
+#define nph_tlsf_free(heap, handle, freed) nph_tlsf_free_or_null(heap, handle, freed)
+#define nph_tlsf_resize(heap, handle, bytes, resized) nph_tlsf_resize_or_null(heap, handle, bytes, resized)
+
+/* What the short names mean. */
+#if defined NPH_USE_NONMOVING && defined NPH_USE_TLSF
+#error "the short names are those of one library"
+#elif defined NPH_USE_NONMOVING
+#define NPH_NAME(name) nph_nm_##name
+#elif defined NPH_USE_TLSF
+#define NPH_NAME(name) nph_tlsf_##name
+#else
 #define nph_free(heap, handle, freed) nph_free_or_null(heap, handle, freed)
 #define nph_resize(heap, handle, bytes, resized) nph_resize_or_null(heap, handle, bytes, resized)
+#endif
+
+#ifdef NPH_NAME
+#define nph_heap NPH_NAME(heap)
+#define nph_open NPH_NAME(open)
+#define nph_bytes_needed NPH_NAME(bytes_needed)
+#define nph_close NPH_NAME(close)
+#define nph_malloc NPH_NAME(malloc)
+#define nph_free NPH_NAME(free)
+#define nph_resize NPH_NAME(resize)
+#define nph_write NPH_NAME(write)
+#define nph_read NPH_NAME(read)
+#define nph_length NPH_NAME(length)
+#define nph_has_room NPH_NAME(has_room)
+#define nph_slot_words NPH_NAME(slot_words)
+#define nph_class_of NPH_NAME(class_of)
+#define nph_figures NPH_NAME(figures)
+#define nph_totals NPH_NAME(totals)
+#define nph_last_steps NPH_NAME(last_steps)
+#define nph_version NPH_NAME(version)
+#define nph_kind NPH_NAME(kind)
+#define nph_most_malloc NPH_NAME(most_malloc)
+#define nph_most_free NPH_NAME(most_free)
+#define nph_most_resize NPH_NAME(most_resize)
+#define nph_most_access NPH_NAME(most_access)
+#define nph_most_has_room NPH_NAME(most_has_room)
+#define nph_most_totals NPH_NAME(most_totals)
+#define nph_most_length NPH_NAME(most_length)
+#define nph_place NPH_NAME(place)
+#define nph_lend NPH_NAME(lend)
+#define nph_return NPH_NAME(return)
+#endif
 
 /* A block of memory at the address `at`. If out of memory, `ok` is false and `at` is any address but null. */
 typedef struct nph_block {

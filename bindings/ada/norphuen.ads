@@ -1,11 +1,13 @@
---  Norphuen for Ada: the calls of include/norphuen.h, whose comments hold here too. Link one of the libraries, and define
---  the three allocator functions that the header describes. Here Freed and Resized are always given. An object's bytes
+--  Norphuen for Ada: the calls of include/norphuen.h, whose comments hold here too, under the short names. The folder
+--  moving, nonmoving or tlsf chooses the library. The program links it, and defines the three allocator functions that
+--  the header describes. Here Freed and Resized are always given. An object's bytes
 --  are reached in place by a variable at its address: X : T with Import, Address => Nph_Bytes (Words, Place).
 
 with Interfaces; use Interfaces;
 with Interfaces.C; use Interfaces.C;
 with System; use System;
 with System.Storage_Elements; use System.Storage_Elements;
+with Norphuen_Library; use Norphuen_Library;
 
 package Norphuen is
 
@@ -97,80 +99,118 @@ package Norphuen is
    function Nph_Open
      (H : in out Heap; Pages, Page_Bytes, K, Proxies : Unsigned_32)
       return Code
-   with Import, Convention => C, External_Name => "nph_open";
+   with Import, Convention => C, External_Name => Prefix & "open";
 
    function Nph_Bytes_Needed
      (Pages, Page_Bytes, K, Proxies : Unsigned_32; Result : in out Needed)
       return Code
-   with Import, Convention => C, External_Name => "nph_bytes_needed";
+   with Import, Convention => C, External_Name => Prefix & "bytes_needed";
 
    procedure Nph_Close (H : in out Heap)
-   with Import, Convention => C, External_Name => "nph_close";
+   with Import, Convention => C, External_Name => Prefix & "close";
 
    function Nph_Malloc
      (H : in out Heap; Bytes : Unsigned_32; Handle : in out Unsigned_32)
       return Code
-   with Import, Convention => C, External_Name => "nph_malloc";
+   with Import, Convention => C, External_Name => Prefix & "malloc";
 
    function Nph_Free
      (H : in out Heap; Handle : Unsigned_32; Result : in out Freed)
       return Code
-   with Import, Convention => C, External_Name => "nph_free";
+   with Import, Convention => C, External_Name => Prefix & "free";
 
    function Nph_Resize
      (H      : in out Heap; Handle : Unsigned_32; Bytes : Unsigned_32;
       Result : in out Resized)
       return Code
-   with Import, Convention => C, External_Name => "nph_resize";
+   with Import, Convention => C, External_Name => Prefix & "resize";
 
    function Nph_Write
      (H     : in out Heap; Handle : Unsigned_32; At_Byte : Unsigned_32;
       Data  : Bytes; Count : size_t)
       return Code
-   with Import, Convention => C, External_Name => "nph_write";
+   with Import, Convention => C, External_Name => Prefix & "write";
 
    function Nph_Read
      (H     : in out Heap; Handle : Unsigned_32; At_Byte : Unsigned_32;
       Data  : in out Bytes; Count : size_t)
       return Code
-   with Import, Convention => C, External_Name => "nph_read";
+   with Import, Convention => C, External_Name => Prefix & "read";
 
    function Nph_Length
      (H : in out Heap; Handle : Unsigned_32; Length : in out Unsigned_32)
       return Code
-   with Import, Convention => C, External_Name => "nph_length";
+   with Import, Convention => C, External_Name => Prefix & "length";
 
    function Nph_Has_Room (H : in out Heap; Bytes : Unsigned_32) return Code
-   with Import, Convention => C, External_Name => "nph_has_room";
+   with Import, Convention => C, External_Name => Prefix & "has_room";
+
+   function Nph_Slot_Words
+     (H : in out Heap; Handle : Unsigned_32; Words : in out Unsigned_32)
+      return Code
+   with Import, Convention => C, External_Name => Prefix & "slot_words";
+
+   function Nph_Class_Of
+     (H          : in out Heap; Bytes : Unsigned_32;
+      Size_Class : in out Unsigned_32)
+      return Code
+   with Import, Convention => C, External_Name => Prefix & "class_of";
 
    function Nph_Figures
      (H : in out Heap; Size_Class : Unsigned_32; Result : in out Class)
       return Code
-   with Import, Convention => C, External_Name => "nph_figures";
+   with Import, Convention => C, External_Name => Prefix & "figures";
 
    function Nph_Totals
      (H : in out Heap; Result : in out Heap_Totals) return Code
-   with Import, Convention => C, External_Name => "nph_totals";
+   with Import, Convention => C, External_Name => Prefix & "totals";
 
    function Nph_Last_Steps
      (H : in out Heap; Steps : in out Unsigned_64) return Code
-   with Import, Convention => C, External_Name => "nph_last_steps";
+   with Import, Convention => C, External_Name => Prefix & "last_steps";
 
    function Nph_Place
      (H : in out Heap; Handle : Unsigned_32; Place : in out Unsigned_32)
       return Code
-   with Import, Convention => C, External_Name => "nph_place";
+   with Import, Convention => C, External_Name => Prefix & "place";
 
    function Nph_Lend
      (H : in out Heap; Words : in out System.Address) return Code
-   with Import, Convention => C, External_Name => "nph_lend";
+   with Import, Convention => C, External_Name => Prefix & "lend";
 
    function Nph_Return (H : in out Heap) return Code
-   with Import, Convention => C, External_Name => "nph_return";
+   with Import, Convention => C, External_Name => Prefix & "return";
 
    --  10,000 times the major number, 100 times the minor one, and the patch.
    function Nph_Version return Unsigned_32
-   with Import, Convention => C, External_Name => "nph_version";
+   with Import, Convention => C, External_Name => Prefix & "version";
+
+   --  Moving, Nonmoving or TLSF: 0, 1 or 2.
+   function Nph_Kind return Unsigned_32
+   with Import, Convention => C, External_Name => Prefix & "kind";
+
+   --  The most steps of a call, before it is made.
+   function Nph_Most_Malloc return Unsigned_64
+   with Import, Convention => C, External_Name => Prefix & "most_malloc";
+
+   function Nph_Most_Free (Slot_Words : Unsigned_32) return Unsigned_64
+   with Import, Convention => C, External_Name => Prefix & "most_free";
+
+   function Nph_Most_Resize
+     (Bytes, Old_Slot_Words, Slot_Words : Unsigned_32) return Unsigned_64
+   with Import, Convention => C, External_Name => Prefix & "most_resize";
+
+   function Nph_Most_Access (At_Byte, Count : Unsigned_32) return Unsigned_64
+   with Import, Convention => C, External_Name => Prefix & "most_access";
+
+   function Nph_Most_Has_Room return Unsigned_64
+   with Import, Convention => C, External_Name => Prefix & "most_has_room";
+
+   function Nph_Most_Totals (Free_Count : Unsigned_32) return Unsigned_64
+   with Import, Convention => C, External_Name => Prefix & "most_totals";
+
+   function Nph_Most_Length return Unsigned_64
+   with Import, Convention => C, External_Name => Prefix & "most_length";
 
    --  The address of the bytes of an object, while the heap is lent.
    function Nph_Bytes

@@ -1,6 +1,6 @@
 // Norphuen for C++17, over include/norphuen.h, whose comments hold here too. A `heap` closes itself, an `object<T>` is the
 // handle of a T, and a `scope` lends the heap while it lives and has a reference to each object asked for. Nothing here
-// throws or allocates. A scope needs a library that lends, as the header says.
+// throws or allocates. A scope needs a library that lends, as the header says. These classes are over the short names.
 #ifndef NORPHUEN_HPP
 #define NORPHUEN_HPP
 
@@ -11,7 +11,17 @@
 #include <tuple>
 #include <type_traits>
 
+// With another library under the short names, the classes are other types.
+#if defined NPH_USE_NONMOVING
+#define NPH_NAMESPACE nonmoving
+#elif defined NPH_USE_TLSF
+#define NPH_NAMESPACE tlsf
+#else
+#define NPH_NAMESPACE moving
+#endif
+
 namespace norphuen {
+inline namespace NPH_NAMESPACE {
 
 // The handle of an object that holds a T, or of none. An object may hold handles, its own type's too.
 template <class T> struct object {
@@ -107,6 +117,7 @@ template <class... T> class scope {
     uint64_t *words_ = nullptr;
 };
 
+} // namespace NPH_NAMESPACE
 } // namespace norphuen
 
 template <class... T> struct std::tuple_size<norphuen::scope<T...>> : std::integral_constant<size_t, sizeof...(T)> {};

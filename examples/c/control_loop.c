@@ -1,20 +1,14 @@
-/* A control loop: each frame makes an object and drops an older one within a budget of counted steps. The bounds of the
- * moving manager are known beforehand: a malloc takes at most 17 steps, a free at most 20 and the words of its slot. A
- * free whose bound does not fit what is left of the budget waits for the next frame. */
+/* A control loop: each frame makes an object and drops an older one within a budget of counted steps. The bound of each call
+ * is known beforehand. A free whose bound does not fit what is left of the budget waits for the next frame. */
 #include "norphuen.h"
 #include <stdio.h>
 
-enum { FRAMES = 8, BUDGET = 150, MALLOC_MOST = 17, FREE_MOST = 20, QUEUE = 16 };
+enum { FRAMES = 8, BUDGET = 150, QUEUE = 16 };
 
 /* The most steps of a free of this object, by the words of its slot. 0 if the handle is not live. */
-static uint32_t bound_of_free(nph_heap *heap, uint32_t handle) {
-    uint32_t bytes, words;
-    nph_class figures;
-    if (nph_length(heap, handle, &bytes) != NPH_OK) return 0;
-    words = 1 + (bytes + 7) / 8;
-    for (uint32_t i = 0; nph_figures(heap, i, &figures) == NPH_OK; i++)
-        if (figures.slot_words >= words) return FREE_MOST + figures.slot_words;
-    return 0;
+static uint64_t bound_of_free(nph_heap *heap, uint32_t handle) {
+    uint32_t words;
+    return nph_slot_words(heap, handle, &words) == NPH_OK ? nph_most_free(words) : 0;
 }
 
 int main(void) {
@@ -28,7 +22,7 @@ int main(void) {
         uint32_t made = 0, dropped = 0;
         uint64_t left = BUDGET;
         /* Two objects are kept. The oldest ones beyond these are freed first. */
-        while (last - first > 2 && bound_of_free(&heap, queue[first % QUEUE]) + 2 * MALLOC_MOST <= left) {
+        while (last - first > 2 && bound_of_free(&heap, queue[first % QUEUE]) + 2 * nph_most_malloc() <= left) {
             if (nph_free(&heap, queue[first++ % QUEUE], &freed) != NPH_OK) return 1;
             if (nph_last_steps(&heap, &steps) != NPH_OK) return 1;
             left -= steps;

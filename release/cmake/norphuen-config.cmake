@@ -1,4 +1,4 @@
-# Link one of norphuen::norphuen, norphuen::norphuen_nonmoving and norphuen::norphuen_tlsf. The memory functions are in
+# Link norphuen::norphuen, norphuen::norphuen_nonmoving or norphuen::norphuen_tlsf, or several. The memory functions are in
 # norphuen::malloc and norphuen::arena, which compile a file of C in the program that links them. norphuen::arena needs the
 # definition NPH_ARENA_BYTES.
 get_filename_component(norphuen_prefix "${CMAKE_CURRENT_LIST_DIR}/../../.." ABSOLUTE)

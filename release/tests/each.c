@@ -27,7 +27,9 @@ int main(void) {
     MUST(nph_length(&heap, object, &bytes) == NPH_OK && bytes == 200);
     MUST(nph_totals(&heap, &totals) == NPH_OK && totals.live == 2 && totals.asked == 208);
     MUST(nph_free(&heap, object, &freed) == NPH_OK && freed.slot_words > 25 && freed.moved == NPH_NONE);
-    MUST(nph_last_steps(&heap, &steps) == NPH_OK && steps > 0);
+    MUST(nph_last_steps(&heap, &steps) == NPH_OK && steps > 0 && steps <= nph_most_free(freed.slot_words));
+    MUST(nph_kind() <= NPH_TLSF && nph_most_malloc() < 64 && nph_most_resize(8, 4, 4) > 0 && nph_most_access(3, 2) > 2);
+    MUST(nph_most_has_room() > 0 && nph_most_totals(9) < 99 && nph_most_length() > 1);
     MUST(nph_free(&heap, object, NULL) == NPH_UNKNOWN && nph_resize(&heap, object, 9, NULL) == NPH_UNKNOWN);
     nph_close(&heap);
     MUST(nph_last_steps(&heap, &steps) == NPH_CLOSED);

@@ -2,6 +2,8 @@
 //! `malloc`, which is on by default, C's malloc. Without it the program defines the three allocator functions that
 //! `include/norphuen.h` describes.
 //!
+//! The features `nonmoving` and `tlsf` choose that library in place of the moving one.
+//!
 //! A `Heap` closes itself when it is dropped. It is `Send` and not `Sync`: one caller at a time, in any thread.
 //! `Heap::objects` lends the bytes of objects in place; it needs a library that lends, as the header says.
 #![no_std]
@@ -74,25 +76,49 @@ pub struct Heap {
     end_loan: Option<unsafe extern "C" fn(*mut RawHeap) -> i32>,
 }
 
+/// The name of a call in the library.
+#[cfg(not(any(feature = "nonmoving", feature = "tlsf")))]
 #[rustfmt::skip]
+macro_rules! named { ($call:literal) => { concat!("nph_", $call) } }
+#[cfg(all(feature = "nonmoving", not(feature = "tlsf")))]
+#[rustfmt::skip]
+macro_rules! named { ($call:literal) => { concat!("nph_nm_", $call) } }
+#[cfg(feature = "tlsf")]
+#[rustfmt::skip]
+macro_rules! named { ($call:literal) => { concat!("nph_tlsf_", $call) } }
+#[cfg(all(feature = "nonmoving", feature = "tlsf"))]
+compile_error!("the features nonmoving and tlsf name two libraries");
+
+#[rustfmt::skip]
+#[cfg_attr(feature = "tlsf", allow(dead_code))]
 unsafe extern "C" {
-    fn nph_open(heap: *mut RawHeap, pages: u32, page_bytes: u32, k: u32, proxies: u32) -> i32;
-    fn nph_bytes_needed(pages: u32, page_bytes: u32, k: u32, proxies: u32, needed: *mut Needed) -> i32;
-    fn nph_close(heap: *mut RawHeap);
-    fn nph_malloc(heap: *mut RawHeap, bytes: u32, handle: *mut u32) -> i32;
-    fn nph_free(heap: *mut RawHeap, handle: u32, freed: *mut RawFreed) -> i32;
-    fn nph_resize(heap: *mut RawHeap, handle: u32, bytes: u32, resized: *mut RawResized) -> i32;
-    fn nph_write(heap: *mut RawHeap, handle: u32, at: u32, bytes: *const u8, count: usize) -> i32;
-    fn nph_read(heap: *mut RawHeap, handle: u32, at: u32, bytes: *mut u8, count: usize) -> i32;
-    fn nph_length(heap: *mut RawHeap, handle: u32, bytes: *mut u32) -> i32;
-    fn nph_has_room(heap: *mut RawHeap, bytes: u32) -> i32;
-    fn nph_figures(heap: *mut RawHeap, size_class: u32, figures: *mut Class) -> i32;
-    fn nph_totals(heap: *mut RawHeap, totals: *mut HeapTotals) -> i32;
-    fn nph_last_steps(heap: *mut RawHeap, steps: *mut u64) -> i32;
-    fn nph_place(heap: *mut RawHeap, handle: u32, place: *mut u32) -> i32;
-    fn nph_lend(heap: *mut RawHeap, words: *mut *mut u64) -> i32;
-    fn nph_return(heap: *mut RawHeap) -> i32;
-    fn nph_version() -> u32;
+    #[link_name = named!("open")] fn nph_open(heap: *mut RawHeap, pages: u32, page_bytes: u32, k: u32, proxies: u32) -> i32;
+    #[link_name = named!("bytes_needed")] fn nph_bytes_needed(pages: u32, page_bytes: u32, k: u32, proxies: u32, needed: *mut Needed) -> i32;
+    #[link_name = named!("close")] fn nph_close(heap: *mut RawHeap);
+    #[link_name = named!("malloc")] fn nph_malloc(heap: *mut RawHeap, bytes: u32, handle: *mut u32) -> i32;
+    #[link_name = named!("free")] fn nph_free(heap: *mut RawHeap, handle: u32, freed: *mut RawFreed) -> i32;
+    #[link_name = named!("resize")] fn nph_resize(heap: *mut RawHeap, handle: u32, bytes: u32, resized: *mut RawResized) -> i32;
+    #[link_name = named!("write")] fn nph_write(heap: *mut RawHeap, handle: u32, at: u32, bytes: *const u8, count: usize) -> i32;
+    #[link_name = named!("read")] fn nph_read(heap: *mut RawHeap, handle: u32, at: u32, bytes: *mut u8, count: usize) -> i32;
+    #[link_name = named!("length")] fn nph_length(heap: *mut RawHeap, handle: u32, bytes: *mut u32) -> i32;
+    #[link_name = named!("has_room")] fn nph_has_room(heap: *mut RawHeap, bytes: u32) -> i32;
+    #[link_name = named!("slot_words")] fn nph_slot_words(heap: *mut RawHeap, handle: u32, words: *mut u32) -> i32;
+    #[link_name = named!("class_of")] fn nph_class_of(heap: *mut RawHeap, bytes: u32, size_class: *mut u32) -> i32;
+    #[link_name = named!("figures")] fn nph_figures(heap: *mut RawHeap, size_class: u32, figures: *mut Class) -> i32;
+    #[link_name = named!("totals")] fn nph_totals(heap: *mut RawHeap, totals: *mut HeapTotals) -> i32;
+    #[link_name = named!("last_steps")] fn nph_last_steps(heap: *mut RawHeap, steps: *mut u64) -> i32;
+    #[link_name = named!("place")] fn nph_place(heap: *mut RawHeap, handle: u32, place: *mut u32) -> i32;
+    #[link_name = named!("lend")] fn nph_lend(heap: *mut RawHeap, words: *mut *mut u64) -> i32;
+    #[link_name = named!("return")] fn nph_return(heap: *mut RawHeap) -> i32;
+    #[link_name = named!("version")] fn nph_version() -> u32;
+    #[link_name = named!("kind")] fn nph_kind() -> u32;
+    #[link_name = named!("most_malloc")] fn nph_most_malloc() -> u64;
+    #[link_name = named!("most_free")] fn nph_most_free(slot_words: u32) -> u64;
+    #[link_name = named!("most_resize")] fn nph_most_resize(bytes: u32, old_slot_words: u32, slot_words: u32) -> u64;
+    #[link_name = named!("most_access")] fn nph_most_access(at: u32, count: u32) -> u64;
+    #[link_name = named!("most_has_room")] fn nph_most_has_room() -> u64;
+    #[link_name = named!("most_totals")] fn nph_most_totals(free_count: u32) -> u64;
+    #[link_name = named!("most_length")] fn nph_most_length() -> u64;
 }
 
 /// The value if the code is that of success, else the error of the code.
@@ -127,6 +153,58 @@ fn handle_of(number: u32) -> Option<Handle> {
 /// The version of the library: 10,000 times the major number, 100 times the minor one, and the patch.
 pub fn version() -> u32 {
     unsafe { nph_version() }
+}
+
+/// The kind of the library's heaps.
+#[derive(Clone, Copy, Debug, PartialEq, Eq)]
+#[rustfmt::skip]
+pub enum HeapKind { Moving, NonMoving, Tlsf }
+
+/// The kind of the library's heaps.
+pub fn kind() -> HeapKind {
+    match unsafe { nph_kind() } {
+        0 => HeapKind::Moving,
+        1 => HeapKind::NonMoving,
+        _ => HeapKind::Tlsf,
+    }
+}
+
+/// The most steps of each call, before it is made.
+pub mod most {
+    /// Of `malloc`.
+    pub fn malloc() -> u64 {
+        unsafe { super::nph_most_malloc() }
+    }
+
+    /// Of `free` of an object whose slot or block has `slot_words` words.
+    pub fn free(slot_words: u32) -> u64 {
+        unsafe { super::nph_most_free(slot_words) }
+    }
+
+    /// Of `resize` to `bytes` bytes, from a slot of `old_slot_words` words to one of `slot_words`.
+    pub fn resize(bytes: u32, old_slot_words: u32, slot_words: u32) -> u64 {
+        unsafe { super::nph_most_resize(bytes, old_slot_words, slot_words) }
+    }
+
+    /// Of `read` or `write` of `count` bytes from byte `at` on. One that is not refused takes just these.
+    pub fn access(at: u32, count: u32) -> u64 {
+        unsafe { super::nph_most_access(at, count) }
+    }
+
+    /// Of `has_room`.
+    pub fn has_room() -> u64 {
+        unsafe { super::nph_most_has_room() }
+    }
+
+    /// Of `totals` with `free_count` free pages or blocks.
+    pub fn totals(free_count: u32) -> u64 {
+        unsafe { super::nph_most_totals(free_count) }
+    }
+
+    /// Of `length`.
+    pub fn length() -> u64 {
+        unsafe { super::nph_most_length() }
+    }
 }
 
 // Why the calls are safe: each gets an open heap, references that do not overlap, and slices with their lengths. The slices of
@@ -213,6 +291,22 @@ impl Heap {
     /// Whether `malloc` would succeed now, else its error.
     pub fn has_room(&mut self, bytes: u32) -> Result<(), Error> {
         result_of(unsafe { nph_has_room(self.raw(), bytes) }, ())
+    }
+
+    /// The words of an object's slot, as `free` of it would return them.
+    #[cfg(not(feature = "tlsf"))]
+    pub fn slot_words(&mut self, object: Handle) -> Result<u32, Error> {
+        let mut words = 0;
+        let code = unsafe { nph_slot_words(self.raw(), object.0, &mut words) };
+        result_of(code, words)
+    }
+
+    /// The size class of an object of `bytes` bytes.
+    #[cfg(not(feature = "tlsf"))]
+    pub fn class_of(&mut self, bytes: u32) -> Result<u32, Error> {
+        let mut size_class = 0;
+        let code = unsafe { nph_class_of(self.raw(), bytes, &mut size_class) };
+        result_of(code, size_class)
     }
 
     /// The figures of a size class, numbered from 0; none if there is no such class.

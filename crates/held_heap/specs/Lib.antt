@@ -20,4 +20,6 @@ pub mod Tlsf
 pub mod TlsfLoan
 pub mod TlsfPlace
 pub mod Needed
+pub mod Most
+pub mod Slots
 pub mod Version

@@ -8,11 +8,13 @@ mod handles;
 mod held;
 pub mod laws;
 mod loose;
+pub mod most;
 pub mod moving;
 mod needed;
 pub mod nonmoving;
 mod of_kind;
 mod place;
+mod slots;
 pub mod tlsf;
 mod unboxed;
 

@@ -10,13 +10,16 @@ ghost use Rattle.cf_base.specs.declared.kind.Kind.TheVariants.{Moving};
 ghost use Rattle.held_heap.specs.Calls.{IsFiguresCall, IsFreeCall, IsLengthCall, IsMallocCall, IsPlaceCall, IsReadCall, IsResizeCall, IsRoomCall, IsStepsCall, IsTotalsCall, IsWriteCall};
 ghost use Rattle.held_heap.specs.AtPlace.{IsCallOnOpen, IsLendCall, IsOpenCall, IsReturnCall};
 ghost use Rattle.held_heap.specs.CallerHeap.{closed_by};
+ghost use Rattle.held_heap.specs.Most.{IsMostAccess, IsMostFree, IsMostLength, IsMostMalloc, IsMostResize, IsMostRoom, IsMostTotals, kind_code};
 ghost use Rattle.held_heap.specs.Needed.{IsNeededCall};
+ghost use Rattle.held_heap.specs.Slots.{IsClassCall, IsSlotWordsCall};
 ghost use Rattle.held_heap.specs.MovingPlace.{held_in};
 ghost use Rattle.held_heap.specs.Moving.{bounds};
 ghost use Rattle.held_heap.specs.Version.{version};
 
+use cf_base::Kind;
 use held_heap::moving::NphHeap;
-use held_heap::{NphClass, NphFreed, NphHeapTotals, NphNeeded, NphResized, VERSION};
+use held_heap::{NphClass, NphFreed, NphHeapTotals, NphNeeded, NphResized, VERSION, most};
 use std::rt::Memory;
 
 /// Opens the heap with these settings: `pages` pages of `page_bytes` bytes, at most `k` partly full pages in
@@ -158,6 +161,32 @@ pub extern "C" fn nph_has_room(heap: &mut NphHeap, bytes: u32) -> i32
     }
 }
 
+/// Writes the words of an object's slot into `words`, as a free of it would (`Held::slot_words`).
+#[unsafe(no_mangle)]
+pub extern "C" fn nph_slot_words(heap: &mut NphHeap, handle: u32, words: &mut u32) -> i32
+    ensures { IsCallOnOpen (held_in heap.old) result (held_in heap.new) (words.new ≡ words.old)
+        (λ h h2. IsSlotWordsCall Moving h handle words.old result words.new h2) }
+{
+    if heap.is_open() {
+        heap.held().slot_words(handle, words)
+    } else {
+        heap.refusal()
+    }
+}
+
+/// Writes the size class of an object of `bytes` bytes, numbered from 0, into `class` (`Held::class_of`).
+#[unsafe(no_mangle)]
+pub extern "C" fn nph_class_of(heap: &mut NphHeap, bytes: u32, class: &mut u32) -> i32
+    ensures { IsCallOnOpen (held_in heap.old) result (held_in heap.new) (class.new ≡ class.old)
+        (λ h h2. IsClassCall h bytes class.old result class.new h2) }
+{
+    if heap.is_open() {
+        heap.held().class_of(bytes, class)
+    } else {
+        heap.refusal()
+    }
+}
+
 /// Writes the figures of a size class, numbered from 0, into `figures` (`Held::figures`).
 #[unsafe(no_mangle)]
 pub extern "C" fn nph_figures(heap: &mut NphHeap, class: u32, figures: &mut NphClass) -> i32
@@ -235,4 +264,69 @@ pub extern "C" fn nph_version() -> u32
     ensures { result ≡ version }
 {
     VERSION
+}
+
+/// Returns the kind of this library's heaps (`most::kind`). It and the calls below take no heap. Each of those returns the
+/// most steps of a call, which are those of the bound in its contract (`bounds`).
+#[unsafe(no_mangle)]
+pub extern "C" fn nph_kind() -> u32
+    ensures { result ≡ kind_code Moving }
+{
+    most::kind(Kind::Moving)
+}
+
+/// Returns the most steps of a malloc (`most_malloc`).
+#[unsafe(no_mangle)]
+pub extern "C" fn nph_most_malloc() -> u64
+    ensures { IsMostMalloc bounds result }
+{
+    most::most_malloc(Kind::Moving)
+}
+
+/// Returns the most steps of a free of an object whose slot has this many words (`most_free`).
+#[unsafe(no_mangle)]
+pub extern "C" fn nph_most_free(slot_words: u32) -> u64
+    ensures { IsMostFree bounds slot_words result }
+{
+    most::most_free(Kind::Moving, slot_words)
+}
+
+/// Returns the most steps of a resize to `bytes` bytes between slots of these words (`most_resize`).
+#[unsafe(no_mangle)]
+pub extern "C" fn nph_most_resize(bytes: u32, old_slot_words: u32, slot_words: u32) -> u64
+    ensures { IsMostResize bounds bytes old_slot_words slot_words result }
+{
+    most::most_resize(Kind::Moving, bytes, old_slot_words, slot_words)
+}
+
+/// Returns the steps of a read or a write of `count` bytes from byte `at` on (`most_access`).
+#[unsafe(no_mangle)]
+pub extern "C" fn nph_most_access(at: u32, count: u32) -> u64
+    ensures { IsMostAccess bounds at count result }
+{
+    most::most_access(Kind::Moving, at, count)
+}
+
+/// Returns the most steps of `nph_has_room` (`most_has_room`).
+#[unsafe(no_mangle)]
+pub extern "C" fn nph_most_has_room() -> u64
+    ensures { IsMostRoom bounds result }
+{
+    most::most_has_room(Kind::Moving)
+}
+
+/// Returns the most steps of `nph_totals` on a heap with this many free pages or blocks (`most_totals`).
+#[unsafe(no_mangle)]
+pub extern "C" fn nph_most_totals(free_count: u32) -> u64
+    ensures { IsMostTotals bounds free_count result }
+{
+    most::most_totals(Kind::Moving, free_count)
+}
+
+/// Returns the most steps of `nph_length` (`most_length`).
+#[unsafe(no_mangle)]
+pub extern "C" fn nph_most_length() -> u64
+    ensures { IsMostLength Moving result }
+{
+    most::most_length(Kind::Moving)
 }

@@ -1,7 +1,7 @@
 //! The non-moving manager as a library for C. `include/norphuen.h` describes each export for C. An export calls
 //! the function of `held_heap` that its comment names, and its contract is that function's. Each export but
-//! `nph_close` returns a code: 0 (`DONE`) if the call is done, else the cause (`held_heap`, file `codes`).
-//! While the heap is closed, each export but `nph_open` and `nph_close` returns `CLOSED` and changes nothing
+//! `nph_nm_close` returns a code: 0 (`DONE`) if the call is done, else the cause (`held_heap`, file `codes`).
+//! While the heap is closed, each export but `nph_nm_open` and `nph_nm_close` returns `CLOSED` and changes nothing
 //! (`IsCallOnOpen`).
 #![tactic(auto)]
 
@@ -10,20 +10,23 @@ ghost use Rattle.cf_base.specs.declared.kind.Kind.TheVariants.{NonMoving};
 ghost use Rattle.held_heap.specs.Calls.{IsFiguresCall, IsFreeCall, IsLengthCall, IsMallocCall, IsReadCall, IsResizeCall, IsRoomCall, IsStepsCall, IsTotalsCall, IsWriteCall};
 ghost use Rattle.held_heap.specs.AtPlace.{IsOpenCall, IsCallOnOpen};
 ghost use Rattle.held_heap.specs.CallerHeap.{closed_by};
+ghost use Rattle.held_heap.specs.Most.{IsMostAccess, IsMostFree, IsMostLength, IsMostMalloc, IsMostResize, IsMostRoom, IsMostTotals, kind_code};
 ghost use Rattle.held_heap.specs.Needed.{IsNeededCall};
+ghost use Rattle.held_heap.specs.Slots.{IsClassCall, IsSlotWordsCall};
 ghost use Rattle.held_heap.specs.NonMovingPlace.{held_in};
 ghost use Rattle.held_heap.specs.NonMoving.{bounds};
 ghost use Rattle.held_heap.specs.Version.{version};
 
+use cf_base::Kind;
 use held_heap::nonmoving::NphHeap;
-use held_heap::{CLOSED, NphClass, NphFreed, NphHeapTotals, NphNeeded, NphResized, VERSION};
+use held_heap::{CLOSED, NphClass, NphFreed, NphHeapTotals, NphNeeded, NphResized, VERSION, most};
 use std::rt::Memory;
 
 /// Opens the heap with these settings: `pages` pages of `page_bytes` bytes, at most `k` partly full pages in
-/// each class, and at most `proxies` live objects (`NphHeap::open`). `memory`, here and in `nph_close`, is the
+/// each class, and at most `proxies` live objects (`NphHeap::open`). `memory`, here and in `nph_nm_close`, is the
 /// kit's value for the memory of the process; a caller in C passes none.
 #[unsafe(no_mangle)]
-pub extern "C" fn nph_open(
+pub extern "C" fn nph_nm_open(
     heap: &mut NphHeap,
     memory: Memory,
     pages: u32,
@@ -36,11 +39,11 @@ pub extern "C" fn nph_open(
     heap.open(memory, pages, page_bytes, k, proxies)
 }
 
-/// Writes into `needed` what `nph_open` with these settings asks of the functions that take and return memory: how many
+/// Writes into `needed` what `nph_nm_open` with these settings asks of the functions that take and return memory: how many
 /// blocks, the bytes of all, and those of the largest. The caller's own memory for `heap` isn't counted, nor what the
 /// functions need for a block. Returns 0, or the code of the first setting out of range (`NphHeap::bytes_needed`).
 #[unsafe(no_mangle)]
-pub extern "C" fn nph_bytes_needed(
+pub extern "C" fn nph_nm_bytes_needed(
     pages: u32,
     page_bytes: u32,
     k: u32,
@@ -54,7 +57,7 @@ pub extern "C" fn nph_bytes_needed(
 
 /// Closes the heap and frees its memory; does nothing if it is closed (`NphHeap::close`).
 #[unsafe(no_mangle)]
-pub extern "C" fn nph_close(heap: &mut NphHeap, memory: Memory)
+pub extern "C" fn nph_nm_close(heap: &mut NphHeap, memory: Memory)
     ensures { held_in heap.new ≡ closed_by (held_in heap.old) }
 {
     heap.close(memory);
@@ -62,7 +65,7 @@ pub extern "C" fn nph_close(heap: &mut NphHeap, memory: Memory)
 
 /// Makes an object of `bytes` zeros and writes its handle into `handle` (`Held::malloc`).
 #[unsafe(no_mangle)]
-pub extern "C" fn nph_malloc(heap: &mut NphHeap, bytes: u32, handle: &mut u32) -> i32
+pub extern "C" fn nph_nm_malloc(heap: &mut NphHeap, bytes: u32, handle: &mut u32) -> i32
     ensures { IsCallOnOpen (held_in heap.old) result (held_in heap.new) (handle.new ≡ handle.old)
         (λ h h2. IsMallocCall bounds h bytes handle.old result handle.new h2) }
 {
@@ -76,7 +79,7 @@ pub extern "C" fn nph_malloc(heap: &mut NphHeap, bytes: u32, handle: &mut u32) -
 /// Frees an object. Writes into `freed` how many words its slot has, and which object moved into it
 /// (`Held::free`).
 #[unsafe(no_mangle)]
-pub extern "C" fn nph_free(heap: &mut NphHeap, handle: u32, freed: &mut NphFreed) -> i32
+pub extern "C" fn nph_nm_free(heap: &mut NphHeap, handle: u32, freed: &mut NphFreed) -> i32
     ensures { IsCallOnOpen (held_in heap.old) result (held_in heap.new) (freed.new ≡ freed.old)
         (λ h h2. IsFreeCall bounds h handle freed.old result freed.new h2) }
 {
@@ -90,7 +93,7 @@ pub extern "C" fn nph_free(heap: &mut NphHeap, handle: u32, freed: &mut NphFreed
 /// Changes an object's length to `bytes` bytes. Writes into `resized` how many words its old
 /// and its new slot have, and which other object moved (`Held::resize`).
 #[unsafe(no_mangle)]
-pub extern "C" fn nph_resize(
+pub extern "C" fn nph_nm_resize(
     heap: &mut NphHeap,
     handle: u32,
     bytes: u32,
@@ -108,7 +111,7 @@ pub extern "C" fn nph_resize(
 
 /// Writes `bytes` into an object, from its byte `at` on (`Held::write`).
 #[unsafe(no_mangle)]
-pub extern "C" fn nph_write(heap: &mut NphHeap, handle: u32, at: u32, bytes: &[u8]) -> i32
+pub extern "C" fn nph_nm_write(heap: &mut NphHeap, handle: u32, at: u32, bytes: &[u8]) -> i32
     ensures { IsCallOnOpen (held_in heap.old) result (held_in heap.new) (Unit {0})
         (λ h h2. IsWriteCall bounds h handle at bytes.now result h2) }
 {
@@ -121,7 +124,7 @@ pub extern "C" fn nph_write(heap: &mut NphHeap, handle: u32, at: u32, bytes: &[u
 
 /// Fills `out` with bytes of an object, from its byte `at` on (`Held::read`).
 #[unsafe(no_mangle)]
-pub extern "C" fn nph_read(heap: &mut NphHeap, handle: u32, at: u32, out: &mut [u8]) -> i32
+pub extern "C" fn nph_nm_read(heap: &mut NphHeap, handle: u32, at: u32, out: &mut [u8]) -> i32
     ensures { IsCallOnOpen (held_in heap.old) result (held_in heap.new) (out.new ≡ out.old)
         (λ h h2. IsReadCall bounds h handle at out.old result out.new h2) }
 {
@@ -134,7 +137,7 @@ pub extern "C" fn nph_read(heap: &mut NphHeap, handle: u32, at: u32, out: &mut [
 
 /// Writes the object's length in bytes into `bytes` (`Held::length`).
 #[unsafe(no_mangle)]
-pub extern "C" fn nph_length(heap: &mut NphHeap, handle: u32, bytes: &mut u32) -> i32
+pub extern "C" fn nph_nm_length(heap: &mut NphHeap, handle: u32, bytes: &mut u32) -> i32
     ensures { IsCallOnOpen (held_in heap.old) result (held_in heap.new) (bytes.new ≡ bytes.old)
         (λ h h2. IsLengthCall NonMoving h handle bytes.old result bytes.new h2) }
 {
@@ -147,7 +150,7 @@ pub extern "C" fn nph_length(heap: &mut NphHeap, handle: u32, bytes: &mut u32) -
 
 /// Returns the code that a malloc of `bytes` bytes would return now (`Held::has_room`).
 #[unsafe(no_mangle)]
-pub extern "C" fn nph_has_room(heap: &mut NphHeap, bytes: u32) -> i32
+pub extern "C" fn nph_nm_has_room(heap: &mut NphHeap, bytes: u32) -> i32
     ensures { IsCallOnOpen (held_in heap.old) result (held_in heap.new) (Unit {0})
         (λ h h2. IsRoomCall bounds h bytes result h2) }
 {
@@ -158,9 +161,35 @@ pub extern "C" fn nph_has_room(heap: &mut NphHeap, bytes: u32) -> i32
     }
 }
 
+/// Writes the words of an object's slot into `words`, as a free of it would (`Held::slot_words`).
+#[unsafe(no_mangle)]
+pub extern "C" fn nph_nm_slot_words(heap: &mut NphHeap, handle: u32, words: &mut u32) -> i32
+    ensures { IsCallOnOpen (held_in heap.old) result (held_in heap.new) (words.new ≡ words.old)
+        (λ h h2. IsSlotWordsCall NonMoving h handle words.old result words.new h2) }
+{
+    if heap.is_open() {
+        heap.held().slot_words(handle, words)
+    } else {
+        CLOSED
+    }
+}
+
+/// Writes the size class of an object of `bytes` bytes, numbered from 0, into `class` (`Held::class_of`).
+#[unsafe(no_mangle)]
+pub extern "C" fn nph_nm_class_of(heap: &mut NphHeap, bytes: u32, class: &mut u32) -> i32
+    ensures { IsCallOnOpen (held_in heap.old) result (held_in heap.new) (class.new ≡ class.old)
+        (λ h h2. IsClassCall h bytes class.old result class.new h2) }
+{
+    if heap.is_open() {
+        heap.held().class_of(bytes, class)
+    } else {
+        CLOSED
+    }
+}
+
 /// Writes the figures of a size class, numbered from 0, into `figures` (`Held::figures`).
 #[unsafe(no_mangle)]
-pub extern "C" fn nph_figures(heap: &mut NphHeap, class: u32, figures: &mut NphClass) -> i32
+pub extern "C" fn nph_nm_figures(heap: &mut NphHeap, class: u32, figures: &mut NphClass) -> i32
     ensures { IsCallOnOpen (held_in heap.old) result (held_in heap.new) (figures.new ≡ figures.old)
         (λ h h2. IsFiguresCall h class figures.old result figures.new h2) }
 {
@@ -173,7 +202,7 @@ pub extern "C" fn nph_figures(heap: &mut NphHeap, class: u32, figures: &mut NphC
 
 /// Writes the figures of the whole heap into `totals` (`Held::totals`).
 #[unsafe(no_mangle)]
-pub extern "C" fn nph_totals(heap: &mut NphHeap, totals: &mut NphHeapTotals) -> i32
+pub extern "C" fn nph_nm_totals(heap: &mut NphHeap, totals: &mut NphHeapTotals) -> i32
     ensures { IsCallOnOpen (held_in heap.old) result (held_in heap.new) (totals.new ≡ totals.old)
         (λ h h2. IsTotalsCall bounds h result totals.new h2) }
 {
@@ -184,10 +213,10 @@ pub extern "C" fn nph_totals(heap: &mut NphHeap, totals: &mut NphHeapTotals) -> 
     }
 }
 
-/// Writes the steps of the last call into `steps` (`Held::last_steps`). `nph_figures` and this call count
+/// Writes the steps of the last call into `steps` (`Held::last_steps`). `nph_nm_figures` and this call count
 /// none, and leave that number unchanged.
 #[unsafe(no_mangle)]
-pub extern "C" fn nph_last_steps(heap: &mut NphHeap, steps: &mut u64) -> i32
+pub extern "C" fn nph_nm_last_steps(heap: &mut NphHeap, steps: &mut u64) -> i32
     ensures { IsCallOnOpen (held_in heap.old) result (held_in heap.new) (steps.new ≡ steps.old)
         (λ h h2. IsStepsCall h result steps.new h2) }
 {
@@ -200,8 +229,73 @@ pub extern "C" fn nph_last_steps(heap: &mut NphHeap, steps: &mut u64) -> i32
 
 /// Returns the version of this library (`VERSION`).
 #[unsafe(no_mangle)]
-pub extern "C" fn nph_version() -> u32
+pub extern "C" fn nph_nm_version() -> u32
     ensures { result ≡ version }
 {
     VERSION
+}
+
+/// Returns the kind of this library's heaps (`most::kind`). It and the calls below take no heap. Each of those returns the
+/// most steps of a call, which are those of the bound in its contract (`bounds`).
+#[unsafe(no_mangle)]
+pub extern "C" fn nph_nm_kind() -> u32
+    ensures { result ≡ kind_code NonMoving }
+{
+    most::kind(Kind::NonMoving)
+}
+
+/// Returns the most steps of a malloc (`most_malloc`).
+#[unsafe(no_mangle)]
+pub extern "C" fn nph_nm_most_malloc() -> u64
+    ensures { IsMostMalloc bounds result }
+{
+    most::most_malloc(Kind::NonMoving)
+}
+
+/// Returns the most steps of a free of an object whose slot has this many words (`most_free`).
+#[unsafe(no_mangle)]
+pub extern "C" fn nph_nm_most_free(slot_words: u32) -> u64
+    ensures { IsMostFree bounds slot_words result }
+{
+    most::most_free(Kind::NonMoving, slot_words)
+}
+
+/// Returns the most steps of a resize to `bytes` bytes between slots of these words (`most_resize`).
+#[unsafe(no_mangle)]
+pub extern "C" fn nph_nm_most_resize(bytes: u32, old_slot_words: u32, slot_words: u32) -> u64
+    ensures { IsMostResize bounds bytes old_slot_words slot_words result }
+{
+    most::most_resize(Kind::NonMoving, bytes, old_slot_words, slot_words)
+}
+
+/// Returns the steps of a read or a write of `count` bytes from byte `at` on (`most_access`).
+#[unsafe(no_mangle)]
+pub extern "C" fn nph_nm_most_access(at: u32, count: u32) -> u64
+    ensures { IsMostAccess bounds at count result }
+{
+    most::most_access(Kind::NonMoving, at, count)
+}
+
+/// Returns the most steps of `nph_nm_has_room` (`most_has_room`).
+#[unsafe(no_mangle)]
+pub extern "C" fn nph_nm_most_has_room() -> u64
+    ensures { IsMostRoom bounds result }
+{
+    most::most_has_room(Kind::NonMoving)
+}
+
+/// Returns the most steps of `nph_nm_totals` on a heap with this many free pages or blocks (`most_totals`).
+#[unsafe(no_mangle)]
+pub extern "C" fn nph_nm_most_totals(free_count: u32) -> u64
+    ensures { IsMostTotals bounds free_count result }
+{
+    most::most_totals(Kind::NonMoving, free_count)
+}
+
+/// Returns the most steps of `nph_nm_length` (`most_length`).
+#[unsafe(no_mangle)]
+pub extern "C" fn nph_nm_most_length() -> u64
+    ensures { IsMostLength NonMoving result }
+{
+    most::most_length(Kind::NonMoving)
 }

@@ -1,7 +1,7 @@
 //! The TLSF manager as a library for C, to compare it with the other two. `include/norphuen.h` describes each
 //! export for C. An export calls the function of `held_heap` that its comment names, and its contract is that
-//! function's. Each export but `nph_close` returns a code: 0 (`DONE`) if the call is done, else the cause
-//! (`held_heap`, file `codes`). While the heap is closed, each export but `nph_open` and `nph_close` returns
+//! function's. Each export but `nph_tlsf_close` returns a code: 0 (`DONE`) if the call is done, else the cause
+//! (`held_heap`, file `codes`). While the heap is closed, each export but `nph_tlsf_open` and `nph_tlsf_close` returns
 //! `CLOSED` and changes nothing (`IsCallOnOpen`).
 #![tactic(auto)]
 
@@ -10,20 +10,22 @@ ghost use Rattle.cf_base.specs.declared.kind.Kind.TheVariants.{Tlsf};
 ghost use Rattle.held_heap.specs.Calls.{IsFiguresCall, IsFreeCall, IsLengthCall, IsMallocCall, IsReadCall, IsResizeCall, IsRoomCall, IsStepsCall, IsTotalsCall, IsWriteCall};
 ghost use Rattle.held_heap.specs.AtPlace.{IsOpenCall, IsCallOnOpen};
 ghost use Rattle.held_heap.specs.CallerHeap.{closed_by};
+ghost use Rattle.held_heap.specs.Most.{IsMostAccess, IsMostFree, IsMostLength, IsMostMalloc, IsMostResize, IsMostRoom, IsMostTotals, kind_code};
 ghost use Rattle.held_heap.specs.Needed.{IsNeededCall};
 ghost use Rattle.held_heap.specs.TlsfPlace.{held_in};
 ghost use Rattle.held_heap.specs.Tlsf.{bounds};
 ghost use Rattle.held_heap.specs.Version.{version};
 
+use cf_base::Kind;
 use held_heap::tlsf::NphHeap;
-use held_heap::{CLOSED, NphClass, NphFreed, NphHeapTotals, NphNeeded, NphResized, VERSION};
+use held_heap::{CLOSED, NphClass, NphFreed, NphHeapTotals, NphNeeded, NphResized, VERSION, most};
 use std::rt::Memory;
 
 /// Opens the heap with these settings: a region of `pages` times `page_bytes` bytes, and at most `proxies` live
 /// objects. `k` must be in its range, 1 to 64, and has no other effect (`NphHeap::open`). `memory`, here and in
-/// `nph_close`, is the kit's value for the memory of the process; a caller in C passes none.
+/// `nph_tlsf_close`, is the kit's value for the memory of the process; a caller in C passes none.
 #[unsafe(no_mangle)]
-pub extern "C" fn nph_open(
+pub extern "C" fn nph_tlsf_open(
     heap: &mut NphHeap,
     memory: Memory,
     pages: u32,
@@ -36,11 +38,11 @@ pub extern "C" fn nph_open(
     heap.open(memory, pages, page_bytes, k, proxies)
 }
 
-/// Writes into `needed` what `nph_open` with these settings asks of the functions that take and return memory: how many
+/// Writes into `needed` what `nph_tlsf_open` with these settings asks of the functions that take and return memory: how many
 /// blocks, the bytes of all, and those of the largest. The caller's own memory for `heap` isn't counted, nor what the
 /// functions need for a block. Returns 0, or the code of the first setting out of range (`NphHeap::bytes_needed`).
 #[unsafe(no_mangle)]
-pub extern "C" fn nph_bytes_needed(
+pub extern "C" fn nph_tlsf_bytes_needed(
     pages: u32,
     page_bytes: u32,
     k: u32,
@@ -54,7 +56,7 @@ pub extern "C" fn nph_bytes_needed(
 
 /// Closes the heap and frees its memory; does nothing if it is closed (`NphHeap::close`).
 #[unsafe(no_mangle)]
-pub extern "C" fn nph_close(heap: &mut NphHeap, memory: Memory)
+pub extern "C" fn nph_tlsf_close(heap: &mut NphHeap, memory: Memory)
     ensures { held_in heap.new ≡ closed_by (held_in heap.old) }
 {
     heap.close(memory);
@@ -62,7 +64,7 @@ pub extern "C" fn nph_close(heap: &mut NphHeap, memory: Memory)
 
 /// Makes an object of `bytes` zeros and writes its handle into `handle` (`Held::malloc`).
 #[unsafe(no_mangle)]
-pub extern "C" fn nph_malloc(heap: &mut NphHeap, bytes: u32, handle: &mut u32) -> i32
+pub extern "C" fn nph_tlsf_malloc(heap: &mut NphHeap, bytes: u32, handle: &mut u32) -> i32
     ensures { IsCallOnOpen (held_in heap.old) result (held_in heap.new) (handle.new ≡ handle.old)
         (λ h h2. IsMallocCall bounds h bytes handle.old result handle.new h2) }
 {
@@ -75,7 +77,7 @@ pub extern "C" fn nph_malloc(heap: &mut NphHeap, bytes: u32, handle: &mut u32) -
 
 /// Frees an object. Writes into `freed` the words of its block; no object moves (`Held::free`).
 #[unsafe(no_mangle)]
-pub extern "C" fn nph_free(heap: &mut NphHeap, handle: u32, freed: &mut NphFreed) -> i32
+pub extern "C" fn nph_tlsf_free(heap: &mut NphHeap, handle: u32, freed: &mut NphFreed) -> i32
     ensures { IsCallOnOpen (held_in heap.old) result (held_in heap.new) (freed.new ≡ freed.old)
         (λ h h2. IsFreeCall bounds h handle freed.old result freed.new h2) }
 {
@@ -88,7 +90,7 @@ pub extern "C" fn nph_free(heap: &mut NphHeap, handle: u32, freed: &mut NphFreed
 
 /// Changes no length: returns the code `KIND`, or `UNKNOWN` if the handle is not live (`Held::resize`).
 #[unsafe(no_mangle)]
-pub extern "C" fn nph_resize(
+pub extern "C" fn nph_tlsf_resize(
     heap: &mut NphHeap,
     handle: u32,
     bytes: u32,
@@ -106,7 +108,7 @@ pub extern "C" fn nph_resize(
 
 /// Writes `bytes` into an object, from its byte `at` on (`Held::write`).
 #[unsafe(no_mangle)]
-pub extern "C" fn nph_write(heap: &mut NphHeap, handle: u32, at: u32, bytes: &[u8]) -> i32
+pub extern "C" fn nph_tlsf_write(heap: &mut NphHeap, handle: u32, at: u32, bytes: &[u8]) -> i32
     ensures { IsCallOnOpen (held_in heap.old) result (held_in heap.new) (Unit {0})
         (λ h h2. IsWriteCall bounds h handle at bytes.now result h2) }
 {
@@ -119,7 +121,7 @@ pub extern "C" fn nph_write(heap: &mut NphHeap, handle: u32, at: u32, bytes: &[u
 
 /// Fills `out` with bytes of an object, from its byte `at` on (`Held::read`).
 #[unsafe(no_mangle)]
-pub extern "C" fn nph_read(heap: &mut NphHeap, handle: u32, at: u32, out: &mut [u8]) -> i32
+pub extern "C" fn nph_tlsf_read(heap: &mut NphHeap, handle: u32, at: u32, out: &mut [u8]) -> i32
     ensures { IsCallOnOpen (held_in heap.old) result (held_in heap.new) (out.new ≡ out.old)
         (λ h h2. IsReadCall bounds h handle at out.old result out.new h2) }
 {
@@ -132,7 +134,7 @@ pub extern "C" fn nph_read(heap: &mut NphHeap, handle: u32, at: u32, out: &mut [
 
 /// Writes the object's length in bytes into `bytes` (`Held::length`).
 #[unsafe(no_mangle)]
-pub extern "C" fn nph_length(heap: &mut NphHeap, handle: u32, bytes: &mut u32) -> i32
+pub extern "C" fn nph_tlsf_length(heap: &mut NphHeap, handle: u32, bytes: &mut u32) -> i32
     ensures { IsCallOnOpen (held_in heap.old) result (held_in heap.new) (bytes.new ≡ bytes.old)
         (λ h h2. IsLengthCall Tlsf h handle bytes.old result bytes.new h2) }
 {
@@ -145,7 +147,7 @@ pub extern "C" fn nph_length(heap: &mut NphHeap, handle: u32, bytes: &mut u32) -
 
 /// Returns the code that a malloc of `bytes` bytes would return now (`Held::has_room`).
 #[unsafe(no_mangle)]
-pub extern "C" fn nph_has_room(heap: &mut NphHeap, bytes: u32) -> i32
+pub extern "C" fn nph_tlsf_has_room(heap: &mut NphHeap, bytes: u32) -> i32
     ensures { IsCallOnOpen (held_in heap.old) result (held_in heap.new) (Unit {0})
         (λ h h2. IsRoomCall bounds h bytes result h2) }
 {
@@ -158,7 +160,7 @@ pub extern "C" fn nph_has_room(heap: &mut NphHeap, bytes: u32) -> i32
 
 /// Returns `UNKNOWN` on an open heap, since TLSF has no classes (`Held::figures`).
 #[unsafe(no_mangle)]
-pub extern "C" fn nph_figures(heap: &mut NphHeap, class: u32, figures: &mut NphClass) -> i32
+pub extern "C" fn nph_tlsf_figures(heap: &mut NphHeap, class: u32, figures: &mut NphClass) -> i32
     ensures { IsCallOnOpen (held_in heap.old) result (held_in heap.new) (figures.new ≡ figures.old)
         (λ h h2. IsFiguresCall h class figures.old result figures.new h2) }
 {
@@ -171,7 +173,7 @@ pub extern "C" fn nph_figures(heap: &mut NphHeap, class: u32, figures: &mut NphC
 
 /// Writes the figures of the whole heap into `totals` (`Held::totals`).
 #[unsafe(no_mangle)]
-pub extern "C" fn nph_totals(heap: &mut NphHeap, totals: &mut NphHeapTotals) -> i32
+pub extern "C" fn nph_tlsf_totals(heap: &mut NphHeap, totals: &mut NphHeapTotals) -> i32
     ensures { IsCallOnOpen (held_in heap.old) result (held_in heap.new) (totals.new ≡ totals.old)
         (λ h h2. IsTotalsCall bounds h result totals.new h2) }
 {
@@ -182,10 +184,10 @@ pub extern "C" fn nph_totals(heap: &mut NphHeap, totals: &mut NphHeapTotals) -> 
     }
 }
 
-/// Writes the steps of the last call into `steps` (`Held::last_steps`). `nph_figures` and this call count
+/// Writes the steps of the last call into `steps` (`Held::last_steps`). `nph_tlsf_figures` and this call count
 /// none, and leave that number unchanged.
 #[unsafe(no_mangle)]
-pub extern "C" fn nph_last_steps(heap: &mut NphHeap, steps: &mut u64) -> i32
+pub extern "C" fn nph_tlsf_last_steps(heap: &mut NphHeap, steps: &mut u64) -> i32
     ensures { IsCallOnOpen (held_in heap.old) result (held_in heap.new) (steps.new ≡ steps.old)
         (λ h h2. IsStepsCall h result steps.new h2) }
 {
@@ -198,8 +200,73 @@ pub extern "C" fn nph_last_steps(heap: &mut NphHeap, steps: &mut u64) -> i32
 
 /// Returns the version of this library (`VERSION`).
 #[unsafe(no_mangle)]
-pub extern "C" fn nph_version() -> u32
+pub extern "C" fn nph_tlsf_version() -> u32
     ensures { result ≡ version }
 {
     VERSION
+}
+
+/// Returns the kind of this library's heaps (`most::kind`). It and the calls below take no heap. Each of those returns the
+/// most steps of a call, which are those of the bound in its contract (`bounds`).
+#[unsafe(no_mangle)]
+pub extern "C" fn nph_tlsf_kind() -> u32
+    ensures { result ≡ kind_code Tlsf }
+{
+    most::kind(Kind::Tlsf)
+}
+
+/// Returns the most steps of a malloc (`most_malloc`).
+#[unsafe(no_mangle)]
+pub extern "C" fn nph_tlsf_most_malloc() -> u64
+    ensures { IsMostMalloc bounds result }
+{
+    most::most_malloc(Kind::Tlsf)
+}
+
+/// Returns the most steps of a free of an object whose block has this many words (`most_free`).
+#[unsafe(no_mangle)]
+pub extern "C" fn nph_tlsf_most_free(slot_words: u32) -> u64
+    ensures { IsMostFree bounds slot_words result }
+{
+    most::most_free(Kind::Tlsf, slot_words)
+}
+
+/// Returns the most steps of a resize to `bytes` bytes between slots of these words (`most_resize`).
+#[unsafe(no_mangle)]
+pub extern "C" fn nph_tlsf_most_resize(bytes: u32, old_slot_words: u32, slot_words: u32) -> u64
+    ensures { IsMostResize bounds bytes old_slot_words slot_words result }
+{
+    most::most_resize(Kind::Tlsf, bytes, old_slot_words, slot_words)
+}
+
+/// Returns the steps of a read or a write of `count` bytes from byte `at` on (`most_access`).
+#[unsafe(no_mangle)]
+pub extern "C" fn nph_tlsf_most_access(at: u32, count: u32) -> u64
+    ensures { IsMostAccess bounds at count result }
+{
+    most::most_access(Kind::Tlsf, at, count)
+}
+
+/// Returns the most steps of `nph_tlsf_has_room` (`most_has_room`).
+#[unsafe(no_mangle)]
+pub extern "C" fn nph_tlsf_most_has_room() -> u64
+    ensures { IsMostRoom bounds result }
+{
+    most::most_has_room(Kind::Tlsf)
+}
+
+/// Returns the most steps of `nph_tlsf_totals` on a heap with this many free pages or blocks (`most_totals`).
+#[unsafe(no_mangle)]
+pub extern "C" fn nph_tlsf_most_totals(free_count: u32) -> u64
+    ensures { IsMostTotals bounds free_count result }
+{
+    most::most_totals(Kind::Tlsf, free_count)
+}
+
+/// Returns the most steps of `nph_tlsf_length` (`most_length`).
+#[unsafe(no_mangle)]
+pub extern "C" fn nph_tlsf_most_length() -> u64
+    ensures { IsMostLength Tlsf result }
+{
+    most::most_length(Kind::Tlsf)
 }

@@ -1,16 +1,19 @@
 //! `PagedHeap`: the trait `Manager` over an open heap with pages, or none while it is closed.
-ghost use Rattle.std.specs.Prelude.{◌≡◌, ◌^◌, ◌+◌, ◌<◌, ◌≤◌, [], IsSome, IsTrue, OnErr, OnOk, Some};
+ghost use Rattle.std.specs.Prelude.{◌≡◌, ◌^◌, ◌+◌, ◌<◌, ◌≤◌, [], IsSome, IsTrue, OnErr, OnOk, Some, option_map};
+ghost use Rattle.std.specs.FinMap as map;
+ghost use Rattle.cf_base.specs.Classes.{class_of};
 ghost use Rattle.page_model.specs.Arrangement.{free_pages, not_full_pages, pages_of_class};
 ghost use Rattle.cf_base.specs.Settings.{profile_of};
 ghost use Rattle.cf_base.specs.declared.kind.Kind.TheVariants.{NonMoving};
 ghost use Rattle.cf_model.specs.Answers.{classes_in};
 ghost use Rattle.paged_heap.specs.Costs.{free_steps, resize_steps};
+ghost use Rattle.paged_heap.specs.Slots.{slot_words_steps};
 ghost use Rattle.cf_model.specs.Costs.{RoseByCost, TakesAtMost, block_free_bound, free_bound, resize_bound};
 ghost use Rattle.cf_model.specs.Ordered.{IsOrderedFree, IsOrderedResize, KeepsPromise};
 ghost use Rattle.cf_model.specs.Rules.{KeepsRules};
 ghost use Rattle.cf_model.specs.State.{closed_state, paging_in};
-ghost use Rattle.cf_model.specs.Steps.{BlocksStayIn, IsClosed, IsEmptyHeap, IsFreeStep, IsResizeStep};
-ghost use Rattle.step_ledger.specs.Counting.{RoseAtMost};
+ghost use Rattle.cf_model.specs.Steps.{BlocksStayIn, IsClosed, IsEmptyHeap, IsFreeStep, IsResizeStep, slot_in};
+ghost use Rattle.step_ledger.specs.Counting.{RoseAtMost, RoseBy};
 ghost use Rattle.paged_heap.specs.Layout.{Holds, state_at};
 ghost use Rattle.paged_heap.specs.Most.{page_bounds};
 ghost use Rattle.paged_heap.specs.Needed.{paged_bytes};
@@ -250,6 +253,24 @@ impl<A: PageKind> PagedHeap<A> {
             inner: None,
             kind: PhantomData,
         }
+    }
+
+    /// The words of an object's slot, which a free of it clears; none if the handle is not live.
+    pub fn slot_words(&self, h: Handle, steps: &mut Steps) -> Option<u32>
+        requires { IsTrue self.now.state.is_open }
+        ensures value { result ≡ option_map (slot_in A.kind self.now.state) (map.get self.now.state.held h.0) }
+        ensures steps { RoseBy steps.old steps.new (slot_words_steps A.kind result) }
+    {
+        self.open().slot_words::<A>(h, steps)
+    }
+
+    /// The class of an object of `bytes` bytes, counted from 0; none if it needs more than a page. Costs one step.
+    pub fn class_of(&self, bytes: u32, steps: &mut Steps) -> Option<u32>
+        requires { IsTrue self.now.state.is_open }
+        ensures value { result ≡ class_of (paging_in self.now.state).sizes bytes }
+        ensures steps { RoseBy steps.old steps.new 1 }
+    {
+        self.open().class_of::<A>(bytes, steps)
     }
 
     /// The number of pages of class c, full or partly full.
