@@ -327,7 +327,7 @@ SHORT = {"norphuen": "cf", "norphuen_nonmoving": "nm", "norphuen_tlsf": "tlsf"}
 
 
 def cells_of(bounds, stacks, lines):
-    """Of each call its cells in docs/SPEED.md: instructions, the longest call seen and its bound, stack."""
+    """Of each call its cells in docs/SPEED.md: instructions, the longest call seen with its bound if that varies, stack."""
     seen, cells = Seen(bounds), {}
     for line in lines:
         for _ in seen.take(line):
@@ -336,7 +336,9 @@ def cells_of(bounds, stacks, lines):
         if row in seen.longest and not any(other.startswith(row + " ") for other in bounds):
             number, most = seen.longest[row]
             call = row.removeprefix("nph_").replace(" ", ", ")
-            cells[call] = (tool.formula_of(own).replace("*", ""), f"{number:,} of {most:,}", f"{stacks[row.split()[0]]:,}")
+            bound = tool.formula_of(own).replace("*", "")
+            longest = f"{number:,}" if bound.isdigit() else f"{number:,} of {most:,}"
+            cells[call] = (bound, longest, f"{stacks[row.split()[0]]:,}")
     return cells
 
 

@@ -19,15 +19,20 @@ pub struct Full;
 /// allocates.
 #[derive(Drop)]
 pub struct Line {
+    /// Always full, so that hex digits are written in their place: the line is its first `len` bytes.
     buffer: ArrayVec<u8, LINE_CAPACITY>,
+    len: usize,
 }
 
 impl Model for Line {
-    ghost use Rattle.std.specs.Prelude.{List, ℕ};
+    ghost use Rattle.std.specs.Prelude.{◌≡◌, ◌≤◌, List, ℕ, length, take};
+    ghost use Rattle.cf_io.specs.declared.line.TheConstants.{LINE_CAPACITY};
 
     ghost Value = { List ℕ };
 
-    ghost view = { λ l. l.buffer.items };
+    ghost view = { λ l. take l.len l.buffer.items };
+
+    ghost invariant = { λ l. (length l.buffer.items ≡ LINE_CAPACITY) × (l.len ≤ LINE_CAPACITY) };
 }
 
 impl Line {
@@ -36,7 +41,8 @@ impl Line {
         ensures { result ≡ [] }
     {
         Line {
-            buffer: ArrayVec::new(),
+            buffer: ArrayVec::from([0; LINE_CAPACITY]),
+            len: 0,
         }
     }
 
@@ -45,17 +51,21 @@ impl Line {
         ensures value { result.now ≡ self.now }
         ensures fits { length self.now ≤ line_capacity }
     {
-        self.buffer.as_slice()
+        &self.buffer.as_slice()[..self.len]
     }
 
     /// Appends the bytes. Fails with `Full` if and only if the line would pass 9,000 bytes.
     pub fn push(&mut self, bytes: &[u8]) -> Result<(), Full>
         ensures { Pushes self.old bytes.now result self.new }
     {
-        match self.buffer.try_extend_from_slice(bytes) {
-            Ok(()) => Ok(()),
-            Err(_) => Err(Full),
+        let start = self.len;
+        if bytes.len() > LINE_CAPACITY - start {
+            return Err(Full);
         }
+        let end = start + bytes.len();
+        self.buffer.as_mut_slice()[start..end].copy_from_slice(bytes);
+        self.len = end;
+        Ok(())
     }
 
     /// Appends the number `n` in decimal. Fails with `Full` if and only if the line would pass
@@ -75,16 +85,13 @@ impl Line {
     pub fn push_hex(&mut self, bytes: &[u8]) -> Result<(), Full>
         ensures { Pushes self.old (encode_lower bytes.now) result self.new }
     {
-        let start = self.buffer.len();
+        let start = self.len;
         if bytes.len() > (LINE_CAPACITY - start) / 2 {
             return Err(Full);
         }
-        // Appending the bytes twice makes the buffer longer by two places per byte, which the digits then
-        // overwrite.
-        self.buffer.try_extend_from_slice(bytes).unwrap();
-        self.buffer.try_extend_from_slice(bytes).unwrap();
-        let room = &mut self.buffer.as_mut_slice()[start..];
-        hex::encode_to_slice(bytes, room).unwrap();
+        let end = start + 2 * bytes.len();
+        hex::encode_to_slice(bytes, &mut self.buffer.as_mut_slice()[start..end]).unwrap();
+        self.len = end;
         Ok(())
     }
 
@@ -100,6 +107,6 @@ impl Line {
     pub fn clear(&mut self)
         ensures { self.new ≡ [] }
     {
-        self.buffer.clear();
+        self.len = 0;
     }
 }
