@@ -1,25 +1,27 @@
 // Runs scripts on the tool itself, norphuen.wasm, which tools/wasm_of makes, and records them as tools/heap_picture does: the
 // comments there say what is asked, and why. checks/page_live compares the two.
 'use strict';
-const NorphuenLive = (() => {
+
+// What a worker does, so that the page is not held up. The worker gets the text of this function, so that it needs no file:
+// nothing outside is named here.
+function work() {
   class Fault extends Error {}
 
   // ---- The module. Its addresses have 64 bits. It imports three functions that take and return memory. Here they hand out its
   // own memory from its heap base on, and return none: a run begins at the heap base again, since each run returns all that it took.
   class Tool {
-    static async load(bytes) {
-      const tool = new Tool();
+    constructor(module) {
       const env = {
-        rattle_alloc: (to, size, align) => tool.answer(to, tool.block(Number(size), Number(align))),
+        rattle_alloc: (to, size, align) => this.answer(to, this.block(Number(size), Number(align))),
         rattle_realloc: (to, at, kept, size, align) => {
-          const next = tool.block(Number(size), Number(align));
-          if (next) new Uint8Array(tool.memory.buffer).copyWithin(next, Number(at), Number(at) + Number(kept));
-          tool.answer(to, next);
+          const next = this.block(Number(size), Number(align));
+          if (next) new Uint8Array(this.memory.buffer).copyWithin(next, Number(at), Number(at) + Number(kept));
+          this.answer(to, next);
         },
         rattle_dealloc: () => {},
       };
-      const { instance } = await WebAssembly.instantiate(bytes, { env }).catch(error => { throw new Fault(`this browser can't run the module: ${error.message}`); });
-      return Object.assign(tool, { call: instance.exports.cf_page_run, memory: instance.exports.memory, base: Number(instance.exports.__heap_base.value) });
+      const { exports } = new WebAssembly.Instance(module, { env });
+      Object.assign(this, { call: exports.cf_page_run, memory: exports.memory, base: Number(exports.__heap_base.value) });
     }
 
     // The address of a new block; 0 if there is no memory.
@@ -221,8 +223,7 @@ const NorphuenLive = (() => {
   }
 
   // The recording of a script, whose arguments a comment names as in examples/. Its runs are lists of frames.
-  async function record(script) {
-    tool ||= await Tool.load(await module());
+  function record(script) {
     const given = tokens((/^# arguments: (.*)$/m.exec(script) || ['', ''])[1]), mode = given[0] && !given[0].startsWith('-') ? given[0] : 'run';
     if (!MODES.includes(mode)) throw new Fault(`mode ${mode} has no picture: only ${MODES.join(', ')} have one`);
     const one = given.indexOf('--manager'), made = { mode, own: one < 0 ? 'cf' : given[one + 1], arguments: given.join(' '), script, runs: {} };
@@ -248,8 +249,23 @@ const NorphuenLive = (() => {
     return made;
   }
 
+  onmessage = ({ data: { module, task, given } }) => {
+    try {
+      tool = new Tool(module);
+      postMessage({ made: { record, run: (...words) => tool.run(...words) }[task](...given) });
+    } catch (fault) {
+      if (!(fault instanceof Fault)) throw fault;
+      postMessage({ fault: fault.message });
+    }
+  };
+}
+
+const NorphuenLive = (() => {
+  class Fault extends Error {}
+  let loading, stop = () => {};
+
   // The bytes of the module: those that a page in one file has, compressed, or those of the file beside the page.
-  async function module() {
+  async function bytes() {
     if (window.NORPHUEN) {
       const packed = Uint8Array.from(atob(window.NORPHUEN), c => c.charCodeAt(0));
       return new Response(new Blob([packed]).stream().pipeThrough(new DecompressionStream('gzip'))).arrayBuffer();
@@ -261,5 +277,32 @@ const NorphuenLive = (() => {
     return answer.arrayBuffer();
   }
 
-  return { Fault, record, run: async (...call) => { tool ||= await Tool.load(await module()); return tool.run(...call); } };
+  async function load() {
+    try {
+      return await WebAssembly.compile(await bytes());
+    } catch (error) {
+      loading = null;
+      throw error instanceof Fault ? error : new Fault(`this browser can't run the module: ${error.message}`);
+    }
+  }
+
+  // Has a new worker do a task. A task that is under way ends with a fault.
+  async function ask(task, ...given) {
+    const module = await (loading ||= load());
+    stop();
+    const address = URL.createObjectURL(new Blob([`(${work})()`])), worker = new Worker(address);
+    try {
+      return await new Promise((done, fail) => {
+        stop = () => fail(new Fault('another script was asked for'));
+        worker.onmessage = ({ data: { made, fault } }) => fault ? fail(new Fault(fault)) : done(made);
+        worker.onerror = error => fail(new Error(error.message));
+        worker.postMessage({ module, task, given });
+      });
+    } finally {
+      worker.terminate();
+      URL.revokeObjectURL(address);
+    }
+  }
+
+  return { Fault, record: script => ask('record', script), run: (...given) => ask('run', ...given) };
 })();
