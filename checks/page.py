@@ -347,7 +347,7 @@ def check_claims(browser):
     quotes += [(text, [], None) for text in browser.do("[...document.querySelectorAll('footer q')].map(it => it.textContent)")]
     missing = [quote for quote, *where in quotes if not is_there(quote, *where)]
     case("each quoted claim is in README.md or docs/GUARANTEES.md, with what carries it", len(quotes) > 20 and not missing, missing)
-    used = browser.do("(answers + pageAnswer + costAnswer + claimsFor + String(claim)).match(/'[a-z]+'/g).map(it => it.slice(1, -1))")
+    used = browser.do("(answers + moveAnswer + costAnswer + claimsFor + String(claim)).match(/'[a-z]+'/g).map(it => it.slice(1, -1))")
     unused = [it for it in browser.do("Object.keys(CLAIM)") if it not in used]
     case("each claim is used", not unused, unused)
 

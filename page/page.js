@@ -5,10 +5,17 @@ const $ = id => document.getElementById(id);
 const NAMES = { cf: 'Compact-fit', nm: 'Non-moving', tlsf: 'TLSF', half: 'Half-Fit' };
 const HINTS = { cf: 'moves an object to close a gap', nm: 'Compact-fit that moves by a block table', tlsf: 'moves nothing', half: 'moves nothing' };
 const MODES = { slice: 'a free does its work in slices', quota: 'tasks share the pages, each within its quota', large: 'an object may exceed a page: a spine lists its parts' };
+const SLOTS = "Solid: the object's header and bytes. Hatched in its colour: the rest of its slot. Grey hatching: the words past a page's last slot. ";
+const LEGENDS = {
+  run: `${SLOTS}Dashed: where the object was that was freed or has moved.`,
+  slice: `${SLOTS}Dashed: the two halves of an object that moves, and the slot of the job.`,
+  quota: 'Filled: slots in use, in the colour of their task. Dashed: free pages. ▶: the present task, whose calls the script makes.',
+  large: 'Filled: slots in use, in a colour for each size. Dashed: free pages, and spines.',
+};
 const PAGED = manager => manager === 'cf' || manager === 'nm';
-let tape, row, shown = [], at = 0, playing = 0, cache = [], unit = 1;
+let tape, row, shown = [], at = 0, playing = 0, asked = 0, cache = [], unit = 1;
 
-const numbers = text => (text || '').split(/\s+/).filter(word => /^\d+$/.test(word)).map(Number);
+const numbers = text => ((text || '').match(/(?<!\S)\d+(?!\S)/g) || []).map(Number);
 const plain = text => String(text).replace(/[&<>"]/g, c => `&#${c.charCodeAt(0)};`);
 const count = (n, word) => `${n.toLocaleString('en')} ${word}${n === 1 ? '' : 's'}`;
 const size = bytes => `${bytes.toLocaleString('en')} B`;
@@ -49,9 +56,13 @@ async function unpack(data) {
   return made;
 }
 
+// A pause, so that the page is not held up.
+const pause = () => new Promise(done => setTimeout(done));
+
 // Adds to each frame what the picture needs: what it changed, and the reports in numbers.
-function prepare(made) {
-  for (const [manager, frames] of Object.entries(made.runs)) {
+async function prepare(made) {
+  for (const frames of Object.values(made.runs)) {
+    await pause();
     const live = new Map();
     let taken = 0, refused = 0, moves = 0;
     const put = (frame, id, to) => { frame.changes.push({ id, from: live.get(id), to }); if (to) live.set(id, to); else live.delete(id); };
@@ -348,7 +359,6 @@ const CLAIM = {
   slices: ['SlicedHeap · 17 · 23 + q, and 15 + q a slice', ''],
   quotas: ['QuotaHeap · 17 · 20 + s', ''],
   words: ['does at most q of the n words left, where q is the quantum', 'SlicedHeap::step'],
-  sliced: ['With slices, reads return the bytes last written', 'calls_of_all_tasks_are_those_of_one_map'],
   fixed: ['a function of the script', { large: 'MeetsLarge', quota: 'MeetsTasks' }],
   tasks: ["No page holds objects of two tasks, and a task's calls change no object and no quota of another task.", 'tasks_are_isolated'],
   alone: ['Other tasks affect a task only in that its quota lines may be refused.', 'tasks_are_isolated_in_a_script'],
@@ -369,9 +379,9 @@ const LEAD = { run: 'The reply is ', slice: 'The reply is ', fixed: 'The reply i
 function claimsFor(manager, frame) {
   const { verb, no, ok } = frame;
   const space = frame.reply === 'refused space';
-  if (tape.mode === 'slice') return [no ? frame.reply === 'busy' && (verb === 'f' ? 'pending' : 'busy') : { s: 'words', f: 'words', r: 'sliced', w: 'sliced', m: 'malloc' }[verb], 'slice'];
-  if (tape.mode === 'quota') return [no ? verb === 'm' ? space && 'quota' : 'set' : { admit: 'admit', t: 'alone', quota: 'tasks', need: 'admit' }[verb] || 'tasks', 'fixed'];
-  if (tape.mode === 'large') return [space && 'parts', 'fixed'];
+  if (tape.mode === 'slice') return [no ? frame.reply === 'busy' && (verb === 'f' ? 'pending' : 'busy') : { s: 'words', f: 'words', r: 'read', w: 'read' }[verb], 'slice'];
+  if (tape.mode === 'quota') return [no ? verb === 'm' ? space && 'quota' : 'set' : { admit: 'admit', t: 'alone', need: 'admit', r: 'read', w: 'read' }[verb] || 'tasks', 'fixed'];
+  if (tape.mode === 'large') return [space ? 'parts' : { r: 'read', w: 'read' }[verb], 'fixed'];
   if (verb === 'r' || verb === 'w') return ['read', 'run'];
   if (no) return ['cost', ...(PAGED(manager) && verb === 'm' ? ['refused'] : ['step'])];
   if (verb === 'm' && ok) return ['malloc', PAGED(manager) ? 'partly' : 'blocks'];
@@ -388,19 +398,21 @@ function answers() {
   if (!s || !frame) return answer('What is shown?', '<p>The script has no command that was answered.</p>') + (tape.bad ? answer('What is proved of this line?', claim('bad', LEAD.bad)) : '');
   const list = claimsFor(manager, frame).filter(it => it), whose = tape.mode === 'run' || tape.mode === 'compare' ? NAMES[manager] : `mode ${tape.mode}`;
   if (tape.bad && at === length() - 1) list.push('bad');
-  return answer('What is a page?', pageAnswer(s, manager, frame)) + answer(...moveAnswer(s, manager, frame)) + answer('What does it cost?', costAnswer(frame))
+  return answer(PAGED(manager) ? 'What is a page, a slot, a proxy?' : 'What is a block, a proxy?', pageAnswer(s, manager, frame)) + answer(...moveAnswer(s, manager, frame)) + answer('What does it cost?', costAnswer(frame))
     + answer('What is proved of this line?', `<p>Proved of ${whose}, for every script and not only this one:</p>${list.map(it => claim(it, LEAD[it])).join('')}`);
 }
 
 function pageAnswer(s, manager, frame) {
-  if (!PAGED(manager)) return `<p>${NAMES[manager]} has no pages: it cuts blocks of any length out of the region. The picture shows the region in rows of ${s.words} words.</p>`;
-  const [one] = walkOf(frame.walk).classes || [], here = one ? `, here ${count(one.slots, 'slot')} of ${one.words} words` : '';
-  return `<p>The region is cut into ${count(s.pages, 'equal page')} of ${s.words} words. A page in use has slots of one size, its class${here}; an object takes one slot. A page without objects is free for any class.</p>${tape.mode === 'run' || tape.mode === 'compare' ? claim('classes', LEAD.classes) : ''}`;
+  const proxy = '<p>A <b>proxy</b> is the entry of a table that has an object\'s address. The program holds only its number, so an object can move.</p>';
+  if (!PAGED(manager)) return `<p>${NAMES[manager]} has no pages: it cuts blocks of any length out of the memory. The picture shows the memory in rows of ${s.words} words.</p>${proxy}`;
+  const slot = frame.slot || (frame.changes[0] && (frame.changes[0].to || frame.changes[0].from).words);
+  return `<p>A <b>page</b> is one of ${count(s.pages, 'equal part')} of the memory, ${s.words} words each. An empty one is free for objects of any size.</p>
+    <p>A <b>slot</b> is one of the equal parts of a page in use${slot ? `, here ${slot} words` : ''}. An object with its header takes one. Pages with slots of one size are a class.</p>${proxy}`;
 }
 
 // The question on moves, and its answer; in modes quota and large, which show no moves, what is new there.
 function moveAnswer(s, manager, frame) {
-  const few = `k = ${s.k} ${s.k === 1 ? 'page' : 'pages'}`, said = (title, text) => [title, `<p>${text}</p>`];
+  const few = `k = ${s.k} ${s.k === 1 ? 'page' : 'pages'}`, said = (title, text, more = '') => [title, `<p>${text}</p>${more}`], bound = claim('classes', LEAD.classes);
   if (tape.mode === 'quota') return said('What is a quota?', 'Tasks share the region, but no page. A task may use as many pages as its quota has, whatever the others do.');
   if (tape.mode === 'large') return said('What is a spine?', 'A list of the parts of an object that exceeds a page. Each part but the last fills a page, so no long run of free words is needed.');
   if (tape.mode === 'slice') {
@@ -409,9 +421,9 @@ function moveAnswer(s, manager, frame) {
     return said('What is a job?', `What a free leaves to do: to clear the slot, or to move another object into it. ${job}`);
   }
   if (!PAGED(manager)) return said('Why did nothing move?', `${NAMES[manager]} never moves an object. So free words may lie in gaps, each too short.`);
-  if (frame.move) return said('Why did it move?', `At most ${few} of a class may be partly full (<code>k</code> lines set others). The gap on page ${pageOf(frame.move.to)} would have made one more, so an object of the partly full page ${pageOf(frame.move.from)} fills it.`);
-  if (newSlot(frame)) return said('Why did it move?', `The new length needs a slot of another class, so the object's bytes move there. Then at most ${few} of a class ${s.k === 1 ? 'is' : 'are'} partly full, and no other object has to move.`);
-  return said('Why did nothing move?', frame.ok && 'fz'.includes(frame.verb) ? `Without a move at most ${few} of that class ${s.k === 1 ? 'is' : 'are'} partly full.` : 'This command neither frees nor resizes an object.');
+  if (frame.move) return said('Why did it move?', `At most ${few} of a class may be partly full (<code>k</code> lines set others). The gap on page ${pageOf(frame.move.to)} would have made one more, so an object of the partly full page ${pageOf(frame.move.from)} fills it.`, bound);
+  if (newSlot(frame)) return said('Why did it move?', `The new length needs a slot of another class, so the object's bytes move there. Then at most ${few} of a class ${s.k === 1 ? 'is' : 'are'} partly full, and no other object has to move.`, bound);
+  return said('Why did nothing move?', frame.ok && 'fz'.includes(frame.verb) ? `Without a move at most ${few} of that class ${s.k === 1 ? 'is' : 'are'} partly full.` : 'This command neither frees nor resizes an object.', bound);
 }
 
 // The steps of the command on each manager that is shown, with the most that a call of its kind takes.
@@ -426,7 +438,7 @@ function costAnswer({ verb, cost }) {
     return `${NAMES[it]}: <span data-steps="${it}">${count(one.cost.last, 'step')}</span>; proved of ${{ m: 'a malloc', f: 'a free', z: 'a resize' }[verb]}: at most ${most(name, ' mfz'.indexOf(verb))}${slot ? `, here s = <span data-words="${it}">${slot}</span>` : ''}.`;
   });
   const words = { m: '', f: 's counts the words of the slot or block. ', z: 's counts the words of the old slot, t those of the smaller one. ' }[verb];
-  return `${said.map(it => `<p>${it}</p>`).join('')}<p>${words}${cost.bound ? `<code>steps</code> prints the bound that the tool as a whole claims: <span data-bound>${cost.bound}</span>.` : ''}</p>${claim('counted')}`;
+  return `${said.map(it => `<p>${it}</p>`).join('')}<p>${words}${cost.bound ? `The tool prints the wider bound of every manager with pages, also of one of your own: <span data-bound>${cost.bound}</span>.` : ''}</p>${claim('counted')}`;
 }
 
 // ---- Showing it
@@ -505,7 +517,7 @@ function show(i, animate) {
   if (here) here.setAttribute('d', `M${at + .5} 0V56`);
   const frame = shown.map(it => tape.runs[it][at]).find(it => it);
   $('count').textContent = $('slide').ariaValueText = frame ? `${at + 1} of ${length()}: ${frame.text.slice(0, 20)}` : 'no command';
-  const old = $('lines').querySelector('[aria-current]'), now = frame && $('lines').children[frame.line - 1];
+  const old = $('lines').querySelector('[aria-current]'), now = frame && $('lines').querySelector(`li[value="${frame.line}"]`);
   if (old) old.removeAttribute('aria-current');
   if (now) { now.setAttribute('aria-current', 'true'); scrollLines(now, 5); }
   clearTimeout(show.link);
@@ -514,7 +526,7 @@ function show(i, animate) {
 
 // Scrolls the list to a line. Lines out of sight have a guessed height until they are near, so it looks again in the next frames.
 function scrollLines(line, frames) {
-  const list = $('lines'), y = line.offsetTop - list.offsetTop;
+  const list = $('lines'), y = line.getBoundingClientRect().top - list.getBoundingClientRect().top + list.scrollTop;
   if (y < list.scrollTop + 20 || y > list.scrollTop + list.clientHeight - 50) list.scrollTop = y - list.clientHeight / 2;
   cancelAnimationFrame(scrollLines.next);
   if (frames) scrollLines.next = requestAnimationFrame(() => scrollLines(line, frames - 1));
@@ -526,17 +538,19 @@ function link() {
   if (!playing && location.hash !== hash) try { history.replaceState(null, '', hash); } catch { location.hash = hash; }
 }
 
+// The script with the replies. Each hundred lines are a list of their own, so that lists out of sight cost nothing.
 function listLines() {
   const said = new Map();
   shown.forEach((manager, n) => tape.runs[manager].forEach((frame, i) => {
-    const first = tape.runs[shown[0]][i];
-    if (!n) said.set(frame.line, `<span class="said ${frame.no ? 'no' : ''}">${frame.no ? '✕ ' : ''}<span data-reply>${plain(frame.reply)}</span></span>`);
-    else if (!first || first.reply !== frame.reply) said.set(frame.line, (said.get(frame.line) || '') + `<span class="other ${frame.no ? 'no' : ''}">${NAMES[manager]}: ${frame.no ? '✕ ' : ''}${plain(frame.reply.split('\n').pop().slice(0, 70))}</span>`);
+    const first = tape.runs[shown[0]][i], no = frame.no ? 'no' : '';
+    if (!n) said.set(frame.line, `<span class="said ${no}" data-reply>${plain(frame.reply)}</span>`);
+    else if (!first || first.reply !== frame.reply) said.set(frame.line, (said.get(frame.line) || '') + `<span class="other ${no}">${NAMES[manager]}: ${plain(frame.reply.split('\n').pop().slice(0, 70))}</span>`);
   }));
-  if (tape.bad) said.set(tape.bad[0], `<span class="said no">✕ <span data-reply>${plain(tape.bad[1])}</span></span>`);
-  const lines = tape.script.split('\n');
-  if (lines[lines.length - 1] === '') lines.pop();
-  $('lines').innerHTML = lines.map((text, i) => said.has(i + 1) ? `<li data-line="${i + 1}"><b>${i + 1}</b><code>${plain(text)}</code>${said.get(i + 1)}</li>` : `<li><b>${i + 1}</b><span class="note">${plain(text)}</span></li>`).join('') || '<li><b></b><span class="note">The script is empty.</span></li>';
+  if (tape.bad) said.set(tape.bad[0], `<span class="said no" data-reply>${plain(tape.bad[1])}</span>`);
+  const lines = tape.script.replace(/\n$/, '').split('\n'), lists = [];
+  const items = lines.map((text, i) => said.has(i + 1) ? `<li value="${i + 1}"><code>${plain(text)}</code>${said.get(i + 1)}</li>` : `<li value="${i + 1}" class="note">${plain(text)}</li>`);
+  for (let i = 0; i < items.length; i += 100) lists.push(`<ol aria-label="Lines ${i + 1} to ${Math.min(i + 100, items.length)} with their replies">${items.slice(i, i + 100).join('')}</ol>`);
+  $('lines').innerHTML = tape.script ? lists.join('') : '<p>The script is empty.</p>';
 }
 
 // Shows these managers, one or two.
@@ -547,6 +561,7 @@ function beside(managers) {
   const names = Object.keys(tape.runs);
   $('heaps').innerHTML = shown.map((manager, n) => `<section class="heap card"><h2>${names.length > 1 ? `<select aria-label="The manager ${n ? 'beside it' : 'that is shown'}" data-of="${n}">${names.map(it => `<option value="${it}" ${it === manager ? 'selected' : ''}>${NAMES[it]}</option>`).join('')}</select><small>${HINTS[manager]}</small>` : `Mode ${tape.mode}<small>${MODES[tape.mode] || ''}</small>`}</h2>
     <dl class="facts"></dl><p class="said" ${n ? '' : 'aria-live="polite"'}></p><div class="view" role="group"><div class="pages"></div><svg class="arrow" aria-hidden="true"></svg></div></section>`).join('');
+  $('legend').textContent = `${LEGENDS[tape.mode] || LEGENDS.run} A word has 8 bytes.`;
   for (const pick of $('heaps').querySelectorAll('select')) pick.onchange = () => { const next = [...shown], n = +pick.dataset.of; if (next[1 - n] === pick.value) next[1 - n] = next[n]; next[n] = pick.value; beside(next); };
   listLines();
   drawStrip();
@@ -554,10 +569,12 @@ function beside(managers) {
 }
 
 async function choose(name, first, managers) {
+  const mine = ++asked, found = RECORDINGS.find(it => it[0] === name) || RECORDINGS.find(it => it[0] === 'gaps') || RECORDINGS[0];
   play(false);
-  edit.last = null;
-  row = RECORDINGS.find(it => it[0] === name) || RECORDINGS.find(it => it[0] === 'gaps') || RECORDINGS[0];
-  tape = prepare(await unpack(row[2]));
+  const made = await unpack(found[2]).then(prepare);
+  if (mine !== asked) return;
+  row = found;
+  tape = made;
   $('pick').value = row[0];
   $('about').textContent = (row[1] ? `${row[1]} ` : '') + (tape.arguments ? `Arguments: ${tape.arguments}.` : '');
   $('edit').value = tape.script;
@@ -568,17 +585,19 @@ async function choose(name, first, managers) {
 // Runs a script on the module and shows it from command `first` on. If it can't be run, says why, and returns false; also if
 // another script or example was asked for meanwhile.
 async function edit(script, first, managers) {
-  const mine = edit.last = {}, said = setTimeout(() => { $('fault').textContent = 'The script runs …'; }, 300);
-  let made, why;
-  try { made = await live.record(script); } catch (fault) {
+  const mine = ++asked, wait = setTimeout(() => { if (mine === asked) $('fault').textContent = 'The script runs …'; }, 300);
+  let made, packed, why;
+  try {
+    [made, packed] = await Promise.all([live.record(script).then(prepare), packText(script)]);
+  } catch (fault) {
     if (!(fault instanceof live.Fault)) throw fault;
     why = fault.message;
-  } finally { clearTimeout(said); }
-  if (mine !== edit.last) { if (!edit.last) $('fault').textContent = ''; return false; }
+  } finally { clearTimeout(wait); }
+  if (mine !== asked) return false;
   if (why) { $('fault').textContent = `✕ ${why}`; return false; }
   play(false);
   const kept = made.own === tape?.own && shown.length && shown.every(it => made.runs[it]) ? shown : undefined;
-  tape = Object.assign(prepare(made), { packed: await packText(script) });
+  tape = Object.assign(made, { packed });
   $('fault').textContent = '';
   $('about').textContent = `A script that runs in this page.${tape.arguments ? ` Arguments: ${tape.arguments}.` : ''}`;
   if ($('edit').value !== script) $('edit').value = script;
@@ -589,9 +608,10 @@ async function edit(script, first, managers) {
 
 // Opens what a link holds.
 async function openLink(hash) {
-  const asked = new URLSearchParams(hash.slice(1)), first = +asked.get('at') || 0, managers = asked.get('of') ? asked.get('of').split(',') : undefined;
-  const script = live && asked.get('script') && await unpackText(asked.get('script')).catch(() => null);
-  if (!script || !await edit(script, first, managers)) await choose(asked.get('example'), first, managers);
+  const given = new URLSearchParams(hash.slice(1)), first = +given.get('at') || 0, managers = given.get('of') ? given.get('of').split(',') : undefined;
+  $('fault').textContent = '';
+  const script = live && given.get('script') && await unpackText(given.get('script')).catch(() => null);
+  if (!script || !await edit(script, first, managers)) await choose(given.get('example'), first, managers);
 }
 
 // Shows the recording from command `first` on.
@@ -630,7 +650,7 @@ async function begin() {
   $('chart').onchange = () => { drawStrip(); show(at); };
   $('slide').oninput = () => { play(false); show(+$('slide').value); };
   $('strip').onclick = event => { const box = $('strip').getBoundingClientRect(); play(false); show(Math.floor((event.clientX - box.left) / box.width * length())); };
-  $('lines').onclick = event => { const item = event.target.closest('[data-line]'); if (!item) return; const i = tape.runs[shown[0]].findIndex(it => it.line >= +item.dataset.line); play(false); show(i < 0 ? length() : i, true); };
+  $('lines').onclick = event => { const item = event.target.closest('li'); if (!item) return; const i = tape.runs[shown[0]].findIndex(it => it.line >= item.value); play(false); show(i < 0 ? length() : i, true); };
   const keys = { first: () => show(0), last: () => show(length()), back: () => show(at - 1), next: () => show(at + 1, true) };
   for (const [id, go] of Object.entries(keys)) $(id).onclick = () => { play(false); go(); };
   $('play').onclick = () => play(!playing);
