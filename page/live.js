@@ -26,8 +26,14 @@ function work() {
 
     // The address of a new block; 0 if there is no memory.
     block(size, align) {
-      const from = Math.ceil(this.free / Math.max(16, align)) * Math.max(16, align), lacks = from + size - this.memory.buffer.byteLength;
-      if (lacks > 0) try { this.memory.grow(BigInt(Math.ceil(Math.max(lacks, 1 << 20) / 65536))); } catch { return 0; }
+      const unit = Math.max(16, align), from = Math.ceil(this.free / unit) * unit, lacks = from + size - this.memory.buffer.byteLength;
+      if (lacks > 0) {
+        try {
+          this.memory.grow(BigInt(Math.ceil(Math.max(lacks, 1 << 20) / 65536)));
+        } catch {
+          return 0;
+        }
+      }
       this.free = from + size;
       return from;
     }
@@ -61,9 +67,14 @@ function work() {
   const MOST_WORDS = 4000000, WRITTEN = 4096;
   let tool;
 
-  const ask = (words, script) => { const { status, output } = tool.run(words, new TextEncoder().encode(script)); return { status, output: new TextDecoder().decode(output) }; };
   const tokens = text => text.split(/\s+/).filter(it => it);
+  const fields = frame => frame.text.split(' ');
   const number = reply => Number(reply.split(' ').pop());
+
+  function ask(words, script) {
+    const { status, output } = tool.run(words, new TextEncoder().encode(script));
+    return { status, output: new TextDecoder().decode(output) };
+  }
 
   // The replies in an output without names: a line each, but that of `walk` ends with its total.
   function repliesOf(output) {
@@ -99,18 +110,20 @@ function work() {
 
   // A question must not change a reply.
   function same(frame, reply) {
-    if (frame.reply !== reply) throw new Fault(`line ${frame.line}: with questions the tool replies ${reply.slice(0, 40)}, not ${frame.reply.slice(0, 40)}`);
+    if (frame.reply === reply) return;
+    throw new Fault(`line ${frame.line}: with questions the tool replies ${reply.slice(0, 40)}, not ${frame.reply.slice(0, 40)}`);
   }
 
   function recordReports(words, frames, questions, places) {
     const asked = new Asked(), before = {};
     frames.forEach((frame, i) => {
-      const [verb, name] = frame.text.split(' ');
+      const [verb, name] = fields(frame);
       if (places && 'fz'.includes(verb)) asked.add(`q ${name}`, reply => { before[i] = reply; });
       asked.add(frame.text, reply => same(frame, reply));
       if (places && 'mz'.includes(verb) && frame.reply === 'ok') asked.add(`q ${name}`, reply => { frame.at = reply; });
       // A `k` needs to stand before all other commands.
-      if (i + 1 === frames.length || !frames[i + 1].text.startsWith('k ')) for (const question of questions) asked.add(question, reply => { frame[question] = reply; });
+      if (i + 1 < frames.length && frames[i + 1].text.startsWith('k ')) return;
+      for (const question of questions) asked.add(question, reply => { frame[question] = reply; });
     });
     asked.play(words);
     return before;
@@ -121,7 +134,7 @@ function work() {
     let moves = 0;
     frames.forEach((frame, i) => {
       asked.add(frame.text);
-      const [verb, name] = frame.text.split(' ');
+      const [verb, name] = fields(frame);
       if (verb === 'm' && frame.at) asked.add(`p ${number(frame.at)}`, reply => { owners[reply.slice(8)] = name; });
       const found = /moves (\d+)/.exec(frame.steps || '');
       if (found && Number(found[1]) > moves) {
@@ -133,12 +146,12 @@ function work() {
   }
 
   function recordTasks(words, frames) {
-    const tasks = [...new Set([0, ...frames.map(it => it.text.split(' ')).filter(([verb]) => ['t', 'quota', 'need', 'admit'].includes(verb)).map(([, task]) => Number(task))])].sort((a, b) => a - b);
-    const asked = new Asked();
+    const naming = frames.map(fields).filter(([verb]) => ['t', 'quota', 'need', 'admit'].includes(verb));
+    const tasks = [...new Set([0, ...naming.map(([, task]) => Number(task))])].sort((a, b) => a - b), asked = new Asked();
     let present = 0;
     for (const frame of frames) {
       asked.add(frame.text, reply => same(frame, reply));
-      if (frame.text.startsWith('t ')) present = Number(frame.text.split(' ')[1]);
+      if (frame.text.startsWith('t ')) present = Number(fields(frame)[1]);
       Object.assign(frame, { task: String(present), tasks: '' });
       for (const task of tasks) {
         asked.add(`t ${task}`);
@@ -159,7 +172,9 @@ function work() {
   }
 
   function recordWords(words, frames, region) {
-    if (region * frames.length > MOST_WORDS) throw new Fault(`mode slice: ${frames.length} commands on a region of ${region} words are too many to record`);
+    if (region * frames.length > MOST_WORDS) {
+      throw new Fault(`mode slice: ${frames.length} commands on a region of ${region} words are too many to record`);
+    }
     const asked = new Asked(), seen = [];
     const show = into => {
       const all = [];
@@ -167,7 +182,7 @@ function work() {
       for (let word = 0; word < region; word++) asked.add(`p ${word}`, reply => all.push(BigInt(`0x${reply}`)));
     };
     for (const frame of frames) {
-      const [verb, name, size] = frame.text.split(' '), shown = [];
+      const [verb, name, size] = fields(frame), shown = [];
       if (!'wrp'.includes(verb)) asked.add(frame.text, reply => same(frame, reply));
       if (verb === 'm' && frame.reply === 'ok') {
         show(shown);
@@ -181,7 +196,7 @@ function work() {
     const live = new Map(), headers = {};
     let before = Array(region).fill(0n);
     frames.forEach((frame, i) => {
-      const [verb, name, size] = frame.text.split(' '), shown = seen[i];
+      const [verb, name, size] = fields(frame), shown = seen[i];
       if (verb === 'm' && frame.reply === 'ok') {
         // Only the header of a new object differs from what was there, since its bytes are zeros.
         live.set(name, Number(size));
@@ -224,10 +239,11 @@ function work() {
 
   // The recording of a script, whose arguments a comment names as in examples/. Its runs are lists of frames.
   function record(script) {
-    const given = tokens((/^# arguments: (.*)$/m.exec(script) || ['', ''])[1]), mode = given[0] && !given[0].startsWith('-') ? given[0] : 'run';
+    const given = tokens((/^# arguments: (.*)$/m.exec(script) || ['', ''])[1]);
+    const mode = given[0] && !given[0].startsWith('-') ? given[0] : 'run', many = mode === 'run' || mode === 'compare';
     if (!MODES.includes(mode)) throw new Fault(`mode ${mode} has no picture: only ${MODES.join(', ')} have one`);
-    const one = given.indexOf('--manager'), made = { mode, own: one < 0 ? 'cf' : given[one + 1], arguments: given.join(' '), script, runs: {} };
-    const many = mode === 'run' || mode === 'compare';
+    const own = given.includes('--manager') ? given[given.indexOf('--manager') + 1] : 'cf';
+    const made = { mode, own, arguments: given.join(' '), script, runs: {} };
     const refused = ask(given.length ? given : ['run'], '').status;
     if (refused) throw new Fault(`the tool ended with status ${refused}`);
     for (const manager of many ? MANAGERS : ['cf']) {
@@ -235,16 +251,17 @@ function work() {
       if (![0, 3, 7].includes(status)) throw new Fault(`the tool ended with status ${status}`);
       const replies = repliesOf(output);
       if (status === 3) made.bad = [number(replies[replies.length - 1]), replies.pop()];
-      const frames = framesOf(script, replies), heap = frames.length && frames[0].text.startsWith('heap ') ? frames[0].text.split(' ').map(Number) : null;
-      if (heap && many) recordPlaces(words, frames);
-      else if (heap && mode === 'quota') recordTasks(words, frames);
-      else if (heap && mode === 'large') recordReports(words, frames, ['walk', 'frag']);
-      else if (heap) recordWords(words, frames, heap[1] * heap[2] / 8);
-      if (heap && (mode === 'slice' || mode === 'large')) {
-        const full = heap[2] - 8, lengths = frames.filter(it => it.text.startsWith('m ')).map(it => Number(it.text.split(' ')[2]));
-        made.slots = slotsOf(heap[2], [...lengths, ...lengths.map(it => 4 * Math.ceil(it / full)), ...lengths.map(it => it % full), full]);
+      const frames = (made.runs[manager] = framesOf(script, replies));
+      if (!frames.length || !frames[0].text.startsWith('heap ')) continue;
+      const [, pages, bytes] = fields(frames[0]).map(Number), full = bytes - 8;
+      if (many) recordPlaces(words, frames);
+      else if (mode === 'quota') recordTasks(words, frames);
+      else if (mode === 'large') recordReports(words, frames, ['walk', 'frag']);
+      else recordWords(words, frames, (pages * bytes) / 8);
+      if (mode === 'slice' || mode === 'large') {
+        const lengths = frames.map(fields).filter(([verb]) => verb === 'm').map(([, , length]) => Number(length));
+        made.slots = slotsOf(bytes, [...lengths, ...lengths.map(it => 4 * Math.ceil(it / full)), ...lengths.map(it => it % full), full]);
       }
-      made.runs[manager] = frames;
     }
     return made;
   }
@@ -270,7 +287,8 @@ const NorphuenLive = (() => {
       const packed = Uint8Array.from(atob(window.NORPHUEN), c => c.charCodeAt(0));
       return new Response(new Blob([packed]).stream().pipeThrough(new DecompressionStream('gzip'))).arrayBuffer();
     }
-    const lacks = new Fault('this page has no module: tools/wasm_of makes norphuen.wasm, which is served beside it, or which tools/heap_picture live puts into it');
+    const lacks = new Fault('this page has no module: tools/wasm_of makes norphuen.wasm, '
+      + 'which is served beside it, or which tools/heap_picture live puts into it');
     if (location.protocol === 'file:') throw lacks;
     const answer = await fetch('norphuen.wasm').catch(() => { throw lacks; });
     if (!answer.ok) throw lacks;
