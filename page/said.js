@@ -203,7 +203,7 @@ function answers() {
 }
 
 function pageAnswer(s, manager, frame) {
-  const proxy = "<p>A <b>proxy</b> is the entry of a table that has an object's address. The program holds only its number, so an object can move.</p>";
+  const proxy = `<p>A <b>proxy</b> is the entry of a table that has an object's address. The program holds only its number${isPaged(manager) ? ', so an object can move' : ''}.</p>`;
   if (!isPaged(manager)) return `<p>A <b>block</b> is a run of words of any length. ${NAMES[manager]} cuts the memory into blocks, free or in use, and has no pages: the picture shows the memory in rows of ${s.words} words.</p>${proxy}`;
   const [{ to, from } = {}] = frame.changes, slot = frame.slot || (to || from)?.words;
   return `<p>A <b>page</b> is one of the equal parts of the memory, here ${count(s.pages, 'page')} of ${s.words} words. An empty one is free for objects of any size.</p>
