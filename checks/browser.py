@@ -76,10 +76,14 @@ class Browser:
         self.call("Emulation.setEmulatedMedia", features=[{"name": "prefers-color-scheme", "value": "dark" if dark else "light"}])
         self.call("Page.navigate", url="about:blank")
         self.call("Page.navigate", url=address)
+        self.until("document.body && document.body.dataset.ready || ''")
+
+    def until(self, code):
+        """Waits until the value is true, for half a minute at most."""
         end = time.monotonic() + 30
-        while not self.do("document.body && document.body.dataset.ready || ''"):
+        while not self.do(code):
             if time.monotonic() > end:
-                raise RuntimeError(f"{address}: the page is not ready; {self.errors[:2]}")
+                raise RuntimeError(f"it never became true: {code}; {self.errors[:2]}")
             time.sleep(0.02)
 
     def press(self, key):

@@ -347,7 +347,7 @@ def check_claims(browser):
     quotes += [(text, [], None) for text in browser.do("[...document.querySelectorAll('footer q')].map(it => it.textContent)")]
     missing = [quote for quote, *where in quotes if not is_there(quote, *where)]
     case("each quoted claim is in README.md or docs/GUARANTEES.md, with what carries it", len(quotes) > 20 and not missing, missing)
-    used = browser.do("(answers + pageAnswer + costAnswer + claimsFor + String(claim)).match(/'[a-z]+'/g).map(it => it.slice(1, -1))")
+    used = browser.do("(answers + moveAnswer + costAnswer + claimsFor + String(claim)).match(/'[a-z]+'/g).map(it => it.slice(1, -1))")
     unused = [it for it in browser.do("Object.keys(CLAIM)") if it not in used]
     case("each claim is used", not unused, unused)
 
@@ -447,11 +447,13 @@ def check_use(browser):
         browser.press(key)
         case(f"the key {key}", browser.do("at") == wanted, browser.do("at"))
     browser.press(" ")
-    case("space plays", browser.do("new Promise(done => setTimeout(() => done(!!playing && at > 0), 900))"))
+    browser.until("at > 0")
+    case("space plays", browser.do("!!playing"))
     browser.press(" ")
     case("space stops", browser.do("!playing"))
     browser.do("choose('move', 8)")
-    hash_ = browser.do("new Promise(done => setTimeout(() => done(location.hash), 500))")
+    browser.until("location.hash.startsWith('#example=move&at=8')")
+    hash_ = browser.do("location.hash")
     browser.open(PAGE + hash_)
     case("the link holds the example and the command", browser.do("row[0] + at") == "move8", hash_)
 

@@ -94,9 +94,12 @@ def check_scripts(browser):
 def check_use(browser, address):
     """The button, the editor and the link."""
     browser.open(f"{address}#example=move&at=3")
-    said = browser.do("""(async () => { await document.getElementById('change').onclick(); const edit = document.getElementById('edit');
-      edit.value = 'heap 2 512 1 8\\nm 7 8\\nq 7\\n'; edit.dispatchEvent(new Event('input')); await new Promise(done => setTimeout(done, 1500)); show(1);
-      await new Promise(done => setTimeout(done, 600)); return [edit.hidden, location.hash, document.getElementById('fault').textContent]; })()""")
+    browser.do("document.getElementById('change').onclick()")
+    browser.do("(edit => { edit.value = 'heap 2 512 1 8\\nm 7 8\\nq 7\\n'; edit.dispatchEvent(new Event('input')); })(document.getElementById('edit'))")
+    browser.until("tape.script === document.getElementById('edit').value")
+    browser.do("show(1)")
+    browser.until("location.hash.includes('&at=1&')")
+    said = browser.do("[document.getElementById('edit').hidden, location.hash, document.getElementById('fault').textContent]")
     case(f"{address}: the editor shows what the module replies", browser.do(REPLIES) == ["ok", "ok", "at 0"] and said[0] is False and said[2] == "", (said, browser.do(REPLIES)))
     case(f"{address}: the link holds the script", said[1].startswith("#script="), said[1])
     browser.open(address + said[1])

@@ -1,31 +1,39 @@
 // Runs scripts on the tool itself, norphuen.wasm, which tools/wasm_of makes, and records them as tools/heap_picture does: the
 // comments there say what is asked, and why. checks/page_live compares the two.
 'use strict';
-const NorphuenLive = (() => {
+
+// What a worker does, so that the page is not held up. The worker gets the text of this function, so that it needs no file:
+// nothing outside is named here.
+function work() {
   class Fault extends Error {}
 
   // ---- The module. Its addresses have 64 bits. It imports three functions that take and return memory. Here they hand out its
   // own memory from its heap base on, and return none: a run begins at the heap base again, since each run returns all that it took.
   class Tool {
-    static async load(bytes) {
-      const tool = new Tool();
+    constructor(module) {
       const env = {
-        rattle_alloc: (to, size, align) => tool.answer(to, tool.block(Number(size), Number(align))),
+        rattle_alloc: (to, size, align) => this.answer(to, this.block(Number(size), Number(align))),
         rattle_realloc: (to, at, kept, size, align) => {
-          const next = tool.block(Number(size), Number(align));
-          if (next) new Uint8Array(tool.memory.buffer).copyWithin(next, Number(at), Number(at) + Number(kept));
-          tool.answer(to, next);
+          const next = this.block(Number(size), Number(align));
+          if (next) new Uint8Array(this.memory.buffer).copyWithin(next, Number(at), Number(at) + Number(kept));
+          this.answer(to, next);
         },
         rattle_dealloc: () => {},
       };
-      const { instance } = await WebAssembly.instantiate(bytes, { env }).catch(error => { throw new Fault(`this browser can't run the module: ${error.message}`); });
-      return Object.assign(tool, { call: instance.exports.cf_page_run, memory: instance.exports.memory, base: Number(instance.exports.__heap_base.value) });
+      const { exports } = new WebAssembly.Instance(module, { env });
+      Object.assign(this, { call: exports.cf_page_run, memory: exports.memory, base: Number(exports.__heap_base.value) });
     }
 
     // The address of a new block; 0 if there is no memory.
     block(size, align) {
-      const from = Math.ceil(this.free / Math.max(16, align)) * Math.max(16, align), lacks = from + size - this.memory.buffer.byteLength;
-      if (lacks > 0) try { this.memory.grow(BigInt(Math.ceil(Math.max(lacks, 1 << 20) / 65536))); } catch { return 0; }
+      const unit = Math.max(16, align), from = Math.ceil(this.free / unit) * unit, lacks = from + size - this.memory.buffer.byteLength;
+      if (lacks > 0) {
+        try {
+          this.memory.grow(BigInt(Math.ceil(Math.max(lacks, 1 << 20) / 65536)));
+        } catch {
+          return 0;
+        }
+      }
       this.free = from + size;
       return from;
     }
@@ -59,9 +67,14 @@ const NorphuenLive = (() => {
   const MOST_WORDS = 4000000, WRITTEN = 4096;
   let tool;
 
-  const ask = (words, script) => { const { status, output } = tool.run(words, new TextEncoder().encode(script)); return { status, output: new TextDecoder().decode(output) }; };
   const tokens = text => text.split(/\s+/).filter(it => it);
+  const fields = frame => frame.text.split(' ');
   const number = reply => Number(reply.split(' ').pop());
+
+  function ask(words, script) {
+    const { status, output } = tool.run(words, new TextEncoder().encode(script));
+    return { status, output: new TextDecoder().decode(output) };
+  }
 
   // The replies in an output without names: a line each, but that of `walk` ends with its total.
   function repliesOf(output) {
@@ -97,18 +110,20 @@ const NorphuenLive = (() => {
 
   // A question must not change a reply.
   function same(frame, reply) {
-    if (frame.reply !== reply) throw new Fault(`line ${frame.line}: with questions the tool replies ${reply.slice(0, 40)}, not ${frame.reply.slice(0, 40)}`);
+    if (frame.reply === reply) return;
+    throw new Fault(`line ${frame.line}: with questions the tool replies ${reply.slice(0, 40)}, not ${frame.reply.slice(0, 40)}`);
   }
 
   function recordReports(words, frames, questions, places) {
     const asked = new Asked(), before = {};
     frames.forEach((frame, i) => {
-      const [verb, name] = frame.text.split(' ');
+      const [verb, name] = fields(frame);
       if (places && 'fz'.includes(verb)) asked.add(`q ${name}`, reply => { before[i] = reply; });
       asked.add(frame.text, reply => same(frame, reply));
       if (places && 'mz'.includes(verb) && frame.reply === 'ok') asked.add(`q ${name}`, reply => { frame.at = reply; });
       // A `k` needs to stand before all other commands.
-      if (i + 1 === frames.length || !frames[i + 1].text.startsWith('k ')) for (const question of questions) asked.add(question, reply => { frame[question] = reply; });
+      if (i + 1 < frames.length && frames[i + 1].text.startsWith('k ')) return;
+      for (const question of questions) asked.add(question, reply => { frame[question] = reply; });
     });
     asked.play(words);
     return before;
@@ -119,7 +134,7 @@ const NorphuenLive = (() => {
     let moves = 0;
     frames.forEach((frame, i) => {
       asked.add(frame.text);
-      const [verb, name] = frame.text.split(' ');
+      const [verb, name] = fields(frame);
       if (verb === 'm' && frame.at) asked.add(`p ${number(frame.at)}`, reply => { owners[reply.slice(8)] = name; });
       const found = /moves (\d+)/.exec(frame.steps || '');
       if (found && Number(found[1]) > moves) {
@@ -131,12 +146,12 @@ const NorphuenLive = (() => {
   }
 
   function recordTasks(words, frames) {
-    const tasks = [...new Set([0, ...frames.map(it => it.text.split(' ')).filter(([verb]) => ['t', 'quota', 'need', 'admit'].includes(verb)).map(([, task]) => Number(task))])].sort((a, b) => a - b);
-    const asked = new Asked();
+    const naming = frames.map(fields).filter(([verb]) => ['t', 'quota', 'need', 'admit'].includes(verb));
+    const tasks = [...new Set([0, ...naming.map(([, task]) => Number(task))])].sort((a, b) => a - b), asked = new Asked();
     let present = 0;
     for (const frame of frames) {
       asked.add(frame.text, reply => same(frame, reply));
-      if (frame.text.startsWith('t ')) present = Number(frame.text.split(' ')[1]);
+      if (frame.text.startsWith('t ')) present = Number(fields(frame)[1]);
       Object.assign(frame, { task: String(present), tasks: '' });
       for (const task of tasks) {
         asked.add(`t ${task}`);
@@ -157,7 +172,9 @@ const NorphuenLive = (() => {
   }
 
   function recordWords(words, frames, region) {
-    if (region * frames.length > MOST_WORDS) throw new Fault(`mode slice: ${frames.length} commands on a region of ${region} words are too many to record`);
+    if (region * frames.length > MOST_WORDS) {
+      throw new Fault(`mode slice: ${frames.length} commands on a region of ${region} words are too many to record`);
+    }
     const asked = new Asked(), seen = [];
     const show = into => {
       const all = [];
@@ -165,7 +182,7 @@ const NorphuenLive = (() => {
       for (let word = 0; word < region; word++) asked.add(`p ${word}`, reply => all.push(BigInt(`0x${reply}`)));
     };
     for (const frame of frames) {
-      const [verb, name, size] = frame.text.split(' '), shown = [];
+      const [verb, name, size] = fields(frame), shown = [];
       if (!'wrp'.includes(verb)) asked.add(frame.text, reply => same(frame, reply));
       if (verb === 'm' && frame.reply === 'ok') {
         show(shown);
@@ -179,7 +196,7 @@ const NorphuenLive = (() => {
     const live = new Map(), headers = {};
     let before = Array(region).fill(0n);
     frames.forEach((frame, i) => {
-      const [verb, name, size] = frame.text.split(' '), shown = seen[i];
+      const [verb, name, size] = fields(frame), shown = seen[i];
       if (verb === 'm' && frame.reply === 'ok') {
         // Only the header of a new object differs from what was there, since its bytes are zeros.
         live.set(name, Number(size));
@@ -221,12 +238,12 @@ const NorphuenLive = (() => {
   }
 
   // The recording of a script, whose arguments a comment names as in examples/. Its runs are lists of frames.
-  async function record(script) {
-    tool ||= await Tool.load(await module());
-    const given = tokens((/^# arguments: (.*)$/m.exec(script) || ['', ''])[1]), mode = given[0] && !given[0].startsWith('-') ? given[0] : 'run';
+  function record(script) {
+    const given = tokens((/^# arguments: (.*)$/m.exec(script) || ['', ''])[1]);
+    const mode = given[0] && !given[0].startsWith('-') ? given[0] : 'run', many = mode === 'run' || mode === 'compare';
     if (!MODES.includes(mode)) throw new Fault(`mode ${mode} has no picture: only ${MODES.join(', ')} have one`);
-    const one = given.indexOf('--manager'), made = { mode, own: one < 0 ? 'cf' : given[one + 1], arguments: given.join(' '), script, runs: {} };
-    const many = mode === 'run' || mode === 'compare';
+    const own = given.includes('--manager') ? given[given.indexOf('--manager') + 1] : 'cf';
+    const made = { mode, own, arguments: given.join(' '), script, runs: {} };
     const refused = ask(given.length ? given : ['run'], '').status;
     if (refused) throw new Fault(`the tool ended with status ${refused}`);
     for (const manager of many ? MANAGERS : ['cf']) {
@@ -234,32 +251,76 @@ const NorphuenLive = (() => {
       if (![0, 3, 7].includes(status)) throw new Fault(`the tool ended with status ${status}`);
       const replies = repliesOf(output);
       if (status === 3) made.bad = [number(replies[replies.length - 1]), replies.pop()];
-      const frames = framesOf(script, replies), heap = frames.length && frames[0].text.startsWith('heap ') ? frames[0].text.split(' ').map(Number) : null;
-      if (heap && many) recordPlaces(words, frames);
-      else if (heap && mode === 'quota') recordTasks(words, frames);
-      else if (heap && mode === 'large') recordReports(words, frames, ['walk', 'frag']);
-      else if (heap) recordWords(words, frames, heap[1] * heap[2] / 8);
-      if (heap && (mode === 'slice' || mode === 'large')) {
-        const full = heap[2] - 8, lengths = frames.filter(it => it.text.startsWith('m ')).map(it => Number(it.text.split(' ')[2]));
-        made.slots = slotsOf(heap[2], [...lengths, ...lengths.map(it => 4 * Math.ceil(it / full)), ...lengths.map(it => it % full), full]);
+      const frames = (made.runs[manager] = framesOf(script, replies));
+      if (!frames.length || !frames[0].text.startsWith('heap ')) continue;
+      const [, pages, bytes] = fields(frames[0]).map(Number), full = bytes - 8;
+      if (many) recordPlaces(words, frames);
+      else if (mode === 'quota') recordTasks(words, frames);
+      else if (mode === 'large') recordReports(words, frames, ['walk', 'frag']);
+      else recordWords(words, frames, (pages * bytes) / 8);
+      if (mode === 'slice' || mode === 'large') {
+        const lengths = frames.map(fields).filter(([verb]) => verb === 'm').map(([, , length]) => Number(length));
+        made.slots = slotsOf(bytes, [...lengths, ...lengths.map(it => 4 * Math.ceil(it / full)), ...lengths.map(it => it % full), full]);
       }
-      made.runs[manager] = frames;
     }
     return made;
   }
 
+  onmessage = ({ data: { module, task, given } }) => {
+    try {
+      tool = new Tool(module);
+      postMessage({ made: { record, run: (...words) => tool.run(...words) }[task](...given) });
+    } catch (fault) {
+      if (!(fault instanceof Fault)) throw fault;
+      postMessage({ fault: fault.message });
+    }
+  };
+}
+
+const NorphuenLive = (() => {
+  class Fault extends Error {}
+  let loading, stop = () => {};
+
   // The bytes of the module: those that a page in one file has, compressed, or those of the file beside the page.
-  async function module() {
+  async function bytes() {
     if (window.NORPHUEN) {
       const packed = Uint8Array.from(atob(window.NORPHUEN), c => c.charCodeAt(0));
       return new Response(new Blob([packed]).stream().pipeThrough(new DecompressionStream('gzip'))).arrayBuffer();
     }
-    const lacks = new Fault('this page has no module: tools/wasm_of makes norphuen.wasm, which is served beside it, or which tools/heap_picture live puts into it');
+    const lacks = new Fault('this page has no module: tools/wasm_of makes norphuen.wasm, '
+      + 'which is served beside it, or which tools/heap_picture live puts into it');
     if (location.protocol === 'file:') throw lacks;
     const answer = await fetch('norphuen.wasm').catch(() => { throw lacks; });
     if (!answer.ok) throw lacks;
     return answer.arrayBuffer();
   }
 
-  return { Fault, record, run: async (...call) => { tool ||= await Tool.load(await module()); return tool.run(...call); } };
+  async function load() {
+    try {
+      return await WebAssembly.compile(await bytes());
+    } catch (error) {
+      loading = null;
+      throw error instanceof Fault ? error : new Fault(`this browser can't run the module: ${error.message}`);
+    }
+  }
+
+  // Has a new worker do a task. A task that is under way ends with a fault.
+  async function ask(task, ...given) {
+    const module = await (loading ||= load());
+    stop();
+    const address = URL.createObjectURL(new Blob([`(${work})()`])), worker = new Worker(address);
+    try {
+      return await new Promise((done, fail) => {
+        stop = () => fail(new Fault('another script was asked for'));
+        worker.onmessage = ({ data: { made, fault } }) => fault ? fail(new Fault(fault)) : done(made);
+        worker.onerror = error => fail(new Error(error.message));
+        worker.postMessage({ module, task, given });
+      });
+    } finally {
+      worker.terminate();
+      URL.revokeObjectURL(address);
+    }
+  }
+
+  return { Fault, record: script => ask('record', script), run: (...given) => ask('run', ...given) };
 })();
