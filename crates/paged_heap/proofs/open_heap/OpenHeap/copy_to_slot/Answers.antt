@@ -1,5 +1,5 @@
 -- The kept words are moved and cut, and the header is written before them.
-use Rattle.std.proofs.Common.{◌+◌, ◌-◌, ◌*◌, ◌<◌, set, arith, sym, ◌∙◌, ap, subst}
+use Rattle.std.proofs.Common.{◌+◌, ◌*◌, ◌<◌, set, arith, sym, ◌∙◌, ap, subst}
 use Rattle.step_ledger.specs.Counting.{RoseBy}
 use Rattle.page_model.specs.Order.{word_steps}
 use Rattle.step_ledger.proofs.CallerLemmas.{rose_both}
