@@ -3,14 +3,17 @@
  - a search that tries all histories of small drawn programs, with all choices of a manager with pages: the most pages in use;
  - the tool: it serves the calls of each row of each demand with the row's pages, and refuses one with a page less; on a drawn
    history within the demand it refuses nothing, and no free takes more steps or moves more than the row says;
+ - the proved test, whose definition is written anew, and `nph_bytes_needed`;
  - the table of budgets in docs/SIZING.md, the formula of `pages_for_a_budget_serve`, and Robson's bound in tiny cases.
 
 Each planner of `WRONG` must show a difference.
 """
+import ctypes
 import importlib.machinery
 import importlib.util
 import itertools
 import random
+import subprocess
 import sys
 import tempfile
 from collections import Counter
@@ -24,6 +27,7 @@ plan = importlib.util.module_from_spec(importlib.util.spec_from_loader("cf_plan"
 loader.exec_module(plan)
 needs = plan.page_needs
 
+HELD_BYTES = 1464  # the block of an open heap of a C library (docs/SPEED.md)
 DEMANDS = sorted(Path("examples/demands").glob("*.txt"))
 # Demands of other kinds, which are played too.
 KINDS = {
@@ -192,6 +196,23 @@ def test_differs(seed, library):
     return None
 
 
+def memory_differs():
+    """Settings for which the planner's memory is not what `nph_bytes_needed` says, less the handles and the open heap."""
+    with tempfile.TemporaryDirectory() as folder:
+        for manager, (name, prefix) in {"cf": ("norphuen", "nph_"), "nm": ("norphuen_nonmoving", "nph_nm_")}.items():
+            shared, archive = f"{folder}/{name}.so", f"crates/{name}/out/lib{name}.a"
+            parts = ["-Iinclude", "examples/c/malloc.c", "-Wl,--whole-archive", archive, "-Wl,--no-whole-archive"]
+            subprocess.run(["gcc", "-shared", "-fPIC", "-o", shared, *parts], check=True)
+            call = getattr(ctypes.CDLL(shared), prefix + "bytes_needed")
+            for page_bytes, pages, proxies in itertools.product(plan.study.PAGE_SIZES, (1, 7, 300), (1, 100, 3000)):
+                needed = (ctypes.c_uint64 * 3)()
+                code = call(*map(ctypes.c_uint32, (pages, page_bytes, 1, proxies)), needed)
+                wanted = plan.memory_of(needs.Layout(page_bytes, manager), manager, pages, proxies) + 4 * (1 << (proxies - 1).bit_length()) + HELD_BYTES
+                if code or needed[0] != wanted:
+                    return f"{manager}, {pages} pages of {page_bytes} bytes, {proxies} proxies: {needed[0]} bytes are needed, not {wanted}"
+    return None
+
+
 def drawn_modes(draw, layout):
     """A small program with modes, and what it allows."""
     kinds = draw.sample(LENGTHS, draw.choice((1, 2, 2, 2)))
@@ -324,6 +345,7 @@ def differences(program, seeds, count):
         for manager in "cf", "nm":
             library = plan.proved_test.Library(manager, folder)
             yield from (test_differs(seed, library) for seed in range(seeds))
+    yield memory_differs()
     with tempfile.TemporaryDirectory() as folder:
         for name, text in KINDS.items():
             path = Path(folder) / "demand"
@@ -333,7 +355,7 @@ def differences(program, seeds, count):
         for path, manager in itertools.product(DEMANDS, ("cf", "nm")):
             yield demand_differs(path, path.stem, program, folder, manager, 1 if manager == "cf" else 3)
             count["demands"] += 1
-    yield document_differs(Path("docs/SIZING.md").read_text(encoding="utf-8"))
+    yield document_differs(Path("docs/SIZING.md").read_text(encoding="utf-8"), program)
     yield robson_differs()
 
 
@@ -355,8 +377,9 @@ def formula(budget):
     return (budget.amount + sum(max(0, least - cost) for cost in budget.cost)) // least
 
 
-def document_differs(text):
-    """The first row of the table of budgets that the planner computes otherwise; a budget whose need the formula does not give."""
+def document_differs(text, program):
+    """The first row of the table of budgets that the planner computes otherwise, or the tool does not play as planned; a budget
+    whose need the formula does not give."""
     rows = [[cell.strip() for cell in line.strip("|").split("|")] for line in text.split("\n") if line.startswith("| `budget ")]
     with tempfile.TemporaryDirectory() as folder:
         path = Path(folder) / "demand"
@@ -370,6 +393,10 @@ def document_differs(text):
             wanted = [f"{it:,}" if it else "" for it in (plain.region, best.region, best.memory, least)]
             if [*row[1:4], row[5]] != wanted:
                 return f"docs/SIZING.md: {row[0]} has {row[1:4]} and {row[5]}, not {wanted}"
+            for it in plain, best:
+                is_right, words = plan.play(it, program, folder)
+                if not is_right:
+                    return f"docs/SIZING.md: {row[0]}, k = {it.label}: {words}"
     if len(rows) != 5:
         return f"docs/SIZING.md has {len(rows)} budgets, not 5"
     for amount, least, greatest, pages in SETTINGS:
@@ -467,6 +494,7 @@ WRONG = {
     "an object less to hold": lambda: replaced(needs, "objects_to_hold", lambda right: lambda n, m, k: max(1, right(n, m, k) - 1)),
     "classes of a budget forgotten": lambda: replaced(needs.Budget, "__init__", fewer_classes),
     "bounds that cost pages": lambda: replaced(plan.Planner, "by_class", high_bounds),
+    "less memory": lambda: mock.patch.object(plan, "CLASS_BYTES", 24),
     "no moves": lambda: replaced(plan, "most_moved", lambda right: lambda *_: 0),
     "fewer steps": lambda: mock.patch.dict(plan.study.BOUNDS["cf"], free=lambda s: s),
 }
