@@ -16,7 +16,7 @@
 #include <string.h>
 
 /* Only a library that lends has these. */
-#if defined NPH_USE_NONMOVING || defined NPH_USE_TLSF
+#ifdef NPH_USE_NONMOVING
 enum { LENDS = 0 };
 #undef nph_place
 #undef nph_lend

@@ -48,7 +48,7 @@ SHALLOW = {("norphuen_nonmoving", tool.X86, "nph_free"), ("norphuen_nonmoving", 
 BOUNDS = {f"nph_{it}" for it in "kind most_malloc most_free most_resize most_access most_has_room most_totals most_length".split()}
 NO_LOOP = {"norphuen": BOUNDS | {"nph_slot_words", "nph_class_of", "nph_malloc", "nph_free", "nph_length", "nph_has_room", "nph_place", "nph_lend", "nph_return", "nph_version"},
            "norphuen_nonmoving": BOUNDS | {"nph_slot_words", "nph_class_of", "nph_malloc", "nph_length", "nph_has_room", "nph_version"},
-           "norphuen_tlsf": BOUNDS | {"nph_malloc", "nph_free", "nph_length", "nph_has_room", "nph_bytes_needed", "nph_version"}}
+           "norphuen_tlsf": BOUNDS | {"nph_malloc", "nph_free", "nph_length", "nph_has_room", "nph_bytes_needed", "nph_place", "nph_lend", "nph_return", "nph_version"}}
 # The lengths that the notes may use (docs/SPEED.md).
 NAMES = "smtcwbfpPWQ"
 # What puts a library under the short names of the header.

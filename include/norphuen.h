@@ -8,8 +8,7 @@
  *   libnorphuen.a            Compact-fit, moving: a free may move one object, whose handle stays the same
  *   libnorphuen_nonmoving.a  Compact-fit, non-moving: a free may exchange entries of a block table. Lends nothing, since
  *                            an object's words are not side by side
- *   libnorphuen_tlsf.a       TLSF, for comparison: blocks in place of pages. No object moves or changes its length. Lends
- *                            nothing
+ *   libnorphuen_tlsf.a       TLSF, for comparison: blocks in place of pages. No object moves or changes its length
  *
  * Each has names and a type of heap of its own: nph_open and nph_heap, nph_nm_open and nph_nm_heap, nph_tlsf_open and
  * nph_tlsf_heap, and so on. The comments below speak of the short names, those of the moving library. With the macro
@@ -247,8 +246,8 @@ uint64_t nph_most_length(void);
  * nph_bytes(words, place), aligned to 8, and the program reads and writes them there. Each other call but nph_close
  * returns NPH_LENT until then. A library that lends nothing has none of these calls. */
 
-/* Writes the place of an object: the word in front of its bytes, counted from the first word of the region. It stays the
- * same until the object is freed, resized, or named as `moved`. Fails with NPH_UNKNOWN. */
+/* Writes the place of an object: its first word, which is in front of its bytes, counted from the first word of the
+ * region. It stays the same until the object is freed, resized, or named as `moved`. Fails with NPH_UNKNOWN. */
 NPH_CALL nph_status nph_place(nph_heap *heap, uint32_t handle, uint32_t *place);
 
 /* Lends the heap, and writes the address of the first word of the region. */
@@ -257,8 +256,9 @@ NPH_CALL nph_status nph_lend(nph_heap *heap, uint64_t **words);
 /* Ends the loan: the heap is open again, and its objects have the bytes that the program wrote. Fails with NPH_NOT_LENT. */
 NPH_CALL nph_status nph_return(nph_heap *heap);
 
-/* The address of the bytes of an object. */
+/* The address of the bytes of an object. With TLSF its block has two words in front of them. */
 static inline void *nph_bytes(uint64_t *words, uint32_t place) { return words + place + 1; }
+static inline void *nph_tlsf_bytes(uint64_t *words, uint32_t place) { return words + place + 2; }
 
 /* The calls of the other libraries. Each is as the one above with the short name. */
 #define NPH_CALLS_OF(nph) \
@@ -288,6 +288,9 @@ NPH_CALLS_OF(nph_nm)
 NPH_CALLS_OF(nph_tlsf)
 NPH_CALL nph_status nph_nm_slot_words(nph_nm_heap *heap, uint32_t handle, uint32_t *words);
 NPH_CALL nph_status nph_nm_class_of(nph_nm_heap *heap, uint32_t bytes, uint32_t *size_class);
+NPH_CALL nph_status nph_tlsf_place(nph_tlsf_heap *heap, uint32_t handle, uint32_t *place);
+NPH_CALL nph_status nph_tlsf_lend(nph_tlsf_heap *heap, uint64_t **words);
+NPH_CALL nph_status nph_tlsf_return(nph_tlsf_heap *heap);
 
 /* These let `freed` and `resized` be NULL. The libraries' own functions need a pointer. */
 #define NPH_OR_NULL_OF(nph) \
@@ -351,6 +354,7 @@ NPH_OR_NULL_OF(nph_tlsf)
 #define nph_place NPH_NAME(place)
 #define nph_lend NPH_NAME(lend)
 #define nph_return NPH_NAME(return)
+#define nph_bytes NPH_NAME(bytes)
 #endif
 
 /* A block of memory at the address `at`. If out of memory, `ok` is false and `at` is any address but null. */

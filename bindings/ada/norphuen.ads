@@ -215,6 +215,6 @@ package Norphuen is
    --  The address of the bytes of an object, while the heap is lent.
    function Nph_Bytes
      (Words : System.Address; Place : Unsigned_32) return System.Address
-   is (Words + 8 * (Storage_Offset (Place) + 1));
+   is (Words + 8 * (Storage_Offset (Place) + Headers));
 
 end Norphuen;

@@ -4,4 +4,7 @@ package Norphuen_Library is
    --  The names of its calls begin with this.
    Prefix : constant String := "nph_nm_";
 
+   --  The words of an object in front of its bytes.
+   Headers : constant := 1;
+
 end Norphuen_Library;

@@ -86,6 +86,8 @@ macro_rules! named { ($call:literal) => { concat!("nph_nm_", $call) } }
 #[cfg(feature = "tlsf")]
 #[rustfmt::skip]
 macro_rules! named { ($call:literal) => { concat!("nph_tlsf_", $call) } }
+/// The words of an object in front of its bytes.
+const HEADERS: usize = if cfg!(feature = "tlsf") { 2 } else { 1 };
 #[cfg(all(feature = "nonmoving", feature = "tlsf"))]
 compile_error!("the features nonmoving and tlsf name two libraries");
 
@@ -277,7 +279,7 @@ impl Heap {
         }
         result_of(unsafe { nph_lend(self.raw(), &mut words) }, ())?;
         self.end_loan = Some(nph_return);
-        let bytes = |i: usize| unsafe { words.add(places[i] as usize + 1) }.cast::<u8>();
+        let bytes = |i: usize| unsafe { words.add(places[i] as usize + HEADERS) }.cast::<u8>();
         Ok(core::array::from_fn(|i| unsafe { core::slice::from_raw_parts_mut(bytes(i), lengths[i]) }))
     }
 

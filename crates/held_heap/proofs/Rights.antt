@@ -1,19 +1,16 @@
 -- What a caller in C may do with the words of a region that a `HeapBlock` owns apart. It owns them (`words_lie`), so it may read them, and write bytes of live objects: then it owns the words of the heap's state after that
 -- write, and by the law `bytes_are_written` what makes the heap whole again is that of this state. So it owns the `HeapBlock` with this state, and may pass it to the next call. No function cites the law.
-use Rattle.std.proofs.Common.{◌≡◌, ℕ, ◌+◌, ◌-◌, ◌/◌, ◌%◌, ◌^◌, ◌<◌, ◌≤◌, inl, inr, List, [], ◌∷◌, length, refl, sym, ap, ◌∙◌, subst, Option, Some, None, arith}
-use Rattle.std.proofs.lemmas.Bool.{cases_lt, false≢true}
-use Rattle.std.proofs.lemmas.List.{get_or_default}
-use Rattle.std.specs.Prelude.{slice_index, IsTrue, is_some}
+use Rattle.std.proofs.Common.{◌≡◌, ℕ, ◌+◌, ◌/◌, ◌%◌, ◌≤◌, List, [], ◌∷◌, length, refl, sym, ap, ◌∙◌, subst, Option, Some, None, arith}
+use Rattle.std.proofs.lemmas.Bool.{false≢true}
+use Rattle.std.specs.Prelude.{IsTrue, is_some}
 use Rattle.std.specs.FinMap.{get, insert}
 use seplogic.Ra.Ura.{Ura}
 use base.Logic.{ent}
 use types.Logic.{Logic, sem}
 use types.Kit.{‵, ◌$◌, ◌∵◌, !, qed, done, fpick, fpack, rewrite}
 use denote.RawPtr.{Ptr}
-use Rattle.page_model.specs.Bytes.{AreBytes, bytes_at, written as bytes_written}
+use Rattle.page_model.specs.Bytes.{bytes_at, written as bytes_written}
 use Rattle.page_model.specs.Held.{Placed}
-use Rattle.region.specs.Lending.{with_words}
-use Rattle.region.proofs.CallerLemmas.{fit-words, fit_below, length-fit}
 use Rattle.region.specs.Overwriting.{Overwrites}
 use Rattle.cf_base.specs.declared.kind.Kind.TheVariants.{Moving}
 use Rattle.cf_model.specs.State.{HeapState}
@@ -24,61 +21,24 @@ use Rattle.paged_heap.proofs.CallerLemmas.{has_place, no_place, lies, wrote, wro
 use Rattle.held_heap.specs.HeldState.{HeldState, IsOpenOfKind}
 use Rattle.held_heap.specs.Loose.{Fits, held_all, inner_all, region_all}
 use Rattle.held_heap.specs.MovingBlock.{Names, opened, open_borrow}
-use Rattle.held_heap.proofs.WholeWords.{all_replaced}
-
--- words of 64 bits, as many as there were, replace all words as they are
-whole_again : (old new : List ℕ) → length new ≡ length old → ((k : ℕ) → slice_index new k < 2 ^ 64) → with_words old 0 (length old) new ≡ new
-whole_again old new same below = all_replaced old new ∙ fit-words (length old) new same (λ i d lt. rw (get_or_default new i d 0 lt) (below i))
-
--- the region after all its words were replaced
-module _ (h : OpenHeap) (ws : List ℕ) where
-  abbrev n : ℕ
-  n = length h.region
-
-  abbrev R : List ℕ
-  R = with_words h.region 0 n ws
-
-  long : length R ≡ n
-  long = ap length (all_replaced h.region ws) ∙ length-fit n ws
-
-  below : (k : ℕ) → slice_index R k < 2 ^ 64
-  below k = subst (λ (l : List ℕ). slice_index l k < 2 ^ 64) (sym (all_replaced h.region ws)) (fit_below n ws k)
-
--- the state s becomes t when these bytes are written into the live object q from its byte `from` on: its other bytes stay, and so do all other words
-pub record IsWritten (s t : HeapState) (q from : ℕ) (bytes : List ℕ) : Type 0 where
-  pub object : Placed
-  pub found : get s.held q ≡ Some object
-  pub within : from + length bytes ≤ length object.bytes
-  pub bytes_are : AreBytes bytes
-  pub words : Overwrites s.words t.words (record { from = object.place + 1 + from / 8; count = (from % 8 + length bytes + 7) / 8 }) (from % 8) bytes
-  pub whole : t ≡ record s { held = insert s.held q (record object { bytes = bytes_written object.bytes from bytes }); words = t.words }
+use Rattle.held_heap.specs.Written.{IsWritten}
+use Rattle.held_heap.proofs.WholeWords.{again, as_many, long}
 
 -- a heap whose region was replaced before, with the words of t
 module _ (h : OpenHeap) (ws : List ℕ) (k : Holds Moving (region_all h ws)) (t : HeapState) (q from : ℕ) (bytes : List ℕ)
-    (w : IsWritten (state_at Moving (region_all h ws)) t q from bytes) where
+    (w : IsWritten 1 (state_at Moving (region_all h ws)) t q from bytes) where
   abbrev h0 : OpenHeap
   h0 = region_all h ws
 
   abbrev left : OpenHeap
   left = record h0 { region = t.words }
 
-  as_many : length t.words ≡ length h.region
-  as_many = w.words.long ∙ long h ws
-
-  below_all : (i : ℕ) → slice_index t.words i < 2 ^ 64
-  below_all i =
-      let first = w.object.place + 1 + from / 8 in let count = (from % 8 + length bytes + 7) / 8 in
-      elim (cases_lt i first) [
-        | inl lt ↦ rw (w.words.others i (inl lt)) (below h ws i)
-        | inr ge ↦ elim (cases_lt i (first + count)) [
-          | inl lt ↦ (let z : first + (i - first) ≡ i = omega arith in
-              subst (λ (j : ℕ). slice_index t.words j < 2 ^ 64) z (w.words.small (i - first) (omega arith)))
-          | inr past ↦ rw (w.words.others i (inr past)) (below h ws i)
-        ]
-      ]
+  many : length t.words ≡ length h.region
+  many = as_many h.region ws t.words (w.object.place + 1 + from / 8) ((from % 8 + length bytes + 7) / 8) (from % 8) bytes w.words
 
   pub left_is : region_all h t.words ≡ left
-  left_is = ap (λ (l : List ℕ). record h { region = l }) (whole_again h.region t.words as_many below_all)
+  left_is = ap (λ (l : List ℕ). record h { region = l })
+      (again h.region ws t.words (w.object.place + 1 + from / 8) ((from % 8 + length bytes + 7) / 8) (from % 8) bytes w.words)
 
   abbrev At : ℕ → Placed
   At a = record { place = a; bytes = bytes_at h0.region a }
@@ -115,7 +75,7 @@ module _ (h : OpenHeap) (ws : List ℕ) (k : Holds Moving (region_all h ws)) (t 
   left_holds = record {
     laid = record {
       none = k.laid.none;
-      small = (let l = as_many in let o = long h ws in let s = k.laid.small in omega arith);
+      small = (let l = many in let o = long h.region ws in let s = k.laid.small in omega arith);
     };
     kept = both.0;
   }
@@ -125,15 +85,15 @@ module _ (h : OpenHeap) (ws : List ℕ) (k : Holds Moving (region_all h ws)) (t 
 
 -- the parts with the words of the state after a write are those of a heap of this state
 fits_in : (o : Option OpenHeap) (ws : List ℕ) → IsValidIn Moving (inner_all o ws) → (s : HeapState) → state_in Moving (inner_all o ws) ≡ s → IsTrue s.is_open
-    → (t : HeapState) (q from : ℕ) (bytes : List ℕ) → IsWritten s t q from bytes
+    → (t : HeapState) (q from : ℕ) (bytes : List ℕ) → IsWritten 1 s t q from bytes
     → IsValidIn Moving (inner_all o t.words) × (state_in Moving (inner_all o t.words) ≡ t)
 fits_in None ws k s e is_open t q from bytes w = absurd (false≢true (ap (λ (u : HeapState). u.is_open) e ∙ is_open))
 fits_in (Some h) ws k s e is_open t q from bytes w =
-    let v = subst (λ (u : HeapState). IsWritten u t q from bytes) (sym e) w in
+    let v = subst (λ (u : HeapState). IsWritten 1 u t q from bytes) (sym e) w in
     let is = left_is h ws k t q from bytes v in
     (subst (Holds Moving) (sym is) (left_holds h ws k t q from bytes v), ap (state_at Moving) is ∙ left_shown h ws k t q from bytes v)
 
-module _ (x : HeldState) (m : Names) (fit : Fits (held_all m.parts x.heap.words) x) (t : HeapState) (q from : ℕ) (bytes : List ℕ) (w : IsWritten x.heap t q from bytes) where
+module _ (x : HeldState) (m : Names) (fit : Fits (held_all m.parts x.heap.words) x) (t : HeapState) (q from : ℕ) (bytes : List ℕ) (w : IsWritten 1 x.heap t q from bytes) where
   abbrev o : Option OpenHeap
   o = m.parts.heap.inner
 
@@ -159,7 +119,7 @@ module _ (x : HeldState) (m : Names) (fit : Fits (held_all m.parts x.heap.words)
 
 module _ {M : Type 1} {𝓤 : Ura M} (𝓛 : Logic 𝓤) where
   -- when the caller has written bytes into an object, what makes the heap whole again is that of the state after it
-  pub bytes_are_written : (p u : Ptr) (x : HeldState) (t : HeapState) (q from : ℕ) (bytes : List ℕ) → IsWritten x.heap t q from bytes
+  pub bytes_are_written : (p u : Ptr) (x : HeldState) (t : HeapState) (q from : ℕ) (bytes : List ℕ) → IsWritten 1 x.heap t q from bytes
       → ent 𝓤 (sem 𝓛 (opened p u x)) (sem 𝓛 (opened p u (record x { heap = t })))
   bytes_are_written p u x t q from bytes w =
       qed 𝓛 (‵ (opened p u x) ∷ []) ∵ fpick ! (λ (m : (n : Names) × Fits (held_all n.parts x.heap.words) x).

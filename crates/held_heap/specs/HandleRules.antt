@@ -12,6 +12,12 @@ pub record IsCount (count : ℕ) : Type 0 where
   pub some : 1 ≤ count
   pub few : count < 131072
 
+-- the mask of the low bits of these handles, and the largest handle that has a next generation
+pub record AreCounted (handles : List ℕ) (mask limit : ℕ) : Type 0 where
+  pub count : IsCount (length handles)
+  pub mask_is : mask + 1 ≡ length handles
+  pub limit_is : limit + 2 * length handles + 1 ≡ 2 ^ 32
+
 -- The handles of a heap with this many proxies that was just opened. There are as many as the least power of two that is not below `proxies`, and all are larger than `last`.
 pub record AreFirstHandles (proxies last : ℕ) (handles : List ℕ) : Type 0 where
   pub count : IsCount (length handles)

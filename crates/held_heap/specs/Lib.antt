@@ -7,6 +7,7 @@ pub mod Calls
 pub mod CallerHeap
 pub mod AtPlace
 pub mod HeapBlock
+pub mod Written
 pub mod Loose
 pub mod LooseLoan
 pub mod Moving
@@ -17,6 +18,9 @@ pub mod NonMoving
 pub mod NonMovingLoan
 pub mod NonMovingPlace
 pub mod Tlsf
+pub mod LooseTlsf
+pub mod LooseTlsfLoan
+pub mod TlsfBlock
 pub mod TlsfLoan
 pub mod TlsfPlace
 pub mod Needed

@@ -10,16 +10,19 @@ use cf_base::{BytesNeeded, Handle, numbers_from};
 use std::alloc::Global;
 use std::marker::Model;
 
-/// For each number the handle that names it now. There are as many as the low bits of a handle can tell apart.
+/// For each number the handle that names it now. There are as many as the low bits of a handle, `mask`, can tell apart. No
+/// handle above `limit` has a next generation.
 #[derive(Drop)]
 pub(crate) struct Handles {
     of: Vec<u32>,
+    mask: u32,
+    limit: u32,
 }
 
 impl Model for Handles {
-    ghost use Rattle.std.specs.Prelude.{ℕ, List, length};
+    ghost use Rattle.std.specs.Prelude.{ℕ, List};
     ghost use Rattle.std.specs.Coded.{coded_ℕ, coded_list};
-    ghost use Rattle.held_heap.specs.HandleRules.{IsCount};
+    ghost use Rattle.held_heap.specs.HandleRules.{AreCounted};
 
     ghost Value = { List ℕ };
 
@@ -27,7 +30,7 @@ impl Model for Handles {
 
     ghost view = { λ h. h.of.items };
 
-    ghost invariant = { λ h. IsCount (length h.of.items) };
+    ghost invariant = { λ h. AreCounted h.of.items h.mask h.limit };
 }
 
 /// The handle of number 0 in a heap with `count` numbers: the least multiple of `count` that is larger than `last`; or 0,
@@ -55,7 +58,11 @@ impl Handles {
         let count = proxies.next_power_of_two();
         let base = base(count, last);
         let of = numbers_from(alloc, base, count).ok()?;
-        Some(Handles { of })
+        Some(Handles {
+            of,
+            mask: count - 1,
+            limit: u32::MAX - 2 * count,
+        })
     }
 
     /// The memory that `new` asks for.
@@ -73,7 +80,7 @@ impl Handles {
         ensures value { result ≡ handle % length self.now }
         ensures within { result < length self.now }
     {
-        handle & (self.of.len() as u32 - 1)
+        handle & self.mask
     }
 
     /// The handle that C has for object `number`.
@@ -100,9 +107,8 @@ impl Handles {
     fn next(&self, handle: u32) -> u32
         ensures { result ≡ next (length self.now) handle }
     {
-        let count = self.of.len() as u32;
-        if handle as u64 + 2 * count as u64 <= u32::MAX as u64 {
-            handle + count
+        if handle <= self.limit {
+            handle + (self.mask + 1)
         } else {
             self.number(handle)
         }

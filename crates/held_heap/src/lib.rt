@@ -8,6 +8,7 @@ mod handles;
 mod held;
 pub mod laws;
 mod loose;
+mod loose_tlsf;
 pub mod most;
 pub mod moving;
 mod needed;

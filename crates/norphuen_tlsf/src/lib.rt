@@ -2,13 +2,14 @@
 //! export for C. An export calls the function of `held_heap` that its comment names, and its contract is that
 //! function's. Each export but `nph_tlsf_close` returns a code: 0 (`DONE`) if the call is done, else the cause
 //! (`held_heap`, file `codes`). While the heap is closed, each export but `nph_tlsf_open` and `nph_tlsf_close` returns
-//! `CLOSED` and changes nothing (`IsCallOnOpen`).
+//! `CLOSED` and changes nothing; while it is lent, each but `nph_tlsf_return` and `nph_tlsf_close` returns `LENT` and
+//! changes nothing (`IsCallOnOpen`).
 #![tactic(auto)]
 
 ghost use Rattle.std.specs.Prelude.{◌≡◌};
 ghost use Rattle.cf_base.specs.declared.kind.Kind.TheVariants.{Tlsf};
-ghost use Rattle.held_heap.specs.Calls.{IsFiguresCall, IsFreeCall, IsLengthCall, IsMallocCall, IsReadCall, IsResizeCall, IsRoomCall, IsStepsCall, IsTotalsCall, IsWriteCall};
-ghost use Rattle.held_heap.specs.AtPlace.{IsOpenCall, IsCallOnOpen};
+ghost use Rattle.held_heap.specs.Calls.{IsFiguresCall, IsFreeCall, IsLengthCall, IsMallocCall, IsPlaceCall, IsReadCall, IsResizeCall, IsRoomCall, IsStepsCall, IsTotalsCall, IsWriteCall};
+ghost use Rattle.held_heap.specs.AtPlace.{IsCallOnOpen, IsLendCall, IsOpenCall, IsReturnCall};
 ghost use Rattle.held_heap.specs.CallerHeap.{closed_by};
 ghost use Rattle.held_heap.specs.Most.{IsMostAccess, IsMostFree, IsMostLength, IsMostMalloc, IsMostResize, IsMostRoom, IsMostTotals, kind_code};
 ghost use Rattle.held_heap.specs.Needed.{IsNeededCall};
@@ -18,7 +19,7 @@ ghost use Rattle.held_heap.specs.Version.{version};
 
 use cf_base::Kind;
 use held_heap::tlsf::NphHeap;
-use held_heap::{CLOSED, NphClass, NphFreed, NphHeapTotals, NphNeeded, NphResized, VERSION, most};
+use held_heap::{NphClass, NphFreed, NphHeapTotals, NphNeeded, NphResized, VERSION, most};
 use std::rt::Memory;
 
 /// Opens the heap with these settings: a region of `pages` times `page_bytes` bytes, and at most `proxies` live
@@ -54,7 +55,7 @@ pub extern "C" fn nph_tlsf_bytes_needed(
     NphHeap::bytes_needed(pages, page_bytes, k, proxies, needed)
 }
 
-/// Closes the heap and frees its memory; does nothing if it is closed (`NphHeap::close`).
+/// Closes the heap and frees its memory, also if it is lent; does nothing if it is closed (`NphHeap::close`).
 #[unsafe(no_mangle)]
 pub extern "C" fn nph_tlsf_close(heap: &mut NphHeap, memory: Memory)
     ensures { held_in heap.new ≡ closed_by (held_in heap.old) }
@@ -71,7 +72,7 @@ pub extern "C" fn nph_tlsf_malloc(heap: &mut NphHeap, bytes: u32, handle: &mut u
     if heap.is_open() {
         heap.held().malloc(bytes, handle)
     } else {
-        CLOSED
+        heap.refusal()
     }
 }
 
@@ -84,7 +85,7 @@ pub extern "C" fn nph_tlsf_free(heap: &mut NphHeap, handle: u32, freed: &mut Nph
     if heap.is_open() {
         heap.held().free(handle, freed)
     } else {
-        CLOSED
+        heap.refusal()
     }
 }
 
@@ -102,7 +103,7 @@ pub extern "C" fn nph_tlsf_resize(
     if heap.is_open() {
         heap.held().resize(handle, bytes, resized)
     } else {
-        CLOSED
+        heap.refusal()
     }
 }
 
@@ -115,7 +116,7 @@ pub extern "C" fn nph_tlsf_write(heap: &mut NphHeap, handle: u32, at: u32, bytes
     if heap.is_open() {
         heap.held().write(handle, at, bytes)
     } else {
-        CLOSED
+        heap.refusal()
     }
 }
 
@@ -128,7 +129,7 @@ pub extern "C" fn nph_tlsf_read(heap: &mut NphHeap, handle: u32, at: u32, out: &
     if heap.is_open() {
         heap.held().read(handle, at, out)
     } else {
-        CLOSED
+        heap.refusal()
     }
 }
 
@@ -141,7 +142,7 @@ pub extern "C" fn nph_tlsf_length(heap: &mut NphHeap, handle: u32, bytes: &mut u
     if heap.is_open() {
         heap.held().length(handle, bytes)
     } else {
-        CLOSED
+        heap.refusal()
     }
 }
 
@@ -154,7 +155,7 @@ pub extern "C" fn nph_tlsf_has_room(heap: &mut NphHeap, bytes: u32) -> i32
     if heap.is_open() {
         heap.held().has_room(bytes)
     } else {
-        CLOSED
+        heap.refusal()
     }
 }
 
@@ -167,7 +168,7 @@ pub extern "C" fn nph_tlsf_figures(heap: &mut NphHeap, class: u32, figures: &mut
     if heap.is_open() {
         heap.held().figures(class, figures)
     } else {
-        CLOSED
+        heap.refusal()
     }
 }
 
@@ -180,7 +181,7 @@ pub extern "C" fn nph_tlsf_totals(heap: &mut NphHeap, totals: &mut NphHeapTotals
     if heap.is_open() {
         heap.held().totals(totals)
     } else {
-        CLOSED
+        heap.refusal()
     }
 }
 
@@ -194,8 +195,39 @@ pub extern "C" fn nph_tlsf_last_steps(heap: &mut NphHeap, steps: &mut u64) -> i3
     if heap.is_open() {
         heap.held().last_steps(steps)
     } else {
-        CLOSED
+        heap.refusal()
     }
+}
+
+/// Writes the address of an object into `place`, in words from the start of the region (`Held::place`). Its block
+/// begins there, with the block's header and the object's, and its bytes begin two words on.
+#[unsafe(no_mangle)]
+pub extern "C" fn nph_tlsf_place(heap: &mut NphHeap, handle: u32, place: &mut u32) -> i32
+    ensures { IsCallOnOpen (held_in heap.old) result (held_in heap.new) (place.new ≡ place.old)
+        (λ h h2. IsPlaceCall h handle place.old result place.new h2) }
+{
+    if heap.is_open() {
+        heap.held().place(handle, place)
+    } else {
+        heap.refusal()
+    }
+}
+
+/// Lends the words of the region to the caller, and writes their address into `words` (`NphHeap::lend`). Until
+/// `nph_tlsf_return` the caller may read them, and write the bytes of live objects.
+#[unsafe(no_mangle)]
+pub extern "C" fn nph_tlsf_lend(heap: &mut NphHeap, words: &mut *mut u64) -> i32
+    ensures { IsLendCall (held_in heap.old) result (held_in heap.new) words.old words.new }
+{
+    heap.lend(words)
+}
+
+/// Ends the loan (`NphHeap::end_loan`).
+#[unsafe(no_mangle)]
+pub extern "C" fn nph_tlsf_return(heap: &mut NphHeap) -> i32
+    ensures { IsReturnCall (held_in heap.old) result (held_in heap.new) }
+{
+    heap.end_loan()
 }
 
 /// Returns the version of this library (`VERSION`).

@@ -48,7 +48,7 @@ use Rattle.held_heap.specs.declared.loose.LooseHeld.{LooseHeld}
 use Rattle.held_heap.specs.contracts.moving.HeapBlock.{the_row as P}
 use Rattle.held_heap.proofs.Loosen.{S, loosen}
 use Rattle.held_heap.proofs.MovingPlaces.{place_val, place_in_at, place_out, made_whole}
-use Rattle.held_heap.proofs.WholeWords.{open_some, words_shown, fits_all}
+use Rattle.held_heap.proofs.MovingWords.{open_some, words_shown, fits_all}
 use Rattle.held_heap.specs.contracts.loose.all_words as g
 use Rattle.held_heap.proofs.loose.all_words.Met.{met}
 use Rattle.held_heap.specs.contracts.moving.opened_of as f

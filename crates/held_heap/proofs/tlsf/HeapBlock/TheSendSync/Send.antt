@@ -3,7 +3,8 @@ use denote.Param.Send.{AllSend, IsSend, owning_send, sendable, struct_send}
 use denote.Struct.Owning.{fields, shape, to}
 use denote.Struct.Struct.{exits_of}
 use Rattle.std_alloc.proofs.SendSync.{quiet}
-use Rattle.held_heap.proofs.Crosses.{place-Keyless}
+use Rattle.held_heap.proofs.TlsfCrosses.{tlsf-Keyless}
+use Rattle.held_heap.proofs.loose_tlsf.LooseTlsf.TheSendSync.{the_send as loose}
 use Rattle.held_heap.specs.Tlsf.{open_heap}
 use Rattle.held_heap.specs.contracts.tlsf.HeapBlock.{the_row, the_type}
 use Rattle.held_heap.specs.contracts.of_kind.TagHeapOfKind.TheImpl as of_kind
@@ -27,5 +28,5 @@ heap-send = held
 pub send : IsSend the_row
 send =
     let all : AllSend (fields the_type) = (search sendable, tt) in
-    owning_send the_type all (λ d. place-Keyless open_heap heap-send d.at d.held)
+    owning_send the_type all (λ d. tlsf-Keyless (search sendable) heap-send loose d.at d.held d.words)
     (λ k. quiet (to the_type) (exits_of k (fields the_type)) ((struct_send (shape the_type) all).leaving k))

@@ -1,0 +1,75 @@
+-- `LooseTlsf`, the fields of an open heap of the TLSF manager with its step count: its words, other words in their place, and which of them is a `Held` with a given state.
+use Rattle.std.specs.Prelude.{◌≡◌, ℕ, List, [], Option, Some, None, length}
+use Rattle.cf_base.specs.declared.kind.Kind.TheVariants.{Tlsf}
+use Rattle.region.specs.Lending.{with_words}
+use Rattle.block_model.specs.Buckets.{tlsf}
+use Rattle.cf_model.specs.State.{HeapState}
+use Rattle.tag_blocks.specs.Blocks.{Tagged}
+use Rattle.tag_blocks.specs.Layout.{Fields, IsValid as AreValidBlocks}
+use Rattle.tag_blocks.specs.ListHeads.{AreMarkedCells}
+use Rattle.tag_blocks.specs.Tags.{blocks_of, lists_of}
+use Rattle.tag_heap.specs.Heap.{Heap, IsKeptIn, IsValid, state_in}
+use Rattle.held_heap.specs.HeldState.{HeldState, IsOpenOfKind}
+use Rattle.held_heap.specs.declared.loose_tlsf.LooseBlocks.{LooseBlocks}
+use Rattle.held_heap.specs.declared.loose_tlsf.LooseOpen.{LooseOpen}
+use Rattle.held_heap.specs.declared.loose_tlsf.LooseTlsf.{LooseTlsf}
+
+-- the words of the region; none if the heap is closed
+abbrev pub region_in : Option LooseOpen → List ℕ
+region_in None = []
+region_in (Some h) = h.blocks.region
+
+abbrev pub words_of : LooseTlsf → List ℕ
+words_of a = region_in a.heap.inner
+
+-- the heap with the words ws in its region
+abbrev pub blocks_all : LooseBlocks → List ℕ → LooseBlocks
+blocks_all t ws = record t { region = with_words t.region 0 (length t.region) ws }
+
+abbrev pub open_all : LooseOpen → List ℕ → LooseOpen
+open_all h ws = record h { blocks = blocks_all h.blocks ws }
+
+abbrev pub inner_all : Option LooseOpen → List ℕ → Option LooseOpen
+inner_all None ws = None
+inner_all (Some h) ws = Some (open_all h ws)
+
+abbrev pub held_all : LooseTlsf → List ℕ → LooseTlsf
+held_all a ws = record a { heap = record a.heap { inner = inner_all a.heap.inner ws } }
+
+-- the blocks and the heap that these fields show
+abbrev pub seen_blocks : LooseBlocks → Tagged
+seen_blocks t = record { words = t.region; blocks = blocks_of t.region; lists = lists_of t.region t.heads.addresses }
+
+abbrev pub seen_heap : LooseOpen → Heap
+seen_heap h = record { settings = h.settings; tagged = seen_blocks h.blocks; proxies = h.proxies; asked = h.asked; used_words = h.used_words; cost = h.cost }
+
+abbrev pub seen_in : Option LooseOpen → Option Heap
+seen_in None = None
+seen_in (Some h) = Some (seen_heap h)
+
+abbrev pub state_seen : Option LooseOpen → HeapState
+state_seen o = state_in Tlsf (seen_in o)
+
+-- the fields are those of valid blocks
+pub record FitBlocks (t : LooseBlocks) : Type 0 where
+  pub marked : AreMarkedCells t.heads.addresses t.heads.lists t.heads.groups
+  pub valid : AreValidBlocks tlsf 336 (record { words = t.region; heads = t.heads.addresses; used = t.used; free = t.free })
+
+-- the fields are those of a valid open heap
+pub record FitOpen (h : LooseOpen) : Type 0 where
+  pub blocks : FitBlocks h.blocks
+  pub valid : IsValid Tlsf (seen_heap h)
+
+-- the fields are those of a valid heap, open or closed
+abbrev pub FitIn : Option LooseOpen → Type 0
+FitIn None = Unit {0}
+FitIn (Some h) = FitOpen h
+
+-- the parts a are those of a `Held` with the state x: the heap is valid and open, and shows this state
+pub record Fits (a : LooseTlsf) (x : HeldState) : Type 0 where
+  pub valid : FitIn a.heap.inner
+  pub rules : IsKeptIn Tlsf (seen_in a.heap.inner)
+  pub open_now : IsOpenOfKind Tlsf (state_seen a.heap.inner)
+  pub heap : state_seen a.heap.inner ≡ x.heap
+  pub steps : a.steps ≡ x.steps
+  pub handles : a.handles ≡ x.handles

@@ -1,0 +1,17 @@
+-- What a caller in C may write while a heap is lent.
+use Rattle.std.specs.Prelude.{◌≡◌, ℕ, ◌+◌, ◌/◌, ◌%◌, ◌≤◌, List, Some, length}
+use Rattle.std.specs.FinMap.{get, insert}
+use Rattle.page_model.specs.Bytes.{AreBytes, written}
+use Rattle.page_model.specs.Held.{Placed}
+use Rattle.region.specs.Overwriting.{Overwrites}
+use Rattle.cf_model.specs.State.{HeapState}
+
+-- The state s becomes t when these bytes are written into the live object q from its byte `from` on: its other bytes stay, and so do all other words. The bytes of an object begin `headers` words behind its address: 1 with
+-- pages, 2 with blocks.
+pub record IsWritten (headers : ℕ) (s t : HeapState) (q from : ℕ) (bytes : List ℕ) : Type 0 where
+  pub object : Placed
+  pub found : get s.held q ≡ Some object
+  pub within : from + length bytes ≤ length object.bytes
+  pub bytes_are : AreBytes bytes
+  pub words : Overwrites s.words t.words (record { from = object.place + headers + from / 8; count = (from % 8 + length bytes + 7) / 8 }) (from % 8) bytes
+  pub whole : t ≡ record s { held = insert s.held q (record object { bytes = written object.bytes from bytes }); words = t.words }

@@ -1,0 +1,104 @@
+//! `LooseTlsf`: an open heap of the TLSF manager with its step count, as `Held` has it, field by field, but with no
+//! invariant. A `Held` is a `LooseTlsf` whose heap is valid, in the same memory; so the words of its region can be
+//! borrowed all at once.
+ghost use Rattle.std.specs.Prelude.{◌≡◌, IsSome, length};
+ghost use Rattle.std.specs.Borrow.{sem};
+ghost use Rattle.held_heap.specs.LooseTlsf.{region_in, words_of};
+ghost use Rattle.held_heap.specs.LooseTlsfLoan.{LendsAllIn, LendsAllOfBlocks, LendsAllOfOpen, LendsAllWords};
+
+use crate::handles::Handles;
+use cf_base::Settings;
+use proxy_table::ProxyTable;
+use region::Region;
+use std::alloc::Global;
+use std::marker::PhantomData;
+use std::rt::Memory;
+use step_ledger::{CellArray, Cells, Meter};
+use tlsf_heap::TlsfBuckets;
+
+/// The heads of the free lists, and their bitmaps.
+#[derive(Drop)]
+pub struct LooseHeads {
+    pub(crate) addresses: Cells<u32>,
+    pub(crate) lists: CellArray<u64, 32>,
+    pub(crate) groups: CellArray<u64, 1>,
+}
+
+/// The fields of `TagBlocks`.
+#[derive(Drop)]
+pub struct LooseBlocks {
+    pub(crate) region: Region,
+    pub(crate) heads: LooseHeads,
+    pub(crate) used: u32,
+    pub(crate) free: u32,
+    pub(crate) rule: PhantomData<TlsfBuckets>,
+}
+
+/// The fields of the open heap.
+#[derive(Drop)]
+pub struct LooseOpen {
+    pub(crate) settings: Settings,
+    pub(crate) blocks: LooseBlocks,
+    pub(crate) proxies: ProxyTable,
+    pub(crate) asked: u64,
+    pub(crate) used_words: u32,
+    pub(crate) cost: u64,
+}
+
+/// The fields of `TlsfHeap`.
+#[derive(Drop)]
+pub struct LooseManager {
+    pub(crate) alloc: Global,
+    pub(crate) inner: Option<LooseOpen>,
+}
+
+/// The fields of `Held` for the TLSF manager.
+#[derive(Drop)]
+pub struct LooseTlsf {
+    pub(crate) heap: LooseManager,
+    pub(crate) steps: u64,
+    pub(crate) memory: Memory,
+    pub(crate) handles: Handles,
+}
+
+/// Borrows all words of the region.
+fn all_of_blocks(blocks: &mut LooseBlocks, memory: Memory) -> &mut [u64]
+    ensures* writes_back { sem 𝓛 (LendsAllOfBlocks blocks.entry result) }
+    ensures value { result.now ≡ blocks.old.region }
+{
+    let n = blocks.region.len();
+    let mut meter = Meter::for_library(memory);
+    blocks.region.payload_mut(0, n, meter.steps())
+}
+
+/// Borrows all words of the region of an open heap.
+fn all_of_open(heap: &mut LooseOpen, memory: Memory) -> &mut [u64]
+    ensures* writes_back { sem 𝓛 (LendsAllOfOpen heap.entry result) }
+    ensures value { result.now ≡ heap.old.blocks.region }
+{
+    all_of_blocks(&mut heap.blocks, memory)
+}
+
+/// Borrows all words of the region of a heap that is open.
+fn all_in(inner: &mut Option<LooseOpen>, memory: Memory) -> &mut [u64]
+    requires open { IsSome inner.old }
+    ensures* writes_back { sem 𝓛 (LendsAllIn inner.entry result) }
+    ensures value { result.now ≡ region_in inner.old }
+{
+    match inner {
+        Some(heap) => all_of_open(heap, memory),
+        None => unreachable!(),
+    }
+}
+
+/// Borrows all words of the region of a heap that is open. When the borrow ends, the region has the words as they then
+/// are.
+pub(crate) fn all_words(held: &mut LooseTlsf) -> &mut [u64]
+    requires open { IsSome held.old.heap.inner }
+    ensures* writes_back { sem 𝓛 (LendsAllWords held.entry result) }
+    ensures value { result.now ≡ words_of held.old }
+{
+    let memory = held.memory;
+    let heap = &mut held.heap;
+    all_in(&mut heap.inner, memory)
+}
