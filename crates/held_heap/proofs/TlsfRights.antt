@@ -22,12 +22,12 @@ use Rattle.tag_blocks.specs.Tags.{blocks_of, lists_of}
 use Rattle.tag_blocks.proofs.AccessLemmas.{bytes_blocks, bytes_kept, bytes_lists}
 use Rattle.tag_blocks.proofs.ViewLemmas.{tags_kept}
 use Rattle.tag_heap.specs.Access.{HoldsBytesAt}
-use Rattle.tag_heap.specs.Heap.{Heap, IsKeptIn, IsValid, held_in, state_of}
+use Rattle.tag_heap.specs.Heap.{Heap, IsKeptIn, held_in, state_of}
 use Rattle.tag_heap.proofs.PartLemmas.{part_within}
 use Rattle.tag_heap.proofs.Preserved.{ReadsAs, read_is, used_at}
 use Rattle.tag_heap.proofs.WriteLemmas.{writes, wrote_rules, wrote_valid}
 use Rattle.held_heap.specs.HeldState.{HeldState, IsOpenOfKind}
-use Rattle.held_heap.specs.LooseTlsf.{FitIn, FitOpen, Fits, blocks_all, held_all, inner_all, open_all, seen_blocks, seen_heap, seen_in, state_seen}
+use Rattle.held_heap.specs.LooseTlsf.{FitIn, FitOpen, Fits, held_all, inner_all, open_all, seen_blocks, seen_heap, seen_in, state_seen}
 use Rattle.held_heap.specs.TlsfBlock.{Names, opened, open_borrow}
 use Rattle.held_heap.specs.declared.loose_tlsf.LooseOpen.{LooseOpen}
 use Rattle.held_heap.specs.Written.{IsWritten}

@@ -5,7 +5,7 @@ use Rattle.region.specs.Lending.{with_words}
 use Rattle.block_model.specs.Buckets.{tlsf}
 use Rattle.cf_model.specs.State.{HeapState}
 use Rattle.tag_blocks.specs.Blocks.{Tagged}
-use Rattle.tag_blocks.specs.Layout.{Fields, IsValid as AreValidBlocks}
+use Rattle.tag_blocks.specs.Layout.{IsValid as AreValidBlocks}
 use Rattle.tag_blocks.specs.ListHeads.{AreMarkedCells}
 use Rattle.tag_blocks.specs.Tags.{blocks_of, lists_of}
 use Rattle.tag_heap.specs.Heap.{Heap, IsKeptIn, IsValid, state_in}

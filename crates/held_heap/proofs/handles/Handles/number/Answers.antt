@@ -1,5 +1,5 @@
 -- The low bits of a handle.
-use Rattle.std.proofs.Common.{◌≡◌, ◌+◌, ◌-◌, ◌%◌, List, ℕ, length, bit_and, ap, ◌∙◌, arith}
+use Rattle.std.proofs.Common.{◌≡◌, ◌-◌, ◌%◌, List, ℕ, length, bit_and, ap, ◌∙◌, arith}
 use Rattle.held_heap.proofs.Generations.{low_bits}
 use Rattle.held_heap.proofs.handles.Handles.number.Goals as goal
 
