@@ -51,7 +51,7 @@ use Rattle.slice_session.specs.Playing.{SlicePlay, slices}
 use Rattle.manager_modes.specs.Bench.{EndsBench, bench_items, bench_text}
 use Rattle.generator.specs.Generated.{generated}
 use Rattle.script_reader.specs.declared.command.Command.{Command}
-use Rattle.top_call.specs.OneScript.{AnswersWhole, IsRunInOrder, KeepsContract, LeavesNoChoice, PrintsReplies, PromisesOrder, TopCall, status_of}
+use Rattle.top_call.specs.OneScript.{AnswersWhole, AreRunsInOrder, IsRunInOrder, KeepsContract, LeavesNoChoice, PrintsReplies, PromisesOrder, TopCall, status_of}
 use Rattle.top_call.specs.TopOutcome.{AnswersInput, DoesChosen, EndsWell, InMode, IsMadeForTasks, IsMadeSliced, PrintsBytes, PrintsChosen, PrintsInMode}
 
 -- ---- the replies of one manager
@@ -124,15 +124,24 @@ parted None (Some others) end is some = absurd is
 parted (Some own) None end is some = absurd is
 parted (Some own) (Some others) end is some = (let both : AreOrdered (Some (own ∷ others)) = subst AreOrdered is some in (both.0, both.1))
 
-own_once : (kinds : List Kind) (items : List Item) → BeginOnce items → (replies others : List Reply) (end last : Option (List RunState))
-    → OwnRuns kinds items replies end → OwnRuns kinds items others last → AreOrdered end → AreOrdered last → others ≡ replies
-own_once [] items once replies others end last runs runs' some also = runs'.0 ∙ sym runs.0
-own_once (kind ∷ kinds) items once replies others end last (owns, rest, own, runs, run, more, are, together)
-    (owns', rest', own', runs', run', more', are', together') some also =
-    let (here, behind) = parted own runs end together some in
-    let (here', behind') = parted own' runs' last together' also in
-    let same = (begun_alike kind items owns owns' own own' once here here' run run').0 in
-    let more_same = own_once kinds items once rest rest' runs runs' more more' behind behind' in
+-- separate runs whose last managers promise an order are runs in order
+in_order : (kinds : List Kind) (items : List Item) (replies : List Reply) (end : Option (List RunState))
+    → OwnRuns kinds items replies end → AreOrdered end → AreRunsInOrder kinds items replies
+in_order [] items replies end runs some = runs.0
+in_order (kind ∷ kinds) items replies end (owns, rest, own, runs, run, more, are, together) some = (let (here, behind) = parted own runs end together some in (
+  owns,
+  rest,
+  record { end = own; run = run; ordered = here },
+  in_order kinds items rest runs more behind,
+  are,
+))
+
+pub replies_once : (kinds : List Kind) (items : List Item) (replies others : List Reply) → BeginOnce items
+    → AreRunsInOrder kinds items replies → AreRunsInOrder kinds items others → others ≡ replies
+replies_once [] items replies others once runs runs' = runs' ∙ sym runs
+replies_once (kind ∷ kinds) items replies others once (owns, rest, run, more, are) (owns', rest', run', more', are') =
+    let same = (begun_alike kind items owns owns' run.end run'.end once run.ordered run'.ordered run.run run'.run).0 in
+    let more_same = replies_once kinds items rest rest' once more more' in
     are' ∙ ap (λ o. interleaved_replies kind items o rest') same ∙ ap (λ r. interleaved_replies kind items owns r) more_same ∙ sym are
 
 each_ordered : (rs : List RunState) → All PromisesOrder (map (λ (r : RunState). r.heap) rs) → AllOrdered rs
@@ -156,13 +165,9 @@ all_kept (x ∷ olds) (y ∷ news) same order =
     let rest : map (λ (h : HeapState). is_some h.order) news ≡ map (λ (h : HeapState). is_some h.order) olds = cc in
     All-cons PromisesOrder y news (first ∙ All-head PromisesOrder x olds order) (all_kept olds news rest (All-tail PromisesOrder x olds order))
 
-record RunsTogether (kinds : List Kind) (items : List Item) (replies : List Reply) : Type 0 where
-  end : Option (List RunState)
-  runs : OwnRuns kinds items replies end
-  ordered : AreOrdered end
-
 compare_printed : (all : List ℕ) (call : TopCall) → kinds_in call.new ≡ kinds_in call.old → orders_in call.new ≡ orders_in call.old → AnswersWhole all call
-    → All PromisesOrder call.old.managers → Compares call.old call.status call.new → PrintsReplies (RunsTogether (kinds_in call.old)) all call
+    → All PromisesOrder call.old.managers → Compares call.old call.status call.new
+    → PrintsReplies (AreRunsInOrder (kinds_in call.old)) all call
 compare_printed all call kinds orders whole order did =
     let from : SideBySide = fresh_side_by_side call.old.managers in
     let call_effects = effects_of call.old call.status call.new in
@@ -174,11 +179,8 @@ compare_printed all call kinds orders whole order did =
       status = met_status many_managers from did.end all call_effects whole.had did.outcome whole.answered;
       replies = w.replies;
       written = w.written;
-      claimed = record {
-        end = option_map runs_of w.end;
-        runs = own_of from did.end (items_within all) call_effects w;
-        ordered = all_ordered from.heaps did.end.heaps (option_map runs_of w.end) stand left;
-      };
+      claimed = in_order (kinds_in call.old) (items_within all) w.replies (option_map runs_of w.end) (own_of from did.end (items_within all) call_effects w)
+          (all_ordered from.heaps did.end.heaps (option_map runs_of w.end) stand left);
     }
 
 -- ---- each mode
@@ -400,10 +402,10 @@ module _ (choice : Choice) (all : List ℕ) (one two : TopCall) (keeps : KeepsAl
       (λ replies others a b. (begun_alike choice.kind (items_within all) replies others a.end b.end once a.ordered b.ordered a.run b.run).0)
       (run_printed choice.kind all one whole order does) (run_printed choice.kind all two whole' order' does') before
   mode_once Compare does does' shows shows' order order' =
-      one_text (RunsTogether (kinds_in one.old)) all one two
-      (λ replies others a b. own_once (kinds_in one.old) (items_within all) once replies others a.end b.end a.runs b.runs a.ordered b.ordered)
+      one_text (AreRunsInOrder (kinds_in one.old)) all one two
+      (λ replies others a b. replies_once (kinds_in one.old) (items_within all) replies others once a b)
       (compare_printed all one keeps.kinds keeps.orders whole order does)
-      (subst (λ ks. PrintsReplies (RunsTogether ks) all two) kinds (compare_printed all two keeps'.kinds keeps'.orders whole' order' does')) before
+      (subst (λ ks. PrintsReplies (AreRunsInOrder ks) all two) kinds (compare_printed all two keeps'.kinds keeps'.orders whole' order' does')) before
   mode_once Large does does' shows shows' order order' =
       one_text (MeetsLarge Moving) all one two (λ replies others a b. b ∙ sym a)
       (shown_printed (MeetsLarge Moving) all one whole (own_status large_heap IsMadeLarge all one whole does) shows)
@@ -476,6 +478,12 @@ pub run_once : (words : List Text) (choice : Choice) (all : List ℕ) (call : To
     → AnswersWhole all call → PromisesOrder (chosen_manager choice.kind call.old.managers) → PrintsReplies (IsRunInOrder choice.kind) all call
 run_once words choice all call chosen is keeps whole order =
     run_printed choice.kind all call whole order
+    (subst (λ (m : Mode). InMode m choice call.old call.status call.new) is (chosen_does words choice chosen all call keeps whole))
+
+pub comparison_once : (words : List Text) (choice : Choice) (all : List ℕ) (call : TopCall) → Chooses words choice → choice.mode ≡ Compare
+    → KeepsContract words call → AnswersWhole all call → All PromisesOrder call.old.managers → PrintsReplies (AreRunsInOrder (kinds_in call.old)) all call
+comparison_once words choice all call chosen is keeps whole order =
+    compare_printed all call keeps.kinds keeps.orders whole order
     (subst (λ (m : Mode). InMode m choice call.old call.status call.new) is (chosen_does words choice chosen all call keeps whole))
 
 -- ---- managers that were never open

@@ -1,5 +1,5 @@
 -- For the laws of `cf_main`: conditions under which the arguments (here `words`) and the script determine the output of a call.
-use Rattle.std.specs.Prelude.{◌≡◌, ⊤, ℕ, IsSome, List, [], Option, None, Some, if◌then◌else◌, length, nat_le}
+use Rattle.std.specs.Prelude.{◌≡◌, ⊤, ℕ, IsSome, List, [], ◌∷◌, Option, None, Some, if◌then◌else◌, length, map, nat_le}
 use Rattle.std.specs.List.{All}
 use Rattle.clap.specs.Words.{Text}
 use Rattle.cf_base.specs.declared.kind.Kind.{Kind}
@@ -19,6 +19,7 @@ use Rattle.script_loop.specs.Consequences.{AnswersAll}
 use Rattle.script_loop.specs.ScriptOutcome.{MOST_BYTES, has_bad, items_within}
 use Rattle.manager_modes.specs.FirstOfKind.{chosen_manager}
 use Rattle.manager_modes.specs.Outcomes.{CallState, kinds_in, orders_in}
+use Rattle.manager_modes.specs.OwnRuns.{bare_reply, interleaved_replies}
 use Rattle.top_call.specs.TopOutcome.{EndsWell, PrintsAsClaimed}
 
 -- a call: what it works on, before and after it, and its status
@@ -66,3 +67,9 @@ pub record IsRunInOrder (kind : Kind) (items : List Item) (replies : List Reply)
   pub end : Option RunState
   pub run : RunOver kind None items replies end
   pub ordered : IsOrdered end
+
+-- the replies interleave those of one run in order for each manager; `kinds` are the managers' kinds
+abbrev pub AreRunsInOrder : List Kind → List Item → List Reply → Type 0
+AreRunsInOrder [] items replies = replies ≡ map bare_reply items
+AreRunsInOrder (kind ∷ kinds) items replies = (owns : List Reply) × (others : List Reply)
+    × IsRunInOrder kind items owns × AreRunsInOrder kinds items others × (replies ≡ interleaved_replies kind items owns others)

@@ -1,6 +1,7 @@
-//! Theorems on calls of `cf_main`: when two calls print the same bytes. On a manager that promises an order, a
-//! call prints the replies of a run in that order.
+//! Theorems on calls of `cf_main`: when two calls print the same bytes. On managers that promise an order, a
+//! call prints the replies of runs in that order.
 ghost use Rattle.std.specs.Prelude.{◌≡◌, ℕ, IsSome, List, Option, map};
+ghost use Rattle.std.specs.List.{All};
 ghost use Rattle.clap.specs.Words.{Text};
 ghost use Rattle.cf_base.specs.declared.kind.Kind.{Kind};
 ghost use Rattle.cf_base.specs.declared.status.Status.TheVariants.{Done};
@@ -8,12 +9,15 @@ ghost use Rattle.cf_model.specs.State.{closed_state};
 ghost use Rattle.command_line.specs.Choices.{Chooses};
 ghost use Rattle.command_line.specs.declared.choice.Choice.{Choice};
 ghost use Rattle.command_line.specs.declared.choice.Mode.{Mode};
-ghost use Rattle.command_line.specs.declared.choice.Mode.TheVariants.{Run};
+ghost use Rattle.command_line.specs.declared.choice.Mode.TheVariants.{Compare, Run};
 ghost use Rattle.run_model.specs.Sessions.{RunState};
+ghost use Rattle.run_model.specs.Texts.{Reply};
+ghost use Rattle.script_laws.specs.OneOutput.{BeginOnce};
+ghost use Rattle.script_reader.specs.Items.{Item};
 ghost use Rattle.manager_modes.specs.Bench.{EndsBench};
 ghost use Rattle.manager_modes.specs.FirstOfKind.{chosen_manager};
 ghost use Rattle.manager_modes.specs.Outcomes.{Benches, CallState, kinds_in};
-ghost use Rattle.top_call.specs.OneScript.{AnswersWhole, IsRunInOrder, KeepsContract, LeavesNoChoice, PrintsReplies, PromisesOrder, TopCall};
+ghost use Rattle.top_call.specs.OneScript.{AnswersWhole, AreRunsInOrder, IsRunInOrder, KeepsContract, LeavesNoChoice, PrintsReplies, PromisesOrder, TopCall};
 
 /// Two calls with the same arguments and the same input print the same bytes and return the same
 /// status, whatever the chunks of their sources, if each item of the script has its reply, or the image
@@ -38,6 +42,17 @@ pub fn a_run_in_order_is_printed()
         → choice.mode ≡ Run → KeepsContract words call → AnswersWhole all call
         → PromisesOrder (chosen_manager choice.kind call.old.managers)
         → PrintsReplies (IsRunInOrder choice.kind) all call }
+{}
+
+/// The same in mode `compare`, on managers that each promise an order. Clause `printed`: the replies printed
+/// interleave those of a run of each manager in its order. Clause `one`: there is one such list of replies.
+pub fn a_comparison_in_order_is_printed()
+    ensures printed { (words : List Text) (choice : Choice) (all : List ℕ) (call : TopCall) → Chooses words choice
+        → choice.mode ≡ Compare → KeepsContract words call → AnswersWhole all call
+        → All PromisesOrder call.old.managers
+        → PrintsReplies (AreRunsInOrder (kinds_in call.old)) all call }
+    ensures one { (kinds : List Kind) (items : List Item) (replies others : List Reply) → BeginOnce items
+        → AreRunsInOrder kinds items replies → AreRunsInOrder kinds items others → others ≡ replies }
 {}
 
 /// Managers that were never open promise an order, whatever their kinds. So they have no choice in any
