@@ -1,6 +1,6 @@
 //! Laws of a script on many managers: each has its own run and meets the headline; a cut reply stops
-//! between two managers; what was written is a prefix. The functions do nothing: their contracts are the
-//! laws.
+//! between two managers; what was written is a prefix. And of long objects: from which numbers their step bounds
+//! are. The functions do nothing: their contracts are the laws.
 ghost use Rattle.std.specs.Prelude.{◌≡◌, ◌++◌, ℕ, List, [], Option, None, Some, option_map};
 ghost use Rattle.std.specs.List.{All};
 ghost use Rattle.cf_base.specs.declared.kind.Kind.{Kind};
@@ -10,8 +10,13 @@ ghost use Rattle.run_model.specs.Texts.{Reply, text_of};
 ghost use Rattle.run_model.specs.Plays.{PlayPart, PlayRun};
 ghost use Rattle.script_loop.specs.Consequences.{IsPrefixBy};
 ghost use Rattle.script_loop.specs.ScriptOutcome.{Effects, Wrote, WroteInPart, items_within};
+ghost use Rattle.large_objects.specs.LargeCosts.{AreInnerCosts, moving_costs, nonmoving_costs};
 ghost use Rattle.manager_modes.specs.SideBySide.{EachBegins, EachInPart, EachTurn, SideBySide, kinds_of, many_managers, runs_of};
 ghost use Rattle.manager_modes.specs.OwnRuns.{MeetHeadlines, OwnRuns, OwnRunsInPart, EachEndsAt};
+
+use cf_model::StepBounds;
+use moving_heap::MovingHeap;
+use nonmoving_heap::NonMovingHeap;
 
 /// If managers of these kinds run side by side over some items, each of them has a run of its own over the
 /// same items, and the replies side by side interleave the replies of these runs.
@@ -74,4 +79,11 @@ pub fn what_was_cut_is_a_prefix()
     ensures { (from to : SideBySide) (call : Effects) (all : List ℕ)
         → (w : WroteInPart many_managers from (items_within all) call to)
         → IsPrefixBy many_managers from (items_within all) (text_of [] w.replies ++ w.front) }
+{}
+
+/// The steps of long objects are bounded from those of their inner manager. These are the numbers for a moving
+/// and for a non-moving one: they follow from the step bounds that the manager itself promises.
+pub fn long_objects_take_the_steps_of_their_manager()
+    ensures moving { AreInnerCosts ⟦<MovingHeap as StepBounds>⟧.most moving_costs }
+    ensures non_moving { AreInnerCosts ⟦<NonMovingHeap as StepBounds>⟧.most nonmoving_costs }
 {}

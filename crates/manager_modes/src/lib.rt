@@ -25,6 +25,7 @@ pub use images::{load_image, save_image};
 pub use large::play_large;
 pub use laws::{
     a_cut_stops_between_two_managers, each_has_its_own_run, each_manager_is_open_after_its_run,
-    each_meets_the_headline, outcomes_are_of_each, what_was_cut_is_a_prefix,
+    each_meets_the_headline, long_objects_take_the_steps_of_their_manager, outcomes_are_of_each,
+    what_was_cut_is_a_prefix,
 };
 pub use run::run_chosen;
