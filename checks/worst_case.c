@@ -27,6 +27,14 @@ enum { LENDS = 0 };
 #else
 enum { LENDS = 1 };
 #endif
+/* TLSF has no pages. */
+#ifdef NPH_USE_TLSF
+enum { SIZES = 0 };
+#undef nph_pages_needed
+#define nph_pages_needed NULL
+#else
+enum { SIZES = 1 };
+#endif
 
 enum { STACK = 1 << 14, LIVE = 1024 };
 static const unsigned char paints[2] = {0xa5, 0x5a};
@@ -77,15 +85,15 @@ nph_block real_rattle_realloc(void *at, size_t kept, size_t bytes, size_t align)
 }
 void real_rattle_dealloc(void *at) { free(at); }
 
-/* The first number of nph_bytes_needed, which has no heap. */
-static uint64_t pages;
+/* The first number of nph_bytes_needed and nph_pages_needed, which have no heap. */
+static uint64_t first;
 
 /* Makes a call of the library, and prints the first words of its line. */
 static int32_t call(const char *name, void *function, uint64_t a, uint64_t b, uint64_t c, uint64_t d) {
     uint64_t steps = 0, counted, moved[3][2];
     unsigned char *low = stack, *top = stack + STACK - 64;
     int32_t code;
-    uint64_t of = function == (void *)nph_bytes_needed ? pages : (uint64_t)&heap;
+    uint64_t of = function == (void *)nph_bytes_needed || function == (void *)nph_pages_needed ? first : (uint64_t)&heap;
     trampoline = (struct trampoline){(uint64_t)function, {of, a, b, c, d}, (uint64_t)top, 0, 0, 0};
     instructions = 0;
     memset(copied, 0, sizeof copied);
@@ -271,8 +279,15 @@ int main(int argc, char **argv) {
     memset(stack, paints[paint], STACK);
     refused(0);
     nph_needed needed;
-    pages = settings[0];
+    first = settings[0];
     call("bytes_needed", (void *)nph_bytes_needed, settings[1], settings[2], settings[3], (uint64_t)&needed), puts("");
+    if (SIZES) {
+        static nph_need needs[64];
+        uint32_t found;
+        for (uint32_t n = 0; n < 64; n++) needs[n] = (nph_need){(37 * n + 1) % 500, 1 + n % 3};
+        first = settings[1];
+        for (uint64_t n = 0; n <= 64; n += 16) call("pages_needed", (void *)nph_pages_needed, settings[2], (uint64_t)needs, n, (uint64_t)&found), printf(" n %" PRIu64 "\n", n);
+    }
     if (open_or_close(true, settings) != NPH_OK) return 1;
     draw_calls(strtoull(argv[2], NULL, 10));
     long_calls();

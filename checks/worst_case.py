@@ -49,7 +49,7 @@ NO_LOOP = {"norphuen": {"nph_malloc", "nph_free", "nph_length", "nph_has_room", 
            "norphuen_nonmoving": {"nph_malloc", "nph_length", "nph_has_room", "nph_version"},
            "norphuen_tlsf": {"nph_malloc", "nph_free", "nph_length", "nph_has_room", "nph_bytes_needed", "nph_version"}}
 # The lengths that the notes may use (docs/SPEED.md).
-NAMES = "smtcwbfpPWQ"
+NAMES = "smtcwbfpnPWQ"
 # What puts a library under the short names of the header.
 USES = {"norphuen_nonmoving": ["-DNPH_USE_NONMOVING"], "norphuen_tlsf": ["-DNPH_USE_TLSF"]}
 failed = []
@@ -116,6 +116,8 @@ def lengths(kind, fields, steps):
     if kind in ("read", "write") and fields["n"]:
         at["w"] = (fields["at"] + fields["n"] - 1) // 8 - fields["at"] // 8 + 1
         at["b"] = steps - 3 - at["w"]
+    if kind == "pages_needed":
+        at["n"] = fields["n"]
     if kind == "totals":
         at["f"] = max(0, (steps - 3) // 2)
     at["b"] = max(0, at["b"])

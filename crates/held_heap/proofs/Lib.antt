@@ -11,3 +11,4 @@ pub mod Crosses
 pub mod Sent
 pub mod Generations
 pub mod HandleLaws
+pub mod PageCalls

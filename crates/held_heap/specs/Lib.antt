@@ -20,4 +20,5 @@ pub mod Tlsf
 pub mod TlsfLoan
 pub mod TlsfPlace
 pub mod Needed
+pub mod PagesNeeded
 pub mod Version

@@ -12,9 +12,12 @@ pub mod moving;
 mod needed;
 pub mod nonmoving;
 mod of_kind;
+mod pages;
 mod place;
 pub mod tlsf;
 mod unboxed;
 
 pub use answers::{NphClass, NphFreed, NphHeapTotals, NphNeeded, NphResized};
 pub use codes::{CLOSED, VERSION};
+pub use pages::pages_needed;
+pub use sizing::Need as NphNeed;

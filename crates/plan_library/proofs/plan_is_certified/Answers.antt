@@ -7,9 +7,9 @@ use Rattle.sizing.specs.Demands.{KeepsToOne}
 use Rattle.sizing.specs.Runs.{ServesResizes}
 use Rattle.plan_library.proofs.plan_is_certified.Goals as goal
 
-pub returns-clause-resizes : goal.returns-clause-resizes
-returns-clause-resizes c = λ needs yes counts.
+pub returns-clause-spare : goal.returns-clause-spare
+returns-clause-spare c = λ needs yes counts.
     subst (λ (l : Layout). ServesResizes (with_pages (c.args.pages + 1) (paging_of (profile_from c.args.pages c.args.page_bytes 1 65536) l c.args.bounds.now)) (KeepsToOne needs))
     c.slots_if.ensures
-    (c.is_certified.ensures.resizes needs yes
+    (c.is_certified.ensures.spare needs yes
     (subst (λ (l : Layout). AreCounts (paging_of (profile_from c.args.pages c.args.page_bytes 1 65536) l c.args.bounds.now) needs c.args.modes.now) (sym c.slots_if.ensures) counts))

@@ -6,8 +6,8 @@ use Rattle.sizing.specs.Demands.{KeepsToOne}
 use Rattle.sizing.specs.Runs.{ServesResizes}
 use Rattle.sizing.proofs.by_numbers.is_certified.Goals as goal
 
-pub returns-in-Ok-clause-resizes : goal.returns-in-Ok-clause-resizes
-returns-in-Ok-clause-resizes c = λ needs yes counts.
+pub returns-in-Ok-clause-spare : goal.returns-in-Ok-clause-spare
+returns-in-Ok-clause-spare c = λ needs yes counts.
     subst (λ (q : Profile). ServesResizes (with_pages (q.pages + 1) (paging_of q c.args.layout c.args.bounds.now)) (KeepsToOne needs)) c.in-Ok.ensures.value
-    (c.is_certificate.ensures.resizes needs yes
+    (c.is_certificate.ensures.spare needs yes
     (subst (λ (q : Profile). AreCounts (paging_of q c.args.layout c.args.bounds.now) needs c.args.modes.now) (sym c.in-Ok.ensures.value) counts))
