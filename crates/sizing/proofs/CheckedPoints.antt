@@ -146,7 +146,7 @@ module _ (p : Paging) (needs : List (List Need)) (modes : List ModeObjects) (poi
       let many = k.many in
       let a = k.same x.mode c known cl in
       let b = k.same j d jl dl in
-      let sum = fits (omega arith) j (omega arith) c cl (omega arith) d dl ne (omega arith) in
+      let sum = fits.fits (omega arith) j (omega arith) c cl (omega arith) d dl ne (omega arith) in
       let same = sum_range_same (λ e. pages_with_copy p c d e (slice_index x.pages e) (slice_index (objects_in modes x.mode) e) (slice_index (objects_in modes j) e))
       (λ e. pages_with_copy p c d e (slice_index x.pages e) (mode_count p needs x.mode e) (mode_count p needs j e)) 0 (classes p)
       (λ e _ lt. (
@@ -169,7 +169,8 @@ module _ (p : Paging) (needs : List (List Need)) (modes : List ModeObjects) (poi
       → 0 < mode_count p needs x.mode c → 0 < mode_count p needs j d
       → sum_by (λ e. pages_with_copy p c d e (slice_index x.pages e) (mode_count p needs x.mode e) (mode_count p needs j e)) (range_with_len 0 (classes p)) ≤ p.pages)
       → CopiesFit p modes x
-  copies_back x holds known j jl c cl some d dl ne some' =
+  copies_back x holds = record {
+    fits = λ known j jl c cl some d dl ne some'. (
       let many = k.many in
       let known' : x.mode < length needs = omega arith in
       let jl' : j < length needs = omega arith in
@@ -182,15 +183,16 @@ module _ (p : Paging) (needs : List (List Need)) (modes : List ModeObjects) (poi
       let u = k.same x.mode e known' (omega arith) in
       let v = k.same j e jl' (omega arith) in
       λ i. pages_with_copy p c d e (slice_index x.pages e) (u i) (v i))) in
-      omega arith
+      omega arith);
+  }
 
   pub all_held : HoldCopies p needs (map point_in points) → All (CopiesFit p modes) points
-  all_held holds i d lt =
-      let x : PointPages = slice_index_or points i d in
-      λ known. (
-          let many = k.many in
-          copies_back (slice_index_or points i d) (holds (point_in (slice_index_or points i d)) (contains_point points (slice_index_or points i d)
-          (i, lt, get_or_default points i (slice_index_or points i d) d lt)) (omega arith)) known)
+  all_held holds i d lt = record {
+    fits = λ known. (
+        let many = k.many in
+        (copies_back (slice_index_or points i d) (holds (point_in (slice_index_or points i d)) (contains_point points (slice_index_or points i d)
+        (i, lt, get_or_default points i (slice_index_or points i d) d lt)) (omega arith))).fits known);
+  }
 
   pub none_held : length points ≡ 0 → HoldCopies p needs (map point_in points)
   none_held none = copies_held (λ i d lt. absurd (omega arith))

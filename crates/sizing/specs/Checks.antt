@@ -64,6 +64,6 @@ CopyFits p a b x c = (d : ℕ) → d < classes p → d ≢ c → 0 < slice_index
     → sum_by (λ e. pages_with_copy p c d e (slice_index x.pages e) (slice_index a e) (slice_index b e)) (range_with_len 0 (classes p)) ≤ p.pages
 
 -- `HoldCopies` of a table
-abbrev pub CopiesFit : Paging → List ModeObjects → PointPages → Type 0
-CopiesFit p modes x = x.mode < length modes → (j : ℕ) → j < length modes → (c : ℕ) → c < classes p → 0 < slice_index (objects_in modes x.mode) c
-    → CopyFits p (objects_in modes x.mode) (objects_in modes j) x c
+pub record CopiesFit (p : Paging) (modes : List ModeObjects) (x : PointPages) : Type 0 where
+  pub fits : x.mode < length modes → (j : ℕ) → j < length modes → (c : ℕ) → c < classes p → 0 < slice_index (objects_in modes x.mode) c
+      → CopyFits p (objects_in modes x.mode) (objects_in modes j) x c

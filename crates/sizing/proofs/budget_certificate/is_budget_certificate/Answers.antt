@@ -3,8 +3,7 @@ use Rattle.std.proofs.lemmas.List.{length-take-le}
 use Rattle.cf_base.specs.Classes.{sizes}
 use Rattle.cf_base.specs.Settings.{Profile, profile_of}
 use Rattle.page_model.specs.Paging.{IsPaging}
-use Rattle.sizing.proofs.BudgetLeast.{budget_refused}
-use Rattle.sizing.proofs.CheckedBudget.{affords_like, certificate_like, heap_mallocs, heap_resizes, ones_some, opened_like}
+use Rattle.sizing.proofs.CheckedBudget.{certificate_like, fewer_refused, heap_mallocs, heap_resizes, ones_some}
 use Rattle.sizing.proofs.CheckedPoints.{paging_is, paging_right}
 use Rattle.sizing.proofs.budget_certificate.is_budget_certificate.Goals as goal
 
@@ -42,9 +41,6 @@ pub returns-clause-least : goal.returns-clause-least
 returns-clause-least c = λ yes p cost lengths ok words all own less. (
     let w = ap (λ (f : Profile). f.page_words) c.in-Ok.ensures.value in
     let t = c.fill_sizes-classes.ensures.sizes ∙ ap (λ n. sizes n c.args.layout) w in
-    let sure = c.are_least.ensures.0 yes in
-    let sum = opened_like p _ (words ∙ sym w) (all ∙ sym t) (slice_index c.args.prices.now) c.args.budget c.args.level (slice_index c.args.opened.now) in
-    let same = sure.all in
     let n = ap (λ (f : Profile). f.pages) c.in-Ok.ensures.value in
-    budget_refused p ok cost (slice_index c.args.prices.now) lengths (slice_index c.args.opened.now) c.args.budget
-    (affords_like p _ (words ∙ sym w) (all ∙ sym t) (slice_index c.args.prices.now) c.args.budget c.args.level (slice_index c.args.opened.now) sure.affords) own (omega arith))
+    fewer_refused p _ (words ∙ sym w) (all ∙ sym t) (slice_index c.args.prices.now) c.args.budget c.args.level (slice_index c.args.opened.now)
+    (c.are_least.ensures.0 yes) ok cost lengths own (omega arith))
