@@ -1,6 +1,6 @@
 -- For `is_budget_certificate`: a certificate for the pages of a heap is one for any pages with the same sizes, and makes a heap with them serve.
 use Rattle.std.proofs.Common.{◌≡◌, ℕ, ◌+◌, ◌-◌, ◌*◌, ◌<◌, ◌≤◌, List, length, replicate, take, ap, arith, subst, sym, ◌∙◌}
-use Rattle.std.specs.Prelude.{min, slice_index, sum_by}
+use Rattle.std.specs.Prelude.{slice_index, sum_by}
 use Rattle.std.specs.List.{range_with_len}
 use Rattle.std.specs.FinMap.{empty}
 use Rattle.std.proofs.lemmas.List.{get_or-replicate, get_or-take, length-replicate, length-take-le}

@@ -1,4 +1,4 @@
-use Rattle.std.proofs.Common.{ap, arith, length, slice_index, subst, sym, ◌∙◌}
+use Rattle.std.proofs.Common.{ap, arith, slice_index, subst, sym, ◌∙◌}
 use Rattle.std.proofs.lemmas.List.{length-take-le}
 use Rattle.cf_base.specs.Classes.{sizes}
 use Rattle.cf_base.specs.Settings.{Profile, profile_of}
