@@ -11,15 +11,17 @@ from pathlib import Path
 
 HEADER, HELD = Path('include/norphuen.h'), Path('crates/held_heap/src')
 NUMBERS = {'u8': 'uint8_t', 'u32': 'uint32_t', 'u64': 'uint64_t', 'i32': 'nph_status', 'usize': 'size_t', 'bool': 'bool', '': 'void'}
-RUST = {'NphHeap': 'RawHeap', 'NphNeeded': 'Needed', 'NphFreed': 'RawFreed', 'NphResized': 'RawResized', 'NphClass': 'Class', 'NphHeapTotals': 'HeapTotals'}
+RUST = {'NphHeap': 'RawHeap', 'NphNeeded': 'Needed', 'NphNeed': 'Need', 'NphFreed': 'RawFreed', 'NphResized': 'RawResized', 'NphClass': 'Class', 'NphHeapTotals': 'HeapTotals'}
 ADA = {'u8': 'Unsigned_8', 'u32': 'Unsigned_32', 'u64': 'Unsigned_64', 'bool': 'Unsigned_8', '*mut u64': 'System.Address',
-       'NphHeap': 'Heap', 'NphNeeded': 'Needed', 'NphFreed': 'Freed', 'NphResized': 'Resized', 'NphClass': 'Class', 'NphHeapTotals': 'Heap_Totals'}
+       '[u8]': 'Bytes', '[NphNeed]': 'Needs', 'NphHeap': 'Heap', 'NphNeeded': 'Needed', 'NphNeed': 'Need', 'NphFreed': 'Freed', 'NphResized': 'Resized', 'NphClass': 'Class', 'NphHeapTotals': 'Heap_Totals'}
 # The names of each library begin with this; its heap is named so too.
 PREFIXES = {'norphuen': 'nph_', 'norphuen_nonmoving': 'nph_nm_', 'norphuen_tlsf': 'nph_tlsf_'}
 # The exports that a library may lack, if an object's words are not side by side there.
 LOAN = {'place', 'lend', 'return'}
 # The exports of a library with pages.
-PAGED = {'slot_words', 'class_of'}
+PAGED = {'slot_words', 'class_of', 'pages_needed'}
+# Structs of other crates: the file that has them, their name there.
+ELSEWHERE = {'NphNeed': (Path('crates/quota_model/src/answers.rt'), 'Need')}
 # Parameters with another name in C: `class` is a word of C++.
 IN_C = {'out': 'bytes', 'class': 'size_class'}
 
@@ -84,7 +86,9 @@ def c_parameters(parameters):
             yield f'{const}void *'
             yield 'size_t'
         else:
-            yield f'{const}{c_type(rust)} *' if reference else c_type(rust)
+            yield f'{const}{c_type(rust.strip("[]"))} *' if reference else c_type(rust)
+            if rust[0] == '[':
+                yield 'size_t'
 
 
 def structs(crate):
@@ -92,10 +96,12 @@ def structs(crate):
     text = Path('crates', crate, 'src/lib.rt').read_text()
     module = (re.search(r'use held_heap::(\w+)::(?:NphHeap|\{[^}]*\bNphHeap\b)', text) or fail(f'{crate}: no NphHeap'))[1]
     found = {}
-    for file in sorted(HELD.glob('*.rt')):
+    aliases = {(file, there): here for here, (file, there) in ELSEWHERE.items()}
+    for file in [*sorted(HELD.glob('*.rt')), *{file for file, _ in aliases}]:
         if 'pub struct NphHeap {' in file.read_text() and file.stem != module:
             continue
         for name, inside in re.findall(r'#\[repr\(C\)\]\n(?:#\[[^\n]*\]\n)*pub struct (\w+) \{\n(.*?)\n\}', file.read_text(), re.S):
+            name = aliases.get((file, name), name)
             fields = re.findall(r'^ +(?:pub(?:\(crate\))? )?(\w+): ([^,{]+),$', inside, re.M)
             lines = [line for line in inside.split('\n') if line.strip() and 'ghost ' not in line and '//' not in line]
             if len(fields) != len(lines):
@@ -139,7 +145,7 @@ def header(crate):
     print('#include "norphuen.h"\n#include <stdbool.h>\n#define SAME(test, text) _Static_assert(test, text)')
     print('SAME(sizeof(nph_status) == sizeof(int32_t), "size of a status");')
     exported = exports(crate)
-    named = {rust for _, parameters, _ in exported for _, _, rust in parameters if rust[0] == 'N'}
+    named = {rust.strip('[]') for _, parameters, _ in exported for _, _, rust in parameters if rust.strip('[]')[0] == 'N'}
     order = ['Sealed', 'HeapBlock'] + sorted(named)
     for name in order:
         print(f'struct twin_{name} {{\n' + '\n'.join(twin_field(*field) for field in all_structs.get(name) or fail(f'no struct {name}')) + '\n};')
@@ -208,7 +214,7 @@ def bindings(crate):
         kinds = []
         for _, reference, rust in parameters:
             pointer = {'&mut ': '*mut ', '&': '*const ', None: ''}[reference or None]
-            kinds.append(pointer + (RUST.get(rust) or rust.strip('[]')))
+            kinds.append(pointer + RUST.get(rust.strip('[]'), rust.strip('[]')))
             kinds += ['usize'] if rust[0] == '[' else []
         inside = re.search(rf'fn nph_{bare(name)}\((.*?)\)(?: -> (\w+))?;', rust_text)
         kinds = [f'{part}: {kind}' for part, kind in zip(c_names(parameters), kinds)]
@@ -217,7 +223,7 @@ def bindings(crate):
         wanted = []
         for _, reference, rust in parameters:
             mode = 'in out ' if reference == '&mut ' else ''
-            wanted.append(mode + ('Bytes' if rust[0] == '[' else ADA[rust]))
+            wanted.append(mode + ADA[rust])
             wanted += ['size_t'] if rust[0] == '[' else []
         profile = re.search(r'(?:function|procedure) \w+(?: \(([^()]*)\))?(?: return (\w+))? with Import, Convention => C, External_Name => Prefix & "' + bare(name) + '"', ada_flat)
         given = []

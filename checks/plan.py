@@ -3,7 +3,7 @@
  - a search that tries all histories of small drawn programs, with all choices of a manager with pages: the most pages in use;
  - the tool: it serves the calls of each row of each demand with the row's pages, and refuses one with a page less; on a drawn
    history within the demand it refuses nothing, and no free takes more steps or moves more than the row says;
- - the proved test, whose definition is written anew, and `nph_bytes_needed`;
+ - the proved tests, whose definitions are written anew, and `nph_bytes_needed`;
  - the table of budgets in docs/SIZING.md, the formula of `pages_for_a_budget_serve`, and Robson's bound in tiny cases.
 
 Each planner of `WRONG` must show a difference.
@@ -170,6 +170,24 @@ def certifies(program, bounds, pages, points):
     )
 
 
+def holds_copies(program, bounds, pages, points):
+    """Whether so many pages also hold each object that a resize has in two slots: `HoldCopies`, with its definitions written anew."""
+    classes = range(len(program.classes))
+
+    def during(held, before, after, c, d):
+        for e, p, a, b, m, k in zip(classes, held, before, after, program.m, bounds):
+            n = min(a, b + (e == c))
+            yield min(p + 1, -(-min(a + 1, b) // m)) if e == d else min(p, n, (n + k * (m - 1)) // m)
+
+    return all(
+        sum(during(held, program.by_class[mode], after, c, d)) <= pages
+        for mode, held in points
+        for after in program.by_class
+        for c, d in itertools.permutations(classes, 2)
+        if program.by_class[mode][c] and after[d]
+    )
+
+
 def found(points):
     return [(point.mode, point.pages) for point in points]
 
@@ -186,13 +204,37 @@ def test_differs(seed, library):
     mode, pages = points[at]
     lower = tuple(p - (c == draw.randrange(len(pages))) if p else p for c, p in enumerate(pages))
     tried = [(most, points), (most - 1, points), (most, points[:at] + points[at + 1 :]), (most, [*points[:at], (mode, lower), *points[at + 1 :]])]
-    for pages, some in tried:
+    for (pages, some), resizes in itertools.product([*tried, (most + 1, points)], (False, True)):
         if not pages:
             continue
-        right = certifies(program, bounds, pages, some)
+        right = certifies(program, bounds, pages, some) and (not resizes or holds_copies(program, bounds, pages, some))
         rows = [(mode, plan.spread(layout, program.classes, held, 0)) for mode, held in some]
-        if library.accepts(pages, layout.page_bytes, plan.spread(layout, program.classes, bounds, 1), program.modes, rows) != right:
+        if library.accepts(pages, layout.page_bytes, plan.spread(layout, program.classes, bounds, 1), program.modes, rows, resizes) != right:
             return f"seed {seed}: the proved test {'refuses' if right else 'accepts'} {pages} pages with the points {some}"
+    return None
+
+
+def budget_test_differs(seed, library):
+    """The same of the proved test of a budget, `IsBudgetCertificate`."""
+    draw = random.Random(seed)
+    layout = needs.Layout(draw.choice((512, 1024)), library.manager)
+    budget, _, _ = drawn_budget(draw, layout)
+    pages = budget.need([1] * len(budget.classes)).pages
+    prices, level, opened = budget.certificate()
+    at, amount = draw.randrange(len(opened)), budget.amount
+    fewer = [n - (c == at) if n else n for c, n in enumerate(opened)]
+    more = [n + (c == at) for c, n in enumerate(opened)]
+    tried = [(pages, level, opened), (pages - 1, level, opened), (pages + 1, level, opened), (pages, level + 1, opened), (pages, level - 1, opened)]
+    for many, t, some in [*tried, (pages, level, fewer), (pages, level, more), (pages + 1, level, more)]:
+        if not many:
+            continue
+        cost = sum(((n - 1) * m + 1) * price for n, m, price in zip(some, layout.slots, prices) if n)
+        enough = amount + sum(max(0, t - price) for price in prices) < (many + 1) * t
+        right = all(t <= m * price for m, price in zip(layout.slots, prices)) and enough and cost <= amount and sum(some) == many
+        if library.accepts_budget(many, layout.page_bytes, prices, amount, t, some) != right:
+            return f"seed {seed}: the proved test {'refuses' if right else 'accepts'} {many} pages for a budget with {t} and {some}"
+        if (many, t, some) == tried[0] and not right:
+            return f"seed {seed}: the planner's certificate of a budget is none"
     return None
 
 
@@ -344,7 +386,7 @@ def differences(program, seeds, count):
     with tempfile.TemporaryDirectory() as folder:
         for manager in "cf", "nm":
             library = plan.proved_test.Library(manager, folder)
-            yield from (test_differs(seed, library) for seed in range(seeds))
+            yield from (test(seed, library) for seed in range(seeds) for test in (test_differs, budget_test_differs))
     yield memory_differs()
     with tempfile.TemporaryDirectory() as folder:
         for name, text in KINDS.items():

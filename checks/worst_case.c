@@ -32,8 +32,10 @@ enum { LENDS = 1 };
 enum { PAGED = 0 };
 #undef nph_slot_words
 #undef nph_class_of
+#undef nph_pages_needed
 #define nph_slot_words NULL
 #define nph_class_of NULL
+#define nph_pages_needed NULL
 #else
 enum { PAGED = 1 };
 #endif
@@ -301,6 +303,12 @@ int main(int argc, char **argv) {
     refused(0);
     nph_needed needed;
     call_with(settings[0], "bytes_needed", (void *)nph_bytes_needed, settings[1], settings[2], settings[3], (uint64_t)&needed), puts("");
+    if (PAGED) {
+        static nph_need needs[64];
+        uint32_t found;
+        for (uint32_t n = 0; n < 64; n++) needs[n] = (nph_need){(37 * n + 1) % 500, 1 + n % 3};
+        for (uint64_t n = 0; n <= 64; n += 16) call_with(settings[1], "pages_needed", (void *)nph_pages_needed, settings[2], (uint64_t)needs, n, (uint64_t)&found), printf(" n %" PRIu64 "\n", n);
+    }
     if (open_or_close(true, settings) != NPH_OK) return 1;
     draw_calls(strtoull(argv[2], NULL, 10));
     long_calls();

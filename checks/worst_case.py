@@ -50,7 +50,7 @@ NO_LOOP = {"norphuen": BOUNDS | {"nph_slot_words", "nph_class_of", "nph_malloc",
            "norphuen_nonmoving": BOUNDS | {"nph_slot_words", "nph_class_of", "nph_malloc", "nph_length", "nph_has_room", "nph_version"},
            "norphuen_tlsf": BOUNDS | {"nph_malloc", "nph_free", "nph_length", "nph_has_room", "nph_bytes_needed", "nph_place", "nph_lend", "nph_return", "nph_version"}}
 # The lengths that the notes may use (docs/SPEED.md).
-NAMES = "smtcwbfpPWQ"
+NAMES = "smtcwbfpnPWQ"
 # What puts a library under the short names of the header.
 USES = {"norphuen_nonmoving": ["-DNPH_USE_NONMOVING"], "norphuen_tlsf": ["-DNPH_USE_TLSF"]}
 failed = []
@@ -117,6 +117,8 @@ def lengths(kind, fields, steps):
     if kind in ("read", "write") and fields["n"]:
         at["w"] = (fields["at"] + fields["n"] - 1) // 8 - fields["at"] // 8 + 1
         at["b"] = steps - 3 - at["w"]
+    if kind == "pages_needed":
+        at["n"] = fields["n"]
     if kind == "totals":
         at["f"] = max(0, (steps - 3) // 2)
     at["b"] = max(0, at["b"])

@@ -89,7 +89,8 @@ typedef enum nph_status {
     NPH_BOUND = 13,      /* the same: k is 1 to 64 */
     NPH_PROXIES = 14,    /* the same: proxies are 1 to 65536 */
     NPH_REGION = 15,     /* the same: pages * page_bytes is at most 67108864 */
-    NPH_NOT_LENT = 16    /* nph_return: the heap is not lent */
+    NPH_NOT_LENT = 16,   /* nph_return: the heap is not lent */
+    NPH_ENTRIES = 17     /* nph_pages_needed: there are more than 64 needs */
 } nph_status;
 
 /* A text for a message. */
@@ -112,6 +113,7 @@ static inline const char *nph_text(nph_status status) {
     case NPH_PROXIES: return "proxies out of range";
     case NPH_REGION: return "the region is too large";
     case NPH_NOT_LENT: return "the heap is not lent";
+    case NPH_ENTRIES: return "too many needs";
     default: return "no status";
     }
 }
@@ -125,6 +127,12 @@ typedef struct nph_needed {
     uint64_t largest;
     uint32_t blocks;
 } nph_needed;
+
+/* What a program has live at one time: at most `count` objects of `bytes` bytes. */
+typedef struct nph_need {
+    uint32_t bytes;
+    uint32_t count;
+} nph_need;
 
 /* A free: the words of the freed slot or block, and the object that moved to its address, or NPH_NONE. */
 typedef struct nph_freed {
@@ -168,6 +176,13 @@ NPH_CALL nph_status nph_open(nph_heap *heap, uint32_t pages, uint32_t page_bytes
 /* Writes what nph_open with these settings asks of rattle_alloc, exactly. It never calls rattle_realloc. What the program's
  * own functions need for a block, and the nph_heap itself, are not counted. Fails as nph_open does for these settings. */
 NPH_CALL nph_status nph_bytes_needed(uint32_t pages, uint32_t page_bytes, uint32_t k, uint32_t proxies, nph_needed *needed);
+
+/* Writes how many pages of `page_bytes` bytes are enough for a program: with them no nph_malloc and no nph_resize fails with
+ * NPH_SPACE, whatever their order, while the live objects are within the `count` needs. With fewer some such call fails so.
+ * Needs of the same length add up. The number is the same for every k, and may be more than nph_open takes. Fails with
+ * NPH_SIZE, NPH_PAGE_BYTES, NPH_BOUND, NPH_ENTRIES, or with NPH_PROXIES if the needs are more objects than a heap may have.
+ * The TLSF library lacks this call. */
+NPH_CALL nph_status nph_pages_needed(uint32_t page_bytes, uint32_t k, const nph_need *needs, size_t count, uint32_t *pages);
 
 /* Returns the memory, of a lent heap too. The heap is closed afterwards, and may be opened again. May be called twice. */
 NPH_NONNULL void nph_close(nph_heap *heap);
@@ -286,6 +301,7 @@ static inline void *nph_tlsf_bytes(uint64_t *words, uint32_t place) { return wor
     uint64_t nph##_most_length(void);
 NPH_CALLS_OF(nph_nm)
 NPH_CALLS_OF(nph_tlsf)
+NPH_CALL nph_status nph_nm_pages_needed(uint32_t page_bytes, uint32_t k, const nph_need *needs, size_t count, uint32_t *pages);
 NPH_CALL nph_status nph_nm_slot_words(nph_nm_heap *heap, uint32_t handle, uint32_t *words);
 NPH_CALL nph_status nph_nm_class_of(nph_nm_heap *heap, uint32_t bytes, uint32_t *size_class);
 NPH_CALL nph_status nph_tlsf_place(nph_tlsf_heap *heap, uint32_t handle, uint32_t *place);
@@ -329,6 +345,7 @@ NPH_OR_NULL_OF(nph_tlsf)
 #define nph_heap NPH_NAME(heap)
 #define nph_open NPH_NAME(open)
 #define nph_bytes_needed NPH_NAME(bytes_needed)
+#define nph_pages_needed NPH_NAME(pages_needed)
 #define nph_close NPH_NAME(close)
 #define nph_malloc NPH_NAME(malloc)
 #define nph_free NPH_NAME(free)

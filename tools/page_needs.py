@@ -379,6 +379,21 @@ class Budget:
         """Whether so many pages are enough for these bounds, by the upper bound, which is quick."""
         return sum(self.cheapest(self.amount, bounds)) + self.resizes <= pages
 
+    def certificate(self):
+        """What `is_budget_certificate` of the crate `sizing` tests if every bound is 1: by class of the page the least cost of an
+        object, and pages that the budget affords; and the level with which its formula gives their number. That is the cost of
+        the least full page; if the budget does not pay for a first page of each class below it, that of the next of these."""
+        never = min(self.amount + 1, 2**32 - 1)
+        prices, opened = [never] * len(self.layout.sizes), [0] * len(self.layout.sizes)
+        for c, cost, pages in zip(self.classes, self.cost, self.cheapest(self.amount, [1] * len(self.cost))):
+            prices[c], opened[c] = cost, pages
+        level, left = min(map(int.__mul__, prices, self.layout.slots)), self.amount
+        for price in sorted(price for price in prices if price < level):
+            if price > left:
+                return prices, price, opened
+            left -= price
+        return prices, level, opened
+
     def search(self, bounds, best):
         """The most pages that some calls reach, by trying; whether all choices were tried."""
         tried = 0

@@ -1,5 +1,5 @@
-"""The proved test whether numbers of pages are a certificate, through which tools/plan runs its answers. `rt lib` in
-crates/plan_library proves and builds it; gcc links it into a shared object, which ctypes calls.
+"""The proved tests of numbers of pages, through which tools/plan runs its answers. `rt lib` in crates/plan_library proves and
+builds them; gcc links them into a shared object, which ctypes calls.
 """
 import ctypes
 import os
@@ -36,7 +36,7 @@ class Library:
         whole = ["-Wl,--whole-archive", os.path.join(TOP, ARCHIVE), "-Wl,--no-whole-archive"]
         subprocess.run(["gcc", "-shared", "-o", shared, *whole], check=True, stderr=subprocess.PIPE)
         self.manager, self.calls, self.in_blocks = manager, ctypes.CDLL(shared), ctypes.c_bool(manager == "nm")
-        for call in self.calls.plan_pages_needed, self.calls.plan_class_objects, self.calls.plan_is_certified:
+        for call in self.calls.plan_pages_needed, self.calls.plan_class_objects, self.calls.plan_is_certified, self.calls.plan_is_budget_certified:
             call.restype = ctypes.c_bool
 
     def asked(self, call, page_bytes, mode, found):
@@ -49,12 +49,19 @@ class Library:
         found = self.asked(self.calls.plan_pages_needed, page_bytes, mode, ctypes.c_uint32())
         return found and found.value
 
-    def accepts(self, pages, page_bytes, bounds, modes, points):
-        """Whether the points are a certificate; each is a mode's number and the pages of each class."""
+    def accepts(self, pages, page_bytes, bounds, modes, points, resizes):
+        """Whether the points are a certificate, with resizes or without; each is a mode's number and the pages of each class."""
         objects = [self.asked(self.calls.plan_class_objects, page_bytes, mode, ModeObjects()) for mode in modes]
         if None in objects:
             return False
         points = [PointPages(mode, ByClass(*by_class)) for mode, by_class in points]
         numbers = ctypes.c_uint32(pages), ctypes.c_uint32(page_bytes), self.in_blocks
         lists = (ctypes.c_uint32, bounds), (ModeObjects, objects), (PointPages, points)
-        return self.calls.plan_is_certified(*numbers, *(part for kind, items in lists for part in listed(kind, items)))
+        return self.calls.plan_is_certified(*numbers, *(part for kind, items in lists for part in listed(kind, items)), ctypes.c_bool(resizes))
+
+    def accepts_budget(self, pages, page_bytes, prices, budget, level, opened):
+        """Whether the level and the opened pages of each class are a certificate that so many pages are the least for a budget, by
+        the least cost of an object of each class, if every bound is 1."""
+        numbers = ctypes.c_uint32(pages), ctypes.c_uint32(page_bytes), self.in_blocks
+        cost, most = listed(ctypes.c_uint32, prices), (ctypes.c_uint32(budget), ctypes.c_uint32(level))
+        return self.calls.plan_is_budget_certified(*numbers, *cost, *most, *listed(ctypes.c_uint32, opened))

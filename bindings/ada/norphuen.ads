@@ -40,6 +40,7 @@ package Norphuen is
    Proxies    : constant Code := 14;
    Region     : constant Code := 15;
    Not_Lent   : constant Code := 16;
+   Entries    : constant Code := 17;
 
    --  In place of a handle in Freed and Resized: no object moved.
    None : constant Unsigned_32 := Unsigned_32'Last;
@@ -51,6 +52,16 @@ package Norphuen is
       Largest : Unsigned_64 := 0;
       Blocks  : Unsigned_32 := 0;
    end record
+   with Convention => C;
+
+   --  What a program has live at one time: at most Count objects of Bytes
+   --  bytes.
+   type Need is record
+      Bytes : Unsigned_32 := 0;
+      Count : Unsigned_32 := 0;
+   end record
+   with Convention => C;
+   type Needs is array (size_t range <>) of aliased Need
    with Convention => C;
 
    --  The words of the freed slot or block, and the object that moved to its
@@ -105,6 +116,13 @@ package Norphuen is
      (Pages, Page_Bytes, K, Proxies : Unsigned_32; Result : in out Needed)
       return Code
    with Import, Convention => C, External_Name => Prefix & "bytes_needed";
+
+   --  The TLSF library lacks this call.
+   function Nph_Pages_Needed
+     (Page_Bytes, K : Unsigned_32; List : Needs; Count : size_t;
+      Pages         : in out Unsigned_32)
+      return Code
+   with Import, Convention => C, External_Name => Prefix & "pages_needed";
 
    procedure Nph_Close (H : in out Heap)
    with Import, Convention => C, External_Name => Prefix & "close";

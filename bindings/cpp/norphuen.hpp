@@ -51,6 +51,14 @@ class heap {
         return nph_bytes_needed(pages, page_bytes, k, proxies, &needed);
     }
 
+#ifndef NPH_USE_TLSF
+    // How many pages are enough for these needs, as nph_pages_needed.
+    [[nodiscard]] static nph_status pages_needed(uint32_t page_bytes, uint32_t k, const nph_need *needs, size_t count,
+                                                 uint32_t &pages) {
+        return nph_pages_needed(page_bytes, k, needs, count, &pages);
+    }
+#endif
+
     // Makes an object that holds a copy of `value`, as nph_malloc and nph_write.
     template <class T> [[nodiscard]] nph_status make(object<T> &made, const T &value) {
         static_assert(std::is_trivially_copyable_v<T>, "the library moves objects by copying their bytes");

@@ -18,13 +18,19 @@ pub struct Handle(pub u32);
 /// Why a call fails; the header explains each, `Size` under the name NPH_SIZE.
 #[derive(Clone, Copy, Debug, PartialEq, Eq)]
 #[rustfmt::skip]
-pub enum Error { Size, Proxy, Space, Unknown, Range, Kind, Closed, Open, Lent, Memory, Pages, PageBytes, Bound, Proxies, Region, NotLent }
+pub enum Error { Size, Proxy, Space, Unknown, Range, Kind, Closed, Open, Lent, Memory, Pages, PageBytes, Bound, Proxies, Region, NotLent, Entries }
 
 /// The memory that `Heap::open` asks for: the bytes of all blocks, those of the largest block, and how many blocks.
 #[repr(C)]
 #[derive(Clone, Copy, Debug, Default, PartialEq, Eq)]
 #[rustfmt::skip]
 pub struct Needed { pub total: u64, pub largest: u64, pub blocks: u32 }
+
+/// What a program has live at one time: at most `count` objects of `bytes` bytes.
+#[repr(C)]
+#[derive(Clone, Copy, Debug, Default, PartialEq, Eq)]
+#[rustfmt::skip]
+pub struct Need { pub bytes: u32, pub count: u32 }
 
 /// The header's nph_freed.
 #[repr(C)]
@@ -96,6 +102,8 @@ compile_error!("the features nonmoving and tlsf name two libraries");
 unsafe extern "C" {
     #[link_name = named!("open")] fn nph_open(heap: *mut RawHeap, pages: u32, page_bytes: u32, k: u32, proxies: u32) -> i32;
     #[link_name = named!("bytes_needed")] fn nph_bytes_needed(pages: u32, page_bytes: u32, k: u32, proxies: u32, needed: *mut Needed) -> i32;
+    #[cfg(not(feature = "tlsf"))]
+    #[link_name = named!("pages_needed")] fn nph_pages_needed(page_bytes: u32, k: u32, needs: *const Need, count: usize, pages: *mut u32) -> i32;
     #[link_name = named!("close")] fn nph_close(heap: *mut RawHeap);
     #[link_name = named!("malloc")] fn nph_malloc(heap: *mut RawHeap, bytes: u32, handle: *mut u32) -> i32;
     #[link_name = named!("free")] fn nph_free(heap: *mut RawHeap, handle: u32, freed: *mut RawFreed) -> i32;
@@ -143,7 +151,8 @@ fn result_of<T>(code: i32, value: T) -> Result<T, Error> {
         13 => Bound,
         14 => Proxies,
         15 => Region,
-        _ => NotLent,
+        16 => NotLent,
+        _ => Entries,
     })
 }
 
@@ -233,6 +242,14 @@ impl Heap {
         let mut needed = Needed::default();
         let code = unsafe { nph_bytes_needed(pages, page_bytes, k, proxies, &mut needed) };
         result_of(code, needed)
+    }
+
+    /// How many pages are enough: no `malloc` or `resize` fails with `Space` while the live objects are within the needs.
+    #[cfg(not(feature = "tlsf"))]
+    pub fn pages_needed(page_bytes: u32, k: u32, needs: &[Need]) -> Result<u32, Error> {
+        let mut pages = 0;
+        let code = unsafe { nph_pages_needed(page_bytes, k, needs.as_ptr(), needs.len(), &mut pages) };
+        result_of(code, pages)
     }
 
     /// Makes an object of `bytes` zeros.

@@ -16,3 +16,4 @@ pub mod Crosses
 pub mod Sent
 pub mod Generations
 pub mod HandleLaws
+pub mod PageCalls

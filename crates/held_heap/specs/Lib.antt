@@ -26,4 +26,5 @@ pub mod TlsfPlace
 pub mod Needed
 pub mod Most
 pub mod Slots
+pub mod PagesNeeded
 pub mod Version

@@ -1,15 +1,23 @@
-//! What the contracts of `Held` imply together of the handles that C has. The functions do nothing; each contract is a
-//! law.
-ghost use Rattle.std.specs.Prelude.{◌≡◌, ◌+◌, ◌*◌, ◌/◌, ◌^◌, ◌<◌, ◌≤◌, ℕ, ℤ, List, Option, length, pos};
+//! What the contracts of `Held` imply together, of the handles that C has and of a heap with as many pages as a program
+//! needs. The functions do nothing; each contract is a law.
+ghost use Rattle.std.specs.Prelude.{◌≡◌, ◌≢◌, ◌+◌, ◌*◌, ◌/◌, ◌^◌, ◌<◌, ◌≤◌, ℕ, ℤ, List, None, Option, Some, length, pos, replicate};
+ghost use Rattle.std.specs.FinMap.{get, insert};
 ghost use Rattle.cf_base.specs.Settings.{Profile};
 ghost use Rattle.cf_base.specs.declared.kind.Kind.{Kind};
 ghost use Rattle.cf_model.specs.Bounds.{Bounds};
+ghost use Rattle.cf_model.specs.Rules.{IsPaged};
+ghost use Rattle.cf_model.specs.State.{layout_of};
 ghost use Rattle.cf_model.specs.Steps.{ChangesCost};
+ghost use Rattle.page_model.specs.Held.{Placed, objects};
+ghost use Rattle.page_model.specs.Steps.{resized};
+ghost use Rattle.quota_model.specs.declared.answers.Need.{Need};
+ghost use Rattle.sizing.specs.Demands.{KeepsTo};
 ghost use Rattle.held_heap.specs.Calls.{IsFreeCall, IsFreshHeap, IsLengthCall, IsMallocCall, IsPlaceCall, IsReadCall, IsResizeCall, IsWriteCall};
 ghost use Rattle.held_heap.specs.Frees.{raised_all, times};
 ghost use Rattle.held_heap.specs.HandleRules.{AreFirstHandles, AreHandles, IsNewHandle, KeepsHandles};
 ghost use Rattle.held_heap.specs.Handles.{first_handles, handle_of, largest, none, number_in};
 ghost use Rattle.held_heap.specs.HeldState.{HeldState};
+ghost use Rattle.held_heap.specs.PagesNeeded.{AreLeastPages, CCall, CallRun};
 ghost use Rattle.held_heap.specs.declared.answers.NphFreed.{NphFreed};
 ghost use Rattle.held_heap.specs.declared.answers.NphResized.{NphResized};
 
@@ -69,4 +77,23 @@ pub fn a_stale_handle_is_refused()
     ensures place { (old new : HeldState) (handle before after : ℕ) (code : ℤ)
         → IsPlaceCall old handle before code after new → KeepsHandles old → number_in old.handles handle ≡ none
         → (code ≡ pos 4) × (after ≡ before) }
+{}
+
+/// A heap with pages was opened with at least the number of them that `nph_pages_needed` writes, and the calls so far kept
+/// its objects within the needs. Then no malloc (`malloc`) and no resize (`resize`) with which they still are returns 3
+/// (`SPACE`).
+pub fn no_call_within_the_needs_lacks_space()
+    ensures malloc { (kind : Kind) (p : Profile) (last page_bytes pages : ℕ) (needs : List Need) (most : Option Bounds)
+        (first old new : HeldState) (calls : List CCall) (bytes before after : ℕ) (code : ℤ)
+        → IsPaged kind → IsFreshHeap kind p last first → AreLeastPages (layout_of kind) page_bytes needs pages
+        → p.page_words ≡ page_bytes / 8 → pages ≤ p.pages → CallRun most needs first calls old
+        → ((h : ℕ) → get old.heap.held h ≡ None → KeepsTo needs (insert (objects old.heap.held) h (replicate bytes 0)))
+        → IsMallocCall most old bytes before code after new → code ≢ pos 3 }
+    ensures resize { (kind : Kind) (p : Profile) (last page_bytes pages : ℕ) (needs : List Need) (most : Option Bounds)
+        (first old new : HeldState) (calls : List CCall) (handle bytes : ℕ) (before after : NphResized) (code : ℤ)
+        → IsPaged kind → IsFreshHeap kind p last first → AreLeastPages (layout_of kind) page_bytes needs pages
+        → p.page_words ≡ page_bytes / 8 → pages ≤ p.pages → CallRun most needs first calls old
+        → ((x : Placed) → get old.heap.held (number_in old.handles handle) ≡ Some x
+        → KeepsTo needs (insert (objects old.heap.held) (number_in old.handles handle) (resized x.bytes bytes)))
+        → IsResizeCall most old handle bytes before code after new → code ≢ pos 3 }
 {}

@@ -14,6 +14,7 @@ pub mod moving;
 mod needed;
 pub mod nonmoving;
 mod of_kind;
+mod pages;
 mod place;
 mod slots;
 pub mod tlsf;
@@ -21,3 +22,5 @@ mod unboxed;
 
 pub use answers::{NphClass, NphFreed, NphHeapTotals, NphNeeded, NphResized};
 pub use codes::{CLOSED, VERSION};
+pub use pages::pages_needed;
+pub use sizing::Need as NphNeed;

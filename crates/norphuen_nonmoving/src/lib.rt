@@ -7,19 +7,23 @@
 
 ghost use Rattle.std.specs.Prelude.{◌≡◌};
 ghost use Rattle.cf_base.specs.declared.kind.Kind.TheVariants.{NonMoving};
+ghost use Rattle.cf_base.specs.declared.kind.Layout.TheVariants.{Blocks};
 ghost use Rattle.held_heap.specs.Calls.{IsFiguresCall, IsFreeCall, IsLengthCall, IsMallocCall, IsReadCall, IsResizeCall, IsRoomCall, IsStepsCall, IsTotalsCall, IsWriteCall};
 ghost use Rattle.held_heap.specs.AtPlace.{IsOpenCall, IsCallOnOpen};
 ghost use Rattle.held_heap.specs.CallerHeap.{closed_by};
 ghost use Rattle.held_heap.specs.Most.{IsMostAccess, IsMostFree, IsMostLength, IsMostMalloc, IsMostResize, IsMostRoom, IsMostTotals, kind_code};
 ghost use Rattle.held_heap.specs.Needed.{IsNeededCall};
 ghost use Rattle.held_heap.specs.Slots.{IsClassCall, IsSlotWordsCall};
+ghost use Rattle.held_heap.specs.PagesNeeded.{IsPagesCall};
 ghost use Rattle.held_heap.specs.NonMovingPlace.{held_in};
 ghost use Rattle.held_heap.specs.NonMoving.{bounds};
 ghost use Rattle.held_heap.specs.Version.{version};
 
-use cf_base::Kind;
+use cf_base::{Kind, Layout};
 use held_heap::nonmoving::NphHeap;
-use held_heap::{CLOSED, NphClass, NphFreed, NphHeapTotals, NphNeeded, NphResized, VERSION, most};
+use held_heap::{
+    CLOSED, NphClass, NphFreed, NphHeapTotals, NphNeed, NphNeeded, NphResized, VERSION, most, pages_needed,
+};
 use std::rt::Memory;
 
 /// Opens the heap with these settings: `pages` pages of `page_bytes` bytes, at most `k` partly full pages in
@@ -53,6 +57,21 @@ pub extern "C" fn nph_nm_bytes_needed(
     ensures { IsNeededCall NonMoving pages page_bytes k proxies result needed.old needed.new }
 {
     NphHeap::bytes_needed(pages, page_bytes, k, proxies, needed)
+}
+
+/// Writes into `pages` the least number of pages of `page_bytes` bytes with which no call of a program is refused for space
+/// while it keeps to its `needs`, whatever their order; `k` is only tested. Returns 0, or the code of why there is no number
+/// (`pages_needed`).
+#[unsafe(no_mangle)]
+pub extern "C" fn nph_nm_pages_needed(
+    page_bytes: u32,
+    k: u32,
+    needs: &[NphNeed],
+    pages: &mut u32,
+) -> i32
+    ensures { IsPagesCall Blocks page_bytes k needs.now result pages.old pages.new }
+{
+    pages_needed(Layout::Blocks, page_bytes, k, needs, pages)
 }
 
 /// Closes the heap and frees its memory; does nothing if it is closed (`NphHeap::close`).

@@ -3,22 +3,24 @@
 //! the moving manager, with true those of the non-moving one.
 #![tactic(auto)]
 
-ghost use Rattle.std.specs.Prelude.{ℕ, ◌≡◌, ◌+◌, ◌/◌, ◌<◌, ◌≤◌, ◌↔◌, IsTrue, List, None, map, slice_index};
+ghost use Rattle.std.specs.Prelude.{ℕ, ◌≡◌, ◌+◌, ◌/◌, ◌<◌, ◌≤◌, ◌↔◌, IsTrue, List, None, length, map, slice_index};
 ghost use Rattle.std.specs.FinMap.{empty};
 ghost use Rattle.cf_base.specs.Classes.{sizes};
 ghost use Rattle.cf_base.specs.Settings.{profile_from, setting_fault};
-ghost use Rattle.cf_model.specs.State.{HeapState, layout_of};
-ghost use Rattle.page_model.specs.Paging.{IsPaging, Paging, classes, paging_of};
+ghost use Rattle.cf_model.specs.State.{HeapState, layout_of, paging_in};
+ghost use Rattle.page_model.specs.Paging.{EveryBoundIsOne, IsPaging, Paging, class_for, classes, paging_of};
 ghost use Rattle.quota_model.specs.declared.answers.Need.{Need};
-ghost use Rattle.sizing.specs.Certificates.{IsCertificate};
+ghost use Rattle.sizing.specs.Certificates.{HoldCopies, IsBudgetCertificate, IsCertificate};
 ghost use Rattle.sizing.specs.Checks.{AreCounts, point_in, with_pages};
-ghost use Rattle.sizing.specs.Demands.{KeepsTo, KeepsToOne, count_in};
+ghost use Rattle.sizing.specs.Demands.{ArePrices, KeepsBudget, KeepsTo, KeepsToOne, count_in};
 ghost use Rattle.sizing.specs.Heaps.{IsFresh, ServesHeapMallocs, ServesHeapResizes};
 ghost use Rattle.sizing.specs.Runs.{CanBeRefused, ServesMallocs, ServesResizes};
 ghost use Rattle.plan_library.specs.Slots.{layout_if};
 
 use cf_base::Layout;
-use sizing::{ModeObjects, Need, PointPages, class_objects, is_certified, pages_needed};
+use sizing::{
+    ModeObjects, Need, PointPages, class_objects, is_budget_certificate, is_certified, pages_needed,
+};
 
 /// Writes into `pages` the least number of pages with which no call of a program is refused for space while it keeps to its
 /// needs (`pages_needed`). False if there are more than 64 entries, an object is larger than a page, or more objects are
@@ -70,7 +72,7 @@ pub extern "C" fn plan_class_objects(
 }
 
 /// Whether the points are a certificate for `pages` pages of `page_bytes` bytes and these bounds and modes
-/// (`is_certified`): then the pages are enough.
+/// (`is_certified`): then the pages are enough, for resizes too if the program `resizes`.
 #[unsafe(no_mangle)]
 pub extern "C" fn plan_is_certified(
     pages: u32,
@@ -79,15 +81,20 @@ pub extern "C" fn plan_is_certified(
     bounds: &[u32],
     modes: &[ModeObjects],
     points: &[PointPages],
+    resizes: bool,
 ) -> bool
     ensures exact { (needs : List (List Need)) → setting_fault pages page_bytes 1 65536 ≡ None
         → IsPaging (paging_of (profile_from pages page_bytes 1 65536) (layout_if in_blocks) bounds.now)
         → AreCounts (paging_of (profile_from pages page_bytes 1 65536) (layout_if in_blocks) bounds.now) needs modes.now
-        → IsTrue result ↔ IsCertificate (paging_of (profile_from pages page_bytes 1 65536) (layout_if in_blocks) bounds.now) needs (map point_in points.now) }
+        → IsTrue result ↔ IsCertificate (paging_of (profile_from pages page_bytes 1 65536) (layout_if in_blocks) bounds.now) needs (map point_in points.now)
+        × (IsTrue resizes → HoldCopies (paging_of (profile_from pages page_bytes 1 65536) (layout_if in_blocks) bounds.now) needs (map point_in points.now)) }
     ensures mallocs { (needs : List (List Need)) → IsTrue result
         → AreCounts (paging_of (profile_from pages page_bytes 1 65536) (layout_if in_blocks) bounds.now) needs modes.now
         → ServesMallocs (paging_of (profile_from pages page_bytes 1 65536) (layout_if in_blocks) bounds.now) (KeepsToOne needs) }
-    ensures resizes { (needs : List (List Need)) → IsTrue result
+    ensures resizes { (needs : List (List Need)) → IsTrue result → IsTrue resizes
+        → AreCounts (paging_of (profile_from pages page_bytes 1 65536) (layout_if in_blocks) bounds.now) needs modes.now
+        → ServesResizes (paging_of (profile_from pages page_bytes 1 65536) (layout_if in_blocks) bounds.now) (KeepsToOne needs) }
+    ensures spare { (needs : List (List Need)) → IsTrue result
         → AreCounts (paging_of (profile_from pages page_bytes 1 65536) (layout_if in_blocks) bounds.now) needs modes.now
         → ServesResizes (with_pages (pages + 1) (paging_of (profile_from pages page_bytes 1 65536) (layout_if in_blocks) bounds.now)) (KeepsToOne needs) }
 {
@@ -98,6 +105,46 @@ pub extern "C" fn plan_is_certified(
         bounds,
         modes,
         points,
+        resizes,
+    )
+}
+
+/// Whether `level` and the pages `opened` of each class are a certificate that `pages` pages of `page_bytes` bytes are the least for
+/// a budget, if every bound is 1 and an object of each class costs at least its price (`is_budget_certificate`).
+#[unsafe(no_mangle)]
+pub extern "C" fn plan_is_budget_certified(
+    pages: u32,
+    page_bytes: u32,
+    in_blocks: bool,
+    prices: &[u32],
+    budget: u32,
+    level: u32,
+    opened: &[u32],
+) -> bool
+    ensures exact { (p : Paging) → setting_fault pages page_bytes 1 65536 ≡ None → IsPaging p
+        → p.pages ≡ pages → p.page_words ≡ page_bytes / 8 → p.sizes ≡ sizes (page_bytes / 8) (layout_if in_blocks)
+        → length prices.now ≡ classes p → length opened.now ≡ classes p
+        → IsTrue result ↔ IsBudgetCertificate p (slice_index prices.now) budget level (slice_index opened.now) }
+    ensures mallocs { IsTrue result → (s : HeapState) (cost : ℕ → ℕ) → IsFresh s → EveryBoundIsOne (paging_in s)
+        → layout_of s.kind ≡ layout_if in_blocks → s.profile.page_words ≡ page_bytes / 8 → pages ≤ s.profile.pages
+        → ArePrices (paging_in s) cost (slice_index prices.now) → ServesHeapMallocs (KeepsBudget cost budget) s }
+    ensures resizes { IsTrue result → (s : HeapState) (cost : ℕ → ℕ) → IsFresh s → EveryBoundIsOne (paging_in s)
+        → layout_of s.kind ≡ layout_if in_blocks → s.profile.page_words ≡ page_bytes / 8 → pages < s.profile.pages
+        → ArePrices (paging_in s) cost (slice_index prices.now) → ServesHeapResizes (KeepsBudget cost budget) s }
+    ensures least { IsTrue result → (p : Paging) (cost lengths : ℕ → ℕ) → IsPaging p
+        → p.page_words ≡ page_bytes / 8 → p.sizes ≡ sizes (page_bytes / 8) (layout_if in_blocks)
+        → ((c : ℕ) → c < classes p → 0 < slice_index opened.now c
+        → (class_for p (lengths c) ≡ c) × (cost (lengths c) ≤ slice_index prices.now c))
+        → p.pages < pages → CanBeRefused p (KeepsBudget cost budget) empty }
+{
+    is_budget_certificate(
+        pages,
+        page_bytes,
+        slots_if(in_blocks),
+        prices,
+        budget,
+        level,
+        opened,
     )
 }
 

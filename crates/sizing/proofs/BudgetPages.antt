@@ -1,32 +1,32 @@
--- For `pages_for_a_budget_serve`: at bound one the objects need at most (asked + the sum of t - least) / t pages.
-use Rattle.std.proofs.Common.{◌≡◌, ℕ, zero, suc, ◌+◌, ◌-◌, ◌*◌, ◌%◌, ◌<◌, ◌≤◌, List, [], ◌∷◌, Some, length, replicate, arith, ap, sym}
+-- For the laws of `budget.rt`: at bound one the objects need at most (the budget + the sum of t - price) / t pages.
+use Rattle.std.proofs.Common.{◌≡◌, ℕ, zero, suc, ◌+◌, ◌-◌, ◌*◌, ◌%◌, ◌<◌, ◌≤◌, List, [], ◌∷◌, length, replicate, arith, ap, sym, ◌∙◌}
 use Rattle.std.proofs.Common.{inl, inr, refl}
 use Rattle.std.specs.Prelude.{nat_eq, sum_by}
 use Rattle.std.specs.List.{range_with_len}
 use Rattle.std.proofs.lemmas.Bool.{cases_eq}
 use Rattle.std.proofs.lemmas.List.Sums.{sum_by-cons}
 use Rattle.std.proofs.lemmas.Nat.{div-add-mod', mul-le}
-use Rattle.std.specs.Ordering.{nat_cmp}
-use Rattle.std.specs.FinMap.{FinMap, empty, get, insert, values}
+use Rattle.std.specs.FinMap.{empty, insert, values}
 use Rattle.cf_lemmas.proofs.Induction.{map_induction}
-use Rattle.cf_lemmas.proofs.Maps.{get_inserted}
 use Rattle.cf_lemmas.proofs.Ranges.{one, sum_le}
 use Rattle.cf_lemmas.proofs.Sums.{sum_by-inserted}
 use Rattle.cf_lemmas.proofs.Tests.{eq_no, eq_yes}
-use Rattle.cf_lemmas.proofs.Values.{no_values, still}
-use Rattle.page_model.specs.Arrangement.{IsSound, live, pages_needed, pages_needed_with}
+use Rattle.cf_lemmas.proofs.Values.{no_values}
+use Rattle.page_model.specs.Arrangement.{IsSound, live, pages_needed, pages_needed_with, pages_of_class, used_pages}
 use Rattle.page_model.specs.Counts.{ceil_div}
-use Rattle.page_model.specs.Figures.{asked_bytes}
 use Rattle.page_model.specs.Held.{Held, Objects, objects}
-use Rattle.page_model.specs.Paging.{EveryBoundIsOne, IsPaging, Paging, class_for, classes, slots_of}
-use Rattle.page_model.proofs.CallerLemmas.{bytes_missing, lacks_room_at_one, live_added, none_live, slots_some, sound_empty}
+use Rattle.page_model.specs.Paging.{EveryBoundIsOne, IsPaging, Paging, bound_of, class_for, classes, slots_of}
+use Rattle.page_model.proofs.CallerLemmas.{bytes_missing, lacks_room_at_one, live_added, no_objects, none_live, slots_some, sound_empty}
 use Rattle.page_model.proofs.CallerLemmas.{sum_plus, sum_same, sum_zeros}
+use Rattle.page_model.proofs.Lacking.{none_free}
 use Rattle.page_model.proofs.RoomAtOne.{needed_with_is}
 use Rattle.std.proofs.lemmas.List.{length-replicate}
-use Rattle.sizing.specs.Demands.{Affords, KeepsBudget, objects_to_open}
-use Rattle.sizing.specs.Runs.{HeapCall, MallocLacks, Run}
+use Rattle.sizing.specs.Demands.{Affords, ArePrices, KeepsBudget, objects_to_open}
+use Rattle.sizing.specs.Runs.{HeapCall, MallocLacks, ResizeLacks, Run, ServesMallocs, ServesResizes}
 use Rattle.sizing.proofs.BudgetLeast.{opened_by}
 use Rattle.sizing.proofs.Calls.{run_keeps, sound_next}
+use Rattle.sizing.proofs.ModePages.{most_on}
+use Rattle.sizing.proofs.MostPages.{most_at_one}
 
 -- n objects of at least b bytes, m to a page, on the pages that they need
 class_cost : (n m b t : ℕ) → 0 < m → t ≤ m * b → ceil_div n m * t ≤ n * b + (t - b)
@@ -43,31 +43,33 @@ class_cost n m b t pos full = go (ceil_div n m) refl
         let pages : j * t ≤ j * (m * b) = mul-le j t j (m * b) (omega arith) full in
         omega arith
 
-module _ (least : ℕ → ℕ) where
-  missed : (k a n : ℕ) → k < a → sum_by (λ c. one (nat_eq k c) * least c) (range_with_len a n) ≡ 0
+module _ (price : ℕ → ℕ) where
+  missed : (k a n : ℕ) → k < a → sum_by (λ c. one (nat_eq k c) * price c) (range_with_len a n) ≡ 0
   missed k a zero lt = refl
   missed k a (suc n) lt =
-      let x = sum_by-cons (λ c. one (nat_eq k c) * least c) a (range_with_len (a + 1) n) in
+      let x = sum_by-cons (λ c. one (nat_eq k c) * price c) a (range_with_len (a + 1) n) in
       let z : one (nat_eq k a) ≡ 0 = ap one (eq_no k a (λ e. omega arith)) in
-      let y : one (nat_eq k a) * least a ≡ 0 * least a = ap (λ i. i * least a) z in
+      let y : one (nat_eq k a) * price a ≡ 0 * price a = ap (λ i. i * price a) z in
       let rest = missed k (a + 1) n (omega arith) in
       omega arith
 
-  picked : (k a n : ℕ) → sum_by (λ c. one (nat_eq k c) * least c) (range_with_len a n) ≤ least k
-  picked k a zero = omega arith
-  picked k a (suc n) =
-      let x = sum_by-cons (λ c. one (nat_eq k c) * least c) a (range_with_len (a + 1) n) in
+  -- the price of class k, if it is in the range
+  picked : (k a n most : ℕ) → (k < a + n → price k ≤ most) → sum_by (λ c. one (nat_eq k c) * price c) (range_with_len a n) ≤ most
+  picked k a zero most le = omega arith
+  picked k a (suc n) most le =
+      let x = sum_by-cons (λ c. one (nat_eq k c) * price c) a (range_with_len (a + 1) n) in
       elim (cases_eq k a) [
         | inl is ↦ (
             let z : one (nat_eq k a) ≡ 1 = ap one (eq_yes k a is) in
-            let y : one (nat_eq k a) * least a ≡ 1 * least a = ap (λ i. i * least a) z in
-            let e : least a ≡ least k = ap least (sym is) in
+            let y : one (nat_eq k a) * price a ≡ 1 * price a = ap (λ i. i * price a) z in
+            let e : price a ≡ price k = ap price (sym is) in
             let rest = missed k (a + 1) n (omega arith) in
+            let here = le (omega arith) in
             omega arith)
         | inr ne ↦ (
             let z : one (nat_eq k a) ≡ 0 = ap one (eq_no k a ne) in
-            let y : one (nat_eq k a) * least a ≡ 0 * least a = ap (λ i. i * least a) z in
-            let rest = picked k (a + 1) n in
+            let y : one (nat_eq k a) * price a ≡ 0 * price a = ap (λ i. i * price a) z in
+            let rest = picked k (a + 1) n most (λ lt. le (omega arith)) in
             omega arith)
       ]
 
@@ -81,84 +83,118 @@ sum_times f t (x ∷ xs) =
     let rest = sum_times f t xs in
     omega arith
 
--- a sum over the values of a map, each term at most that of another
-values_le : {V : Type 0} (f g : V → ℕ) (m : FinMap nat_cmp V) → ((q : ℕ) (v : V) → get m q ≡ Some v → f v ≤ g v) → sum_by f (values m) ≤ sum_by g (values m)
-values_le {V} f g = map_induction (λ m. ((q : ℕ) (v : V) → get m q ≡ Some v → f v ≤ g v) → sum_by f (values m) ≤ sum_by g (values m))
-    (λ _. (let a : sum_by f (values (empty {X = V} {R = nat_cmp})) ≡ 0 = ap (sum_by f) no_values in omega arith))
-    (λ m h x none ih each. (
-    let a = sum_by-inserted f m h x none in
-    let b = sum_by-inserted g m h x none in
-    let here = each h x (get_inserted m h x) in
-    let rest = ih (λ q v e. each q v (still m h x none q v e).1) in
-    omega arith))
-
-module _ (p : Paging) (least : ℕ → ℕ) where
-  -- the objects of all classes, each with the least bytes of its class
-  weighted : (o : Objects) → sum_by (λ c. live p o c * least c) (range_with_len 0 (classes p)) ≤ sum_by (λ v. least (class_for p (length v))) (values o)
-  weighted = map_induction
-      (λ o. sum_by (λ c. live p o c * least c) (range_with_len 0 (classes p)) ≤ sum_by (λ v. least (class_for p (length v))) (values o))
-      (let z = sum_zeros (λ c. live p empty c * least c) (range_with_len 0 (classes p)) (λ c. (let e : live p empty c * least c ≡ 0 * least c = ap (λ i. i * least c) (none_live p c) in omega arith)) in omega arith)
+module _ (p : Paging) (cost price : ℕ → ℕ) (prices : ArePrices p cost price) where
+  -- the objects of all classes, each at the price of its class
+  priced : (o : Objects) → sum_by (λ c. live p o c * price c) (range_with_len 0 (classes p)) ≤ sum_by (λ (v : List ℕ). cost (length v)) (values o)
+  priced = map_induction
+      (λ o. sum_by (λ c. live p o c * price c) (range_with_len 0 (classes p)) ≤ sum_by (λ (v : List ℕ). cost (length v)) (values o))
+      (let z = sum_zeros (λ c. live p empty c * price c) (range_with_len 0 (classes p)) (λ c. (let e : live p empty c * price c ≡ 0 * price c = ap (λ i. i * price c) (none_live p c) in omega arith)) in omega arith)
       (λ o h v none ih. (
-      let k : ℕ = class_for p (length v) in
-      let split = sum_same (λ c. live p (insert o h v) c * least c) (λ c. live p o c * least c + one (nat_eq (class_for p (length v)) c) * least c)
+      let split = sum_same (λ c. live p (insert o h v) c * price c) (λ c. live p o c * price c + one (nat_eq (class_for p (length v)) c) * price c)
       (range_with_len 0 (classes p))
-      (λ c. (let e : live p (insert o h v) c * least c ≡ (live p o c + one (nat_eq (class_for p (length v)) c)) * least c =
-      ap (λ i. i * least c) (live_added p o h v c none) in omega arith)) in
-      let plus = sum_plus (λ c. live p o c * least c) (λ c. one (nat_eq (class_for p (length v)) c) * least c) (range_with_len 0 (classes p)) in
-      let pick = picked least (class_for p (length v)) 0 (classes p) in
-      let more = sum_by-inserted (λ u. least (class_for p (length u))) o h v none in
+      (λ c. (let e : live p (insert o h v) c * price c ≡ (live p o c + one (nat_eq (class_for p (length v)) c)) * price c =
+      ap (λ i. i * price c) (live_added p o h v c none) in omega arith)) in
+      let plus = sum_plus (λ c. live p o c * price c) (λ c. one (nat_eq (class_for p (length v)) c) * price c) (range_with_len 0 (classes p)) in
+      let pick = picked price (class_for p (length v)) 0 (classes p) (cost (length v)) (λ lt. prices (length v) (omega arith)) in
+      let more = sum_by-inserted (λ (u : List ℕ). cost (length u)) o h v none in
       omega arith))
 
-  module _ (t : ℕ) (ok : IsPaging p) (full : (c : ℕ) → c < classes p → t ≤ slots_of p c * least c) where
-    needed_cost : (o : Objects) (budget : ℕ) → KeepsBudget p least budget o
-        → pages_needed p o * t ≤ budget + sum_by (λ c. t - least c) (range_with_len 0 (classes p))
-    unfolding pages_needed asked_bytes
-    needed_cost o budget keeps =
-        let scale = sum_times (λ c. ceil_div (live p o c) (slots_of p c)) t (range_with_len 0 (classes p)) in
-        let each = sum_le (λ c. ceil_div (live p o c) (slots_of p c) * t) (λ c. live p o c * least c + (t - least c)) 0 (classes p)
-        (λ c _ lt. class_cost (live p o c) (slots_of p c) (least c) t (slots_some p ok c (omega arith)) (full c (omega arith))) in
-        let plus = sum_plus (λ c. live p o c * least c) (λ c. t - least c) (range_with_len 0 (classes p)) in
-        let weights = weighted o in
-        let bytes = values_le (λ v. least (class_for p (length v))) length o keeps.long_enough in
-        let within : sum_by length (values o) ≤ budget = keeps.within in
-        omega arith
-
-pub budget_serves : (p : Paging) (least : ℕ → ℕ) (budget t : ℕ) → IsPaging p → EveryBoundIsOne p → ((c : ℕ) → c < classes p → t ≤ slots_of p c * least c)
-    → budget + sum_by (λ c. t - least c) (range_with_len 0 (classes p)) < (p.pages + 1) * t
-    → (calls : List HeapCall) (m : Held) (h n : ℕ) → Run p (KeepsBudget p least budget) empty calls m → ¬ MallocLacks p (KeepsBudget p least budget) m h n
-budget_serves p least budget t ok ones full enough calls m h n run l =
-    let s = run_keeps p (KeepsBudget p least budget) (IsSound p) (λ old new call sound does asked. sound_next p ok old sound call new does) calls empty m
-    (sound_empty p) run in
-    let lacks = (lacks_room_at_one p ok ones m s n l.fits).0 l.lacking in
-    let is = needed_with_is p (objects m) h (replicate n 0) (bytes_missing m h l.unused) in
-    let len : pages_needed_with p (objects m) (length (replicate {A = ℕ} n 0)) ≡ pages_needed_with p (objects m) n =
-    ap (pages_needed_with p (objects m)) (length-replicate {A = ℕ} n 0) in
-    let cost = needed_cost p least t ok full (insert (objects m) h (replicate n 0)) budget l.asked in
-    let more : (p.pages + 1) * t ≤ pages_needed p (insert (objects m) h (replicate n 0)) * t =
-    mul-le (p.pages + 1) t (pages_needed p (insert (objects m) h (replicate n 0))) t (omega arith) (omega arith) in
-    absurd (omega arith)
-
--- the pages that the objects need are pages that the budget affords
-pub afforded_serve : (p : Paging) (least : ℕ → ℕ) (budget : ℕ) → IsPaging p → EveryBoundIsOne p
-    → ((pages : ℕ → ℕ) → Affords p least budget pages → sum_by pages (range_with_len 0 (classes p)) ≤ p.pages)
-    → (calls : List HeapCall) (m : Held) (h n : ℕ) → Run p (KeepsBudget p least budget) empty calls m → ¬ MallocLacks p (KeepsBudget p least budget) m h n
-unfolding pages_needed asked_bytes
-afforded_serve p least budget ok ones enough calls m h n run l =
-    let s = run_keeps p (KeepsBudget p least budget) (IsSound p) (λ old new call sound does asked. sound_next p ok old sound call new does) calls empty m
-    (sound_empty p) run in
-    let lacks = (lacks_room_at_one p ok ones m s n l.fits).0 l.lacking in
-    let is = needed_with_is p (objects m) h (replicate n 0) (bytes_missing m h l.unused) in
-    let len : pages_needed_with p (objects m) (length (replicate {A = ℕ} n 0)) ≡ pages_needed_with p (objects m) n =
-    ap (pages_needed_with p (objects m)) (length-replicate {A = ℕ} n 0) in
-    let some = enough (λ c. ceil_div (live p (insert (objects m) h (replicate n 0)) c) (slots_of p c)) (cost (insert (objects m) h (replicate n 0)) l.asked) in
-    absurd (omega arith)
-  where
-    cost : (o : Objects) → KeepsBudget p least budget o → Affords p least budget (λ c. ceil_div (live p o c) (slots_of p c))
-    cost o keeps =
-        let each = sum_le (λ c. objects_to_open (ceil_div (live p o c) (slots_of p c)) (slots_of p c) * least c) (λ c. live p o c * least c) 0 (classes p)
-        (λ c _ lt. mul-le (objects_to_open (ceil_div (live p o c) (slots_of p c)) (slots_of p c)) (least c) (live p o c) (least c)
+  module _ (budget : ℕ) (ok : IsPaging p) where
+    -- the pages that objects within the budget need are pages that it affords
+    affords_needed : (o : Objects) → KeepsBudget cost budget o → Affords p price budget (λ c. ceil_div (live p o c) (slots_of p c))
+    affords_needed o keeps =
+        let each = sum_le (λ c. objects_to_open (ceil_div (live p o c) (slots_of p c)) (slots_of p c) * price c) (λ c. live p o c * price c) 0 (classes p)
+        (λ c _ lt. mul-le (objects_to_open (ceil_div (live p o c) (slots_of p c)) (slots_of p c)) (price c) (live p o c) (price c)
         (opened_by (live p o c) (slots_of p c) (slots_some p ok c (omega arith))) (omega arith)) in
-        let weights = weighted p least o in
-        let bytes = values_le (λ v. least (class_for p (length v))) length o keeps.long_enough in
-        let within : sum_by length (values o) ≤ budget = keeps.within in
+        let all = priced o in
         omega arith
+
+    -- at bound one those pages are the pages in use
+    used_needed : EveryBoundIsOne p → (m : Held) → IsSound p m → used_pages p m ≤ pages_needed p (objects m)
+    unfolding used_pages pages_needed
+    used_needed ones m s = sum_le (pages_of_class p m) (λ c. ceil_div (live p (objects m) c) (slots_of p c)) 0 (classes p) (λ c _ lt. (
+        let on = most_on p ok m s c (live p (objects m) c) (omega arith) (omega arith) in
+        let one = most_at_one (live p (objects m) c) (slots_of p c) (bound_of p c) (slots_some p ok c (omega arith)) (ones c (omega arith)) in
+        omega arith))
+
+    -- along a run the objects are sound and within the budget
+    record IsWithin (m : Held) : Type 0 where
+      sound : IsSound p m
+      keeps : KeepsBudget cost budget (objects m)
+
+    within_along : (calls : List HeapCall) (m : Held) → Run p (KeepsBudget cost budget) empty calls m → IsWithin m
+    within_along calls m run = run_keeps p (KeepsBudget cost budget) IsWithin
+        (λ old new call k does asked. record { sound = sound_next p ok old k.sound call new does; keeps = asked }) calls empty m
+        (record {
+          sound = sound_empty p;
+          keeps = (
+              let none : sum_by (λ (v : List ℕ). cost (length v)) (values (objects empty)) ≡ 0 =
+              ap (λ (o : Objects). sum_by (λ (v : List ℕ). cost (length v)) (values o)) no_objects ∙ ap (sum_by (λ (v : List ℕ). cost (length v))) no_values in
+              omega arith);
+        }) run
+
+    module _ (ones : EveryBoundIsOne p) where
+      -- a refused malloc would need more pages than there are
+      malloc_needs : (calls : List HeapCall) (m : Held) (h n : ℕ) → Run p (KeepsBudget cost budget) empty calls m
+          → MallocLacks p (KeepsBudget cost budget) m h n → p.pages < pages_needed p (insert (objects m) h (replicate n 0))
+      malloc_needs calls m h n run l =
+          let k = within_along calls m run in
+          let lacks = (lacks_room_at_one p ok ones m k.sound n l.fits).0 l.lacking in
+          let is = needed_with_is p (objects m) h (replicate n 0) (bytes_missing m h l.unused) in
+          let len : pages_needed_with p (objects m) (length (replicate {A = ℕ} n 0)) ≡ pages_needed_with p (objects m) n =
+          ap (pages_needed_with p (objects m)) (length-replicate {A = ℕ} n 0) in
+          omega arith
+
+      -- at a refused resize the objects need all pages
+      resize_needs : (calls : List HeapCall) (m : Held) (h n : ℕ) → Run p (KeepsBudget cost budget) empty calls m
+          → ResizeLacks p (KeepsBudget cost budget) m h n → p.pages ≤ pages_needed p (objects m)
+      resize_needs calls m h n run l =
+          let k = within_along calls m run in
+          let all : used_pages p m ≡ p.pages = none_free p m k.sound l.lacking.taken in
+          let used = used_needed ones m k.sound in
+          omega arith
+
+      pub afforded_mallocs : ((pages : ℕ → ℕ) → Affords p price budget pages → sum_by pages (range_with_len 0 (classes p)) ≤ p.pages)
+          → ServesMallocs p (KeepsBudget cost budget)
+      unfolding pages_needed
+      afforded_mallocs enough calls m h n run l =
+          let more = malloc_needs calls m h n run l in
+          let some = enough (λ c. ceil_div (live p (insert (objects m) h (replicate n 0)) c) (slots_of p c)) (affords_needed (insert (objects m) h (replicate n 0)) l.asked) in
+          absurd (omega arith)
+
+      pub afforded_resizes : ((pages : ℕ → ℕ) → Affords p price budget pages → sum_by pages (range_with_len 0 (classes p)) < p.pages)
+          → ServesResizes p (KeepsBudget cost budget)
+      unfolding pages_needed
+      afforded_resizes enough calls m h n run l =
+          let more = resize_needs calls m h n run l in
+          let k = within_along calls m run in
+          let some = enough (λ c. ceil_div (live p (objects m) c) (slots_of p c)) (affords_needed (objects m) k.keeps) in
+          absurd (omega arith)
+
+      module _ (t : ℕ) (full : (c : ℕ) → c < classes p → t ≤ slots_of p c * price c) where
+        needed_cost : (o : Objects) → KeepsBudget cost budget o
+            → pages_needed p o * t ≤ budget + sum_by (λ c. t - price c) (range_with_len 0 (classes p))
+        unfolding pages_needed
+        needed_cost o keeps =
+            let scale = sum_times (λ c. ceil_div (live p o c) (slots_of p c)) t (range_with_len 0 (classes p)) in
+            let each = sum_le (λ c. ceil_div (live p o c) (slots_of p c) * t) (λ c. live p o c * price c + (t - price c)) 0 (classes p)
+            (λ c _ lt. class_cost (live p o c) (slots_of p c) (price c) t (slots_some p ok c (omega arith)) (full c (omega arith))) in
+            let plus = sum_plus (λ c. live p o c * price c) (λ c. t - price c) (range_with_len 0 (classes p)) in
+            let all = priced o in
+            omega arith
+
+        pub level_mallocs : budget + sum_by (λ c. t - price c) (range_with_len 0 (classes p)) < (p.pages + 1) * t → ServesMallocs p (KeepsBudget cost budget)
+        level_mallocs enough calls m h n run l =
+            let past = malloc_needs calls m h n run l in
+            let need = needed_cost (insert (objects m) h (replicate n 0)) l.asked in
+            let more : (p.pages + 1) * t ≤ pages_needed p (insert (objects m) h (replicate n 0)) * t =
+            mul-le (p.pages + 1) t (pages_needed p (insert (objects m) h (replicate n 0))) t (omega arith) (omega arith) in
+            absurd (omega arith)
+
+        pub level_resizes : budget + sum_by (λ c. t - price c) (range_with_len 0 (classes p)) < p.pages * t → ServesResizes p (KeepsBudget cost budget)
+        level_resizes enough calls m h n run l =
+            let past = resize_needs calls m h n run l in
+            let k = within_along calls m run in
+            let need = needed_cost (objects m) k.keeps in
+            let more : p.pages * t ≤ pages_needed p (objects m) * t = mul-le p.pages t (pages_needed p (objects m)) t past (omega arith) in
+            absurd (omega arith)

@@ -32,16 +32,24 @@ module _ (p : Paging) (m : Held) (h n : ℕ) where
       ap one (eq_yes (class_for p (length (replicate {A = ℕ} n 0))) (class_for p n) (ap (class_for p) (length-replicate {A = ℕ} n 0))) in
       omega arith
 
-  -- and so does a resize from another class
+  -- a resize takes an object from its class, and adds one to that of its new length
+  pub live_moved : (x : Placed) → get m h ≡ Some x → (c : ℕ)
+      → live p (insert (objects m) h (resized x.bytes n)) c + one (nat_eq (class_at p x) c) ≡ live p (objects m) c + one (nat_eq (class_for p n) c)
+  live_moved x there c =
+      let again : live p (insert (remove (objects m) h) h (resized x.bytes n)) c ≡ live p (insert (objects m) h (resized x.bytes n)) c =
+      ap (λ o. live p o c) (insert_again (objects m) h (resized x.bytes n)) in
+      let added = live_added p (remove (objects m) h) h (resized x.bytes n) c (get_removed (objects m) h) in
+      let taken = live_taken p (objects m) h x.bytes c (bytes_held m h x there) in
+      let same : one (nat_eq (class_for p (length (resized x.bytes n))) c) ≡ one (nat_eq (class_for p n) c) =
+      ap (λ i. one (nat_eq (class_for p i) c)) (length-resized x.bytes n) in
+      omega arith
+
+  -- from another class, that is one more
   pub live_resized : (x : Placed) → get m h ≡ Some x → class_for p n ≢ class_at p x
       → live p (insert (objects m) h (resized x.bytes n)) (class_for p n) ≡ live p (objects m) (class_for p n) + 1
   live_resized x there other =
-      let again : live p (insert (remove (objects m) h) h (resized x.bytes n)) (class_for p n) ≡ live p (insert (objects m) h (resized x.bytes n)) (class_for p n) =
-      ap (λ o. live p o (class_for p n)) (insert_again (objects m) h (resized x.bytes n)) in
-      let added = live_added p (remove (objects m) h) h (resized x.bytes n) (class_for p n) (get_removed (objects m) h) in
-      let taken = live_taken p (objects m) h x.bytes (class_for p n) (bytes_held m h x there) in
-      let more : one (nat_eq (class_for p (length (resized x.bytes n))) (class_for p n)) ≡ 1 =
-      ap one (eq_yes (class_for p (length (resized x.bytes n))) (class_for p n) (ap (class_for p) (length-resized x.bytes n))) in
+      let moved = live_moved x there (class_for p n) in
+      let more : one (nat_eq (class_for p n) (class_for p n)) ≡ 1 = ap one (eq_yes (class_for p n) (class_for p n) refl) in
       let none_less : one (nat_eq (class_at p x) (class_for p n)) ≡ 0 = ap one (eq_no (class_at p x) (class_for p n) (λ e. other (sym e))) in
       omega arith
 

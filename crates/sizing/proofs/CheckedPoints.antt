@@ -1,18 +1,20 @@
 -- For `is_certificate`: the points that the tables give are a certificate if and only if each table meets its conditions, and there is one if there is a mode.
-use Rattle.std.proofs.Common.{◌≡◌, ℕ, suc, ◌+◌, ◌<◌, ◌≤◌, List, [], All, Contains, length, map, arith, ap, sym, ◌∙◌, min, subst, inl, inr}
-use Rattle.std.specs.Prelude.{IsTrue, slice_index, slice_index_or}
+use Rattle.std.proofs.Common.{◌≡◌, ◌≢◌, ℕ, suc, ◌+◌, ◌<◌, ◌≤◌, List, [], All, Contains, length, map, arith, ap, sym, ◌∙◌, min, subst, inl, inr}
+use Rattle.std.specs.Prelude.{IsTrue, slice_index, slice_index_or, sum_by}
+use Rattle.std.specs.List.{range_with_len}
 use Rattle.std.proofs.lemmas.Bool.{cases_lt}
 use Rattle.std.proofs.lemmas.List.{get_or-map, get_or_default, length-map}
 use Rattle.cf_base.specs.Classes.{sizes}
 use Rattle.cf_base.specs.Limits.{is_page_size}
 use Rattle.cf_base.specs.Settings.{Profile}
 use Rattle.cf_base.specs.declared.kind.Layout.{Layout}
+use Rattle.cf_lemmas.proofs.Ranges.{sum_range_same}
 use Rattle.page_model.specs.Counts.{ceil_div, most_pages}
-use Rattle.page_model.specs.Paging.{IsPaging, Paging, bound_of, class_for, paging_of, slots_of}
+use Rattle.page_model.specs.Paging.{IsPaging, Paging, bound_of, class_for, classes, paging_of, slots_of}
 use Rattle.page_model.proofs.CallerLemmas.{paged}
 use Rattle.quota_model.specs.declared.answers.Need.{Need}
-use Rattle.sizing.specs.Certificates.{IsCertificate, IsPoint, Point, mode_count}
-use Rattle.sizing.specs.Checks.{AreCounts, IsRow, objects_in, point_in, with_pages}
+use Rattle.sizing.specs.Certificates.{HoldCopies, IsCertificate, IsPoint, Point, mode_count, pages_with_copy}
+use Rattle.sizing.specs.Checks.{AreCounts, CopiesFit, IsRow, objects_in, point_in, with_pages}
 use Rattle.sizing.specs.Demands.{KeepsToOne}
 use Rattle.sizing.specs.Layout.{size_before}
 use Rattle.sizing.specs.Runs.{ServesResizes}
@@ -135,6 +137,65 @@ module _ (p : Paging) (needs : List (List Need)) (modes : List ModeObjects) (poi
     | inl some ↦ absurd (let lt = some_point sure some in omega arith)
     | inr empty ↦ omega arith
   ]
+
+  -- a table holds copies if and only if its point does
+  copies_of : (x : PointPages) → CopiesFit p modes x → x.mode < length needs → (j c d : ℕ) → j < length needs → c < classes p → d < classes p → d ≢ c
+      → 0 < mode_count p needs x.mode c → 0 < mode_count p needs j d
+      → sum_by (λ e. pages_with_copy p c d e (slice_index x.pages e) (mode_count p needs x.mode e) (mode_count p needs j e)) (range_with_len 0 (classes p)) ≤ p.pages
+  copies_of x fits known j c d jl cl dl ne some some' =
+      let many = k.many in
+      let a = k.same x.mode c known cl in
+      let b = k.same j d jl dl in
+      let sum = fits.fits (omega arith) j (omega arith) c cl (omega arith) d dl ne (omega arith) in
+      let same = sum_range_same (λ e. pages_with_copy p c d e (slice_index x.pages e) (slice_index (objects_in modes x.mode) e) (slice_index (objects_in modes j) e))
+      (λ e. pages_with_copy p c d e (slice_index x.pages e) (mode_count p needs x.mode e) (mode_count p needs j e)) 0 (classes p)
+      (λ e _ lt. (
+      let u = k.same x.mode e known (omega arith) in
+      let v = k.same j e jl (omega arith) in
+      λ i. pages_with_copy p c d e (slice_index x.pages e) (u i) (v i))) in
+      omega arith
+
+  pub copies_held : All (CopiesFit p modes) points → HoldCopies p needs (map point_in points)
+  copies_held rows x inside =
+      let z = row_of points x inside in
+      let at = z.inside in
+      let row = subst (CopiesFit p modes) at.2 (rows at.0 z.row at.1) in
+      subst (λ (y : Point). y.mode < length needs → (j c d : ℕ) → j < length needs → c < classes p → d < classes p → d ≢ c → 0 < mode_count p needs y.mode c
+      → 0 < mode_count p needs j d
+      → sum_by (λ e. pages_with_copy p c d e (y.pages e) (mode_count p needs y.mode e) (mode_count p needs j e)) (range_with_len 0 (classes p)) ≤ p.pages)
+      (sym z.is) (copies_of z.row row)
+
+  copies_back : (x : PointPages) → ((j c d : ℕ) → j < length needs → c < classes p → d < classes p → d ≢ c
+      → 0 < mode_count p needs x.mode c → 0 < mode_count p needs j d
+      → sum_by (λ e. pages_with_copy p c d e (slice_index x.pages e) (mode_count p needs x.mode e) (mode_count p needs j e)) (range_with_len 0 (classes p)) ≤ p.pages)
+      → CopiesFit p modes x
+  copies_back x holds = record {
+    fits = λ known j jl c cl some d dl ne some'. (
+        let many = k.many in
+        let known' : x.mode < length needs = omega arith in
+        let jl' : j < length needs = omega arith in
+        let a = k.same x.mode c known' cl in
+        let b = k.same j d jl' dl in
+        let sum = holds j c d jl' cl dl ne (omega arith) (omega arith) in
+        let same = sum_range_same (λ e. pages_with_copy p c d e (slice_index x.pages e) (slice_index (objects_in modes x.mode) e) (slice_index (objects_in modes j) e))
+        (λ e. pages_with_copy p c d e (slice_index x.pages e) (mode_count p needs x.mode e) (mode_count p needs j e)) 0 (classes p)
+        (λ e _ lt. (
+        let u = k.same x.mode e known' (omega arith) in
+        let v = k.same j e jl' (omega arith) in
+        λ i. pages_with_copy p c d e (slice_index x.pages e) (u i) (v i))) in
+        omega arith);
+  }
+
+  pub all_held : HoldCopies p needs (map point_in points) → All (CopiesFit p modes) points
+  all_held holds i d lt = record {
+    fits = λ known. (
+        let many = k.many in
+        (copies_back (slice_index_or points i d) (holds (point_in (slice_index_or points i d)) (contains_point points (slice_index_or points i d)
+        (i, lt, get_or_default points i (slice_index_or points i d) d lt)) (omega arith))).fits known);
+  }
+
+  pub none_held : length points ≡ 0 → HoldCopies p needs (map point_in points)
+  none_held none = copies_held (λ i d lt. absurd (omega arith))
 
 -- ---- the pages of the settings
 

@@ -1,9 +1,9 @@
 -- For the laws of `modes.rt`: a program whose objects are always within one of several modes. A certificate bounds its pages along every run; `spread_of_modes`
 -- is the sum of one.
-use Rattle.std.proofs.Common.{◌≡◌, ℕ, ◌+◌, ◌-◌, ◌*◌, ◌%◌, ◌<◌, ◌≤◌, suc, List, [], ◌∷◌, Contains, None, length, map, replicate, arith, ap, sym, ◌∙◌, inl, inr, refl, subst}
+use Rattle.std.proofs.Common.{◌≡◌, ◌≢◌, ℕ, ◌+◌, ◌-◌, ◌*◌, ◌%◌, ◌<◌, ◌≤◌, suc, List, [], ◌∷◌, Contains, None, Some, cond, length, map, replicate, arith, ap, sym, ◌∙◌, inl, inr, refl, subst}
 use Rattle.std.specs.Prelude.{All, count_by, max, min, nat_eq, slice_index_or, sum_by}
 use Rattle.std.specs.List.{range_with_len}
-use Rattle.std.proofs.lemmas.Bool.{cases_lt}
+use Rattle.std.proofs.lemmas.Bool.{cases_eq, cases_lt}
 use Rattle.std.proofs.lemmas.List.{get_or_default}
 use Rattle.std.proofs.lemmas.List.FromFn.{get_or-map-range_with_len, length-map-range_with_len}
 use Rattle.std.proofs.lemmas.List.Elements.{All-cons, All-contains, All-nil, All-weaker}
@@ -11,13 +11,15 @@ use Rattle.std.proofs.lemmas.Nat.{div-add-mod', mul-le}
 use Rattle.std.proofs.Math.Nat.{le-max_left, le-max_right, le-min, max-le, min-le_left, min-le_right, mod-lt}
 use Rattle.std.specs.FinMap.{empty, get, insert}
 use Rattle.cf_base.specs.Settings.{Profile}
-use Rattle.cf_lemmas.proofs.Ranges.{sum_le}
+use Rattle.cf_lemmas.proofs.Ranges.{one, sum_le}
+use Rattle.cf_lemmas.proofs.Tests.{eq_no, eq_yes}
 use Rattle.cf_lemmas.proofs.Values.{no_values}
-use Rattle.page_model.specs.Arrangement.{IsSound, live, pages_of_class, used_pages}
+use Rattle.page_model.specs.Arrangement.{IsSound, class_at, live, pages_of_class, used_pages}
 use Rattle.page_model.specs.Counts.{ceil_div, most_pages}
-use Rattle.page_model.specs.Held.{Held, Objects, objects}
+use Rattle.page_model.specs.Held.{Held, Objects, Placed, objects}
 use Rattle.page_model.specs.Paging.{EveryBoundIsOne, IsPaging, Paging, bound_of, class_for, classes, slots_of}
-use Rattle.page_model.proofs.CallerLemmas.{between_multiples, bytes_missing, ceil_mono, no_objects, slots_some, sound_empty}
+use Rattle.page_model.specs.Steps.{resized}
+use Rattle.page_model.proofs.CallerLemmas.{between_multiples, bytes_held, bytes_missing, ceil_mono, live_taken, no_objects, one_le, slots_some, sound_empty}
 use Rattle.page_model.proofs.Lacking.{none_free}
 use Rattle.page_model.proofs.Nothing.{none_home}
 use Rattle.page_model.proofs.PageCounts.{sound_can_hold}
@@ -25,10 +27,10 @@ use Rattle.page_model.proofs.PageLaws.{most_pages_least}
 use Rattle.quota_model.specs.Admission.{first_large, in_order, live_of, pages_needed_by}
 use Rattle.quota_model.specs.declared.answers.Need.{Need}
 use Rattle.quota_model.proofs.CallerLemmas.{live_of-inserted}
-use Rattle.sizing.specs.Certificates.{IsCertificate, IsPoint, LeadsTo, Point, mode_count}
+use Rattle.sizing.specs.Certificates.{HoldCopies, IsCertificate, IsPoint, LeadsTo, Point, mode_count, pages_with_copy}
 use Rattle.sizing.specs.Demands.{HasAtMost, KeepsTo, KeepsToOne, count_in, greatest_of, pages_of_modes, spread_of, spread_of_modes}
 use Rattle.sizing.specs.Runs.{CanBeRefused, Does, HeapCall, Run, ServesMallocs, ServesResizes}
-use Rattle.sizing.proofs.Calls.{live_malloced, run_keeps, sound_next, within_next}
+use Rattle.sizing.proofs.Calls.{live_malloced, live_moved, live_resized, run_keeps, sound_next, within_next}
 use Rattle.sizing.proofs.ClassPages.{full_now, sum_less}
 use Rattle.sizing.proofs.FewerPages.{refused}
 use Rattle.sizing.proofs.MostLive.{declared_few}
@@ -102,7 +104,7 @@ keeps_none needs n =
     omega arith
 
 module _ (p : Paging) (ok : IsPaging p) where
-  most_on : (m : Held) → IsSound p m → (c n : ℕ) → c < classes p → live p (objects m) c ≤ n → pages_of_class p m c ≤ most_pages n (slots_of p c) (bound_of p c)
+  pub most_on : (m : Held) → IsSound p m → (c n : ℕ) → c < classes p → live p (objects m) c ≤ n → pages_of_class p m c ≤ most_pages n (slots_of p c) (bound_of p c)
   most_on m s c n lt few =
       let here = most_pages_least (pages_of_class p m c) (live p (objects m) c) (slots_of p c) (bound_of p c) (slots_some p ok c lt) (sound_can_hold p ok c lt m s) in
       let more = most_grows (live p (objects m) c) n (slots_of p c) (bound_of p c) (slots_some p ok c lt) (ok.some c lt) few in
@@ -226,6 +228,60 @@ module _ (p : Paging) (ok : IsPaging p) where
         let all : used_pages p m ≡ p.pages = none_free p m k.sound l.lacking.taken in
         let sum = sum_le (pages_of_class p m) (x.0).pages 0 (classes p) (λ d _ lt. x.3 d (omega arith)) in
         let less = spare x.0 x.1 in
+        absurd (omega arith)
+
+    -- before a resize another class than the new slot's is within the pages that hold the object twice
+    copy_below : (m : Held) (h n : ℕ) → IsSound p m → (y : Placed) → get m h ≡ Some y → (x : Point) (j : ℕ) → HasAtMost p (mode_count p modes x.mode) (objects m)
+        → HasAtMost p (mode_count p modes j) (insert (objects m) h (resized y.bytes n)) → IsBelow m x → (e : ℕ) → e < classes p → e ≢ class_for p n
+        → pages_of_class p m e ≤ pages_with_copy p (class_at p y) (class_for p n) e (x.pages e) (mode_count p modes x.mode e) (mode_count p modes j e)
+    copy_below m h n s y there x j was now below e lt ne =
+        let moved = live_moved p m h n y there e in
+        let none : one (nat_eq (class_for p n) e) ≡ 0 = ap one (eq_no (class_for p n) e (λ i. ne (sym i))) in
+        let fewer = was e lt in
+        let after = now e lt in
+        let left : live p (objects m) e ≤ cond (nat_eq e (class_at p y)) (mode_count p modes j e + 1) (mode_count p modes j e) = elim (cases_eq e (class_at p y)) [
+          | inl is ↦ (let few = one_le (nat_eq (class_at p y) e) in rw (eq_yes e (class_at p y) is) (omega arith))
+          | inr other ↦ (
+              let same : one (nat_eq (class_at p y) e) ≡ 0 = ap one (eq_no (class_at p y) e (λ i. other (sym i))) in
+              rw (eq_no e (class_at p y) other) (omega arith))
+        ] in
+        let on = most_on m s e (min (mode_count p modes x.mode e) (cond (nat_eq e (class_at p y)) (mode_count p modes j e + 1) (mode_count p modes j e))) lt
+        (le-min fewer left) in
+        rw (eq_no e (class_for p n) ne) (le-min (below e lt) on)
+
+    pub certified_copies : HoldCopies p modes points → ServesResizes p (KeepsToOne modes)
+    unfolding used_pages
+    certified_copies holds calls m h n run l =
+        let o = numbered modes (insert (objects m) h (resized (l.object).bytes n)) l.asked in
+        let k = covered_along o.0 o.1 calls m run in
+        let w = k.within in
+        let x = k.covered w.0 w.1 w.2 in
+        let all : used_pages p m ≡ p.pages = none_free p m k.sound l.lacking.taken in
+        let was = few_at x.0 w.0 x.2 (objects m) w.2 in
+        let now = declared_few p (mode_at modes o.0) (insert (objects m) h (resized (l.object).bytes n)) o.2 in
+        let inside = (k.sound.slots h l.object l.found).class in
+        let a = was (class_for p n) l.fits in
+        let b = now (class_for p n) l.fits in
+        let grown = live_resized p m h n l.object l.found l.other in
+        let next = full_now p ok m k.sound (class_for p n) l.fits (min (mode_count p modes (x.0).mode (class_for p n) + 1) (mode_count p modes o.0 (class_for p n))) l.lacking.full
+        (le-min (omega arith) (omega arith)) in
+        let top : pages_of_class p m (class_for p n) + 1 ≤ (x.0).pages (class_for p n) + 1 = (let at = x.3 (class_for p n) l.fits in omega arith) in
+        let here : pages_of_class p m (class_for p n) + 1
+        ≤ pages_with_copy p (class_at p l.object) (class_for p n) (class_for p n) ((x.0).pages (class_for p n)) (mode_count p modes (x.0).mode (class_for p n))
+        (mode_count p modes o.0 (class_for p n)) =
+        rw (eq_yes (class_for p n) (class_for p n) refl) (le-min top next) in
+        let less = sum_less (pages_of_class p m)
+        (λ e. pages_with_copy p (class_at p l.object) (class_for p n) e ((x.0).pages e) (mode_count p modes (x.0).mode e) (mode_count p modes o.0 e)) 0 (classes p) (class_for p n)
+        (omega arith) (let f = l.fits in omega arith)
+        (λ e _ lt. elim (cases_eq e (class_for p n)) [
+          | inl is ↦ subst (λ i. pages_of_class p m i
+              ≤ pages_with_copy p (class_at p l.object) (class_for p n) i ((x.0).pages i) (mode_count p modes (x.0).mode i) (mode_count p modes o.0 i)) (sym is) (omega arith)
+          | inr ne ↦ copy_below m h n k.sound l.object l.found x.0 o.0 was now x.3 e (omega arith) ne
+        ]) here in
+        let from = was (class_at p l.object) inside in
+        let taken = live_taken p (objects m) h (l.object).bytes (class_at p l.object) (bytes_held m h l.object l.found) in
+        let one_there : one (nat_eq (class_at p l.object) (class_at p l.object)) ≡ 1 = ap one (eq_yes (class_at p l.object) (class_at p l.object) refl) in
+        let fits = holds x.0 x.1 (sure.each x.0 x.1).known o.0 (class_at p l.object) (class_for p n) o.1 inside l.fits l.other (omega arith) (omega arith) in
         absurd (omega arith)
 
   module _ (modes : List (List Need)) where

@@ -1,11 +1,11 @@
 -- What the test of a certificate is given: by class the objects of each mode, and the pages of each point, in tables of 67 entries, of which those of the page's
 -- classes count.
-use Rattle.std.specs.Prelude.{◌≡◌, ℕ, ◌<◌, ◌≤◌, List, [], Contains, length, min, slice_index, slice_index_or, sum_by}
+use Rattle.std.specs.Prelude.{◌≡◌, ◌≢◌, ℕ, ◌<◌, ◌≤◌, List, [], Contains, length, min, slice_index, slice_index_or, sum_by}
 use Rattle.std.specs.List.{range_with_len}
 use Rattle.page_model.specs.Counts.{ceil_div, most_pages}
 use Rattle.page_model.specs.Paging.{Paging, bound_of, classes, slots_of}
 use Rattle.quota_model.specs.declared.answers.Need.{Need}
-use Rattle.sizing.specs.Certificates.{Point, mode_count}
+use Rattle.sizing.specs.Certificates.{Point, mode_count, pages_with_copy}
 use Rattle.sizing.specs.declared.points.HeapClasses.{HeapClasses}
 use Rattle.sizing.specs.declared.certificate.ModeObjects.{ModeObjects}
 use Rattle.sizing.specs.declared.certificate.PointPages.{PointPages}
@@ -57,3 +57,13 @@ pub record IsRow (p : Paging) (modes : List ModeObjects) (points : List PointPag
   pub tops : HasTops p (objects_in modes x.mode) x
   pub enough : sum_of x (classes p) ≤ p.pages
   pub next : (j : ℕ) → j < length modes → LeadsInto p modes points x j
+
+-- the pages of x hold a copy of an object of class c, if its modes have the objects a and b by class
+abbrev pub CopyFits : Paging → List ℕ → List ℕ → PointPages → ℕ → Type 0
+CopyFits p a b x c = (d : ℕ) → d < classes p → d ≢ c → 0 < slice_index b d
+    → sum_by (λ e. pages_with_copy p c d e (slice_index x.pages e) (slice_index a e) (slice_index b e)) (range_with_len 0 (classes p)) ≤ p.pages
+
+-- `HoldCopies` of a table
+pub record CopiesFit (p : Paging) (modes : List ModeObjects) (x : PointPages) : Type 0 where
+  pub fits : x.mode < length modes → (j : ℕ) → j < length modes → (c : ℕ) → c < classes p → 0 < slice_index (objects_in modes x.mode) c
+      → CopyFits p (objects_in modes x.mode) (objects_in modes j) x c

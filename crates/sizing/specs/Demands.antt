@@ -1,11 +1,10 @@
--- What a program may have live: at most so many objects of each class, or of each length, or of each length in one of several modes, or so many bytes; and how
--- many pages are enough.
-use Rattle.std.specs.Prelude.{◌≡◌, ℕ, zero, suc, ◌+◌, ◌*◌, ◌<◌, ◌≤◌, List, [], ◌∷◌, Some, Contains, length, max, min, sum_by}
-use Rattle.std.specs.FinMap.{get}
+-- What a program may have live: at most so many objects of each class, or of each length, or of each length in one of several modes, or objects within a budget;
+-- and how many pages are enough.
+use Rattle.std.specs.Prelude.{ℕ, zero, suc, ◌+◌, ◌*◌, ◌<◌, ◌≤◌, List, [], ◌∷◌, Contains, length, max, min, sum_by}
+use Rattle.std.specs.FinMap.{values}
 use Rattle.std.specs.List.{range_with_len}
 use Rattle.page_model.specs.Arrangement.{live}
 use Rattle.page_model.specs.Counts.{ceil_div, most_pages}
-use Rattle.page_model.specs.Figures.{asked_bytes}
 use Rattle.page_model.specs.Held.{Objects}
 use Rattle.page_model.specs.Paging.{Paging, bound_of, class_for, classes, slots_of}
 use Rattle.quota_model.specs.Admission.{count_of_class, declared, in_order, live_of, pages_needed_by}
@@ -23,19 +22,23 @@ KeepsTo needs o = (n : ℕ) → live_of o n ≤ declared needs n
 abbrev pub KeepsToOne : List (List Need) → Objects → Type 0
 KeepsToOne modes o = (needs : List Need) × Contains modes needs × KeepsTo needs o
 
--- at most `budget` bytes are asked for in all, and an object of class c has at least `least c` bytes
-pub record KeepsBudget (p : Paging) (least : ℕ → ℕ) (budget : ℕ) (o : Objects) : Type 0 where
-  pub within : asked_bytes o ≤ budget
-  pub long_enough : (h : ℕ) (v : List ℕ) → get o h ≡ Some v → least (class_for p (length v)) ≤ length v
+-- The objects cost at most `budget` in all: one of n bytes costs `cost n`. That is n for a budget of bytes, 1 for one of objects, and more than the budget if the
+-- program asks for no object of n bytes. If it rounds its requests up, it is the least request that is rounded up to n.
+abbrev pub KeepsBudget : (ℕ → ℕ) → ℕ → Objects → Type 0
+KeepsBudget cost budget o = sum_by (λ (v : List ℕ). cost (length v)) (values o) ≤ budget
+
+-- no object of class c costs less than `price c`
+abbrev pub ArePrices : Paging → (ℕ → ℕ) → (ℕ → ℕ) → Type 0
+ArePrices p cost price = (n : ℕ) → class_for p n < classes p → price (class_for p n) ≤ cost n
 
 -- how many objects open q pages of m slots: a page is opened only if all others are full
 abbrev pub objects_to_open : ℕ → ℕ → ℕ
 objects_to_open zero m = 0
 objects_to_open (suc q) m = q * m + 1
 
--- the budget pays for the objects that open these pages of each class, each of at least `least c` bytes
+-- the budget pays for the objects that open these pages of each class, each at the price of its class
 abbrev pub Affords : Paging → (ℕ → ℕ) → ℕ → (ℕ → ℕ) → Type 0
-Affords p least budget pages = sum_by (λ c. objects_to_open (pages c) (slots_of p c) * least c) (range_with_len 0 (classes p)) ≤ budget
+Affords p price budget pages = sum_by (λ c. objects_to_open (pages c) (slots_of p c) * price c) (range_with_len 0 (classes p)) ≤ budget
 
 -- how many objects of class c the needs declare
 abbrev pub count_in : Paging → List Need → ℕ → ℕ

@@ -7,7 +7,7 @@ ghost use Rattle.cf_model.specs.State.{HeapState, layout_of};
 ghost use Rattle.page_model.specs.Paging.{IsPaging, Paging, classes, paging_of};
 ghost use Rattle.quota_model.specs.Admission.{CanBeAsked, declared_in_all};
 ghost use Rattle.quota_model.specs.declared.answers.Need.{Need};
-ghost use Rattle.sizing.specs.Certificates.{IsCertificate};
+ghost use Rattle.sizing.specs.Certificates.{HoldCopies, IsCertificate};
 ghost use Rattle.sizing.specs.Checks.{AreCounts, point_in, with_pages};
 ghost use Rattle.sizing.specs.Demands.{KeepsTo, KeepsToOne, count_in};
 ghost use Rattle.sizing.specs.Heaps.{IsFresh, ServesHeapMallocs, ServesHeapResizes};
@@ -114,20 +114,25 @@ pub fn is_certified(
     bounds: &[u32],
     modes: &[ModeObjects],
     points: &[PointPages],
+    resizes: bool,
 ) -> bool
     ensures exact { (needs : List (List Need)) → setting_fault pages page_bytes 1 65536 ≡ None
         → IsPaging (paging_of (profile_from pages page_bytes 1 65536) layout bounds.now)
         → AreCounts (paging_of (profile_from pages page_bytes 1 65536) layout bounds.now) needs modes.now
-        → IsTrue result ↔ IsCertificate (paging_of (profile_from pages page_bytes 1 65536) layout bounds.now) needs (map point_in points.now) }
+        → IsTrue result ↔ IsCertificate (paging_of (profile_from pages page_bytes 1 65536) layout bounds.now) needs (map point_in points.now)
+        × (IsTrue resizes → HoldCopies (paging_of (profile_from pages page_bytes 1 65536) layout bounds.now) needs (map point_in points.now)) }
     ensures mallocs { (needs : List (List Need)) → IsTrue result
         → AreCounts (paging_of (profile_from pages page_bytes 1 65536) layout bounds.now) needs modes.now
         → ServesMallocs (paging_of (profile_from pages page_bytes 1 65536) layout bounds.now) (KeepsToOne needs) }
-    ensures resizes { (needs : List (List Need)) → IsTrue result
+    ensures resizes { (needs : List (List Need)) → IsTrue result → IsTrue resizes
+        → AreCounts (paging_of (profile_from pages page_bytes 1 65536) layout bounds.now) needs modes.now
+        → ServesResizes (paging_of (profile_from pages page_bytes 1 65536) layout bounds.now) (KeepsToOne needs) }
+    ensures spare { (needs : List (List Need)) → IsTrue result
         → AreCounts (paging_of (profile_from pages page_bytes 1 65536) layout bounds.now) needs modes.now
         → ServesResizes (with_pages (pages + 1) (paging_of (profile_from pages page_bytes 1 65536) layout bounds.now)) (KeepsToOne needs) }
 {
     match Settings::check(pages, page_bytes, 1, 65536) {
-        Ok(s) => is_certificate(&s, layout, bounds, modes, points),
+        Ok(s) => is_certificate(&s, layout, bounds, modes, points, resizes),
         Err(_) => false,
     }
 }

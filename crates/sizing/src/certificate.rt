@@ -5,12 +5,13 @@ ghost use Rattle.cf_base.specs.Settings.{profile_of};
 ghost use Rattle.page_model.specs.Paging.{IsPaging, Paging, classes, paging_of};
 ghost use Rattle.quota_model.specs.Admission.{CanBeAsked, declared_in_all};
 ghost use Rattle.quota_model.specs.declared.answers.Need.{Need};
-ghost use Rattle.sizing.specs.Certificates.{IsCertificate};
+ghost use Rattle.sizing.specs.Certificates.{HoldCopies, IsCertificate};
 ghost use Rattle.sizing.specs.Checks.{AreCounts, paging_with, point_in, with_pages};
 ghost use Rattle.sizing.specs.Demands.{KeepsToOne, count_in};
 ghost use Rattle.sizing.specs.Layout.{declared_from};
 ghost use Rattle.sizing.specs.Runs.{ServesMallocs, ServesResizes};
 
+use crate::copies::hold_copies;
 use crate::count::count_between;
 use crate::points::{HeapClasses, are_points};
 use crate::sizes::{CLASSES, fill_sizes};
@@ -68,24 +69,30 @@ fn counts_between(sizes: &[u32], needs: &[Need]) -> [u32; CLASSES]
 }
 
 /// Whether the points are a certificate for a heap with the pages of the settings, slots of this layout
-/// and these bounds by class, and a program with these modes (`exact`). The bounds must be one for each
-/// class and at least 1, else the result is false (`bounds`). If it is true, no malloc of the program is
-/// refused for space (`mallocs`), and with one page more no resize (`resizes`).
+/// and these bounds by class, and a program with these modes; and, if the program `resizes`, whether the
+/// pages hold the objects that a resize has in two slots (`exact`). The bounds must be one for each class
+/// and at least 1, else the result is false (`bounds`). If it is true, no malloc of the program is refused
+/// for space (`mallocs`), and no resize if it `resizes` (`resizes`) or with one page more (`spare`).
 pub fn is_certificate(
     s: &Settings,
     layout: Layout,
     bounds: &[u32],
     modes: &[ModeObjects],
     points: &[PointPages],
+    resizes: bool,
 ) -> bool
     ensures exact { (needs : List (List Need)) → IsPaging (paging_of (profile_of s.now) layout bounds.now)
         → AreCounts (paging_of (profile_of s.now) layout bounds.now) needs modes.now
-        → IsTrue result ↔ IsCertificate (paging_of (profile_of s.now) layout bounds.now) needs (map point_in points.now) }
+        → IsTrue result ↔ IsCertificate (paging_of (profile_of s.now) layout bounds.now) needs (map point_in points.now)
+        × (IsTrue resizes → HoldCopies (paging_of (profile_of s.now) layout bounds.now) needs (map point_in points.now)) }
     ensures bounds { IsTrue result → IsPaging (paging_of (profile_of s.now) layout bounds.now) }
     ensures mallocs { (needs : List (List Need)) → IsTrue result
         → AreCounts (paging_of (profile_of s.now) layout bounds.now) needs modes.now
         → ServesMallocs (paging_of (profile_of s.now) layout bounds.now) (KeepsToOne needs) }
-    ensures resizes { (needs : List (List Need)) → IsTrue result
+    ensures resizes { (needs : List (List Need)) → IsTrue result → IsTrue resizes
+        → AreCounts (paging_of (profile_of s.now) layout bounds.now) needs modes.now
+        → ServesResizes (paging_of (profile_of s.now) layout bounds.now) (KeepsToOne needs) }
+    ensures spare { (needs : List (List Need)) → IsTrue result
         → AreCounts (paging_of (profile_of s.now) layout bounds.now) needs modes.now
         → ServesResizes (with_pages (s.now.pages + 1) (paging_of (profile_of s.now) layout bounds.now)) (KeepsToOne needs) }
 {
@@ -100,7 +107,7 @@ pub fn is_certificate(
         sizes,
         bounds,
     };
-    are_certificate(s.pages, &heap, modes, points)
+    are_certificate(s.pages, &heap, modes, points, resizes)
 }
 
 /// Whether the bounds are one for each size, and at least 1.
@@ -111,19 +118,28 @@ fn has_bounds(sizes: &[u32], bounds: &[u32]) -> bool
     bounds.len() == sizes.len() && bounds.iter().all(|k| *k >= 1)
 }
 
-/// Whether the points are a certificate for a heap of `pages` pages and the modes.
+/// Whether the points are a certificate for a heap of `pages` pages and the modes, with resizes or without.
 fn are_certificate(
     pages: u32,
     heap: &HeapClasses,
     modes: &[ModeObjects],
     points: &[PointPages],
+    resizes: bool,
 ) -> bool
-    requires { IsPaging (paging_with pages heap.now) }
+    requires heap { IsPaging (paging_with pages heap.now) }
+    requires few { classes (paging_with pages heap.now) ≤ 67 }
     ensures { (needs : List (List Need)) → AreCounts (paging_with pages heap.now) needs modes.now
-        → IsTrue result ↔ IsCertificate (paging_with pages heap.now) needs (map point_in points.now) }
+        → IsTrue result ↔ IsCertificate (paging_with pages heap.now) needs (map point_in points.now)
+        × (IsTrue resizes → HoldCopies (paging_with pages heap.now) needs (map point_in points.now)) }
 {
     if points.is_empty() {
         return modes.is_empty();
     }
-    are_points(pages, heap, modes, points)
+    if !are_points(pages, heap, modes, points) {
+        return false;
+    }
+    if !resizes {
+        return true;
+    }
+    hold_copies(pages, heap, modes, points)
 }

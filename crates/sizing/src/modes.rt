@@ -7,17 +7,19 @@ ghost use Rattle.cf_base.specs.Settings.{Profile};
 ghost use Rattle.page_model.specs.Paging.{EveryBoundIsOne, IsPaging, Paging, classes};
 ghost use Rattle.quota_model.specs.Admission.{first_large};
 ghost use Rattle.quota_model.specs.declared.answers.Need.{Need};
-ghost use Rattle.sizing.specs.Certificates.{IsCertificate, Point};
+ghost use Rattle.sizing.specs.Certificates.{HoldCopies, IsCertificate, Point};
 ghost use Rattle.sizing.specs.Demands.{KeepsToOne, pages_of_modes, spread_of_modes};
 ghost use Rattle.sizing.specs.Runs.{CanBeRefused, ServesMallocs, ServesResizes};
 
 /// Whatever the bounds, no malloc of a program with these modes is refused for space if the pages have
-/// a certificate (`mallocs`). If a page is left over in each of its points, no resize is either
-/// (`resizes`).
+/// a certificate (`mallocs`). No resize is either if the pages hold each object that a resize has in two
+/// slots (`resizes`), or if a page is left over in each point (`spare`).
 pub fn certified_pages_serve()
     ensures mallocs { (p : Paging) (modes : List (List Need)) (points : List Point) → IsPaging p
         → IsCertificate p modes points → ServesMallocs p (KeepsToOne modes) }
     ensures resizes { (p : Paging) (modes : List (List Need)) (points : List Point) → IsPaging p
+        → IsCertificate p modes points → HoldCopies p modes points → ServesResizes p (KeepsToOne modes) }
+    ensures spare { (p : Paging) (modes : List (List Need)) (points : List Point) → IsPaging p
         → IsCertificate p modes points
         → ((x : Point) → Contains points x → sum_by x.pages (range_with_len 0 (classes p)) < p.pages)
         → ServesResizes p (KeepsToOne modes) }

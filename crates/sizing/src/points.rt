@@ -126,17 +126,18 @@ fn leads(
 }
 
 /// The slots of a page of class c.
-fn slots_in(heap: &HeapClasses, c: usize) -> u32
+pub(crate) fn slots_in(heap: &HeapClasses, c: usize) -> u32
     requires heap { IsPaging (paging_with 0 heap.now) }
     requires class { c < classes (paging_with 0 heap.now) }
     ensures slots { result ≡ slots_of (paging_with 0 heap.now) c }
     ensures some { 1 ≤ result }
+    ensures few { result ≤ heap.now.page_words }
 {
     heap.page_words / heap.sizes[c]
 }
 
 /// The most pages that `n` objects can be on, `m` to a page, if at most `k` pages are partly full.
-fn pages_at_most(n: u32, m: u32, k: u32) -> u64
+pub(crate) fn pages_at_most(n: u32, m: u32, k: u32) -> u64
     requires some { 1 ≤ m }
     requires bound { 1 ≤ k }
     ensures { result ≡ most_pages n m k }

@@ -87,10 +87,10 @@ fn two_modes_need_five_pages(rt: HostRuntime) -> Result<(), Fail> {
     let bounds = [2; 20];
     let modes = [many, few];
     let found = [
-        is_certificate(&five, Layout::Words, &bounds, &modes, &points),
-        is_certificate(&four, Layout::Words, &bounds, &modes, &points),
-        is_certificate(&five, Layout::Words, &bounds[1..], &modes, &points),
-        is_certificate(&five, Layout::Words, &bounds, &modes, &points[1..]),
+        is_certificate(&five, Layout::Words, &bounds, &modes, &points, false),
+        is_certificate(&four, Layout::Words, &bounds, &modes, &points, false),
+        is_certificate(&five, Layout::Words, &bounds[1..], &modes, &points, false),
+        is_certificate(&five, Layout::Words, &bounds, &modes, &points[1..], false),
     ];
     assert_eq!(rt; found, [true, false, false, false], "certificates");
     Ok(())

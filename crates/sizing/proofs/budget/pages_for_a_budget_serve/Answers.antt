@@ -1,5 +1,8 @@
-use Rattle.sizing.proofs.BudgetPages.{budget_serves}
+use Rattle.sizing.proofs.BudgetPages.{level_mallocs, level_resizes}
 use Rattle.sizing.proofs.budget.pages_for_a_budget_serve.Goals as goal
 
-pub returns : goal.returns
-returns c = λ p least budget t ok ones full enough. budget_serves p least budget t ok ones full enough
+pub returns-clause-mallocs : goal.returns-clause-mallocs
+returns-clause-mallocs c = λ p cost price budget t ok ones prices full. level_mallocs p cost price prices budget ok ones t full
+
+pub returns-clause-resizes : goal.returns-clause-resizes
+returns-clause-resizes c = λ p cost price budget t ok ones prices full. level_resizes p cost price prices budget ok ones t full

@@ -1,0 +1,165 @@
+//! The test whether pages are the least for a program with a budget, by a certificate that an unproved
+//! planner found.
+ghost use Rattle.std.specs.Prelude.{ℕ, ◌≡◌, ◌+◌, ◌-◌, ◌*◌, ◌/◌, ◌^◌, ◌<◌, ◌≤◌, ◌↔◌, IsTrue, None, length, slice_index, sum_by};
+ghost use Rattle.std.specs.List.{range_with_len};
+ghost use Rattle.std.specs.FinMap.{empty};
+ghost use Rattle.cf_base.specs.Classes.{sizes};
+ghost use Rattle.cf_base.specs.Settings.{setting_fault};
+ghost use Rattle.cf_model.specs.State.{HeapState, layout_of, paging_in};
+ghost use Rattle.page_model.specs.Paging.{EveryBoundIsOne, IsPaging, Paging, class_for, classes, slots_of};
+ghost use Rattle.sizing.specs.Certificates.{IsBudgetCertificate};
+ghost use Rattle.sizing.specs.Checks.{paging_with};
+ghost use Rattle.sizing.specs.Demands.{Affords, ArePrices, KeepsBudget, objects_to_open as opening};
+ghost use Rattle.sizing.specs.Heaps.{IsFresh, ServesHeapMallocs, ServesHeapResizes};
+ghost use Rattle.sizing.specs.Runs.{CanBeRefused};
+
+use crate::points::{HeapClasses, slots_in};
+use crate::sizes::{CLASSES, fill_sizes};
+use cf_base::{Layout, Settings};
+
+/// Whether `level` and the pages `opened` of each class are a certificate that `pages` pages of `page_bytes`
+/// bytes are the least for a budget, if every bound is 1 and an object of each class costs at least its
+/// price (`exact`). There must be a price and a number for each class, else the result is false. If it is
+/// true, no malloc of a program within the budget is refused for space (`mallocs`), with one page more no
+/// resize (`resizes`); and if each class that has opened pages has an object at its price, with fewer pages
+/// some malloc is refused (`least`).
+pub fn is_budget_certificate(
+    pages: u32,
+    page_bytes: u32,
+    layout: Layout,
+    prices: &[u32],
+    budget: u32,
+    level: u32,
+    opened: &[u32],
+) -> bool
+    ensures exact { (p : Paging) → setting_fault pages page_bytes 1 65536 ≡ None → IsPaging p
+        → p.pages ≡ pages → p.page_words ≡ page_bytes / 8 → p.sizes ≡ sizes (page_bytes / 8) layout
+        → length prices.now ≡ classes p → length opened.now ≡ classes p
+        → IsTrue result ↔ IsBudgetCertificate p (slice_index prices.now) budget level (slice_index opened.now) }
+    ensures mallocs { IsTrue result → (s : HeapState) (cost : ℕ → ℕ) → IsFresh s → EveryBoundIsOne (paging_in s)
+        → layout_of s.kind ≡ layout → s.profile.page_words ≡ page_bytes / 8 → pages ≤ s.profile.pages
+        → ArePrices (paging_in s) cost (slice_index prices.now) → ServesHeapMallocs (KeepsBudget cost budget) s }
+    ensures resizes { IsTrue result → (s : HeapState) (cost : ℕ → ℕ) → IsFresh s → EveryBoundIsOne (paging_in s)
+        → layout_of s.kind ≡ layout → s.profile.page_words ≡ page_bytes / 8 → pages < s.profile.pages
+        → ArePrices (paging_in s) cost (slice_index prices.now) → ServesHeapResizes (KeepsBudget cost budget) s }
+    ensures least { IsTrue result → (p : Paging) (cost lengths : ℕ → ℕ) → IsPaging p
+        → p.page_words ≡ page_bytes / 8 → p.sizes ≡ sizes (page_bytes / 8) layout
+        → ((c : ℕ) → c < classes p → 0 < slice_index opened.now c
+        → (class_for p (lengths c) ≡ c) × (cost (lengths c) ≤ slice_index prices.now c))
+        → p.pages < pages → CanBeRefused p (KeepsBudget cost budget) empty }
+{
+    let s = match Settings::check(pages, page_bytes, 1, 65536) {
+        Ok(s) => s,
+        Err(_) => return false,
+    };
+    let mut table = [0; CLASSES];
+    let classes = fill_sizes(s.page_words, layout, &mut table);
+    if prices.len() != classes || opened.len() != classes {
+        return false;
+    }
+    let ones = [1; CLASSES];
+    let heap = HeapClasses {
+        page_words: s.page_words,
+        sizes: &table[..classes],
+        bounds: &ones[..classes],
+    };
+    are_least(s.pages, &heap, prices, budget, level, opened)
+}
+
+/// Whether the certificate is one for a heap of `pages` pages.
+fn are_least(
+    pages: u32,
+    heap: &HeapClasses,
+    prices: &[u32],
+    budget: u32,
+    level: u32,
+    opened: &[u32],
+) -> bool
+    requires heap { IsPaging (paging_with pages heap.now) }
+    requires words { heap.now.page_words ≤ 16384 }
+    requires few { pages ≤ 4096 }
+    requires classes { classes (paging_with pages heap.now) ≤ 67 }
+    requires prices { length prices.now ≡ classes (paging_with pages heap.now) }
+    requires opened { length opened.now ≡ classes (paging_with pages heap.now) }
+    ensures { IsTrue result ↔ IsBudgetCertificate (paging_with pages heap.now) (slice_index prices.now) budget level (slice_index opened.now) }
+{
+    if !is_level(heap, prices, level) || sum_of(opened) != pages as u64 {
+        return false;
+    }
+    let most = (pages as u64 + 1) * level as u64;
+    budget as u64 + gaps(prices, level) < most && affords(heap, prices, budget, opened)
+}
+
+/// Whether the objects of a full page cost at least `level`, whatever its class.
+fn is_level(heap: &HeapClasses, prices: &[u32], level: u32) -> bool
+    requires heap { IsPaging (paging_with 0 heap.now) }
+    requires prices { length prices.now ≡ classes (paging_with 0 heap.now) }
+    ensures { IsTrue result ↔ ((c : ℕ) → c < classes (paging_with 0 heap.now)
+        → level ≤ slots_of (paging_with 0 heap.now) c * slice_index prices.now c) }
+{
+    for c in 0..heap.sizes.len() {
+        if (level as u64) > slots_in(heap, c) as u64 * prices[c] as u64 {
+            return false;
+        }
+    }
+    true
+}
+
+/// By how much the prices are below the level, summed.
+fn gaps(prices: &[u32], level: u32) -> u64
+    requires few { length prices.now ≤ 67 }
+    ensures sum { result ≡ sum_by (λ c. level - slice_index prices.now c) (range_with_len 0 (length prices.now)) }
+    ensures low { result ≤ 67 * 2 ^ 32 }
+{
+    let mut sum = 0;
+    for c in 0..prices.len() {
+        sum += level.saturating_sub(prices[c]) as u64;
+    }
+    sum
+}
+
+/// The sum of the numbers.
+fn sum_of(numbers: &[u32]) -> u64
+    requires few { length numbers.now ≤ 67 }
+    ensures { result ≡ sum_by (slice_index numbers.now) (range_with_len 0 (length numbers.now)) }
+{
+    let mut sum = 0;
+    for c in 0..numbers.len() {
+        sum += numbers[c] as u64;
+    }
+    sum
+}
+
+/// Whether the budget pays for the objects that open these pages.
+fn affords(heap: &HeapClasses, prices: &[u32], budget: u32, opened: &[u32]) -> bool
+    requires heap { IsPaging (paging_with 0 heap.now) }
+    requires prices { length prices.now ≡ classes (paging_with 0 heap.now) }
+    requires opened { length opened.now ≡ classes (paging_with 0 heap.now) }
+    requires words { heap.now.page_words ≤ 16384 }
+    requires few { (c : ℕ) → c < length opened.now → slice_index opened.now c ≤ 4096 }
+    ensures { IsTrue result ↔ Affords (paging_with 0 heap.now) (slice_index prices.now) budget (slice_index opened.now) }
+{
+    let mut left = budget as u64;
+    for c in 0..heap.sizes.len() {
+        let cost = objects_to_open(opened[c], slots_in(heap, c)) * prices[c] as u64;
+        if cost > left {
+            return false;
+        }
+        left -= cost;
+    }
+    true
+}
+
+/// How many objects open `pages` pages with `slots` slots each.
+fn objects_to_open(pages: u32, slots: u32) -> u64
+    requires pages { pages ≤ 4096 }
+    requires slots { slots ≤ 16384 }
+    ensures objects { result ≡ opening pages slots }
+    ensures few { result ≤ 67108864 }
+{
+    if pages == 0 {
+        0
+    } else {
+        (pages - 1) as u64 * slots as u64 + 1
+    }
+}
