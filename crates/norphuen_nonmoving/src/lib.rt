@@ -22,7 +22,8 @@ ghost use Rattle.held_heap.specs.Version.{version};
 use cf_base::{Kind, Layout};
 use held_heap::nonmoving::NphHeap;
 use held_heap::{
-    CLOSED, NphClass, NphFreed, NphHeapTotals, NphNeed, NphNeeded, NphResized, VERSION, most, pages_needed,
+    CLOSED, NphClass, NphFreed, NphHeapTotals, NphNeed, NphNeeded, NphResized, VERSION, most,
+    pages_needed,
 };
 use std::rt::Memory;
 
