@@ -15,7 +15,7 @@ use Rattle.cf_model.specs.Rules.{IsPaged}
 use Rattle.cf_model.specs.State.{HeapState, layout_of}
 use Rattle.cf_model.specs.Steps.{IsMallocStep, IsResizeStep}
 use Rattle.page_model.specs.Held.{Placed, objects}
-use Rattle.page_model.specs.Steps.{Request, resized}
+use Rattle.page_model.specs.Steps.{resized}
 use Rattle.quota_model.specs.declared.answers.Need.{Need}
 use Rattle.sizing.specs.Demands.{KeepsTo}
 use Rattle.sizing.specs.Heaps.{Answered, HeapRun, IsFresh, free_with, malloc_with, resize_with, write_with}
@@ -73,7 +73,7 @@ module _ (kind : Kind) (p : Profile) (last page_bytes pages : ℕ) (needs : List
       refused (Err refusal.Space) is step =
           let done = heap_calls most needs first old calls run in
           sure.mallocs first.heap is_fresh (ap layout_of of_kind) (ap (λ (q : Profile). q.page_words) of_profile ∙ words) enough
-              done.0 old.heap new.heap bytes done.1 asked step
+          done.0 old.heap new.heap bytes done.1 asked step
 
   pub resize_served : (handle bytes : ℕ) (before after : NphResized) (code : ℤ)
       → ((x : Placed) → get old.heap.held (number_in old.handles handle) ≡ Some x
@@ -90,4 +90,4 @@ module _ (kind : Kind) (p : Profile) (last page_bytes pages : ℕ) (needs : List
       refused (Err resize.Space) is step =
           let done = heap_calls most needs first old calls run in
           sure.resizes first.heap is_fresh (ap layout_of of_kind) (ap (λ (q : Profile). q.page_words) of_profile ∙ words) enough
-              done.0 old.heap new.heap (record { number = number_in old.handles handle; length = bytes }) done.1 asked step
+          done.0 old.heap new.heap (record { number = number_in old.handles handle; length = bytes }) done.1 asked step

@@ -10,13 +10,7 @@ use sizing::{Need, NeedsFault};
 /// Writes into `pages` the least number of pages of `page_bytes` bytes, with slots of this layout, with which no call of a
 /// program is refused for space while it keeps to its needs (`pages_needed` of `sizing`). Returns `DONE`, or the code of why
 /// there is no number, and then `pages` is unchanged.
-pub fn pages_needed(
-    layout: Layout,
-    page_bytes: u32,
-    k: u32,
-    needs: &[Need],
-    pages: &mut u32,
-) -> i32
+pub fn pages_needed(layout: Layout, page_bytes: u32, k: u32, needs: &[Need], pages: &mut u32) -> i32
     ensures { IsPagesCall layout page_bytes k needs.now result pages.old pages.new }
 {
     match sizing::pages_needed(page_bytes, k, layout, needs) {

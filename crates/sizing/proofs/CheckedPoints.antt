@@ -171,19 +171,19 @@ module _ (p : Paging) (needs : List (List Need)) (modes : List ModeObjects) (poi
       → CopiesFit p modes x
   copies_back x holds = record {
     fits = λ known j jl c cl some d dl ne some'. (
-      let many = k.many in
-      let known' : x.mode < length needs = omega arith in
-      let jl' : j < length needs = omega arith in
-      let a = k.same x.mode c known' cl in
-      let b = k.same j d jl' dl in
-      let sum = holds j c d jl' cl dl ne (omega arith) (omega arith) in
-      let same = sum_range_same (λ e. pages_with_copy p c d e (slice_index x.pages e) (slice_index (objects_in modes x.mode) e) (slice_index (objects_in modes j) e))
-      (λ e. pages_with_copy p c d e (slice_index x.pages e) (mode_count p needs x.mode e) (mode_count p needs j e)) 0 (classes p)
-      (λ e _ lt. (
-      let u = k.same x.mode e known' (omega arith) in
-      let v = k.same j e jl' (omega arith) in
-      λ i. pages_with_copy p c d e (slice_index x.pages e) (u i) (v i))) in
-      omega arith);
+        let many = k.many in
+        let known' : x.mode < length needs = omega arith in
+        let jl' : j < length needs = omega arith in
+        let a = k.same x.mode c known' cl in
+        let b = k.same j d jl' dl in
+        let sum = holds j c d jl' cl dl ne (omega arith) (omega arith) in
+        let same = sum_range_same (λ e. pages_with_copy p c d e (slice_index x.pages e) (slice_index (objects_in modes x.mode) e) (slice_index (objects_in modes j) e))
+        (λ e. pages_with_copy p c d e (slice_index x.pages e) (mode_count p needs x.mode e) (mode_count p needs j e)) 0 (classes p)
+        (λ e _ lt. (
+        let u = k.same x.mode e known' (omega arith) in
+        let v = k.same j e jl' (omega arith) in
+        λ i. pages_with_copy p c d e (slice_index x.pages e) (u i) (v i))) in
+        omega arith);
   }
 
   pub all_held : HoldCopies p needs (map point_in points) → All (CopiesFit p modes) points

@@ -77,10 +77,7 @@ fn copy_fits(
     ensures { IsTrue result ↔ CopyFits (paging_with pages heap.now) from.now.objects to.now.objects x.now c }
 {
     for d in 0..heap.sizes.len() {
-        if d != c
-            && to.objects[d] > 0
-            && pages_of_copies(heap, from, to, x, c, d) > pages as u64
-        {
+        if d != c && to.objects[d] > 0 && pages_of_copies(heap, from, to, x, c, d) > pages as u64 {
             return false;
         }
     }

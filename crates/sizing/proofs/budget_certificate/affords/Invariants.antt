@@ -10,6 +10,6 @@ abbrev pub invariant-loop-c : goal.invariant-loop-c
 invariant-loop-c l = record {
   low : l.left < 2 ^ 32;
   rest : l.left + sum_by (λ c. objects_to_open (slice_index l.opened c) (slots_of (paging_with 0 l.heap) c) * slice_index l.prices c) (range_with_len 0 (classes (paging_with 0 l.heap)))
-  ≡ l.budget
-  + sum_by (λ c. objects_to_open (slice_index l.opened c) (slots_of (paging_with 0 l.heap) c) * slice_index l.prices c) (range_with_len l.c (classes (paging_with 0 l.heap) - l.c));
+      ≡ l.budget
+      + sum_by (λ c. objects_to_open (slice_index l.opened c) (slots_of (paging_with 0 l.heap) c) * slice_index l.prices c) (range_with_len l.c (classes (paging_with 0 l.heap) - l.c));
 }

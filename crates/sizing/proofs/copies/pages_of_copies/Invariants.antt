@@ -10,7 +10,7 @@ abbrev pub invariant-loop-e : goal.invariant-loop-e
 invariant-loop-e l = record {
   small : l.sum ≤ l.e * 2 ^ 32;
   rest : l.sum + sum_by (λ i. pages_with_copy (paging_with 0 l.heap) l.c l.d i (slice_index l.x.pages i) (slice_index l.from.objects i) (slice_index l.to.objects i))
-  (range_with_len l.e (classes (paging_with 0 l.heap) - l.e))
-  ≡ sum_by (λ i. pages_with_copy (paging_with 0 l.heap) l.c l.d i (slice_index l.x.pages i) (slice_index l.from.objects i) (slice_index l.to.objects i))
-  (range_with_len 0 (classes (paging_with 0 l.heap)));
+      (range_with_len l.e (classes (paging_with 0 l.heap) - l.e))
+      ≡ sum_by (λ i. pages_with_copy (paging_with 0 l.heap) l.c l.d i (slice_index l.x.pages i) (slice_index l.from.objects i) (slice_index l.to.objects i))
+      (range_with_len 0 (classes (paging_with 0 l.heap)));
 }
