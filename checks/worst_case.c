@@ -308,6 +308,9 @@ int main(int argc, char **argv) {
         uint32_t found;
         for (uint32_t n = 0; n < 64; n++) needs[n] = (nph_need){(37 * n + 1) % 500, 1 + n % 3};
         for (uint64_t n = 0; n <= 64; n += 16) call_with(settings[1], "pages_needed", (void *)nph_pages_needed, settings[2], (uint64_t)needs, n, (uint64_t)&found), printf(" n %" PRIu64 "\n", n);
+        /* Each object has a page: so each need is compared with all sizes. */
+        for (uint32_t n = 0; n < 64; n++) needs[n].bytes = (uint32_t)settings[1] - 8;
+        call_with(settings[1], "pages_needed", (void *)nph_pages_needed, settings[2], (uint64_t)needs, 64, (uint64_t)&found), puts(" n 64");
     }
     if (open_or_close(true, settings) != NPH_OK) return 1;
     draw_calls(strtoull(argv[2], NULL, 10));

@@ -60,7 +60,7 @@ typedef struct nph_heap { void *at; uint32_t last; bool is_open; bool is_lent; }
 typedef struct nph_nm_heap { void *at; uint32_t last; bool is_open; bool is_lent; } nph_nm_heap;
 typedef struct nph_tlsf_heap { void *at; uint32_t last; bool is_open; bool is_lent; } nph_tlsf_heap;
 
-/* A closed heap, to initialize or to assign. A static heap needs none, and with gcc -pedantic may have none. */
+/* A closed heap, to initialize or to assign. A static heap is closed without it; with it gcc -pedantic warns. */
 #ifdef __cplusplus
 #define NPH_HEAP nph_heap{}
 #define NPH_NM_HEAP nph_nm_heap{}
@@ -118,7 +118,7 @@ static inline const char *nph_text(nph_status status) {
     }
 }
 
-/* In place of a handle in nph_freed and nph_resized: no object moved. */
+/* In place of a handle in nph_freed and nph_resized: no object moved. It names no object: a call with it fails with NPH_UNKNOWN. */
 #define NPH_NONE UINT32_MAX
 
 /* The memory that nph_open asks for: the bytes of all blocks, those of the largest block, and how many blocks. */

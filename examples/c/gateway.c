@@ -9,7 +9,7 @@ enum { MESSAGE, TIMER, FRAME, PACKET, KINDS };
 static const uint32_t most[KINDS] = {200, 100, 40, 10}, bytes[KINDS] = {64, 128, 512, 1500};
 enum { PAGES = 9, PAGE_BYTES = 8192, K = 4, OBJECTS = 350, MALLOC_MOST = 17, FREE_MOST = 217 };
 
-static nph_heap heap = NPH_HEAP;
+static nph_heap heap;
 static uint32_t handles[KINDS][200], live[KINDS], moves;
 static uint64_t longest_malloc, longest_free;
 
