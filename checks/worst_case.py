@@ -1,9 +1,8 @@
-"""Compares the bounds of tools/worst_case with counted calls and with docs/SPEED.md: checks/worst_case.
+"""Compares the bounds of tools/worst_case with counted calls and with docs/BOUNDS.md: checks/worst_case.
 
     checks/worst_case.py ROOM COUNT ARCHIVES [--write]
 
-ARCHIVES has NAME.PROCESSOR.a for each library and processor. --write writes the tables of docs/SPEED.md in place of
-comparing them.
+ARCHIVES has NAME.PROCESSOR.a for each library and processor. --write writes docs/BOUNDS.md in place of comparing it.
 
  counted   checks/worst_case.c is linked with each library, and makes drawn calls and ones that are made to be long, with
            six settings, under qemu. No call takes more instructions, more bytes of memcpy, memmove or memset, or more
@@ -12,7 +11,7 @@ comparing them.
  left out  No block ran that the bounds leave out.
  refused   Wrong notes, and libraries that have no bound, are refused by a line that names what to look at.
  clauses   Each clause that a note trusts is one of the function it names, and the header has each duty of the caller.
- document  The tables of docs/SPEED.md have the bounds, the longest calls that were seen, and the sums of the code.
+ document  docs/BOUNDS.md has the steps of STEPS, the bounds, the longest calls that were seen, and the sums of the code.
 """
 import collections
 import concurrent.futures
@@ -49,7 +48,7 @@ BOUNDS = {f"nph_{it}" for it in "kind most_malloc most_free most_resize most_acc
 NO_LOOP = {"norphuen": BOUNDS | {"nph_slot_words", "nph_class_of", "nph_malloc", "nph_free", "nph_length", "nph_has_room", "nph_place", "nph_lend", "nph_return", "nph_version"},
            "norphuen_nonmoving": BOUNDS | {"nph_slot_words", "nph_class_of", "nph_malloc", "nph_length", "nph_has_room", "nph_version"},
            "norphuen_tlsf": BOUNDS | {"nph_malloc", "nph_free", "nph_length", "nph_has_room", "nph_bytes_needed", "nph_place", "nph_lend", "nph_return", "nph_version"}}
-# The lengths that the notes may use (docs/SPEED.md).
+# The lengths that the notes may use (docs/BOUNDS.md).
 NAMES = "smtcwbfpnPWQ"
 # What puts a library under the short names of the header.
 USES = {"norphuen_nonmoving": ["-DNPH_USE_NONMOVING"], "norphuen_tlsf": ["-DNPH_USE_TLSF"]}
@@ -326,10 +325,24 @@ def clauses(name, notes):
 
 
 SHORT = {"norphuen": "cf", "norphuen_nonmoving": "nm", "norphuen_tlsf": "tlsf"}
+# The steps of docs/BOUNDS.md, by the contracts: of a call in each library, or in one. The other calls count none.
+STEPS = {
+    "class_of": "1", "figures": "0", "last_steps": "0", "lend": "0", "place": "1", "return": "0",
+    **{("cf", call): steps for call, steps in {
+        "malloc": "17", "free, alone": "20 + s", "free, move": "20 + s", "read": "2 + w", "write": "2 + w", "length": "2", "has_room": "1",
+        "slot_words": "3", "totals": "0", "resize, same": "6 + r", "resize, alone": "34 + s + t", "resize, move": "34 + s + t"}.items()},
+    **{("nm", call): steps for call, steps in {
+        "malloc": "18", "free, alone": "22 + s + s/2", "free, move": "22 + s + s/2", "read": "3 + w + b", "write": "3 + w + b", "length": "3",
+        "has_room": "1", "slot_words": "4", "totals": "0", "resize, same": "9 + r + b", "resize, alone": "38 + 3(s + t)/2",
+        "resize, move": "38 + 3(s + t)/2"}.items()},
+    **{("tlsf", call): steps for call, steps in {
+        "malloc": "25", "free": "41 + s", "resize": "1", "read": "2 + w", "write": "2 + w", "length": "2", "has_room": "4",
+        "totals": "3 + 2f"}.items()},
+}
 
 
 def cells_of(bounds, stacks, lines):
-    """Of each call its cells in docs/SPEED.md: instructions, the longest call seen with its bound if that varies, stack."""
+    """Of each call its cells in docs/BOUNDS.md: instructions, the longest call seen with its bound if that varies, stack."""
     seen, cells = Seen(bounds), {}
     for line in lines:
         for _ in seen.take(line):
@@ -344,29 +357,71 @@ def cells_of(bounds, stacks, lines):
     return cells
 
 
+# docs/BOUNDS.md in front of its tables, and between the two.
+HEAD = """`checks/worst_case --write` writes this page, and `checks/worst_case` compares it.
+
+# The most steps, instructions and stack of each call from C
+
+[SPEED](SPEED.md#the-most-instructions-of-a-call-from-c) has the claim, and shows how to make time of it. The steps are [proved](C.md#what-is-proved). The instructions and the stack are computed from the machine code, without `memcpy`, `memmove`, `memset` and the allocator. Calls of a library with equal cells share a row; those without steps count none.
+
+- "Longest": the longest call seen on 16 pages of 16 KiB with k = 1 and 4,096 proxies, and the bound for its lengths if the bound varies.
+- "Stack": bytes, with return addresses.
+- `cf` is `libnorphuen.a`, `nm` is `libnorphuen_nonmoving.a`, `tlsf` is `libnorphuen_tlsf.a`.
+- A free or resize moves no other object ("alone"), or one ("move"). A resize keeps its slot ("same"), or takes another.
+
+| letter | counts |
+|---|---|
+| s | words of the old slot or block |
+| t | words of the smaller slot |
+| m | words of the slot that moves |
+| r | words of the slot after the word in which the new length ends |
+| c | those of r that are cleared |
+| w | words that contain one of the bytes |
+| b | blocks of four words that contain the r or w words |
+| f | free blocks |
+| n | needs of `nph_pages_needed` |
+| P, W | pages, words of a page |
+| Q, p | proxies, rounded up to a power of two |
+
+| library | call | steps | instructions, x86-64 | longest | stack | instructions, ARM64 | longest | stack |
+|---|---|---|---|---|---|---|---|---|
+"""
+SUMS = """
+Sums of the code that was bounded, which `tools/worst_case` prints:
+
+| archive | x86-64 | ARM64 |
+|---|---|---|
+"""
+
+
+def steps_of(name, call):
+    """The steps of a call, by its contract: those of its own library, or those of each."""
+    return STEPS.get((SHORT[name], call), STEPS.get(call, ""))
+
+
+def rows_of(name, cells):
+    """The rows of a library. Calls without kinds of their own that have equal cells share the row of the first."""
+    rows = {}
+    for call in cells[name, tool.PROCESSORS[0]]:
+        found = [it for processor in tool.PROCESSORS for it in cells[name, processor].get(call, ("",) * 3)]
+        rows.setdefault((steps_of(name, call), *found, call if "," in call else ""), []).append(call)
+    for (*found, _), calls in rows.items():
+        yield " | ".join([f"| `{SHORT[name]}`", ", ".join(calls), *found]) + " |\n"
+
+
 def document(cells, codes, writes):
-    """Compares the two tables of docs/SPEED.md, or writes them. The steps are proved: they stay as they stand there."""
-    path = Path("docs/SPEED.md")
-    text = path.read_text(encoding="utf-8")
-    steps = dict(re.findall(r"^(\| `(?:cf|nm|tlsf)` \| [^|]*) \| ([^|]*) \|(?=(?: [^|]* \|){6}$)", text, re.M))
-    rows, sums = [], []
-    for name in LIBRARIES:
-        of = [cells[name, processor] for processor in tool.PROCESSORS]
-        for call in of[0]:
-            start = f"| `{SHORT[name]}` | {call}"
-            rows.append(" | ".join([start, steps.get(start, ""), *of[0][call], *of[1].get(call, ("",) * 3)]) + " |")
-        sums.append(" | ".join([f"| `lib{name}.a`", *(codes[name, processor] for processor in tool.PROCESSORS)]) + " |")
-    for table, pattern in ((rows, r"^(?:\| `(?:cf|nm|tlsf)` \|(?: [^|]* \|){8}\n)+"), (sums, r"^(?:\| `libnorphuen\w*\.a` \|(?: \w{12} \|){2}\n)+")):
-        whole = "".join(row + "\n" for row in table)
-        if not (found := re.search(pattern, text, re.M)):
-            fail("docs/SPEED.md lacks the table of " + table[0])
-        elif writes:
-            text = text[: found.start()] + whole + text[found.end():]
-        else:
-            for row in sorted(set(whole.splitlines()) ^ set(found[0].splitlines())):
-                fail(f"docs/SPEED.md {'lacks' if row in table else 'has'} the row {row}")
+    """Compares docs/BOUNDS.md, or writes it."""
+    path = Path("docs/BOUNDS.md")
+    sums = [" | ".join([f"| `lib{name}.a`", *(codes[name, processor] for processor in tool.PROCESSORS)]) + " |\n" for name in LIBRARIES]
+    whole = "".join([HEAD, *(row for name in LIBRARIES for row in rows_of(name, cells)), SUMS, *sums])
     if writes:
-        path.write_text(text, encoding="utf-8")
+        path.write_text(whole, encoding="utf-8")
+        return
+    here = path.read_text(encoding="utf-8")
+    for row in sorted(set(whole.splitlines()) ^ set(here.splitlines())):
+        fail(f"docs/BOUNDS.md {'has' if row in here.splitlines() else 'lacks'} the line {row}")
+    if here != whole and not failed:
+        fail("docs/BOUNDS.md has its lines in another order")
 
 
 def main():
