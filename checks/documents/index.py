@@ -1,5 +1,5 @@
-"""Checks tools/index: what it prints of a small repository, that docs/INDEX.md is what it prints of this one, and its error
-lines."""
+"""Checks tools/index: what it prints of a small repository, that its pages in docs/ are what it prints of this one, and its
+error lines."""
 import difflib
 import shutil
 import subprocess
@@ -67,7 +67,8 @@ pub fn nothing_is_none(
     ensures { 0 ≡ 0 }
 {}
 """,
-    "crates/low/src/open.rt": "// No comment of a function.\n\npub fn silent()\n    ensures { 0 ≡ 0 }\n{}\n",
+    "crates/low/src/open.rt": "// No comment of a function.\n\npub fn silent()\n    ensures { 0 ≡ 0 }\n{}\n\npub trait Counted {\n    fn counted(&self) -> bool;\n}\n\nfn own() {}\n",
+    "crates/low/must-fail/counts_twice.edit": "file: src/laws.rt\n",
     "crates/low/specs/Lib.antt": "pub mod Things\npub mod Alone\n",
     "crates/low/specs/Alone.antt": "-- What is alone.\nuse Rattle.std.specs.Prelude.{ℕ}\n\nunfoldable pub ◌+++◌ : ℕ → ℕ → ℕ\na +++ b = a\n",
     "crates/low/specs/Things.antt": """-- What things are.
@@ -103,14 +104,32 @@ PAGE = """
 | crate | what it is |
 |---|---|
 | **Parts** | **what is low.** |
-| [low](../crates/low) | Things that are counted: one by one \\| two. |
-| [high](../crates/high) | The program. |
+| [low](FILES.md#low) | Things that are counted: one by one \\| two. |
+| [high](FILES.md#high) | The program. |
+"""
+FILES = """
+## low
 
-## Laws
+- `src/lib.rt`: Things that are counted: one by one | two. Functions: `here`.
+- `src/hidden.rt` Functions: `hidden_law`.
+- `src/laws.rt`: Its own comment. Functions: `things_add_up`, `is_none`, `counts`, `rests`, `is_added`, `is_inside`, `nothing_is_none`.
+- `src/open.rt` Functions: `silent`, `counted`.
+- `specs/Alone.antt`: What is alone.
+- `specs/Things.antt`: What things are.
+- `must-fail`: `counts_twice`.
 
-A law is a public function that returns nothing and changes nothing: its contract is a theorem.
+## high
 
-- low: `here`, `things_add_up`, `Things::is_added`, `nothing_is_none`, `silent`
+- `src/main.rt`: The program.
+"""
+LAWS = """
+## low
+
+- `here`: Here too is a law.
+- `things_add_up`: Two counts `a &lt; b` add up, and a&lt;b.
+- `Things::is_added`: A law of one thing.
+- `nothing_is_none`: It cites another law.
+- `silent`
 """
 CRATE = """low: Things that are counted: one by one | two. It holds no lists.
 
@@ -150,9 +169,9 @@ def check_index(fail):
             path.parent.mkdir(parents=True, exist_ok=True)
             path.write_text(text, encoding="utf-8")
         program = shutil.copy("tools/index", Path(folder, "crates"))
-        for arguments, wanted in (([], PAGE), (["low"], CRATE), (["silent"], NAMED)):
+        for arguments, wanted in (([], PAGE), (["--files"], FILES), (["--laws"], LAWS), (["low"], CRATE), (["silent"], NAMED)):
             made = subprocess.run([program, *arguments], capture_output=True, text=True).stdout
-            made = made if arguments else made[made.find("\n\n| crate |") + 1 :]
+            made = made if arguments[:1] in (["low"], ["silent"]) else made[made.find("\n\n", made.find("tools/index")) + 1 :]
             if made != wanted:
                 fail(f"tools/index {' '.join(arguments)} prints something else of worked sources:\n{differ(wanted, made)}")
         for arguments, cause in ((["nowhere"], "nowhere"), ([], "crates.txt")):
@@ -160,7 +179,8 @@ def check_index(fail):
             if bad.returncode != 2 or bad.stdout or bad.stderr.count("\n") != 1 or cause not in bad.stderr:
                 fail(f"tools/index: status {bad.returncode}, {bad.stderr} in place of status 2 and a line with {cause}")
             Path(folder, "crates.txt").unlink(missing_ok=True)
-    made = subprocess.run(["tools/index"], capture_output=True, text=True).stdout
-    here = Path("docs/INDEX.md").read_text(encoding="utf-8")
-    if made != here:
-        fail(f"docs/INDEX.md is not made of these sources: run tools/index > docs/INDEX.md\n{differ(here, made)}")
+    for option, name in (([], "INDEX"), (["--files"], "FILES"), (["--laws"], "LAWS")):
+        made = subprocess.run(["tools/index", *option], capture_output=True, text=True).stdout
+        here = Path(f"docs/{name}.md").read_text(encoding="utf-8")
+        if made != here:
+            fail(f"docs/{name}.md is not made of these sources: run tools/index --write\n{differ(here, made)}")
