@@ -69,6 +69,9 @@ pub fn nothing_is_none(
 """,
     "crates/low/src/open.rt": "// No comment of a function.\n\npub fn silent()\n    ensures { 0 ≡ 0 }\n{}\n\npub trait Counted {\n    fn counted(&self) -> bool;\n}\n\nfn own() {}\n",
     "crates/low/must-fail/counts_twice.edit": "file: src/laws.rt\n",
+    "checks/few": "#!/bin/sh\n# Counts the things, of which\n# there are few. Then it ends.\nset -e\n",
+    "examples/c/one.c": "/* One thing. It has\n * no comment. */\nint one;\n",
+    "tools/all": '#!/usr/bin/env python3\n"""Prints all things.\n\n  tools/all\n"""\n',
     "crates/low/specs/Lib.antt": "pub mod Things\npub mod Alone\n",
     "crates/low/specs/Alone.antt": "-- What is alone.\nuse Rattle.std.specs.Prelude.{ℕ}\n\nunfoldable pub ◌+++◌ : ℕ → ℕ → ℕ\na +++ b = a\n",
     "crates/low/specs/Things.antt": """-- What things are.
@@ -113,14 +116,20 @@ FILES = """
 - `src/lib.rt`: Things that are counted: one by one | two. Functions: `here`.
 - `src/hidden.rt` Functions: `hidden_law`.
 - `src/laws.rt`: Its own comment. Functions: `things_add_up`, `is_none`, `counts`, `rests`, `is_added`, `is_inside`, `nothing_is_none`.
-- `src/open.rt` Functions: `silent`, `counted`.
+- `src/open.rt` Functions: `silent`, `counted`, `own`.
 - `specs/Alone.antt`: What is alone.
 - `specs/Things.antt`: What things are.
 - `must-fail`: `counts_twice`.
 
 ## high
 
-- `src/main.rt`: The program.
+- `src/main.rt`: The program. Functions: `main`.
+
+## Outside of the crates
+
+- `checks/few`: Counts the things, of which there are few.
+- `examples/c/one.c`: One thing.
+- `tools/all`: Prints all things.
 """
 LAWS = """
 ## low
