@@ -416,6 +416,7 @@ def document(cells, codes, writes):
     whole = "".join([HEAD, *(row for name in LIBRARIES for row in rows_of(name, cells)), SUMS, *sums])
     if writes:
         path.write_text(whole, encoding="utf-8")
+        subprocess.run(["tools/index", "--write"], check=True)  # docs/CALLS.md has the steps too
         return
     here = path.read_text(encoding="utf-8")
     for row in sorted(set(whole.splitlines()) ^ set(here.splitlines())):

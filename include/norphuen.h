@@ -2,7 +2,7 @@
  * handle, and asks for the object's address.
  *
  * A heap has one region. nph_open takes all memory, so that later calls take none. Each call on an open heap takes a
- * bounded number of steps (docs/C.md); nph_last_steps returns the steps of the last one. There are three libraries, and a
+ * bounded number of steps (docs/CALLS.md); nph_last_steps returns the steps of the last one. There are three libraries, and a
  * program may link several:
  *
  *   libnorphuen.a            Compact-fit, moving: a free may move one object, whose handle stays the same
@@ -170,7 +170,8 @@ typedef struct nph_heap_totals {
 } nph_heap_totals;
 
 /* Opens a heap without objects, of `pages` pages of `page_bytes` bytes. At most `proxies` objects are live at a time, and each
- * size class has at most `k` partly full pages. With TLSF the pages are one region without classes, and k means nothing. */
+ * size class has at most `k` partly full pages. With TLSF the pages are one region without classes, and k means nothing.
+ * Fails with NPH_LENT, NPH_OPEN, NPH_PAGES, NPH_PAGE_BYTES, NPH_BOUND, NPH_PROXIES, NPH_REGION or NPH_MEMORY. */
 NPH_CALL nph_status nph_open(nph_heap *heap, uint32_t pages, uint32_t page_bytes, uint32_t k, uint32_t proxies);
 
 /* Writes what nph_open with these settings asks of rattle_alloc, exactly. It never calls rattle_realloc. What the program's

@@ -188,7 +188,7 @@ def check_index(fail):
             if bad.returncode != 2 or bad.stdout or bad.stderr.count("\n") != 1 or cause not in bad.stderr:
                 fail(f"tools/index: status {bad.returncode}, {bad.stderr} in place of status 2 and a line with {cause}")
             Path(folder, "crates.txt").unlink(missing_ok=True)
-    for option, name in (([], "INDEX"), (["--files"], "FILES"), (["--laws"], "LAWS")):
+    for option, name in (([], "INDEX"), (["--files"], "FILES"), (["--laws"], "LAWS"), (["--calls"], "CALLS")):
         made = subprocess.run(["tools/index", *option], capture_output=True, text=True).stdout
         here = Path(f"docs/{name}.md").read_text(encoding="utf-8")
         if made != here:
