@@ -17,7 +17,7 @@ ghost use Rattle.held_heap.specs.Slots.{IsClassCall, IsSlotWordsCall};
 ghost use Rattle.held_heap.specs.PagesNeeded.{IsPagesCall};
 ghost use Rattle.held_heap.specs.MovingPlace.{held_in};
 ghost use Rattle.held_heap.specs.Moving.{bounds};
-ghost use Rattle.held_heap.specs.Version.{version};
+ghost use Rattle.c_base.specs.Version.{version};
 
 use cf_base::{Kind, Layout};
 use held_heap::moving::NphHeap;

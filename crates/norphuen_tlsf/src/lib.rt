@@ -15,7 +15,7 @@ ghost use Rattle.held_heap.specs.Most.{IsMostAccess, IsMostFree, IsMostLength, I
 ghost use Rattle.held_heap.specs.Needed.{IsNeededCall};
 ghost use Rattle.held_heap.specs.TlsfPlace.{held_in};
 ghost use Rattle.held_heap.specs.Tlsf.{bounds};
-ghost use Rattle.held_heap.specs.Version.{version};
+ghost use Rattle.c_base.specs.Version.{version};
 
 use cf_base::Kind;
 use held_heap::tlsf::NphHeap;
