@@ -151,7 +151,7 @@ const CLAIM = {
   admit: ["After yes the task's mallocs reply ok or live while its quota is no less and its live objects, with each new one, are within what it declared", 'an_admitted_task_is_served'],
   parts: ['all spines and parts would need more pages than there are', 'LargeHeap::malloc'],
   long: ['A malloc or free of a long one takes at most those of one malloc or free for each part and for the spine, and of an access of four bytes for each part.', 'LargeHeap'],
-  counted: ['A step is one counted touch of a word, bitmap word, link, proxy or table entry.', ''],
+  counted: ['A step is one counted access to a cell or word.', ''],
   classes: ['a class with n live objects, m to a page, has at most ⌊n/m⌋ + k pages; k, 1 to 64, may be partly full.', ''],
 };
 
