@@ -224,7 +224,8 @@ NPH_CALL nph_status nph_figures(nph_heap *heap, uint32_t size_class, nph_class *
 /* Writes the figures of the whole heap. With TLSF this visits each free block. */
 NPH_CALL nph_status nph_totals(nph_heap *heap, nph_heap_totals *totals);
 
-/* Writes the steps of the last call on the heap. nph_figures and this call take none, and leave the count as it was. */
+/* Writes the steps of the last call on the heap. nph_figures, nph_lend, nph_return and this call take none, and leave the
+ * count as it was. */
 NPH_CALL nph_status nph_last_steps(nph_heap *heap, uint64_t *steps);
 
 /* Returns the version of the library, in the form of NPH_VERSION. */
