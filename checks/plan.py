@@ -215,12 +215,13 @@ def test_differs(seed, library):
 
 
 def budget_test_differs(seed, library):
-    """The same of the proved test of a budget, `IsBudgetCertificate`."""
+    """The same of the proved tests of a budget, `IsBudgetLevel` and `IsBudgetCertificate`."""
     draw = random.Random(seed)
     layout = needs.Layout(draw.choice((512, 1024)), library.manager)
     budget, _, _ = drawn_budget(draw, layout)
-    pages = budget.need([1] * len(budget.classes)).pages
-    prices, level, opened = budget.certificate()
+    ones = [1] * len(budget.classes)
+    pages = budget.need(ones).pages
+    prices, level, opened = budget.certificate(ones)
     at, amount = draw.randrange(len(opened)), budget.amount
     fewer = [n - (c == at) if n else n for c, n in enumerate(opened)]
     more = [n + (c == at) for c, n in enumerate(opened)]
@@ -229,13 +230,26 @@ def budget_test_differs(seed, library):
         if not many:
             continue
         cost = sum(((n - 1) * m + 1) * price for n, m, price in zip(some, layout.slots, prices) if n)
-        enough = amount + sum(max(0, t - price) for price in prices) < (many + 1) * t
-        right = all(t <= m * price for m, price in zip(layout.slots, prices)) and enough and cost <= amount and sum(some) == many
+        right = shows(layout, many, [1] * len(prices), prices, amount, t) and cost <= amount and sum(some) == many
         if library.accepts_budget(many, layout.page_bytes, prices, amount, t, some) != right:
             return f"seed {seed}: the proved test {'refuses' if right else 'accepts'} {many} pages for a budget with {t} and {some}"
         if (many, t, some) == tried[0] and not right:
             return f"seed {seed}: the planner's certificate of a budget is none"
+    bounds = [draw.choice((1, 2, 3)) for _ in ones]
+    prices, level, opened = budget.certificate(bounds)
+    by_class, pages = plan.spread(layout, budget.classes, bounds, 1), sum(opened)
+    if not shows(layout, pages, by_class, prices, amount, level):
+        return f"seed {seed}: the planner's level {level} does not show that {pages} pages are enough for a budget with {bounds}"
+    for many, t in itertools.product((pages - 1, pages, pages + 1), (level - 1, level, level + 1)):
+        if many and library.accepts_level(many, layout.page_bytes, by_class, prices, amount, t) != shows(layout, many, by_class, prices, amount, t):
+            return f"seed {seed}: the proved test errs on {many} pages for a budget with the level {t} and {bounds}"
     return None
+
+
+def shows(layout, pages, bounds, prices, amount, level):
+    """Whether the level shows that so many pages are enough for a budget: `IsBudgetLevel`, written anew."""
+    full = all(level <= m * price for m, price in zip(layout.slots, prices))
+    return full and amount + sum(k * max(0, level - price) for k, price in zip(bounds, prices)) < (pages + 1) * level
 
 
 def memory_differs():

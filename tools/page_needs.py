@@ -379,19 +379,19 @@ class Budget:
         """Whether so many pages are enough for these bounds, by the upper bound, which is quick."""
         return sum(self.cheapest(self.amount, bounds)) + self.resizes <= pages
 
-    def certificate(self):
-        """What `is_budget_certificate` of the crate `sizing` tests if every bound is 1: by class of the page the least cost of an
-        object, and pages that the budget affords; and the level with which its formula gives their number. That is the cost of
-        the least full page; if the budget does not pay for a first page of each class below it, that of the next of these."""
+    def certificate(self, bounds):
+        """What `is_budget_level` and `is_budget_certificate` of the crate `sizing` test: by class of the page the least cost of an
+        object, and the pages of `cheapest`; and the level with which the formula gives their number. That is the cost of the least
+        full page; if the budget does not pay for the k pages of each class that an object each holds, that of the next of these."""
         never = min(self.amount + 1, 2**32 - 1)
-        prices, opened = [never] * len(self.layout.sizes), [0] * len(self.layout.sizes)
-        for c, cost, pages in zip(self.classes, self.cost, self.cheapest(self.amount, [1] * len(self.cost))):
-            prices[c], opened[c] = cost, pages
+        prices, opened, supply = ([number] * len(self.layout.sizes) for number in (never, 0, 1))
+        for c, cost, pages, k in zip(self.classes, self.cost, self.cheapest(self.amount, bounds), bounds):
+            prices[c], opened[c], supply[c] = cost, pages, k
         level, left = min(map(int.__mul__, prices, self.layout.slots)), self.amount
-        for price in sorted(price for price in prices if price < level):
-            if price > left:
-                return prices, price, opened
-            left -= price
+        for price, k in sorted(zip(prices, supply)):
+            if price >= level or price * k > left:
+                return prices, min(price, level), opened
+            left -= price * k
         return prices, level, opened
 
     def search(self, bounds, best):

@@ -36,8 +36,8 @@ class Library:
         whole = ["-Wl,--whole-archive", os.path.join(TOP, ARCHIVE), "-Wl,--no-whole-archive"]
         subprocess.run(["gcc", "-shared", "-o", shared, *whole], check=True, stderr=subprocess.PIPE)
         self.manager, self.calls, self.in_blocks = manager, ctypes.CDLL(shared), ctypes.c_bool(manager == "nm")
-        for call in self.calls.plan_pages_needed, self.calls.plan_class_objects, self.calls.plan_is_certified, self.calls.plan_is_budget_certified:
-            call.restype = ctypes.c_bool
+        for name in "pages_needed", "class_objects", "is_certified", "is_budget_level", "is_budget_certified":
+            getattr(self.calls, "plan_" + name).restype = ctypes.c_bool
 
     def asked(self, call, page_bytes, mode, found):
         """What the call writes for a mode, which has the most objects of each size, into `found`; None if it refuses the mode."""
@@ -58,6 +58,13 @@ class Library:
         numbers = ctypes.c_uint32(pages), ctypes.c_uint32(page_bytes), self.in_blocks
         lists = (ctypes.c_uint32, bounds), (ModeObjects, objects), (PointPages, points)
         return self.calls.plan_is_certified(*numbers, *(part for kind, items in lists for part in listed(kind, items)), ctypes.c_bool(resizes))
+
+    def accepts_level(self, pages, page_bytes, bounds, prices, budget, level):
+        """Whether the level shows that so many pages are enough for a budget with these bounds, by the least cost of an object of each
+        class."""
+        numbers = ctypes.c_uint32(pages), ctypes.c_uint32(page_bytes), self.in_blocks
+        lists = (part for items in (bounds, prices) for part in listed(ctypes.c_uint32, items))
+        return self.calls.plan_is_budget_level(*numbers, *lists, ctypes.c_uint32(budget), ctypes.c_uint32(level))
 
     def accepts_budget(self, pages, page_bytes, prices, budget, level, opened):
         """Whether the level and the opened pages of each class are a certificate that so many pages are the least for a budget, by

@@ -26,7 +26,7 @@ use Rattle.sizing.specs.Runs.{CanBeRefused}
 use Rattle.sizing.proofs.FewerPages.{refused}
 use Rattle.sizing.proofs.ModePages.{run_weakened}
 
--- ---- a list with no number more often than another costs no more
+-- ---- the cost of a list in which each number is at most as frequent as in another
 
 -- a number is as many as there are smaller ones
 layers : (n a k : ℕ) → sum_by (λ i. one (nat_lt i n)) (range_with_len a k) ≡ min (n - a) k

@@ -1,47 +1,78 @@
--- For the laws of `budget.rt`: at bound one the objects need at most (the budget + the sum of t - price) / t pages.
-use Rattle.std.proofs.Common.{◌≡◌, ℕ, zero, suc, ◌+◌, ◌-◌, ◌*◌, ◌%◌, ◌<◌, ◌≤◌, List, [], ◌∷◌, length, replicate, arith, ap, sym, ◌∙◌}
-use Rattle.std.proofs.Common.{inl, inr, refl}
+-- For the laws of `budget.rt`: the pages of a class cost at most its objects and t - price for each page that may be partly full. At bound one the pages that
+-- objects within the budget need are pages that it affords.
+use Rattle.std.proofs.Common.{◌≡◌, ℕ, zero, suc, ◌+◌, ◌-◌, ◌*◌, ◌<◌, ◌≤◌, List, [], ◌∷◌, length, replicate, arith, ap, sym, ◌∙◌}
+use Rattle.std.proofs.Common.{inl, inr, refl, subst}
 use Rattle.std.specs.Prelude.{nat_eq, sum_by}
 use Rattle.std.specs.List.{range_with_len}
-use Rattle.std.proofs.lemmas.Bool.{cases_eq}
+use Rattle.std.proofs.lemmas.Bool.{cases_eq, cases_lt}
 use Rattle.std.proofs.lemmas.List.Sums.{sum_by-cons}
-use Rattle.std.proofs.lemmas.Nat.{div-add-mod', mul-le}
+use Rattle.std.proofs.lemmas.Nat.{mul-le}
 use Rattle.std.specs.FinMap.{empty, insert, values}
 use Rattle.cf_lemmas.proofs.Induction.{map_induction}
 use Rattle.cf_lemmas.proofs.Ranges.{one, sum_le}
 use Rattle.cf_lemmas.proofs.Sums.{sum_by-inserted}
 use Rattle.cf_lemmas.proofs.Tests.{eq_no, eq_yes}
 use Rattle.cf_lemmas.proofs.Values.{no_values}
-use Rattle.page_model.specs.Arrangement.{IsSound, live, pages_needed, pages_needed_with, pages_of_class, used_pages}
-use Rattle.page_model.specs.Counts.{ceil_div}
+use Rattle.page_model.specs.Arrangement.{IsSound, live, not_full_pages, pages_needed, pages_needed_with, pages_of_class, used_pages}
+use Rattle.page_model.specs.Counts.{CanHold, LieOn, ceil_div}
 use Rattle.page_model.specs.Held.{Held, Objects, objects}
 use Rattle.page_model.specs.Paging.{EveryBoundIsOne, IsPaging, Paging, bound_of, class_for, classes, slots_of}
-use Rattle.page_model.proofs.CallerLemmas.{bytes_missing, lacks_room_at_one, live_added, no_objects, none_live, slots_some, sound_empty}
+use Rattle.page_model.proofs.CallerLemmas.{bytes_missing, lacks_room_at_one, live_added, no_objects, none_live, slots_some, sound_empty, sound_stand}
 use Rattle.page_model.proofs.CallerLemmas.{sum_plus, sum_same, sum_zeros}
 use Rattle.page_model.proofs.Lacking.{none_free}
+use Rattle.page_model.proofs.PageCounts.{sound_can_hold}
 use Rattle.page_model.proofs.RoomAtOne.{needed_with_is}
 use Rattle.std.proofs.lemmas.List.{length-replicate}
 use Rattle.sizing.specs.Demands.{Affords, ArePrices, KeepsBudget, objects_to_open}
 use Rattle.sizing.specs.Runs.{HeapCall, MallocLacks, ResizeLacks, Run, ServesMallocs, ServesResizes}
 use Rattle.sizing.proofs.BudgetLeast.{opened_by}
-use Rattle.sizing.proofs.Calls.{run_keeps, sound_next}
+use Rattle.sizing.proofs.Calls.{live_malloced, run_keeps, sound_next}
+use Rattle.sizing.proofs.ClassPages.{sum_less}
+use Rattle.sizing.proofs.Closed.{within}
 use Rattle.sizing.proofs.ModePages.{most_on}
 use Rattle.sizing.proofs.MostPages.{most_at_one}
 
--- n objects of at least b bytes, m to a page, on the pages that they need
-class_cost : (n m b t : ℕ) → 0 < m → t ≤ m * b → ceil_div n m * t ≤ n * b + (t - b)
-class_cost n m b t pos full = go (ceil_div n m) refl
+-- h pages with j + 1 slots each, at most k of them partly full, that hold n objects of at least b bytes
+class_cost : (h n j k b t : ℕ) → h ≤ n → h * suc j ≤ n + k * j → t ≤ suc j * b → h * t ≤ n * b + k * (t - b)
+class_cost h n j k b t some free full = elim (cases_lt b t) [
+  | inr low ↦ (let x = mul-le h t n b some low in omega arith)
+  | inl lt ↦ (let e : b + (t - b) ≡ t = omega arith in subst (λ x. h * x ≤ n * b + k * (t - b)) e (spread (t - b) (omega arith)))
+]
   where
-    go : (q : ℕ) → ceil_div n m ≡ q → ceil_div n m * t ≤ n * b + (t - b)
-    go zero is = (let e : ceil_div n m * t ≡ 0 * t = ap (λ x. x * t) is in omega arith)
-    go (suc j) is =
-        let d : ceil_div n m * m + (n + (m - 1)) % m ≡ n + (m - 1) = div-add-mod' (n + (m - 1)) m in
-        let e : ceil_div n m * m ≡ suc j * m = ap (λ x. x * m) is in
-        let f : ceil_div n m * t ≡ suc j * t = ap (λ x. x * t) is in
-        let few : j * m + 1 ≤ n = omega arith in
-        let bytes : (j * m + 1) * b ≤ n * b = mul-le (j * m + 1) b n b few (omega arith) in
-        let pages : j * t ≤ j * (m * b) = mul-le j t j (m * b) (omega arith) full in
+    beyond : (r d : ℕ) → h ≡ k + r → b + d ≤ suc j * b → h * (b + d) ≤ n * b + k * d
+    beyond r d is low =
+        let all : h * (b + d) ≡ (k + r) * (b + d) = ap (λ x. x * (b + d)) is in
+        let slots : h * suc j ≡ (k + r) * suc j = ap (λ x. x * suc j) is in
+        let pages : r * (b + d) ≤ r * (suc j * b) = mul-le r (b + d) r (suc j * b) (omega arith) low in
+        let objects : (k + r * suc j) * b ≤ n * b = mul-le (k + r * suc j) b n b (omega arith) (omega arith) in
         omega arith
+
+    spread : (d : ℕ) → b + d ≤ suc j * b → h * (b + d) ≤ n * b + k * d
+    spread d low = elim (cases_lt k h) [
+      | inl many ↦ beyond (h - k) d (omega arith) low
+      | inr few ↦ (
+          let x = mul-le h b n b some (omega arith) in
+          let y = mul-le h d k d few (omega arith) in
+          omega arith)
+    ]
+
+-- the same of pages that can be, and more objects
+cost_held : (h n m k b t most : ℕ) → 0 < m → CanHold h n m k → t ≤ m * b → n ≤ most → h * t ≤ most * b + k * (t - b)
+cost_held h n zero k b t most pos can full le = absurd (omega arith)
+cost_held h n (suc j) k b t most pos can full le =
+    let w = within h n j k can in
+    class_cost h most j k b t (omega (arith, w.0)) (omega (arith, w.1)) full
+
+-- the same of full pages and one page more, with one object
+cost_opened : (h n m k q b t : ℕ) → 0 < m → 0 < k → LieOn h n m k q → q ≡ 0 → t ≤ m * b → h * t + t ≤ (n + 1) * b + k * (t - b)
+cost_opened h n zero k q b t pos some st none full = absurd (omega arith)
+cost_opened h n (suc j) k q b t pos some st none full =
+    let least : (h - 0) * suc j + 0 ≤ n = rw none at st.least in
+    let e : h - 0 ≡ h = omega arith in
+    let least' : h * suc j + 0 ≤ n = rw e at least in
+    let wide : 1 * j ≤ k * j = mul-le 1 j k j some (omega arith) in
+    let all = class_cost (h + 1) (n + 1) j k b t (omega arith) (omega arith) full in
+    omega arith
 
 module _ (price : ℕ → ℕ) where
   missed : (k a n : ℕ) → k < a → sum_by (λ c. one (nat_eq k c) * price c) (range_with_len a n) ≡ 0
@@ -171,30 +202,48 @@ module _ (p : Paging) (cost price : ℕ → ℕ) (prices : ArePrices p cost pric
           let some = enough (λ c. ceil_div (live p (objects m) c) (slots_of p c)) (affords_needed (objects m) k.keeps) in
           absurd (omega arith)
 
-      module _ (t : ℕ) (full : (c : ℕ) → c < classes p → t ≤ slots_of p c * price c) where
-        needed_cost : (o : Objects) → KeepsBudget cost budget o
-            → pages_needed p o * t ≤ budget + sum_by (λ c. t - price c) (range_with_len 0 (classes p))
-        unfolding pages_needed
-        needed_cost o keeps =
-            let scale = sum_times (λ c. ceil_div (live p o c) (slots_of p c)) t (range_with_len 0 (classes p)) in
-            let each = sum_le (λ c. ceil_div (live p o c) (slots_of p c) * t) (λ c. live p o c * price c + (t - price c)) 0 (classes p)
-            (λ c _ lt. class_cost (live p o c) (slots_of p c) (price c) t (slots_some p ok c (omega arith)) (full c (omega arith))) in
-            let plus = sum_plus (λ c. live p o c * price c) (λ c. t - price c) (range_with_len 0 (classes p)) in
-            let all = priced o in
-            omega arith
+    -- whatever the bounds, the pages at the level t cost at most the budget and what the prices are below t
+    module _ (t : ℕ) (full : (c : ℕ) → c < classes p → t ≤ slots_of p c * price c) where
+      -- what costs at most the objects, with the gaps of their classes, costs at most the budget with all gaps
+      cost_within : (o : Objects) (pages : ℕ) → KeepsBudget cost budget o
+          → pages ≤ sum_by (λ c. live p o c * price c + bound_of p c * (t - price c)) (range_with_len 0 (classes p)) → pages ≤ budget + sum_by (λ c. bound_of p c * (t - price c)) (range_with_len 0 (classes p))
+      cost_within o pages keeps le =
+          let plus = sum_plus (λ c. live p o c * price c) (λ c. bound_of p c * (t - price c)) (range_with_len 0 (classes p)) in
+          let all = priced o in
+          omega arith
 
-        pub level_mallocs : budget + sum_by (λ c. t - price c) (range_with_len 0 (classes p)) < (p.pages + 1) * t → ServesMallocs p (KeepsBudget cost budget)
-        level_mallocs enough calls m h n run l =
-            let past = malloc_needs calls m h n run l in
-            let need = needed_cost (insert (objects m) h (replicate n 0)) l.asked in
-            let more : (p.pages + 1) * t ≤ pages_needed p (insert (objects m) h (replicate n 0)) * t =
-            mul-le (p.pages + 1) t (pages_needed p (insert (objects m) h (replicate n 0))) t (omega arith) (omega arith) in
-            absurd (omega arith)
+      used_cost : (m : Held) → used_pages p m ≡ p.pages → sum_by (λ c. pages_of_class p m c * t) (range_with_len 0 (classes p)) ≡ p.pages * t
+      unfolding used_pages
+      used_cost m all =
+          let scale = sum_times (pages_of_class p m) t (range_with_len 0 (classes p)) in
+          let e : sum_by (pages_of_class p m) (range_with_len 0 (classes p)) * t ≡ p.pages * t = ap (λ x. x * t) all in
+          omega arith
 
-        pub level_resizes : budget + sum_by (λ c. t - price c) (range_with_len 0 (classes p)) < p.pages * t → ServesResizes p (KeepsBudget cost budget)
-        level_resizes enough calls m h n run l =
-            let past = resize_needs calls m h n run l in
-            let k = within_along calls m run in
-            let need = needed_cost (objects m) k.keeps in
-            let more : p.pages * t ≤ pages_needed p (objects m) * t = mul-le p.pages t (pages_needed p (objects m)) t past (omega arith) in
-            absurd (omega arith)
+      pub level_mallocs : budget + sum_by (λ c. bound_of p c * (t - price c)) (range_with_len 0 (classes p)) < (p.pages + 1) * t
+          → ServesMallocs p (KeepsBudget cost budget)
+      level_mallocs enough calls m h n run l =
+          let k = within_along calls m run in
+          let used = used_cost m (none_free p m k.sound l.lacking.taken) in
+          let added = live_malloced p m h n l.unused in
+          let more = sum_less (λ c. pages_of_class p m c * t) (λ c. live p (insert (objects m) h (replicate n 0)) c * price c + bound_of p c * (t - price c)) t 0 (classes p)
+          (class_for p n) (omega arith) (let f = l.fits in omega arith)
+          (λ c _ lt. cost_held (pages_of_class p m c) (live p (objects m) c) (slots_of p c) (bound_of p c) (price c) t
+          (live p (insert (objects m) h (replicate n 0)) c) (slots_some p ok c (omega arith)) (sound_can_hold p ok c (omega arith) m k.sound) (full c (omega arith))
+          (let a = live_added p (objects m) h (replicate n 0) c (bytes_missing m h l.unused) in omega arith))
+          (subst (λ x. pages_of_class p m (class_for p n) * t + t ≤ x * price (class_for p n) + bound_of p (class_for p n) * (t - price (class_for p n))) (sym added)
+          (cost_opened (pages_of_class p m (class_for p n)) (live p (objects m) (class_for p n)) (slots_of p (class_for p n)) (bound_of p (class_for p n))
+          (not_full_pages p m (class_for p n)) (price (class_for p n)) t (slots_some p ok (class_for p n) l.fits) (ok.some (class_for p n) l.fits)
+          (sound_stand p ok (class_for p n) l.fits m k.sound) l.lacking.full (full (class_for p n) l.fits))) in
+          let past = cost_within (insert (objects m) h (replicate n 0)) _ l.asked more in
+          absurd (omega arith)
+
+      pub level_resizes : budget + sum_by (λ c. bound_of p c * (t - price c)) (range_with_len 0 (classes p)) < p.pages * t
+          → ServesResizes p (KeepsBudget cost budget)
+      level_resizes enough calls m h n run l =
+          let k = within_along calls m run in
+          let used = used_cost m (none_free p m k.sound l.lacking.taken) in
+          let each = sum_le (λ c. pages_of_class p m c * t) (λ c. live p (objects m) c * price c + bound_of p c * (t - price c)) 0 (classes p)
+          (λ c _ lt. cost_held (pages_of_class p m c) (live p (objects m) c) (slots_of p c) (bound_of p c) (price c) t (live p (objects m) c) (slots_some p ok c (omega arith))
+          (sound_can_hold p ok c (omega arith) m k.sound) (full c (omega arith)) (omega arith)) in
+          let past = cost_within (objects m) _ k.keeps each in
+          absurd (omega arith)

@@ -67,11 +67,11 @@ module _ (p : Paging) (ok : IsPaging p) (m : Held) (s : IsSound p m) (c : ℕ) (
       full_next (pages_of_class p m c) (live p (objects m) c) (slots_of p c) (bound_of p c) (not_full_pages p m c) most (slots_some p ok c lt)
       (sound_stand p ok c lt m s) none le
 
--- two sums over a range: each term is at most the other's, and one is less
-pub sum_less : (f g : ℕ → ℕ) (a n c : ℕ) → a ≤ c → c < a + n → ((d : ℕ) → a ≤ d → d < a + n → f d ≤ g d) → f c + 1 ≤ g c
-    → sum_by f (range_with_len a n) + 1 ≤ sum_by g (range_with_len a n)
-sum_less f g a zero c low high le less = absurd (omega arith)
-sum_less f g a (suc n) c low high le less =
+-- two sums over a range: each term is at most the other's, and one is less by at least t
+pub sum_less : (f g : ℕ → ℕ) (t a n c : ℕ) → a ≤ c → c < a + n → ((d : ℕ) → a ≤ d → d < a + n → f d ≤ g d) → f c + t ≤ g c
+    → sum_by f (range_with_len a n) + t ≤ sum_by g (range_with_len a n)
+sum_less f g t a zero c low high le less = absurd (omega arith)
+sum_less f g t a (suc n) c low high le less =
     let x = sum_by-cons f a (range_with_len (a + 1) n) in
     let y = sum_by-cons g a (range_with_len (a + 1) n) in
     elim (cases_eq a c) [
@@ -81,7 +81,7 @@ sum_less f g a (suc n) c low high le less =
           omega arith)
       | inr ne ↦ (
           let here = le a (omega arith) (omega arith) in
-          let rest = sum_less f g (a + 1) n c (omega arith) (omega arith) (λ d l h. le d (omega arith) (omega arith)) less in
+          let rest = sum_less f g t (a + 1) n c (omega arith) (omega arith) (λ d l h. le d (omega arith) (omega arith)) less in
           omega arith)
     ]
 
@@ -90,7 +90,7 @@ pub more_than_partly_full : (p : Paging) (m : Held) (c page : ℕ) → page < p.
     → not_full_pages p m c + 1 ≤ pages_of_class p m c
 unfolding pages_of_class not_full_pages
 more_than_partly_full p m c page within some full =
-    sum_less (λ g. one (part_full (objects_on p m c g) (slots_of p c))) (λ g. one (nat_lt 0 (objects_on p m c g))) 0 p.pages page (omega arith) (omega arith)
+    sum_less (λ g. one (part_full (objects_on p m c g) (slots_of p c))) (λ g. one (nat_lt 0 (objects_on p m c g))) 1 0 p.pages page (omega arith) (omega arith)
     (λ g _ h. elim (cases_lt 0 (objects_on p m c g)) [
       | inl lt ↦ (let a = less_counts 0 (objects_on p m c g) lt in let b = one_le (part_full (objects_on p m c g) (slots_of p c)) in omega arith)
       | inr none ↦ (let b = part_empty (objects_on p m c g) (slots_of p c) (omega arith) in omega arith)

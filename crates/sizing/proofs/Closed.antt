@@ -23,7 +23,7 @@ under q k j lt = elim (cases_lt k q) [
 ]
 
 -- with at most k partly full pages, P pages have at most so many free slots
-within : (P n j k : ℕ) → CanHold P n (suc j) k → (P ≤ n) × (P * suc j ≤ n + k * j)
+pub within : (P n j k : ℕ) → CanHold P n (suc j) k → (P ≤ n) × (P * suc j ≤ n + k * j)
 within P n j k (q, s) =
     let few = s.few in
     let fits = s.within in

@@ -213,7 +213,7 @@ module _ (p : Paging) (ok : IsPaging p) where
         let added = live_malloced p m h n l.unused in
         let next = full_now p ok m k.sound (class_for p n) l.fits (mode_count p modes (x.0).mode (class_for p n)) l.lacking.full (omega arith) in
         let top = (sure.each x.0 x.1).tops (class_for p n) l.fits in
-        let less = sum_less (pages_of_class p m) (x.0).pages 0 (classes p) (class_for p n) (omega arith) (let f = l.fits in omega arith)
+        let less = sum_less (pages_of_class p m) (x.0).pages 1 0 (classes p) (class_for p n) (omega arith) (let f = l.fits in omega arith)
         (λ d _ lt. x.3 d (omega arith)) (omega arith) in
         let within = (sure.each x.0 x.1).enough in
         absurd (omega arith)
@@ -271,7 +271,7 @@ module _ (p : Paging) (ok : IsPaging p) where
         (mode_count p modes o.0 (class_for p n)) =
         rw (eq_yes (class_for p n) (class_for p n) refl) (le-min top next) in
         let less = sum_less (pages_of_class p m)
-        (λ e. pages_with_copy p (class_at p l.object) (class_for p n) e ((x.0).pages e) (mode_count p modes (x.0).mode e) (mode_count p modes o.0 e)) 0 (classes p) (class_for p n)
+        (λ e. pages_with_copy p (class_at p l.object) (class_for p n) e ((x.0).pages e) (mode_count p modes (x.0).mode e) (mode_count p modes o.0 e)) 1 0 (classes p) (class_for p n)
         (omega arith) (let f = l.fits in omega arith)
         (λ e _ lt. elim (cases_eq e (class_for p n)) [
           | inl is ↦ subst (λ i. pages_of_class p m i

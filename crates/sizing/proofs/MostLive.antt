@@ -43,7 +43,7 @@ module _ (p : Paging) (ok : IsPaging p) (most : ℕ → ℕ) (allowed : Objects 
     lacks_at_most calls m run c lt lacks le =
         let k = pages_along calls m run in
         let all : used_pages p m ≡ p.pages = none_free p m k.0 lacks.taken in
-        let less = sum_less (pages_of_class p m) (λ d. ceil_div (most d) (slots_of p d)) 0 (classes p) c (omega arith) (omega arith)
+        let less = sum_less (pages_of_class p m) (λ d. ceil_div (most d) (slots_of p d)) 1 0 (classes p) c (omega arith) (omega arith)
         (λ d _ h. k.1 d (omega arith)) (full_now p ok m k.0 c lt (most c) lacks.full le) in
         absurd (omega arith)
 

@@ -48,11 +48,16 @@ HoldCopies p modes points = (x : Point) → Contains points x → x.mode < lengt
     → 0 < mode_count p modes x.mode c → 0 < mode_count p modes j d
     → sum_by (λ e. pages_with_copy p c d e (x.pages e) (mode_count p modes x.mode e) (mode_count p modes j e)) (range_with_len 0 (classes p)) ≤ p.pages
 
--- A certificate that the pages are the least for a budget, if every bound is 1 and an object of class c costs at least `price c`. The objects of a full page cost
--- at least `level`, whatever its class (`full`). The budget, with `level - price c` for each class, is below `level` for each page and for one more (`enough`). The
--- budget pays for these pages of each class (`affords`), and they are as many (`all`).
-pub record IsBudgetCertificate (p : Paging) (price : ℕ → ℕ) (budget level : ℕ) (opened : ℕ → ℕ) : Type 0 where
+-- `level` shows that the pages are enough for a budget, if an object of class c costs at least `price c`: the objects of a full page cost at least `level`,
+-- whatever its class (`full`). The budget, with `level - price c` for each page of class c that may be partly full, is below `level` for each page and for one
+-- more (`enough`).
+pub record IsBudgetLevel (p : Paging) (price : ℕ → ℕ) (budget level : ℕ) : Type 0 where
   pub full : (c : ℕ) → c < classes p → level ≤ slots_of p c * price c
-  pub enough : budget + sum_by (λ c. level - price c) (range_with_len 0 (classes p)) < (p.pages + 1) * level
+  pub enough : budget + sum_by (λ c. bound_of p c * (level - price c)) (range_with_len 0 (classes p)) < (p.pages + 1) * level
+
+-- A certificate that the pages are the least for a budget, if every bound is 1: the level shows that they are enough (`shows`). The budget pays for these pages
+-- of each class (`affords`), and they are as many (`all`).
+pub record IsBudgetCertificate (p : Paging) (price : ℕ → ℕ) (budget level : ℕ) (opened : ℕ → ℕ) : Type 0 where
+  pub shows : IsBudgetLevel p price budget level
   pub affords : Affords p price budget opened
   pub all : sum_by opened (range_with_len 0 (classes p)) ≡ p.pages

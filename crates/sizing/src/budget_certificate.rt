@@ -1,21 +1,67 @@
-//! The test whether pages are the least for a program with a budget, by a certificate that an unproved
-//! planner found.
+//! The tests whether pages are enough, and the least, for a program with a budget, by numbers that an
+//! unproved planner found.
 ghost use Rattle.std.specs.Prelude.{ℕ, ◌≡◌, ◌+◌, ◌-◌, ◌*◌, ◌/◌, ◌^◌, ◌<◌, ◌≤◌, ◌↔◌, IsTrue, None, length, slice_index, sum_by};
 ghost use Rattle.std.specs.List.{range_with_len};
 ghost use Rattle.std.specs.FinMap.{empty};
 ghost use Rattle.cf_base.specs.Classes.{sizes};
-ghost use Rattle.cf_base.specs.Settings.{setting_fault};
+ghost use Rattle.cf_base.specs.Settings.{profile_from, setting_fault};
 ghost use Rattle.cf_model.specs.State.{HeapState, layout_of, paging_in};
-ghost use Rattle.page_model.specs.Paging.{EveryBoundIsOne, IsPaging, Paging, class_for, classes, slots_of};
-ghost use Rattle.sizing.specs.Certificates.{IsBudgetCertificate};
+ghost use Rattle.page_model.specs.Paging.{EveryBoundIsOne, IsPaging, Paging, bound_of, class_for, classes, paging_of, slots_of};
+ghost use Rattle.sizing.specs.Certificates.{IsBudgetCertificate, IsBudgetLevel};
 ghost use Rattle.sizing.specs.Checks.{paging_with};
 ghost use Rattle.sizing.specs.Demands.{Affords, ArePrices, KeepsBudget, objects_to_open as opening};
 ghost use Rattle.sizing.specs.Heaps.{IsFresh, ServesHeapMallocs, ServesHeapResizes};
 ghost use Rattle.sizing.specs.Runs.{CanBeRefused};
 
+use crate::certificate::has_bounds;
 use crate::points::{HeapClasses, slots_in};
 use crate::sizes::{CLASSES, fill_sizes};
 use cf_base::{Layout, Settings};
+
+/// Whether `level` shows that `pages` pages of `page_bytes` bytes are enough for a budget, if an object of each
+/// class costs at least its price and these are the bounds (`exact`). There must be a price and a bound, at
+/// least 1, for each class, else the result is false. If it is true, a heap with so many pages and no greater
+/// bounds refuses no malloc of a program within the budget for space (`mallocs`), with one page more no resize
+/// (`resizes`).
+pub fn is_budget_level(
+    pages: u32,
+    page_bytes: u32,
+    layout: Layout,
+    bounds: &[u32],
+    prices: &[u32],
+    budget: u32,
+    level: u32,
+) -> bool
+    ensures exact { setting_fault pages page_bytes 1 65536 ≡ None
+        → IsPaging (paging_of (profile_from pages page_bytes 1 65536) layout bounds.now)
+        → length prices.now ≡ classes (paging_of (profile_from pages page_bytes 1 65536) layout bounds.now)
+        → IsTrue result ↔ IsBudgetLevel (paging_of (profile_from pages page_bytes 1 65536) layout bounds.now) (slice_index prices.now) budget level }
+    ensures mallocs { IsTrue result → (s : HeapState) (cost : ℕ → ℕ) → IsFresh s
+        → layout_of s.kind ≡ layout → s.profile.page_words ≡ page_bytes / 8 → pages ≤ s.profile.pages
+        → ((c : ℕ) → c < classes (paging_in s) → bound_of (paging_in s) c ≤ slice_index bounds.now c)
+        → ArePrices (paging_in s) cost (slice_index prices.now) → ServesHeapMallocs (KeepsBudget cost budget) s }
+    ensures resizes { IsTrue result → (s : HeapState) (cost : ℕ → ℕ) → IsFresh s
+        → layout_of s.kind ≡ layout → s.profile.page_words ≡ page_bytes / 8 → pages < s.profile.pages
+        → ((c : ℕ) → c < classes (paging_in s) → bound_of (paging_in s) c ≤ slice_index bounds.now c)
+        → ArePrices (paging_in s) cost (slice_index prices.now) → ServesHeapResizes (KeepsBudget cost budget) s }
+{
+    let s = match Settings::check(pages, page_bytes, 1, 65536) {
+        Ok(s) => s,
+        Err(_) => return false,
+    };
+    let mut table = [0; CLASSES];
+    let classes = fill_sizes(s.page_words, layout, &mut table);
+    let sizes = &table[..classes];
+    if !has_bounds(sizes, bounds) || prices.len() != classes {
+        return false;
+    }
+    let heap = HeapClasses {
+        page_words: s.page_words,
+        sizes,
+        bounds,
+    };
+    are_enough(s.pages, &heap, prices, budget, level)
+}
 
 /// Whether `level` and the pages `opened` of each class are a certificate that `pages` pages of `page_bytes`
 /// bytes are the least for a budget, if every bound is 1 and an object of each class costs at least its
@@ -32,7 +78,7 @@ pub fn is_budget_certificate(
     level: u32,
     opened: &[u32],
 ) -> bool
-    ensures exact { (p : Paging) → setting_fault pages page_bytes 1 65536 ≡ None → IsPaging p
+    ensures exact { (p : Paging) → setting_fault pages page_bytes 1 65536 ≡ None → IsPaging p → EveryBoundIsOne p
         → p.pages ≡ pages → p.page_words ≡ page_bytes / 8 → p.sizes ≡ sizes (page_bytes / 8) layout
         → length prices.now ≡ classes p → length opened.now ≡ classes p
         → IsTrue result ↔ IsBudgetCertificate p (slice_index prices.now) budget level (slice_index opened.now) }
@@ -78,16 +124,27 @@ fn are_least(
     requires heap { IsPaging (paging_with pages heap.now) }
     requires words { heap.now.page_words ≤ 16384 }
     requires few { pages ≤ 4096 }
-    requires classes { classes (paging_with pages heap.now) ≤ 67 }
     requires prices { length prices.now ≡ classes (paging_with pages heap.now) }
     requires opened { length opened.now ≡ classes (paging_with pages heap.now) }
     ensures { IsTrue result ↔ IsBudgetCertificate (paging_with pages heap.now) (slice_index prices.now) budget level (slice_index opened.now) }
 {
-    if !is_level(heap, prices, level) || sum_of(opened) != pages as u64 {
+    if sum_of(opened) != pages as u64 || !are_enough(pages, heap, prices, budget, level) {
         return false;
     }
+    affords(heap, prices, budget, opened)
+}
+
+/// Whether the level shows that `pages` pages are enough.
+fn are_enough(pages: u32, heap: &HeapClasses, prices: &[u32], budget: u32, level: u32) -> bool
+    requires heap { IsPaging (paging_with pages heap.now) }
+    requires prices { length prices.now ≡ classes (paging_with pages heap.now) }
+    ensures { IsTrue result ↔ IsBudgetLevel (paging_with pages heap.now) (slice_index prices.now) budget level }
+{
     let most = (pages as u64 + 1) * level as u64;
-    budget as u64 + gaps(prices, level) < most && affords(heap, prices, budget, opened)
+    if budget as u64 >= most || !is_level(heap, prices, level) {
+        return false;
+    }
+    gaps_fit(heap, prices, level, most - budget as u64 - 1)
 }
 
 /// Whether the objects of a full page cost at least `level`, whatever its class.
@@ -105,17 +162,21 @@ fn is_level(heap: &HeapClasses, prices: &[u32], level: u32) -> bool
     true
 }
 
-/// By how much the prices are below the level, summed.
-fn gaps(prices: &[u32], level: u32) -> u64
-    requires few { length prices.now ≤ 67 }
-    ensures sum { result ≡ sum_by (λ c. level - slice_index prices.now c) (range_with_len 0 (length prices.now)) }
-    ensures low { result ≤ 67 * 2 ^ 32 }
+/// Whether `level` less the price, summed over the pages that may be partly full, is at most `most`.
+fn gaps_fit(heap: &HeapClasses, prices: &[u32], level: u32, most: u64) -> bool
+    requires heap { IsPaging (paging_with 0 heap.now) }
+    requires prices { length prices.now ≡ classes (paging_with 0 heap.now) }
+    ensures { IsTrue result ↔ sum_by (λ c. bound_of (paging_with 0 heap.now) c * (level - slice_index prices.now c)) (range_with_len 0 (classes (paging_with 0 heap.now))) ≤ most }
 {
-    let mut sum = 0;
-    for c in 0..prices.len() {
-        sum += level.saturating_sub(prices[c]) as u64;
+    let mut left = most;
+    for c in 0..heap.sizes.len() {
+        let gap = heap.bounds[c] as u64 * level.saturating_sub(prices[c]) as u64;
+        if gap > left {
+            return false;
+        }
+        left -= gap;
     }
-    sum
+    true
 }
 
 /// The sum of the numbers.

@@ -35,8 +35,8 @@ pub enum NeedsFault {
 /// The least number of pages of `page_bytes` bytes with which no call of a program is refused for space
 /// while it keeps to its `needs`. A manager with pages and slots of this layout that was opened with so
 /// many pages, and has any bounds, serves each malloc (`mallocs`) and resize (`resizes`). With fewer
-/// pages some malloc is refused (`least`). `k` is only tested: it may be the bound of a heap. A heap may
-/// have as many proxies as the needs declare objects (`proxies`).
+/// pages some malloc is refused (`least`). `k` is only tested: it may be the bound of a heap (`setting`). A
+/// heap may have as many proxies as the needs declare objects (`proxies`).
 pub fn pages_needed(
     page_bytes: u32,
     k: u32,
@@ -51,6 +51,7 @@ pub fn pages_needed(
         → p.page_words ≡ page_bytes / 8 → p.sizes ≡ sizes (page_bytes / 8) layout
         → p.pages < pages → CanBeRefused p (KeepsTo needs.now) empty) }
     ensures proxies { IfOk result (λ pages. declared_in_all needs.now ≤ 65536) }
+    ensures setting { IfOk result (λ pages. setting_fault 1 page_bytes k 65536 ≡ None) }
     ensures fault { IfErr result (λ e. HasFault page_bytes k needs.now e) }
 {
     let s = settings_for(page_bytes, k, needs)?;
@@ -87,6 +88,7 @@ fn settings_for(page_bytes: u32, k: u32, needs: &[Need]) -> Result<Settings, Nee
     ensures page { IfOk result (λ s. s.page_words ≡ page_bytes / 8) }
     ensures asked { IfOk result (λ s. CanBeAsked (profile_of s) needs.now) }
     ensures proxies { IfOk result (λ s. s.proxies ≡ 65536) }
+    ensures setting { IfOk result (λ s. setting_fault 1 page_bytes k 65536 ≡ None) }
     ensures fault { IfErr result (λ e. HasFault page_bytes k needs.now e) }
 {
     if needs.len() > 64 {

@@ -111,7 +111,7 @@ pub fn is_certificate(
 }
 
 /// Whether the bounds are one for each size, and at least 1.
-fn has_bounds(sizes: &[u32], bounds: &[u32]) -> bool
+pub(crate) fn has_bounds(sizes: &[u32], bounds: &[u32]) -> bool
     ensures { IsTrue result ↔ (length bounds.now ≡ length sizes.now)
         × ((c : ℕ) → c < length bounds.now → 1 ≤ slice_index bounds.now c) }
 {
@@ -126,8 +126,7 @@ fn are_certificate(
     points: &[PointPages],
     resizes: bool,
 ) -> bool
-    requires heap { IsPaging (paging_with pages heap.now) }
-    requires few { classes (paging_with pages heap.now) ≤ 67 }
+    requires { IsPaging (paging_with pages heap.now) }
     ensures { (needs : List (List Need)) → AreCounts (paging_with pages heap.now) needs modes.now
         → IsTrue result ↔ IsCertificate (paging_with pages heap.now) needs (map point_in points.now)
         × (IsTrue resizes → HoldCopies (paging_with pages heap.now) needs (map point_in points.now)) }

@@ -17,8 +17,7 @@ pub(crate) fn hold_copies(
     modes: &[ModeObjects],
     points: &[PointPages],
 ) -> bool
-    requires heap { IsPaging (paging_with pages heap.now) }
-    requires few { classes (paging_with pages heap.now) ≤ 67 }
+    requires { IsPaging (paging_with pages heap.now) }
     ensures { IsTrue result ↔ All (CopiesFit (paging_with pages heap.now) modes.now) points.now }
 {
     points.iter().all(|x| copies_fit(pages, heap, modes, x))
@@ -26,8 +25,7 @@ pub(crate) fn hold_copies(
 
 /// Whether they do for the point x. If its mode isn't one of the modes, there is nothing to test.
 fn copies_fit(pages: u32, heap: &HeapClasses, modes: &[ModeObjects], x: &PointPages) -> bool
-    requires heap { IsPaging (paging_with pages heap.now) }
-    requires few { classes (paging_with pages heap.now) ≤ 67 }
+    requires { IsPaging (paging_with pages heap.now) }
     ensures { IsTrue result ↔ CopiesFit (paging_with pages heap.now) modes.now x.now }
 {
     let mode = x.mode as usize;
@@ -50,8 +48,7 @@ fn mode_fits(
     to: &ModeObjects,
     x: &PointPages,
 ) -> bool
-    requires heap { IsPaging (paging_with pages heap.now) }
-    requires few { classes (paging_with pages heap.now) ≤ 67 }
+    requires { IsPaging (paging_with pages heap.now) }
     ensures { IsTrue result ↔ ((c : ℕ) → c < classes (paging_with pages heap.now) → 0 < slice_index from.now.objects c
         → CopyFits (paging_with pages heap.now) from.now.objects to.now.objects x.now c) }
 {
@@ -72,8 +69,7 @@ fn copy_fits(
     x: &PointPages,
     c: usize,
 ) -> bool
-    requires heap { IsPaging (paging_with pages heap.now) }
-    requires few { classes (paging_with pages heap.now) ≤ 67 }
+    requires { IsPaging (paging_with pages heap.now) }
     ensures { IsTrue result ↔ CopyFits (paging_with pages heap.now) from.now.objects to.now.objects x.now c }
 {
     for d in 0..heap.sizes.len() {
@@ -93,8 +89,7 @@ fn pages_of_copies(
     c: usize,
     d: usize,
 ) -> u64
-    requires heap { IsPaging (paging_with 0 heap.now) }
-    requires few { classes (paging_with 0 heap.now) ≤ 67 }
+    requires { IsPaging (paging_with 0 heap.now) }
     ensures { result ≡ sum_by (λ e. pages_with_copy (paging_with 0 heap.now) c d e
         (slice_index x.now.pages e) (slice_index from.now.objects e) (slice_index to.now.objects e)) (range_with_len 0 (classes (paging_with 0 heap.now))) }
 {
@@ -105,7 +100,7 @@ fn pages_of_copies(
     sum
 }
 
-/// The pages of class e then.
+/// The pages of class e while the object has slots of the classes c and d.
 fn pages_of_class(
     heap: &HeapClasses,
     from: &ModeObjects,
@@ -116,7 +111,6 @@ fn pages_of_class(
     e: usize,
 ) -> u64
     requires heap { IsPaging (paging_with 0 heap.now) }
-    requires few { classes (paging_with 0 heap.now) ≤ 67 }
     requires class { e < classes (paging_with 0 heap.now) }
     ensures value { result ≡ pages_with_copy (paging_with 0 heap.now) c d e
         (slice_index x.now.pages e) (slice_index from.now.objects e) (slice_index to.now.objects e) }

@@ -1,6 +1,8 @@
-//! Tests of `least_pages`, `pages_with_mode` and `is_certificate` against numbers worked out by hand.
+//! Tests of `least_pages`, `pages_with_mode`, `is_certificate` and `is_budget_level` against numbers worked out by
+//! hand.
 use crate::{
-    CLASSES, Need, PointPages, is_certificate, least_pages, objects_by_class, pages_with_mode,
+    CLASSES, Need, PointPages, is_budget_level, is_certificate, least_pages, objects_by_class,
+    pages_with_mode,
 };
 use cf_base::{Layout, Settings};
 use std::test::Fail;
@@ -93,5 +95,25 @@ fn two_modes_need_five_pages(rt: HostRuntime) -> Result<(), Fail> {
         is_certificate(&five, Layout::Words, &bounds, &modes, &points[1..], false),
     ];
     assert_eq!(rt; found, [true, false, false, false], "certificates");
+    Ok(())
+}
+
+// The objects of class 11, two to a page, cost 100 each, all others more than the budget of 400. If one page may be
+// partly full, the pages cost 100, 200 and 200: two are paid. If two may be, they cost 100, 100 and 200: three are.
+#[test]
+fn a_greater_bound_needs_a_page_more(rt: HostRuntime) -> Result<(), Fail> {
+    let mut prices = [401; 20];
+    prices[11] = 100;
+    let ones = [1; 20];
+    let twos = [2; 20];
+    let found = [
+        is_budget_level(1, 512, Layout::Words, &ones, &prices, 400, 200),
+        is_budget_level(2, 512, Layout::Words, &ones, &prices, 400, 200),
+        is_budget_level(2, 512, Layout::Words, &twos, &prices, 400, 200),
+        is_budget_level(3, 512, Layout::Words, &twos, &prices, 400, 200),
+        is_budget_level(3, 512, Layout::Words, &twos, &prices, 400, 201),
+        is_budget_level(3, 512, Layout::Words, &twos[1..], &prices, 400, 200),
+    ];
+    assert_eq!(rt; found, [false, true, false, true, false, false], "budgets");
     Ok(())
 }

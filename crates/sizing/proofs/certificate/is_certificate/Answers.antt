@@ -18,8 +18,8 @@ returns-then-not-has_bounds-clause-exact c = λ needs ok counts. (
   ),
 )
 
-pub are_certificate-requires-clause-heap : goal.are_certificate-requires-clause-heap
-are_certificate-requires-clause-heap c = subst IsPaging (sym (paging_is (profile_of c.args.s.now) c.args.layout c.args.bounds.now _ c.fill_sizes-classes.ensures.sizes))
+pub are_certificate-requires : goal.are_certificate-requires
+are_certificate-requires c = subst IsPaging (sym (paging_is (profile_of c.args.s.now) c.args.layout c.args.bounds.now _ c.fill_sizes-classes.ensures.sizes))
     (paging_right (profile_of c.args.s.now) c.args.layout c.args.bounds.now _ c.args.s.now.page_size c.fill_sizes-classes.ensures.sizes (c.if-not-has_bounds.ensures.0 refl))
 
 pub returns-clause-bounds : goal.returns-clause-bounds
