@@ -1,0 +1,12 @@
+-- For `Held::open`: a heap that is opened has no objects, uses all in the opening order, and has counted 0 steps (`IsFreshHeap`).
+use Rattle.std.proofs.Common.{◌≡◌, refl}
+use Rattle.std.specs.Prelude.{ℕ, List}
+use Rattle.cf_base.specs.Settings.{profile_of}
+use Rattle.cf_base.specs.declared.settings.Settings.{Settings}
+use Rattle.sliced_heap.specs.Shown.{KeepsRules, SlicedState, opened_state}
+use Rattle.c_base.specs.HandleRules.{AreFirstHandles}
+use Rattle.held_sliced.specs.Calls.{IsFreshHeap}
+
+pub fresh : (s : Settings) (quantum last : ℕ) (handles : List ℕ) → AreFirstHandles s.proxies last handles → (new : SlicedState) → new ≡ opened_state s quantum
+    → KeepsRules new → IsFreshHeap (profile_of s) quantum last (record { heap = new; steps = 0; handles = handles })
+fresh s quantum last handles first new opened rules = record { heap = opened; rules = rules; steps = refl; handles = first }
