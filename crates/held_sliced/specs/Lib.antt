@@ -1,5 +1,6 @@
 pub mod Codes
 pub mod HeldState
+pub mod HandleRules
 pub mod Most
 pub mod Calls
 pub mod CallerHeap

@@ -3,6 +3,7 @@
 #![tactic(auto)]
 
 mod held;
+pub mod laws;
 pub mod most;
 pub mod sliced;
 
