@@ -1,4 +1,4 @@
-use Rattle.std.proofs.Common.{arith, sym, ◌∙◌, ap}
+use Rattle.std.proofs.Common.{arith, sym, ◌∙◌}
 use Rattle.sliced_heap.specs.Heap.{seen}
 use Rattle.sliced_heap.specs.Layout.{paging_at, tables_in}
 use Rattle.sliced_heap.proofs.Facts.{paging_ok, table_is, tables_ok}
