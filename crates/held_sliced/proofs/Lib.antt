@@ -1,3 +1,3 @@
 pub mod Fresh
 pub mod Places
-pub mod Laws
+pub mod HandleLaws

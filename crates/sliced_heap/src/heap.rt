@@ -1,6 +1,6 @@
 //! The sliced heap, closed or open, with its public calls: malloc, `has_room`, free, `step`, `left`, `moving`, read, write,
 //! `length` and `peek`. `OpenHeap` does all the work.
-ghost use Rattle.std.specs.Prelude.{◌≡◌, ◌+◌, ◌*◌, ◌≤◌, if◌then◌else◌, is_some, length, option_map, slice_get, IsErr, IsTrue, OnErr, OnOk};
+ghost use Rattle.std.specs.Prelude.{◌≡◌, ◌+◌, ◌*◌, ◌^◌, ◌<◌, ◌≤◌, if◌then◌else◌, is_some, length, option_map, slice_get, IsErr, IsTrue, OnErr, OnOk};
 ghost use Rattle.cf_model.specs.Costs.{words_touched};
 ghost use Rattle.slice_model.specs.Ordered.{HappensInOrder};
 ghost use Rattle.slice_model.specs.Runs.{Happens, Free, Malloc, Read, Step, Write};
@@ -56,7 +56,8 @@ impl SlicedHeap {
 
     /// The memory that `open_heap` asks for. The bytes of the `SlicedHeap` itself, which its owner keeps, aren't counted.
     pub fn bytes_needed(s: &Settings) -> BytesNeeded
-        ensures { result ≡ sliced_bytes (profile_of s.now) }
+        ensures needed { result ≡ sliced_bytes (profile_of s.now) }
+        ensures few { result.total < 2 ^ 44 }
     {
         OpenHeap::bytes_needed(s)
     }

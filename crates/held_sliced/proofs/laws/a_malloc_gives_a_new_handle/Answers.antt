@@ -1,4 +1,4 @@
-use Rattle.held_sliced.proofs.Laws.{malloc_is_new}
+use Rattle.held_sliced.proofs.HandleLaws.{malloc_is_new}
 use Rattle.held_sliced.proofs.laws.a_malloc_gives_a_new_handle.Goals as goal
 
 pub returns : goal.returns

@@ -1,4 +1,4 @@
-use Rattle.held_sliced.proofs.Laws.{free_is_refused, length_is_refused, read_is_refused, write_is_refused}
+use Rattle.held_sliced.proofs.HandleLaws.{free_is_refused, length_is_refused, read_is_refused, write_is_refused}
 use Rattle.held_sliced.proofs.laws.a_stale_handle_is_refused.Goals as goal
 
 pub returns-clause-free : goal.returns-clause-free

@@ -1,4 +1,4 @@
-use Rattle.held_sliced.proofs.Laws.{free_keeps, fresh_keeps, malloc_keeps, others_keep, step_keeps, write_keeps}
+use Rattle.held_sliced.proofs.HandleLaws.{free_keeps, fresh_keeps, malloc_keeps, others_keep, step_keeps, write_keeps}
 use Rattle.held_sliced.proofs.laws.every_call_keeps_the_handles.Goals as goal
 
 pub returns-clause-opened : goal.returns-clause-opened

@@ -137,7 +137,7 @@ write_refused : (old new : HeldState) (position : Position) (bytes : List ℕ) (
     → (code ≡ pos 4) × (working_in new.heap ≡ working_in old.heap)
 write_refused old new position bytes code (Ok u) k is by_code step = absurd (nothing_there old position.number step.object k is step.found)
 write_refused old new position bytes code (Err access.Unknown) k is by_code step = (by_code, step.1)
-write_refused old new position bytes code (Err access.Range) k is by_code step = absurd (no_object old position.number step.0.0 k is step.0.1.0)
+write_refused old new position bytes code (Err access.Range) k is by_code step = absurd (no_object old position.number step.0.0 k is step.0.1)
 
 pub write_is_refused : (old new : HeldState) (handle from : ℕ) (bytes : List ℕ) (code : ℤ) → IsWriteCall old handle from bytes code new → KeepsHandles old
     → number_in old.handles handle ≡ none → (code ≡ pos 4) × (working_in new.heap ≡ working_in old.heap)
@@ -150,7 +150,7 @@ read_refused : (old : HeldState) (position : Position) (before after : List ℕ)
     → (code ≡ pos 4) × (after ≡ before)
 read_refused old position before after code (Ok u) k is by_code same step = absurd (nothing_there old position.number step.0.object k is step.0.found)
 read_refused old position before after code (Err access.Unknown) k is by_code same step = (by_code, same refl)
-read_refused old position before after code (Err access.Range) k is by_code same step = absurd (no_object old position.number step.0.0 k is step.0.1.0)
+read_refused old position before after code (Err access.Range) k is by_code same step = absurd (no_object old position.number step.0.0 k is step.0.1)
 
 pub read_is_refused : (old new : HeldState) (handle from : ℕ) (before after : List ℕ) (code : ℤ) → IsReadCall old handle from before code after new
     → KeepsHandles old → number_in old.handles handle ≡ none → (code ≡ pos 4) × (after ≡ before)
