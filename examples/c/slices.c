@@ -11,7 +11,7 @@ static uint64_t taken(nph_sliced_heap *heap) {
 }
 
 int main(void) {
-    static const uint32_t sizes[CYCLES] = {2000, 100, 1000, 600, 2000, 500, 100, 3000, 40, 700, 1000, 100, 500, 60};
+    static const uint32_t sizes[CYCLES] = {1000, 1000, 1000, 1000, 1000, 3000, 40, 1000, 100, 1000, 500, 60, 1000, 20};
     nph_sliced_heap heap = NPH_SLICED_HEAP;
     uint32_t queue[QUEUE], first = 0, last = 0, words, moving;
     if (nph_sliced_open(&heap, 8, 4096, QUEUE, QUANTUM) != NPH_OK) return 1;
