@@ -22,10 +22,10 @@ use Rattle.sliced_heap.specs.Steps.{fault_in}
 use Rattle.cf_lemmas.proofs.MapValues.{get-map_values}
 use Rattle.c_base.specs.Codes.{access_code}
 use Rattle.c_base.specs.HandleRules.{AreHandles}
-use Rattle.c_base.specs.Handles.{handle_of, none, number_in}
+use Rattle.c_base.specs.Handles.{none, number_in}
 use Rattle.c_base.proofs.Generations.{handle_small, length-raised, names_itself}
 use Rattle.c_base.proofs.HandleLaws.{first_are_handles, raised_handles}
-use Rattle.held_sliced.specs.Calls.{IsCall, IsFreeCall, IsFreshHeap, IsLengthCall, IsMallocCall, IsReadCall, IsStepCall, IsWriteCall, found_code, found_number, malloc_number, raised_by}
+use Rattle.held_sliced.specs.Calls.{IsFreeCall, IsFreshHeap, IsLengthCall, IsMallocCall, IsReadCall, IsStepCall, IsWriteCall, found_code, found_number, malloc_number, raised_by}
 use Rattle.held_sliced.specs.Codes.{free_code, malloc_code}
 use Rattle.held_sliced.specs.HandleRules.{IsNewHandle, KeepsHandles}
 use Rattle.held_sliced.specs.HeldState.{HeldState}
