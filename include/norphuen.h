@@ -9,9 +9,10 @@
  *   libnorphuen_nonmoving.a  Compact-fit, non-moving: a free may exchange entries of a block table. Lends nothing, since
  *                            an object's words are not side by side
  *   libnorphuen_tlsf.a       TLSF, for comparison: blocks in place of pages. No object moves or changes its length
+ *   libnorphuen_sliced.a     Compact-fit, moving, with frees in slices of a set length: "Frees in slices" below. Lends nothing
  *
  * Each has names and a type of heap of its own: nph_open and nph_heap, nph_nm_open and nph_nm_heap, nph_tlsf_open and
- * nph_tlsf_heap, and so on. The comments below speak of the short names, those of the moving library. With the macro
+ * nph_tlsf_heap, nph_sliced_open and nph_sliced_heap, and so on. The comments below speak of the short names, those of the moving library. With the macro
  * NPH_USE_NONMOVING or NPH_USE_TLSF, defined before the header is included, the short names mean that library instead.
  *
  * The program defines the three functions rattle_alloc, rattle_realloc and rattle_dealloc, by which the library takes
@@ -59,16 +60,19 @@ extern "C" {
 typedef struct nph_heap { void *at; uint32_t last; bool is_open; bool is_lent; } nph_heap;
 typedef struct nph_nm_heap { void *at; uint32_t last; bool is_open; bool is_lent; } nph_nm_heap;
 typedef struct nph_tlsf_heap { void *at; uint32_t last; bool is_open; bool is_lent; } nph_tlsf_heap;
+typedef struct nph_sliced_heap { void *at; uint32_t last; bool is_open; } nph_sliced_heap;
 
 /* A closed heap, to initialize or to assign. A static heap is closed without it; with it gcc -pedantic warns. */
 #ifdef __cplusplus
 #define NPH_HEAP nph_heap{}
 #define NPH_NM_HEAP nph_nm_heap{}
 #define NPH_TLSF_HEAP nph_tlsf_heap{}
+#define NPH_SLICED_HEAP nph_sliced_heap{}
 #else
 #define NPH_HEAP (nph_heap){ NULL, 0, false, false }
 #define NPH_NM_HEAP (nph_nm_heap){ NULL, 0, false, false }
 #define NPH_TLSF_HEAP (nph_tlsf_heap){ NULL, 0, false, false }
+#define NPH_SLICED_HEAP (nph_sliced_heap){ NULL, 0, false }
 #endif
 
 /* What a call returns. A call that does not return NPH_OK writes nothing through its pointers. */
@@ -90,7 +94,9 @@ typedef enum nph_status {
     NPH_PROXIES = 14,    /* the same: proxies are 1 to 65536 */
     NPH_REGION = 15,     /* the same: pages * page_bytes is at most 67108864 */
     NPH_NOT_LENT = 16,   /* nph_return: the heap is not lent */
-    NPH_ENTRIES = 17     /* nph_pages_needed: there are more than 64 needs */
+    NPH_ENTRIES = 17,    /* nph_pages_needed: there are more than 64 needs */
+    NPH_BUSY = 18,       /* nph_sliced_free: a job is pending; nph_sliced_malloc: no slot is left but that of the pending job */
+    NPH_QUANTUM = 19     /* nph_sliced_open: a quantum is 1 to 16384 words */
 } nph_status;
 
 /* A text for a message. */
@@ -114,6 +120,8 @@ static inline const char *nph_text(nph_status status) {
     case NPH_REGION: return "the region is too large";
     case NPH_NOT_LENT: return "the heap is not lent";
     case NPH_ENTRIES: return "too many needs";
+    case NPH_BUSY: return "a job is pending";
+    case NPH_QUANTUM: return "quantum out of range";
     default: return "no status";
     }
 }
@@ -309,6 +317,74 @@ NPH_CALL nph_status nph_nm_class_of(nph_nm_heap *heap, uint32_t bytes, uint32_t 
 NPH_CALL nph_status nph_tlsf_place(nph_tlsf_heap *heap, uint32_t handle, uint32_t *place);
 NPH_CALL nph_status nph_tlsf_lend(nph_tlsf_heap *heap, uint64_t **words);
 NPH_CALL nph_status nph_tlsf_return(nph_tlsf_heap *heap);
+
+/* Frees in slices: libnorphuen_sliced.a. A free leaves its long work, to clear a slot or to move another object into it, as a
+ * job. The free and each nph_sliced_step do a slice of it: at most as many words as the quantum. Each class has at most one
+ * partly full page, and while a job is pending that class may have two. Objects are read and written also while they move. A
+ * program calls nph_sliced_step until nph_sliced_left writes 0; it ends, since only a free begins work. */
+
+/* Opens a heap without objects, as nph_open with k = 1, whose slices have at most `quantum` words. The codes are those of
+ * nph_open, and NPH_QUANTUM. */
+NPH_CALL nph_status nph_sliced_open(nph_sliced_heap *heap, uint32_t pages, uint32_t page_bytes, uint32_t proxies, uint32_t quantum);
+
+/* As nph_bytes_needed, for nph_sliced_open with these settings and any quantum. */
+NPH_CALL nph_status nph_sliced_bytes_needed(uint32_t pages, uint32_t page_bytes, uint32_t proxies, nph_needed *needed);
+
+/* As nph_close. A pending job ends with the heap. */
+NPH_NONNULL void nph_sliced_close(nph_sliced_heap *heap);
+
+/* As nph_malloc. The slot of a pending job counts as used: fails with NPH_BUSY if only it is left. */
+NPH_CALL nph_status nph_sliced_malloc(nph_sliced_heap *heap, uint32_t bytes, uint32_t *handle);
+
+/* Frees an object, and does the first slice of the job that this leaves. Fails with NPH_UNKNOWN, or with NPH_BUSY if a job is
+ * pending. */
+NPH_CALL nph_status nph_sliced_free(nph_sliced_heap *heap, uint32_t handle);
+
+/* Does one slice of the pending job; nothing if none is pending. The last slice of a job may begin another one. */
+NPH_CALL nph_status nph_sliced_step(nph_sliced_heap *heap);
+
+/* Writes how many words the pending job has yet to clear or move; 0 if none is pending. */
+NPH_CALL nph_status nph_sliced_left(nph_sliced_heap *heap, uint32_t *words);
+
+/* Writes the object that the pending job moves; NPH_NONE if it moves none, or none is pending. */
+NPH_CALL nph_status nph_sliced_moving(nph_sliced_heap *heap, uint32_t *handle);
+
+/* As nph_write. */
+NPH_CALL nph_status nph_sliced_write(nph_sliced_heap *heap, uint32_t handle, uint32_t at, const void *bytes, size_t count);
+
+/* As nph_read. */
+NPH_CALL nph_status nph_sliced_read(nph_sliced_heap *heap, uint32_t handle, uint32_t at, void *bytes, size_t count);
+
+/* As nph_length. */
+NPH_CALL nph_status nph_sliced_length(nph_sliced_heap *heap, uint32_t handle, uint32_t *bytes);
+
+/* Returns what nph_sliced_malloc of `bytes` bytes would return now. Makes no object. */
+NPH_CALL nph_status nph_sliced_has_room(nph_sliced_heap *heap, uint32_t bytes);
+
+/* Writes the steps of the last call on the heap, but for nph_sliced_left, nph_sliced_moving and this call, which take none. */
+NPH_CALL nph_status nph_sliced_last_steps(nph_sliced_heap *heap, uint64_t *steps);
+
+/* As nph_version. */
+uint32_t nph_sliced_version(void);
+
+/* The most steps of each call, before it is made. A refused call takes at most as many.
+ * Returns the most steps of nph_sliced_malloc. */
+uint64_t nph_sliced_most_malloc(void);
+
+/* Returns the most steps of nph_sliced_free in a heap with this quantum. */
+uint64_t nph_sliced_most_free(uint32_t quantum);
+
+/* Returns the most steps of nph_sliced_step in a heap with this quantum. */
+uint64_t nph_sliced_most_step(uint32_t quantum);
+
+/* Returns the steps of nph_sliced_read or nph_sliced_write of `count` bytes from byte `at` on, if it is not refused. */
+uint64_t nph_sliced_most_access(uint32_t at, uint32_t count);
+
+/* Returns the most steps of nph_sliced_has_room. */
+uint64_t nph_sliced_most_has_room(void);
+
+/* Returns the most steps of nph_sliced_length. */
+uint64_t nph_sliced_most_length(void);
 
 /* These let `freed` and `resized` be NULL. The libraries' own functions need a pointer. */
 #define NPH_OR_NULL_OF(nph) \

@@ -41,6 +41,8 @@ package Norphuen is
    Region     : constant Code := 15;
    Not_Lent   : constant Code := 16;
    Entries    : constant Code := 17;
+   Busy       : constant Code := 18;
+   Quantum    : constant Code := 19;
 
    --  In place of a handle in Freed and Resized: no object moved.
    None : constant Unsigned_32 := Unsigned_32'Last;

@@ -5,6 +5,35 @@
 
 #define MUST(test) do { if (!(test)) { fprintf(stderr, "line %d: not so: %s\n", __LINE__, #test); return 1; } } while (0)
 
+#ifdef EACH_SLICED
+int main(void) {
+    nph_sliced_heap heap = NPH_SLICED_HEAP;
+    nph_needed needed;
+    uint32_t object, other, number;
+    uint64_t steps;
+    char back[6] = "";
+    MUST(nph_sliced_version() == NPH_VERSION);
+    MUST(nph_sliced_step(&heap) == NPH_CLOSED);
+    MUST(nph_sliced_open(&heap, 4, 500, 8, 4) == NPH_PAGE_BYTES && nph_sliced_open(&heap, 4, 512, 8, 0) == NPH_QUANTUM);
+    MUST(nph_sliced_open(&heap, 4, 512, 2, 4) == NPH_OK && nph_sliced_open(&heap, 4, 512, 2, 4) == NPH_OPEN);
+    MUST(nph_sliced_bytes_needed(4, 512, 2, &needed) == NPH_OK && needed.total > 4 * 512 && needed.largest <= needed.total);
+    MUST(nph_sliced_malloc(&heap, 200, &object) == NPH_OK && nph_sliced_malloc(&heap, 8, &other) == NPH_OK);
+    MUST(nph_sliced_malloc(&heap, 8, &number) == NPH_PROXY && nph_sliced_has_room(&heap, 8) == NPH_PROXY);
+    MUST(nph_sliced_write(&heap, object, 194, "hello", 6) == NPH_OK && nph_sliced_read(&heap, object, 194, back, 6) == NPH_OK);
+    MUST(strcmp(back, "hello") == 0);
+    MUST(nph_sliced_length(&heap, object, &number) == NPH_OK && number == 200);
+    MUST(nph_sliced_free(&heap, object) == NPH_OK && nph_sliced_free(&heap, object) == NPH_UNKNOWN);
+    MUST(nph_sliced_left(&heap, &number) == NPH_OK && number > 4 && nph_sliced_free(&heap, other) == NPH_BUSY);
+    MUST(nph_sliced_moving(&heap, &number) == NPH_OK && number == NPH_NONE);
+    MUST(nph_sliced_step(&heap) == NPH_OK && nph_sliced_last_steps(&heap, &steps) == NPH_OK && steps == 4);
+    MUST(nph_sliced_most_malloc() < 64 && nph_sliced_most_free(4) < 64 && nph_sliced_most_step(4) < nph_sliced_most_free(4));
+    MUST(nph_sliced_most_access(3, 2) > 2 && nph_sliced_most_has_room() > 0 && nph_sliced_most_length() > 1);
+    nph_sliced_close(&heap);
+    MUST(nph_sliced_last_steps(&heap, &steps) == NPH_CLOSED);
+    printf("%d.%d.%d\n", NPH_VERSION / 10000, NPH_VERSION / 100 % 100, NPH_VERSION % 100);
+    return 0;
+}
+#else
 int main(void) {
     static char all[200];
     nph_heap heap = NPH_HEAP;
@@ -36,3 +65,4 @@ int main(void) {
     printf("%d.%d.%d\n", NPH_VERSION / 10000, NPH_VERSION / 100 % 100, NPH_VERSION % 100);
     return 0;
 }
+#endif

@@ -18,7 +18,7 @@ pub struct Handle(pub u32);
 /// Why a call fails; the header explains each, `Size` under the name NPH_SIZE.
 #[derive(Clone, Copy, Debug, PartialEq, Eq)]
 #[rustfmt::skip]
-pub enum Error { Size, Proxy, Space, Unknown, Range, Kind, Closed, Open, Lent, Memory, Pages, PageBytes, Bound, Proxies, Region, NotLent, Entries }
+pub enum Error { Size, Proxy, Space, Unknown, Range, Kind, Closed, Open, Lent, Memory, Pages, PageBytes, Bound, Proxies, Region, NotLent, Entries, Busy, Quantum }
 
 /// The memory that `Heap::open` asks for: the bytes of all blocks, those of the largest block, and how many blocks.
 #[repr(C)]
@@ -152,7 +152,9 @@ fn result_of<T>(code: i32, value: T) -> Result<T, Error> {
         14 => Proxies,
         15 => Region,
         16 => NotLent,
-        _ => Entries,
+        17 => Entries,
+        18 => Busy,
+        _ => Quantum,
     })
 }
 

@@ -29,7 +29,7 @@ use Rattle.sliced_heap.proofs.ObjectBytes.{byte_by_halves, object_rewritten, wor
 use Rattle.sliced_heap.proofs.TwoParts.{word_high, word_low}
 use Rattle.sliced_heap.specs.Heap.{Heap}
 use Rattle.sliced_heap.specs.Layout.{IsValid, paging_at, plan_of, state_of, tables_in, working_of}
-use Rattle.sliced_heap.specs.Access.{HoldsBytesAt}
+use Rattle.sliced_heap.specs.Access.{HoldsBytesAt, length_in}
 use Rattle.sliced_heap.proofs.Facts.{has_place, held_bytes, no_place, plan_ok, places_are}
 use Rattle.sliced_heap.proofs.Headers.{bytes_few, head_length, holds, inside, number_low}
 use Rattle.sliced_heap.proofs.Counts.{needed_same}
@@ -199,6 +199,10 @@ module _ (h : Heap) (k : IsValid h) (q a : ℕ) (known : get h.proxies.places q 
 
     pub passes : (from count : ℕ) → size < from + count → IsOutOfReach (objects (state_of h).held) (record { number = q; from = from }) count access.Range
     passes from count more = (let e = size_is in out_of_reach h k q x found.1 from count (omega arith))
+
+    -- so the length of the object is found
+    pub length_read : Some size ≡ length_in (state_of h).held q
+    length_read = ap Some size_is ∙ sym (ap (option_map (λ (y : Placed). length y.bytes)) found.1)
 
     pub lies : (from count : ℕ) → from + count ≤ size → HoldsBytesAt h (record { number = q; from = from }) count s
     lies from count fits = record { object = x; found = found.1; within = (let e = size_is in omega arith); halves = halves_are }

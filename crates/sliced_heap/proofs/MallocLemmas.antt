@@ -1,6 +1,6 @@
 -- For `malloc`: after a slot is taken and an object is bound to it and counted, the heap is valid and has the new object, as its order determines; each test
 -- for a refusal means its cause in the model.
-use Rattle.std.proofs.Common.{◌≡◌, ◌≢◌, ℕ, ◌+◌, ◌<◌, ◌≤◌, List, length, get_or, set, replicate, ◌∷◌, Some, None, Ok, arith, refl, sym, ◌∙◌, ap}
+use Rattle.std.proofs.Common.{◌≡◌, ◌≢◌, ℕ, ◌+◌, ◌<◌, ◌≤◌, List, length, get_or, set, replicate, [], ◌∷◌, true, Some, None, Ok, arith, refl, sym, ◌∙◌, ap}
 use Rattle.std.proofs.Common.{subst, inl, inr}
 use Rattle.std.specs.Prelude.{◌↔◌, Bool, IsTrue, false, nat_eq, option_map}
 use Rattle.std.proofs.lemmas.Bool.{cases_lt, false≢true}
@@ -12,6 +12,9 @@ use Rattle.cf_lemmas.proofs.Maps.{some_inserted}
 use Rattle.cf_lemmas.proofs.MapValues.{get-map_values}
 use Rattle.cf_lemmas.proofs.Ranges.{one}
 use Rattle.cf_lemmas.proofs.Tallies.{counted_in}
+use Rattle.cf_lemmas.proofs.Tests.{eq_yes}
+use Rattle.class_lists.specs.PageLists.{pages_in}
+use Rattle.class_lists.specs.declared.Which.TheVariants.{NotFull}
 use Rattle.page_model.specs.Arrangement.{LacksRoom, live, pages_needed, pages_needed_with}
 use Rattle.page_model.specs.Bytes.{AreBytes}
 use Rattle.page_model.specs.Held.{Held, Placed, objects}
@@ -25,13 +28,16 @@ use Rattle.page_slots.specs.Tables.{AreTables, Tables}
 use Rattle.page_slots.specs.Take.{TakesAt, TakesSlot, steps_to_take as table_take}
 use Rattle.page_slots.specs.Occupying.{Occupies, FitPages, class_table}
 use Rattle.page_slots.specs.Orders.{order_of}
-use Rattle.page_slots.proofs.CallerLemmas.{class_is, refused_lacks_room, steps_same, taken_is_free, taken_next, taken_occupied, taken_serve}
+use Rattle.page_pool.specs.Pool.{is_in_pool}
+use Rattle.page_slots.proofs.CallerLemmas.{class_is, free_bare, free_page, not_full_pages_are, refused_lacks_room, steps_same, taken_is_free, taken_next, taken_occupied, taken_serve}
 use Rattle.proxy_table.specs.Proxies.{AreBelowLimit, with_place}
 use Rattle.size_classes.specs.Table.{ClassTable}
 use Rattle.slice_model.specs.State.{IsPlaceFor, Sliced, job_slot, occupied}
-use Rattle.slice_model.specs.Steps.{AddsObject, LacksProxy, LacksSlot, LacksSpace}
+use Rattle.slice_model.specs.Steps.{AddsObject, IsRefusedBy, LacksProxy, LacksSlot, LacksSpace}
+use Rattle.slice_model.specs.declared.answers.SliceRefusal.{SliceRefusal}
+use Rattle.slice_model.specs.declared.answers.SliceRefusal.TheVariants as refusal
 use Rattle.slice_model.specs.Ordered.{MallocsInOrder}
-use Rattle.slice_model.proofs.CallerLemmas.{free_is_place, get_beside, inserted_beside, kept_malloc, lacking_is_no_place, words_given}
+use Rattle.slice_model.proofs.CallerLemmas.{free_is_place, get_beside, inserted_beside, kept_malloc, lacking_is_no_place, no_place_is_lacking, words_given}
 use Rattle.step_ledger.specs.Counting.{RoseBy}
 use Rattle.step_ledger.proofs.CallerLemmas.{rose_both, rose_by}
 use Rattle.sliced_heap.specs.Costs.{malloc_cost}
@@ -51,6 +57,36 @@ one_word words a v lt = record {
     other : (w : ℕ) → IsOutside a 1 w → w ≢ a
     other w (inl l) e = omega arith
     other w (inr r) e = omega arith
+
+empty_of : (xs : List ℕ) → length xs ≡ 0 → xs ≡ []
+empty_of [] e = refl
+empty_of (x ∷ xs) e = absurd (omega arith)
+
+first_in : (free : List ℕ) → 1 ≤ length free → (page : ℕ) × (is_in_pool free page ≡ true)
+first_in [] l = absurd (omega arith)
+first_in (page ∷ free) l = (page, rw (eq_yes page page refl) refl)
+
+-- without a partly full page of class c and without a free page the tables have no slot for it
+pub no_slots : (h : Heap) (c : ℕ) → length (pages_in h.lists c NotFull) + length h.pool.free ≡ 0 → TakesSlot h.classes (tables_in h) c None (tables_in h)
+no_slots h c none = (empty_of (pages_in h.lists c NotFull) (omega arith), empty_of h.pool.free (omega arith), refl)
+
+-- with one of them there is room beside the job
+slot_is_room : (h : Heap) (k : IsValid h) (c : ℕ) → 1 ≤ length (pages_in h.lists c NotFull) + length h.pool.free
+    → LacksRoom (paging_at h) (occupied (plan_of h) (state_of h)) c → ⊥
+slot_is_room h k c some l = elim (cases_lt 0 (length (pages_in h.lists c NotFull))) [
+  | inl lt ↦ (
+      let e = not_full_pages_are (paging_at h) (paging_ok h k) (occupied (plan_of h) (state_of h)) (tables_in h) k.serve.part k.occupied c in
+      let z = l.full in
+      absurd (omega arith))
+  | inr none ↦ (
+      let p = paging_at h in
+      let first = first_in h.pool.free (omega arith) in
+      let below = k.serve.part.tables.pool.below first.0 first.1 in
+      let free = free_page (class_table p) (tables_in h) k.serve.part.tables first.0 below first.1 in
+      let bare = free_bare p (paging_ok h k) (tables_in h) k.serve.part (occupied (plan_of h) (state_of h)) k.occupied first.0 free in
+      let stands = l.taken first.0 (let e = k.serve.part.pages in omega arith) in
+      absurd (omega arith))
+]
 
 module _ (h : Heap) (k : IsValid h) (bytes c : ℕ) (found : Some c ≡ class_of h.classes.sizes bytes) where
   is : (need bytes ≤ h.settings.page_words) × (class_for (paging_at h) bytes ≡ c) × (c < classes (paging_at h))
@@ -96,6 +132,16 @@ module _ (h : Heap) (k : IsValid h) (bytes c : ℕ) (found : Some c ≡ class_of
     lacks_space over = record { fits = is.0; few = few; over = (let e = needed_is in omega arith) }
 
     module _ (within : h.needed + opens (slots h.classes.page_words h.classes.sizes c) (get_or h.live c 0) ≤ h.settings.pages) where
+      -- with a slot a malloc has no cause for a refusal
+      pub not_refused : 1 ≤ length (pages_in h.lists c NotFull) + length h.pool.free → (e : SliceRefusal) → IsRefusedBy (plan_of h) (state_of h) bytes e → ⊥
+      not_refused some refusal.Size cause = (let fits = is.0 in absurd (omega arith))
+      not_refused some refusal.Proxy cause = ne (sym (held_len h k) ∙ cause.all)
+      not_refused some refusal.Space cause = (let e = needed_is in let over = cause.over in absurd (omega arith))
+      not_refused some refusal.Busy cause =
+          let lt : class_for (paging_at h) bytes < classes (paging_at h) = rw is.1 is.2 in
+          slot_is_room h k c some (subst (LacksRoom (paging_at h) (occupied (plan_of h) (state_of h))) is.1
+          (no_place_is_lacking (plan_of h) (plan_ok h k) (state_of h) k.kept (class_for (paging_at h) bytes) lt cause.lacking))
+
       pub lacks_slot : (new : Tables) → TakesSlot h.classes (tables_in h) c None new → LacksSlot (plan_of h) (state_of h) bytes
       lacks_slot new none =
           let t : TakesSlot (class_table (paging_at h)) (tables_in h) c None new =

@@ -1,10 +1,10 @@
--- For `read` and `write` of a sliced heap: their results as the model has them, and what `find` returns: the two halves in which the words of an object in
--- motion are, or a fault.
-use Rattle.std.specs.Prelude.{◌≡◌, ℕ, ◌+◌, ◌≤◌, List, length, Option, Some, None, Result, Ok, Err}
+-- For `read`, `write` and `length` of a sliced heap: their results as the model has them, and what `find` returns: the two halves in which the words of an
+-- object in motion are, or a fault.
+use Rattle.std.specs.Prelude.{◌≡◌, ℕ, ◌+◌, ◌≤◌, List, length, Option, Some, None, Result, Ok, Err, option_map}
 use Rattle.std.specs.FinMap.{get}
 use Rattle.cf_base.specs.declared.answers.AccessFault.{AccessFault}
 use Rattle.cf_base.specs.declared.answers.AccessFault.TheVariants as access
-use Rattle.page_model.specs.Held.{Placed, objects}
+use Rattle.page_model.specs.Held.{Held, Placed, objects}
 use Rattle.slice_model.specs.Runs.{Position, IsOutOfReach}
 use Rattle.sliced_heap.specs.Halves.{halves_of}
 use Rattle.sliced_heap.specs.declared.halves.Halves.{Halves}
@@ -38,3 +38,7 @@ abbrev pub find_steps : Result Halves AccessFault → ℕ
 find_steps (Ok s) = 2
 find_steps (Err access.Unknown) = 1
 find_steps (Err access.Range) = 2
+
+-- the number of bytes of object n of the objects m; none if it is not live
+abbrev pub length_in : Held → ℕ → Option ℕ
+length_in m n = option_map (λ (x : Placed). length x.bytes) (get m n)

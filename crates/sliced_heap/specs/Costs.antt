@@ -82,3 +82,8 @@ abbrev pub access_steps : {T : Type 0} → Result T AccessFault → ℕ → ℕ 
 access_steps (Ok u) from count = 2 + words_touched from count
 access_steps (Err access.Unknown) from count = 1
 access_steps (Err access.Range) from count = 2
+
+-- the length of an object: the proxy and, if the object is live, the header
+abbrev pub length_steps : {T : Type 0} → Option T → ℕ
+length_steps (Some n) = 2
+length_steps None = 1

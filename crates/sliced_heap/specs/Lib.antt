@@ -7,3 +7,4 @@ pub mod Access
 pub mod Halves
 pub mod Writes
 pub mod Needed
+pub mod Room

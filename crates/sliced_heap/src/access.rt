@@ -1,13 +1,13 @@
 //! Reads and writes bytes of the objects of an open sliced heap, also of an object in motion, whose words are
-//! in two halves; and reads a word of the region (`peek`).
+//! in two halves; returns an object's length; and reads a word of the region (`peek`).
 ghost use Rattle.std.specs.Prelude.{◌≡◌, ◌+◌, ◌≤◌, if◌then◌else◌, is_some, length, slice_get, IsErr};
 ghost use Rattle.step_ledger.specs.Counting.{RoseBy};
 ghost use Rattle.slice_model.specs.Runs.{Happens, Read, Write};
 ghost use Rattle.sliced_heap.specs.Halves.{halves_of};
-ghost use Rattle.sliced_heap.specs.Access.{IsFound, access_fault, bytes_or_fault, find_steps};
-ghost use Rattle.sliced_heap.specs.Costs.{access_steps};
+ghost use Rattle.sliced_heap.specs.Access.{IsFound, access_fault, bytes_or_fault, find_steps, length_in};
+ghost use Rattle.sliced_heap.specs.Costs.{access_steps, length_steps};
 ghost use Rattle.sliced_heap.specs.Heap.{job_of, seen};
-ghost use Rattle.sliced_heap.specs.Layout.{IsValid, order_in, plan_of, working_of};
+ghost use Rattle.sliced_heap.specs.Layout.{IsValid, order_in, plan_of, state_of, working_of};
 
 use crate::halves::{Halves, read_halves, read_word, write_halves};
 use crate::open_heap::{OpenHeap, Pending};
@@ -26,6 +26,19 @@ impl OpenHeap {
         } else {
             None
         }
+    }
+
+    /// The length of object `h` in bytes, or `None` if the handle is not live.
+    pub fn length(&self, h: Handle, steps: &mut Steps) -> Option<u32>
+        requires { IsValid (seen self.now) }
+        ensures value { result ≡ length_in (state_of (seen self.now)).held h.0 }
+        ensures steps { RoseBy steps.old steps.new (length_steps result) }
+    {
+        let Some(place) = self.proxies.lookup(h, steps) else {
+            return None;
+        };
+        let header = read_word(&self.region, self.halves(h, place), 0, steps);
+        Some(Header::unpack(header).length)
     }
 
     /// Fills `out` with the bytes of object `h` from byte `at` on. Fails, with `out` unchanged, if the

@@ -1,15 +1,17 @@
-//! The sliced heap, closed or open, with its public calls: malloc, free, `step`, `left`, read, write and
-//! `peek`. `OpenHeap` does all the work.
-ghost use Rattle.std.specs.Prelude.{◌≡◌, ◌+◌, ◌*◌, ◌≤◌, if◌then◌else◌, is_some, length, slice_get, IsErr, IsTrue, OnErr, OnOk};
+//! The sliced heap, closed or open, with its public calls: malloc, `has_room`, free, `step`, `left`, `moving`, read, write,
+//! `length` and `peek`. `OpenHeap` does all the work.
+ghost use Rattle.std.specs.Prelude.{◌≡◌, ◌+◌, ◌*◌, ◌^◌, ◌<◌, ◌≤◌, if◌then◌else◌, is_some, length, option_map, slice_get, IsErr, IsTrue, OnErr, OnOk};
 ghost use Rattle.cf_model.specs.Costs.{words_touched};
 ghost use Rattle.slice_model.specs.Ordered.{HappensInOrder};
 ghost use Rattle.slice_model.specs.Runs.{Happens, Free, Malloc, Read, Step, Write};
 ghost use Rattle.slice_model.specs.State.{left_of};
 ghost use Rattle.step_ledger.specs.Counting.{RoseAtMost, RoseBy};
-ghost use Rattle.sliced_heap.specs.Access.{access_fault, bytes_or_fault};
+ghost use Rattle.sliced_heap.specs.Access.{access_fault, bytes_or_fault, length_in};
 ghost use Rattle.cf_base.specs.Settings.{profile_of};
+ghost use Rattle.cf_base.specs.declared.answers.Handle.{Handle};
 ghost use Rattle.sliced_heap.specs.Needed.{sliced_bytes};
-ghost use Rattle.sliced_heap.specs.Costs.{access_steps, free_cost, malloc_cost, slice_cost};
+ghost use Rattle.sliced_heap.specs.Costs.{access_steps, free_cost, length_steps, malloc_cost, slice_cost};
+ghost use Rattle.sliced_heap.specs.Room.{IsRoomAnswer, mover};
 ghost use Rattle.sliced_heap.specs.Shown.{KeepsRules, StaysOpen, closed_state, opened_state, plan_in, working_in};
 ghost use Rattle.sliced_heap.specs.Steps.{fault_in};
 
@@ -54,7 +56,8 @@ impl SlicedHeap {
 
     /// The memory that `open_heap` asks for. The bytes of the `SlicedHeap` itself, which its owner keeps, aren't counted.
     pub fn bytes_needed(s: &Settings) -> BytesNeeded
-        ensures { result ≡ sliced_bytes (profile_of s.now) }
+        ensures needed { result ≡ sliced_bytes (profile_of s.now) }
+        ensures few { result.total < 2 ^ 44 }
     {
         OpenHeap::bytes_needed(s)
     }
@@ -99,6 +102,18 @@ impl SlicedHeap {
     {
         match &mut self.inner {
             Some(open) => open.malloc(bytes, steps),
+            None => unreachable!(),
+        }
+    }
+
+    /// Returns what a malloc of `bytes` bytes would return now, without the handle: `Ok`, or its refusal. Changes nothing.
+    pub fn has_room(&self, bytes: u32, steps: &mut Steps) -> Result<(), SliceRefusal>
+        requires open { IsTrue self.now.is_open }
+        ensures value { IsRoomAnswer (plan_in self.now) (working_in self.now).state bytes result }
+        ensures steps { RoseBy steps.old steps.new 1 }
+    {
+        match &self.inner {
+            Some(open) => open.has_room(bytes, steps),
             None => unreachable!(),
         }
     }
@@ -149,6 +164,29 @@ impl SlicedHeap {
     {
         match &self.inner {
             Some(open) => open.left(),
+            None => unreachable!(),
+        }
+    }
+
+    /// The object that the pending job moves; `None` if it moves none, or no job is pending.
+    pub fn moving(&self) -> Option<Handle>
+        requires open { IsTrue self.now.is_open }
+        ensures { option_map (λ (h : Handle). h.0) result ≡ mover self.now.job }
+    {
+        match &self.inner {
+            Some(open) => open.moving(),
+            None => unreachable!(),
+        }
+    }
+
+    /// The length of object `h` in bytes, also while a job moves it; `None` if the handle is not live.
+    pub fn length(&self, h: Handle, steps: &mut Steps) -> Option<u32>
+        requires open { IsTrue self.now.is_open }
+        ensures value { result ≡ length_in self.now.held h.0 }
+        ensures steps { RoseBy steps.old steps.new (length_steps result) }
+    {
+        match &self.inner {
+            Some(open) => open.length(h, steps),
             None => unreachable!(),
         }
     }

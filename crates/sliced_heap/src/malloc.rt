@@ -1,9 +1,11 @@
 //! The call `malloc` of an open sliced heap, and its counts of objects by class and of the pages that they
-//! need, by which it is refused for space.
-ghost use Rattle.std.specs.Prelude.{◌≡◌, ◌≢◌, ◌+◌, ◌<◌, ◌≤◌, ◌↔◌, ◌∷◌, IsTrue, None, length, slice_index, slice_set};
+//! need, by which it is refused for space; and `has_room`, which returns beforehand whether a malloc would be refused.
+ghost use Rattle.std.specs.Prelude.{◌≡◌, ◌≢◌, ◌+◌, ◌<◌, ◌≤◌, ◌↔◌, ◌∷◌, IsFalse, IsTrue, None, length, slice_index, slice_set};
 ghost use Rattle.std.specs.FinMap as map;
 ghost use Rattle.cf_base.specs.Classes.{slots};
 ghost use Rattle.step_ledger.specs.Counting.{RoseBy};
+ghost use Rattle.class_lists.specs.PageLists.{pages_in};
+ghost use Rattle.class_lists.specs.declared.Which.TheVariants.{NotFull};
 ghost use Rattle.page_model.specs.Image.{header_word};
 ghost use Rattle.proxy_table.specs.Proxies.{AreBelowLimit, with_place};
 ghost use Rattle.slice_model.specs.Ordered.{HappensInOrder};
@@ -11,9 +13,11 @@ ghost use Rattle.slice_model.specs.Runs.{Happens, Malloc};
 ghost use Rattle.sliced_heap.specs.Costs.{malloc_cost};
 ghost use Rattle.sliced_heap.specs.Heap.{seen};
 ghost use Rattle.sliced_heap.specs.Layout.{IsValid, opens, order_in, plan_of, state_of, working_of};
+ghost use Rattle.sliced_heap.specs.Room.{IsRoomAnswer};
 
 use crate::open_heap::OpenHeap;
 use cf_base::Handle;
+use class_lists::Which;
 use region::Header;
 use slice_model::SliceRefusal;
 use step_ledger::Steps;
@@ -47,6 +51,38 @@ impl OpenHeap {
         let handle = self.bind(place, bytes, steps);
         self.count_in(c);
         Ok(handle)
+    }
+
+    /// Returns what a malloc of `bytes` bytes would return now, without the handle: `Ok`, or its refusal. Changes nothing.
+    pub fn has_room(&self, bytes: u32, steps: &mut Steps) -> Result<(), SliceRefusal>
+        requires { IsValid (seen self.now) }
+        ensures value { IsRoomAnswer (plan_of (seen self.now)) (state_of (seen self.now)) bytes result }
+        ensures steps { RoseBy steps.old steps.new 1 }
+    {
+        let Some(c) = self.tables.classes.class_of(bytes, steps) else {
+            return Err(SliceRefusal::Size);
+        };
+        if self.proxies.live() == self.settings.proxies {
+            return Err(SliceRefusal::Proxy);
+        }
+        if self.is_over(c) {
+            return Err(SliceRefusal::Space);
+        }
+        if self.has_slot(c) {
+            Ok(())
+        } else {
+            Err(SliceRefusal::Busy)
+        }
+    }
+
+    /// Returns whether class c has a slot that neither an object nor the job holds: whether it has a partly full page, or
+    /// a page is free.
+    fn has_slot(&self, c: u32) -> bool
+        requires { c < self.now.lists.classes }
+        ensures some { IsTrue result → 1 ≤ length (pages_in self.now.lists c NotFull) + length self.now.tables.pool.free }
+        ensures none { IsFalse result → length (pages_in self.now.lists c NotFull) + length self.now.tables.pool.free ≡ 0 }
+    {
+        self.lists.len(c, Which::NotFull) > 0 || self.tables.pool.left() > 0
     }
 
     /// The number of pages that one more object of class c adds to the pages that the objects need

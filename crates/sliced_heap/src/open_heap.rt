@@ -1,6 +1,6 @@
 //! The fields of an open sliced heap: its tables, the words of its region, and the pending job; and how a heap
 //! without objects is made. The other files of this crate have its calls.
-ghost use Rattle.std.specs.Prelude.{◌≡◌, ◌*◌, ◌≤◌, length, replicate, IfOk};
+ghost use Rattle.std.specs.Prelude.{◌≡◌, ◌*◌, ◌^◌, ◌<◌, ◌≤◌, length, replicate, IfOk};
 ghost use Rattle.cf_base.specs.Settings.{profile_of};
 ghost use Rattle.cf_base.specs.declared.kind.Layout.TheVariants.{Words};
 ghost use Rattle.class_lists.specs.PageLists.{empty_lists};
@@ -71,7 +71,8 @@ impl OpenHeap {
 
     /// The memory that `new` asks for.
     pub fn bytes_needed(s: &Settings) -> BytesNeeded
-        ensures { result ≡ sliced_bytes (profile_of s.now) }
+        ensures needed { result ≡ sliced_bytes (profile_of s.now) }
+        ensures few { result.total < 2 ^ 44 }
     {
         let layout = Layout::Words;
         let lists = ClassLists::bytes_needed(class_count(s.page_words, layout), s.pages);

@@ -1,6 +1,6 @@
 //! The call `step` of an open sliced heap, which does a slice of the pending job: it clears or moves at most a
-//! quantum of words. `left` is how many words the job has left.
-ghost use Rattle.std.specs.Prelude.{◌≡◌, ◌+◌, ◌-◌, ◌<◌, ◌≤◌, length, min, slice_index};
+//! quantum of words. `left` is how many words the job has left, `moving` which object it moves.
+ghost use Rattle.std.specs.Prelude.{◌≡◌, ◌+◌, ◌-◌, ◌<◌, ◌≤◌, length, min, option_map, slice_index};
 ghost use Rattle.step_ledger.specs.Counting.{RoseBy};
 ghost use Rattle.slice_model.specs.Ordered.{HappensInOrder, SlicesInOrder};
 ghost use Rattle.slice_model.specs.Runs.{Happens, Slices, Step};
@@ -8,6 +8,8 @@ ghost use Rattle.slice_model.specs.State.{Clear, Move, left_of};
 ghost use Rattle.sliced_heap.specs.Costs.{job_cost, part_cost, slice_cost};
 ghost use Rattle.sliced_heap.specs.Heap.{job_of, seen};
 ghost use Rattle.sliced_heap.specs.Layout.{IsValid, order_in, plan_of, state_of, working_of};
+ghost use Rattle.sliced_heap.specs.Room.{mover};
+ghost use Rattle.cf_base.specs.declared.answers.Handle.{Handle};
 
 use crate::jobs::{clear_next, move_next, words_of_slice};
 use crate::open_heap::{OpenHeap, Pending};
@@ -39,6 +41,16 @@ impl OpenHeap {
             Pending::Idle => 0,
             Pending::Clear(k) => self.tables.classes.slot_words(k.class) - k.done,
             Pending::Move(_, k) => self.tables.classes.slot_words(k.class) - k.done,
+        }
+    }
+
+    /// The object that the pending job moves; `None` if it moves none, or no job is pending.
+    pub fn moving(&self) -> Option<Handle>
+        ensures { option_map (λ (h : Handle). h.0) result ≡ mover (job_of self.now.job) }
+    {
+        match self.job {
+            Pending::Move(h, _) => Some(h),
+            _ => None,
         }
     }
 

@@ -1,0 +1,11 @@
+pub mod Codes
+pub mod HeldState
+pub mod HandleRules
+pub mod Most
+pub mod Calls
+pub mod CallerHeap
+pub mod AtPlace
+pub mod Needed
+pub mod Sliced
+pub mod Loan
+pub mod Place
