@@ -1,0 +1,13 @@
+//! An open heap of sixteen tasks in a block of memory whose address a caller in C holds: its calls, their codes and results. The
+//! library `norphuen_tasks` exports them.
+#![tactic(auto)]
+
+mod answers;
+mod handles;
+mod heap;
+mod held;
+pub mod laws;
+
+pub use answers::NphTask;
+pub use heap::NphHeap;
+pub use quota_model::Need as NphNeed;
