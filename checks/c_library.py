@@ -9,7 +9,7 @@ bindings. checks/c_library compiles it.
 import re, subprocess, sys
 from pathlib import Path
 
-HEADER, HELD = Path('include/norphuen.h'), Path('crates/held_heap/src')
+HEADER, BASE, HELD = Path('include/norphuen.h'), Path('crates/c_base/src'), Path('crates/held_heap/src')
 NUMBERS = {'u8': 'uint8_t', 'u32': 'uint32_t', 'u64': 'uint64_t', 'i32': 'nph_status', 'usize': 'size_t', 'bool': 'bool', '': 'void'}
 RUST = {'NphHeap': 'RawHeap', 'NphNeeded': 'Needed', 'NphNeed': 'Need', 'NphFreed': 'RawFreed', 'NphResized': 'RawResized', 'NphClass': 'Class', 'NphHeapTotals': 'HeapTotals'}
 ADA = {'u8': 'Unsigned_8', 'u32': 'Unsigned_32', 'u64': 'Unsigned_64', 'bool': 'Unsigned_8', '*mut u64': 'System.Address',
@@ -97,7 +97,7 @@ def structs(crate):
     module = (re.search(r'use held_heap::(\w+)::(?:NphHeap|\{[^}]*\bNphHeap\b)', text) or fail(f'{crate}: no NphHeap'))[1]
     found = {}
     aliases = {(file, there): here for here, (file, there) in ELSEWHERE.items()}
-    for file in [*sorted(HELD.glob('*.rt')), *{file for file, _ in aliases}]:
+    for file in [*sorted(BASE.glob('*.rt')), *sorted(HELD.glob('*.rt')), *{file for file, _ in aliases}]:
         if 'pub struct NphHeap {' in file.read_text() and file.stem != module:
             continue
         for name, inside in re.findall(r'#\[repr\(C\)\]\n(?:#\[[^\n]*\]\n)*pub struct (\w+) \{\n(.*?)\n\}', file.read_text(), re.S):
@@ -176,18 +176,18 @@ def header(crate):
     if ('Lends nothing' in ' '.join(said[1].replace(' * ', ' ').split())) == lends(crate):
         fail(f'the header is wrong about whether lib{crate}.a lends')
     codes = {('NPH_OK' if name == 'DONE' else 'NPH_' + name): value
-             for name, value in re.findall(r'pub const (\w+): i32 = (\d+);', (HELD / 'codes.rt').read_text())}
+             for name, value in re.findall(r'pub const (\w+): i32 = (\d+);', (BASE / 'codes.rt').read_text())}
     for name, value in codes.items():
         print(f'SAME({name} == {value}, "{name}");')
     written = set(re.findall(r'^    (NPH_\w+) = ', text, re.M))
     if written != set(codes):
-        fail(f'the header has the codes {sorted(written)}, held_heap {sorted(codes)}')
+        fail(f'the header has the codes {sorted(written)}, c_base {sorted(codes)}')
     texts = dict(re.findall(r'^    case (NPH_\w+): return "(.+)";$', text, re.M))
     if set(texts) != set(codes) or len(set(texts.values())) != len(codes):
         fail('nph_text does not return a text of its own for each code')
-    none = re.search(r'pub const NONE: u32 = (\w+);', (HELD / 'codes.rt').read_text())[1].replace('_', '')
+    none = re.search(r'pub const NONE: u32 = (\w+);', (BASE / 'codes.rt').read_text())[1].replace('_', '')
     print(f'SAME(NPH_NONE == {none}u, "NPH_NONE");')
-    version = re.search(r'pub const VERSION: u32 = (\d+);', (HELD / 'codes.rt').read_text())[1]
+    version = re.search(r'pub const VERSION: u32 = (\d+);', (BASE / 'codes.rt').read_text())[1]
     print(f'SAME(NPH_VERSION == {version}, "NPH_VERSION");')
     for name, value in re.findall(r'Kind::(Moving|NonMoving|Tlsf) => (\d),', (HELD / 'most.rt').read_text().split('pub fn kind(')[1].split('\n}')[0]):
         print(f'SAME(NPH_{name.upper()} == {value}, "NPH_{name.upper()}");')
@@ -243,7 +243,7 @@ def bindings(crate):
         given = re.findall(r'(\w+) : (\S+) :=', inside[1])
         wanted = [('At_Address' if field == 'at' else field.title(), 'System.Address' if kind == 'HeapBlock' else ADA[kind]) for field, kind in fields]
         compare_fields(crate, f'bindings/ada/norphuen.ads: {ADA[name]}', name, given, wanted)
-    codes = re.findall(r'pub const (\w+): i32 = (\d+);', (HELD / 'codes.rt').read_text())
+    codes = re.findall(r'pub const (\w+): i32 = (\d+);', (BASE / 'codes.rt').read_text())
     given = dict(re.findall(r'(\w+) +: constant Code := (\d+);', ada_text))
     ada_code = {'DONE': 'Ok', 'RANGE': 'Bad_Range', 'OPEN': 'Is_Open'}
     if given != {ada_code.get(name, name.title()): value for name, value in codes}:

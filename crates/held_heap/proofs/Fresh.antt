@@ -1,9 +1,6 @@
--- For `Held::open`: a closed manager that is opened has no objects, uses all in the opening order, and has counted 0 steps (`IsFreshHeap`). Also, how a fact
--- about a `Result` passes through `ok()` and `?`.
-use Rattle.std.proofs.Common.{◌≡◌, Some, None, refl, sym, ◌∙◌, subst}
-use Rattle.std.specs.Prelude.{ℕ, List, IfOk, IfSome, IsSome, OnOk, Option, Result, Ok, Err}
-use Rattle.std.proofs.lemmas.Option.{same_Some}
-use Rattle.core.specs.Result.{result_ok}
+-- For `Held::open`: a closed manager that is opened has no objects, uses all in the opening order, and has counted 0 steps (`IsFreshHeap`).
+use Rattle.std.proofs.Common.{refl}
+use Rattle.std.specs.Prelude.{ℕ, List, IsSome}
 use Rattle.cf_base.specs.Settings.{profile_of}
 use Rattle.cf_base.specs.declared.settings.Settings.{Settings}
 use Rattle.cf_model.specs.Ordered.{KeepsPromise}
@@ -12,30 +9,10 @@ use Rattle.cf_model.specs.State.{HeapState}
 use Rattle.cf_model.specs.Steps.{IsEmptyHeap}
 use Rattle.cf_model.proofs.CallerLemmas.{opened_in_order}
 use Rattle.held_heap.specs.Calls.{IsFreshHeap}
-use Rattle.held_heap.specs.HandleRules.{AreFirstHandles}
+use Rattle.c_base.specs.HandleRules.{AreFirstHandles}
 
 -- a manager that promises an order is opened with the settings s: it is fresh, with a count of 0 and these handles
 pub fresh_from_closed : (s : Settings) (last : ℕ) (handles : List ℕ) → AreFirstHandles s.proxies last handles → (old new : HeapState) → IsSome old.order
     → IsEmptyHeap old.kind s new → KeepsPromise old new → KeepsRules new → IsFreshHeap old.kind (profile_of s) last (record { heap = new; steps = 0; handles = handles })
 fresh_from_closed s last handles first old new some opened promise rules =
     record { words = opened.words; whole = opened_in_order s old new some opened promise; rules = rules; steps = refl; handles = first }
-
--- a clause on `Ok` holds if `ok()` returned a value
-pub at_ok : {T E : Type 0} (r : Result T E) (P : Type 0) → OnOk r P → (o : Option T) → o ≡ result_ok r → (t : T) → o ≡ Some t → P
-at_ok (Ok u) P p o e t f = p
-at_ok (Err x) P p o e t f = absurd (let z : None ≡ Some t = sym e ∙ f in cc)
-
--- a property of the value of `Ok` holds of the value that `ok()` returned
-pub ok_value : {T E : Type 0} (r : Result T E) (P : T → Type 0) → IfOk r P → (o : Option T) → o ≡ result_ok r → (t : T) → o ≡ Some t → P t
-ok_value (Ok u) P p o e t f = subst P (same_Some u t (sym e ∙ f)) p
-ok_value (Err x) P p o e t f = absurd (let z : None ≡ Some t = sym e ∙ f in cc)
-
--- a clause on `Some` holds of the value that is there
-pub at_some : {T : Type 0} (o : Option T) (P : T → Type 0) → IfSome o P → (t : T) → o ≡ Some t → P t
-at_some o P p t e = subst (λ q. IfSome q P) e p
-
--- if v has the property P, and the box of r holds v, then the box that `ok()` returned, if it returned one, has P
-pub in_box : {B V E : Type 0} (r : Result B E) (value : B → V) (v : V) (P : V → Type 0) → P v → IfOk r (λ b. value b ≡ v) → (o : Option B) → o ≡ result_ok r
-    → IfSome o (λ b. P (value b))
-in_box (Ok b) value v P p is o e = subst (λ q. IfSome q (λ b. P (value b))) (sym e) (subst P (sym is) p)
-in_box (Err x) value v P p is o e = subst (λ q. IfSome q (λ b. P (value b))) (sym e) tt

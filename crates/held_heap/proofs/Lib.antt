@@ -1,5 +1,4 @@
 pub mod Fresh
-pub mod Parts
 pub mod Loosen
 pub mod MovingPlaces
 pub mod WholeWords
@@ -12,8 +11,6 @@ pub mod TlsfPlaces
 pub mod TlsfWords
 pub mod TlsfCrosses
 pub mod TlsfRights
-pub mod Crosses
 pub mod Sent
-pub mod Generations
 pub mod HandleLaws
 pub mod PageCalls

@@ -28,7 +28,7 @@ use denote.Struct.Owning.{shape}
 use Rattle.std.specs.contracts.prelude.GlobalAllocator.TheImpl.{ghosts}
 use Rattle.held_heap.specs.HeldState.{HeldState}
 use Rattle.held_heap.specs.Moving.{open_heap}
-use Rattle.held_heap.specs.HeapBlock.{lies_in_block}
+use Rattle.c_base.specs.HeapBlock.{lies_in_block}
 use Rattle.held_heap.specs.Loose.{Fits, held_all}
 use Rattle.held_heap.specs.MovingBlock.{Names, may_free_heap, moving_owns, open_borrow}
 use Rattle.held_heap.specs.declared.loose.LooseHeld.{LooseHeld}

@@ -18,7 +18,7 @@ use denote.Struct.Owning.{shape}
 use Rattle.std.specs.contracts.prelude.GlobalAllocator.TheImpl.{ghosts}
 use Rattle.held_heap.specs.HeldState.{HeldState}
 use Rattle.held_heap.specs.NonMoving.{open_heap}
-use Rattle.held_heap.specs.HeapBlock.{lies_in_block, place_owns}
+use Rattle.c_base.specs.HeapBlock.{lies_in_block, place_owns}
 use Rattle.held_heap.specs.contracts.nonmoving.HeapBlock as P
 
 -- the machine value of a `HeapBlock` with the address p

@@ -20,11 +20,11 @@ use Rattle.quota_model.specs.declared.answers.Need.{Need}
 use Rattle.sizing.specs.Demands.{KeepsTo}
 use Rattle.sizing.specs.Heaps.{Answered, HeapRun, IsFresh, free_with, malloc_with, resize_with, write_with}
 use Rattle.held_heap.specs.Calls.{IsFreshHeap, IsMallocCall, IsResizeCall}
-use Rattle.held_heap.specs.Codes.{malloc_code, resize_code}
-use Rattle.held_heap.specs.Handles.{number_in}
+use Rattle.c_base.specs.Codes.{malloc_code, resize_code}
+use Rattle.c_base.specs.Handles.{number_in}
 use Rattle.held_heap.specs.HeldState.{HeldState}
 use Rattle.held_heap.specs.PagesNeeded.{AreLeastPages, CCall, CallRun, free_call, malloc_call, other_call, resize_call, write_call}
-use Rattle.held_heap.specs.declared.answers.NphResized.{NphResized}
+use Rattle.c_base.specs.declared.answers.NphResized.{NphResized}
 
 -- the calls of the manager that lead from s to `last`
 heap_calls : (most : Option Bounds) (needs : List Need) (s last : HeldState) (calls : List CCall) → CallRun most needs s calls last

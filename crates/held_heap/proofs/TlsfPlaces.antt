@@ -28,7 +28,7 @@ use denote.Struct.Owning.{shape}
 use Rattle.std.specs.contracts.prelude.GlobalAllocator.TheImpl.{ghosts}
 use Rattle.held_heap.specs.HeldState.{HeldState}
 use Rattle.held_heap.specs.Tlsf.{open_heap}
-use Rattle.held_heap.specs.HeapBlock.{lies_in_block}
+use Rattle.c_base.specs.HeapBlock.{lies_in_block}
 use Rattle.held_heap.specs.LooseTlsf.{Fits, held_all}
 use Rattle.held_heap.specs.TlsfBlock.{Names, may_free_heap, tlsf_owns, open_borrow}
 use Rattle.held_heap.specs.declared.loose_tlsf.LooseTlsf.{LooseTlsf}

@@ -6,7 +6,7 @@ use Rattle.cf_base.specs.declared.kind.Kind.{Kind}
 use Rattle.cf_base.specs.declared.settings.SettingFault.{SettingFault}
 use Rattle.held_heap.specs.CallerHeap.{CallerHeap, Closed, Opened, Lent}
 use Rattle.held_heap.specs.Calls.{IsFreshHeap}
-use Rattle.held_heap.specs.Codes.{fault_code}
+use Rattle.c_base.specs.Codes.{fault_code}
 use Rattle.held_heap.specs.HeldState.{HeldState}
 
 -- the heap is open, and `holds` is true of its state

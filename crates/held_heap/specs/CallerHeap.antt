@@ -1,7 +1,7 @@
 -- What a caller in C has for a heap: a closed heap, an open one, or an open one that is lent.
 use Rattle.std.specs.Prelude.{ℕ, ℤ, pos, Bool, true, false, Option, Some, None}
 use denote.RawPtr.{Ptr}
-use Rattle.held_heap.specs.Handles.{largest}
+use Rattle.c_base.specs.Handles.{largest}
 use Rattle.held_heap.specs.HeldState.{HeldState}
 
 -- The heap of a caller in C: closed, with the largest handle of the heaps before; or open in this state. While it is lent, the words of its region are the caller's, and the pointer is their address.

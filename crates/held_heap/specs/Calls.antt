@@ -21,14 +21,14 @@ use Rattle.cf_model.specs.Rules.{KeepsRules}
 use Rattle.cf_model.specs.State.{HeapState}
 use Rattle.cf_model.specs.Steps.{IsFreeStep, IsMallocStep, IsOpeningWords, IsReadAnswer, IsResizeStep, IsWriteStep, opening_order, ordered_heap}
 use Rattle.step_ledger.specs.Counting.{RoseAtMost, RoseBy}
-use Rattle.held_heap.specs.Codes.{access_code, free_code, malloc_code, resize_code}
-use Rattle.held_heap.specs.HandleRules.{AreFirstHandles}
-use Rattle.held_heap.specs.Handles.{handle_of, moved_handle, number_in, raised_by}
+use Rattle.c_base.specs.Codes.{access_code, free_code, malloc_code, resize_code}
+use Rattle.c_base.specs.HandleRules.{AreFirstHandles}
+use Rattle.c_base.specs.Handles.{handle_of, moved_handle, number_in, raised_by}
 use Rattle.held_heap.specs.HeldState.{HeldState}
-use Rattle.held_heap.specs.declared.answers.NphClass.{NphClass}
-use Rattle.held_heap.specs.declared.answers.NphFreed.{NphFreed}
-use Rattle.held_heap.specs.declared.answers.NphResized.{NphResized}
-use Rattle.held_heap.specs.declared.answers.NphHeapTotals.{NphHeapTotals}
+use Rattle.c_base.specs.declared.answers.NphClass.{NphClass}
+use Rattle.c_base.specs.declared.answers.NphFreed.{NphFreed}
+use Rattle.c_base.specs.declared.answers.NphResized.{NphResized}
+use Rattle.c_base.specs.declared.answers.NphHeapTotals.{NphHeapTotals}
 
 -- `new` is a heap that was just opened with the settings p: it has no objects, its pages, numbers and blocks are in the opening order, its count is 0, and its handles
 -- are larger than `last`

@@ -1,12 +1,9 @@
 pub mod Codes
-pub mod Handles
-pub mod Frees
 pub mod HeldState
 pub mod HandleRules
 pub mod Calls
 pub mod CallerHeap
 pub mod AtPlace
-pub mod HeapBlock
 pub mod Written
 pub mod Loose
 pub mod LooseLoan
@@ -27,4 +24,3 @@ pub mod Needed
 pub mod Most
 pub mod Slots
 pub mod PagesNeeded
-pub mod Version

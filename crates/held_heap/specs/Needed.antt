@@ -9,8 +9,9 @@ use Rattle.cf_base.specs.declared.settings.SettingFault.{SettingFault}
 use Rattle.cf_base.specs.declared.needed.BytesNeeded.{BytesNeeded}
 use Rattle.paged_heap.specs.Needed.{paged_bytes}
 use Rattle.tag_heap.specs.Needed.{tag_bytes}
-use Rattle.held_heap.specs.Codes.{fault_code}
-use Rattle.held_heap.specs.declared.answers.NphNeeded.{NphNeeded}
+use Rattle.c_base.specs.Codes.{fault_code}
+use Rattle.c_base.specs.Needed.{shown_bytes}
+use Rattle.c_base.specs.declared.answers.NphNeeded.{NphNeeded}
 
 -- what an open manager of each kind asks for
 abbrev pub manager_bytes : Kind → Profile → BytesNeeded
@@ -29,10 +30,6 @@ held_size HalfFit = 0
 -- the manager, the handles of `count` numbers, and the block of the open heap
 abbrev pub held_bytes : Kind → Profile → ℕ → BytesNeeded
 held_bytes kind p count = both (manager_bytes kind p) (both (one_block (4 * count)) (one_block (held_size kind)))
-
--- the same numbers for a caller in C
-abbrev pub shown_bytes : BytesNeeded → NphNeeded
-shown_bytes b = record { total = b.total; largest = b.largest; blocks = b.blocks }
 
 -- A call for the memory of a heap. The first argument is the first setting out of range: its code is returned, and the caller's numbers stay. If it is `None`
 -- the code is 0, and the numbers are those of the settings p.

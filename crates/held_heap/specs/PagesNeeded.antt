@@ -17,8 +17,8 @@ use Rattle.sizing.specs.declared.by_numbers.NeedsFault.{NeedsFault}
 use Rattle.held_heap.specs.Calls.{IsFreeCall, IsMallocCall, IsResizeCall, IsWriteCall}
 use Rattle.held_heap.specs.Codes.{needs_code}
 use Rattle.held_heap.specs.HeldState.{HeldState}
-use Rattle.held_heap.specs.declared.answers.NphFreed.{NphFreed}
-use Rattle.held_heap.specs.declared.answers.NphResized.{NphResized}
+use Rattle.c_base.specs.declared.answers.NphFreed.{NphFreed}
+use Rattle.c_base.specs.declared.answers.NphResized.{NphResized}
 
 -- With so many pages of `page_bytes` bytes a fresh heap with slots of this layout, whatever its bounds, refuses no malloc (`mallocs`) and no resize (`resizes`)
 -- for space while the program keeps to its needs; with fewer a malloc of some such program is refused (`least`). The needs declare at most 65,536 objects.

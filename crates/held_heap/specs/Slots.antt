@@ -8,7 +8,7 @@ use Rattle.cf_model.specs.Steps.{slot_in}
 use Rattle.paged_heap.specs.Slots.{slot_words_steps}
 use Rattle.step_ledger.specs.Counting.{RoseBy}
 use Rattle.held_heap.specs.Calls.{found_code, found_number}
-use Rattle.held_heap.specs.Handles.{number_in}
+use Rattle.c_base.specs.Handles.{number_in}
 use Rattle.held_heap.specs.HeldState.{HeldState}
 
 -- the words of the slot of object n, which its free would return; none if it is not live

@@ -13,7 +13,7 @@ use types.SemTy.{Body}
 use Rattle.std.specs.Prelude.{ℕ, List, [], ◌∷◌, Option, Some, None, length}
 use Rattle.std.specs.Coded.{Coded, coded_option}
 use Rattle.std.specs.contracts.prelude.GlobalAllocator.TheImpl.{ghosts}
-use Rattle.held_heap.specs.HeapBlock.{lies_in_block}
+use Rattle.c_base.specs.HeapBlock.{lies_in_block}
 use Rattle.held_heap.specs.HeldState.{HeldState}
 use Rattle.held_heap.specs.LooseTlsf.{Fits, held_all}
 use Rattle.held_heap.specs.Tlsf.{open_heap}

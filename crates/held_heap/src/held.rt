@@ -3,10 +3,11 @@
 ghost use Rattle.std.specs.Prelude.{◌≡◌, IfSome, IsSome};
 ghost use Rattle.cf_base.specs.Settings.{profile_of};
 
-use crate::answers::{NphClass, NphFreed, NphHeapTotals, NphResized};
-use crate::codes::{DONE, UNKNOWN, of_access, of_refusal, of_resize};
-use crate::handles::Handles;
 use crate::of_kind::OfKind;
+use c_base::{
+    DONE, Handles, NphClass, NphFreed, NphHeapTotals, NphResized, UNKNOWN, of_access, of_refusal,
+    of_resize,
+};
 use cf_base::{Handle, Settings};
 use std::alloc::Global;
 use std::marker::Model;
@@ -38,7 +39,7 @@ impl<H: OfKind> Model for Held<H> {
 }
 
 impl<H: OfKind> Held<H> {
-    ghost use Rattle.held_heap.specs.Handles.{largest};
+    ghost use Rattle.c_base.specs.Handles.{largest};
     ghost use Rattle.held_heap.specs.Calls.{IsFiguresCall, IsFreeCall, IsFreshHeap, IsLengthCall, IsMallocCall, IsPlaceCall, IsReadCall, IsResizeCall, IsRoomCall, IsStepsCall, IsTotalsCall, IsWriteCall};
 
     /// Opens `heap`, a manager of its type's kind that promises an order, without objects and in a block of its own. Its

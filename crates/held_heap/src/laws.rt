@@ -13,28 +13,12 @@ ghost use Rattle.page_model.specs.Steps.{resized};
 ghost use Rattle.quota_model.specs.declared.answers.Need.{Need};
 ghost use Rattle.sizing.specs.Demands.{KeepsTo};
 ghost use Rattle.held_heap.specs.Calls.{IsFreeCall, IsFreshHeap, IsLengthCall, IsMallocCall, IsPlaceCall, IsReadCall, IsResizeCall, IsWriteCall};
-ghost use Rattle.held_heap.specs.Frees.{raised_all, times};
-ghost use Rattle.held_heap.specs.HandleRules.{AreFirstHandles, AreHandles, IsNewHandle, KeepsHandles};
-ghost use Rattle.held_heap.specs.Handles.{first_handles, handle_of, largest, none, number_in};
+ghost use Rattle.c_base.specs.Handles.{none, number_in};
+ghost use Rattle.held_heap.specs.HandleRules.{IsNewHandle, KeepsHandles};
 ghost use Rattle.held_heap.specs.HeldState.{HeldState};
 ghost use Rattle.held_heap.specs.PagesNeeded.{AreLeastPages, CCall, CallRun};
-ghost use Rattle.held_heap.specs.declared.answers.NphFreed.{NphFreed};
-ghost use Rattle.held_heap.specs.declared.answers.NphResized.{NphResized};
-
-/// An object's handle names it. From the first free of its number on, it names nothing until that number was freed
-/// `2 ^ 32 / length handles - 1` times, where `ns` are the numbers that were freed since, in any order.
-pub fn a_freed_handle_names_nothing()
-    ensures names { (handles : List ℕ) (n : ℕ) → AreHandles handles → n < length handles → number_in handles (handle_of handles n) ≡ n }
-    ensures freed { (handles ns : List ℕ) (n : ℕ) → AreHandles handles → n < length handles → 1 ≤ times n ns
-        → times n ns + 1 < 2 ^ 32 / length handles → number_in (raised_all handles ns) (handle_of handles n) ≡ none }
-{}
-
-/// If no handle has reached the last three generations, a handle of a heap names nothing in the next heap of the same
-/// `nph_heap`, whatever its number of proxies.
-pub fn a_handle_of_an_earlier_heap_names_nothing()
-    ensures { (old new : List ℕ) (n proxies : ℕ) → n < length old → AreFirstHandles proxies (largest old) new
-        → largest old + 3 * length new < 2 ^ 32 → number_in new (handle_of old n) ≡ none }
-{}
+ghost use Rattle.c_base.specs.declared.answers.NphFreed.{NphFreed};
+ghost use Rattle.c_base.specs.declared.answers.NphResized.{NphResized};
 
 /// An opened heap keeps the rules of the handles, and each call keeps them.
 pub fn every_call_keeps_the_handles()

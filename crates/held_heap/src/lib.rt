@@ -2,25 +2,18 @@
 //! libraries `norphuen`, `norphuen_nonmoving` and `norphuen_tlsf` export them, each for one manager.
 #![tactic(auto)]
 
-mod answers;
-mod codes;
-mod handles;
 mod held;
 pub mod laws;
 mod loose;
 mod loose_tlsf;
 pub mod most;
 pub mod moving;
-mod needed;
 pub mod nonmoving;
 mod of_kind;
 mod pages;
-mod place;
 mod slots;
 pub mod tlsf;
-mod unboxed;
 
-pub use answers::{NphClass, NphFreed, NphHeapTotals, NphNeeded, NphResized};
-pub use codes::{CLOSED, VERSION};
+pub use c_base::{CLOSED, NphClass, NphFreed, NphHeapTotals, NphNeeded, NphResized, VERSION};
 pub use pages::pages_needed;
 pub use sizing::Need as NphNeed;

@@ -7,7 +7,7 @@ ghost use Rattle.paged_heap.specs.PagedState.{region_in};
 ghost use Rattle.held_heap.specs.Loose.{words_of};
 ghost use Rattle.held_heap.specs.LooseLoan.{LendsAllOf, LendsAllIn, LendsAllWords};
 
-use crate::handles::Handles;
+use c_base::Handles;
 use paged_heap::OpenHeap;
 use std::alloc::Global;
 use std::marker::PhantomData;

@@ -6,7 +6,7 @@ ghost use Rattle.std.specs.Borrow.{sem};
 ghost use Rattle.held_heap.specs.LooseTlsf.{region_in, words_of};
 ghost use Rattle.held_heap.specs.LooseTlsfLoan.{LendsAllIn, LendsAllOfBlocks, LendsAllOfOpen, LendsAllWords};
 
-use crate::handles::Handles;
+use c_base::Handles;
 use cf_base::Settings;
 use proxy_table::ProxyTable;
 use region::Region;

@@ -6,14 +6,10 @@ ghost use Rattle.std.specs.Borrow.{sem};
 ghost use Rattle.std.specs.Coded.{coded_option};
 ghost use Rattle.held_heap.specs.HeldState.{HeldState, held_code};
 ghost use Rattle.held_heap.specs.NonMoving.{open_heap};
-ghost use Rattle.held_heap.specs.HeapBlock.{place_owns};
+ghost use Rattle.c_base.specs.HeapBlock.{place_owns};
 
-use crate::answers::NphNeeded;
-use crate::codes::{DONE, MEMORY, OPEN, of_setting};
 use crate::held::Held;
-use crate::needed::needed_with;
-use crate::place::Sealed;
-use crate::unboxed::Unboxed;
+use c_base::{DONE, MEMORY, NphNeeded, OPEN, Sealed, Unboxed, needed_with, of_setting};
 use cf_base::Settings;
 use nonmoving_heap::NonMovingHeap;
 use std::alloc::Global;

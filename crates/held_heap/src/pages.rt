@@ -3,7 +3,7 @@ ghost use Rattle.std.specs.Prelude.{◌≡◌};
 ghost use Rattle.held_heap.specs.Codes.{needs_code};
 ghost use Rattle.held_heap.specs.PagesNeeded.{IsPagesCall};
 
-use crate::codes::{DONE, ENTRIES, PROXIES, SIZE, of_setting};
+use c_base::{DONE, ENTRIES, PROXIES, SIZE, of_setting};
 use cf_base::Layout;
 use sizing::{Need, NeedsFault};
 

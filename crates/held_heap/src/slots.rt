@@ -2,8 +2,8 @@
 //! length.
 ghost use Rattle.held_heap.specs.Slots.{IsClassCall, IsSlotWordsCall};
 
-use crate::codes::{DONE, SIZE, UNKNOWN};
 use crate::held::Held;
+use c_base::{DONE, SIZE, UNKNOWN};
 use cf_base::Handle;
 use paged_heap::{PageKind, PagedHeap};
 use step_ledger::Meter;

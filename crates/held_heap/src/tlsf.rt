@@ -10,13 +10,11 @@ ghost use Rattle.held_heap.specs.TlsfBlock.{tlsf_owns, maybe_ptr_code};
 ghost use Rattle.held_heap.specs.CallerHeap.{heap_of, lent_now, opened_now};
 ghost use denote.RawPtr.{Ptr};
 
-use crate::answers::NphNeeded;
-use crate::codes::{CLOSED, DONE, LENT, MEMORY, NOT_LENT, OPEN, of_setting};
 use crate::held::Held;
 use crate::loose_tlsf::{LooseTlsf, all_words};
-use crate::needed::needed_with;
-use crate::place::Sealed;
-use crate::unboxed::Unboxed;
+use c_base::{
+    CLOSED, DONE, LENT, MEMORY, NOT_LENT, NphNeeded, OPEN, Sealed, Unboxed, needed_with, of_setting,
+};
 use cf_base::Settings;
 use std::alloc::Global;
 use std::marker::Model;

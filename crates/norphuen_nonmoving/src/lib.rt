@@ -1,6 +1,6 @@
 //! The non-moving manager as a library for C. `include/norphuen.h` describes each export for C. An export calls
 //! the function of `held_heap` that its comment names, and its contract is that function's. Each export but
-//! `nph_nm_close` returns a code: 0 (`DONE`) if the call is done, else the cause (`held_heap`, file `codes`).
+//! `nph_nm_close` returns a code: 0 (`DONE`) if the call is done, else the cause (`c_base`, file `codes`).
 //! While the heap is closed, each export but `nph_nm_open` and `nph_nm_close` returns `CLOSED` and changes nothing
 //! (`IsCallOnOpen`).
 #![tactic(auto)]
@@ -17,7 +17,7 @@ ghost use Rattle.held_heap.specs.Slots.{IsClassCall, IsSlotWordsCall};
 ghost use Rattle.held_heap.specs.PagesNeeded.{IsPagesCall};
 ghost use Rattle.held_heap.specs.NonMovingPlace.{held_in};
 ghost use Rattle.held_heap.specs.NonMoving.{bounds};
-ghost use Rattle.held_heap.specs.Version.{version};
+ghost use Rattle.c_base.specs.Version.{version};
 
 use cf_base::{Kind, Layout};
 use held_heap::nonmoving::NphHeap;

@@ -1,7 +1,7 @@
 //! The TLSF manager as a library for C, to compare it with the other two. `include/norphuen.h` describes each
 //! export for C. An export calls the function of `held_heap` that its comment names, and its contract is that
 //! function's. Each export but `nph_tlsf_close` returns a code: 0 (`DONE`) if the call is done, else the cause
-//! (`held_heap`, file `codes`). While the heap is closed, each export but `nph_tlsf_open` and `nph_tlsf_close` returns
+//! (`c_base`, file `codes`). While the heap is closed, each export but `nph_tlsf_open` and `nph_tlsf_close` returns
 //! `CLOSED` and changes nothing; while it is lent, each but `nph_tlsf_return` and `nph_tlsf_close` returns `LENT` and
 //! changes nothing (`IsCallOnOpen`).
 #![tactic(auto)]
@@ -15,7 +15,7 @@ ghost use Rattle.held_heap.specs.Most.{IsMostAccess, IsMostFree, IsMostLength, I
 ghost use Rattle.held_heap.specs.Needed.{IsNeededCall};
 ghost use Rattle.held_heap.specs.TlsfPlace.{held_in};
 ghost use Rattle.held_heap.specs.Tlsf.{bounds};
-ghost use Rattle.held_heap.specs.Version.{version};
+ghost use Rattle.c_base.specs.Version.{version};
 
 use cf_base::Kind;
 use held_heap::tlsf::NphHeap;

@@ -22,7 +22,7 @@ use Rattle.std.specs.contracts.alloc.Global.{the_row as Z}
 use Rattle.std.proofs.alloc.Global.TheLaws.{the_row_laws as LZ}
 use Rattle.std.specs.contracts.prelude.GlobalAllocator.TheImpl.{ghosts}
 use Rattle.held_heap.specs.Moving.{open_heap as R}
-use Rattle.held_heap.proofs.Parts.{U, parts, parts_fit, take_apart}
+use Rattle.c_base.proofs.Parts.{U, parts, parts_fit, take_apart}
 use Rattle.held_heap.proofs.MovingPlaces.{place_val, place_in_at}
 use Rattle.held_heap.specs.contracts.moving.place_of as f
 use Rattle.held_heap.proofs.moving.place_of.Statement.{statement}

@@ -24,7 +24,7 @@ use Rattle.std.proofs.alloc.Global.TheLaws.{the_row_laws as LZ}
 use Rattle.std.specs.contracts.prelude.GlobalAllocator.TheImpl.{ghosts}
 use Rattle.held_heap.specs.Tlsf.{open_heap as R}
 use Rattle.held_heap.specs.contracts.tlsf.HeapBlock.{the_row as P}
-use Rattle.held_heap.proofs.Parts.{allocator_of, parts, parts_fit, put_together}
+use Rattle.c_base.proofs.Parts.{allocator_of, parts, parts_fit, put_together}
 use Rattle.held_heap.proofs.TlsfPlaces.{place_val, place_out, made_whole}
 use Rattle.held_heap.specs.contracts.tlsf.unboxed_of as f
 use Rattle.held_heap.proofs.tlsf.unboxed_of.Statement.{statement}

@@ -4,7 +4,7 @@ use denote.Param.Send.{AllSend, IsSend, owning_send, sendable, struct_send}
 use denote.Struct.Owning.{fields, shape, to}
 use denote.Struct.Struct.{exits_of}
 use Rattle.std_alloc.proofs.SendSync.{quiet}
-use Rattle.held_heap.proofs.Crosses.{place-Keyless}
+use Rattle.c_base.proofs.Crosses.{place-Keyless}
 use Rattle.held_heap.specs.NonMoving.{open_heap}
 use Rattle.held_heap.specs.contracts.nonmoving.HeapBlock.{the_row, the_type}
 use Rattle.held_heap.specs.contracts.of_kind.PagedHeapOfKind.TheImpl as of_kind

@@ -1,6 +1,6 @@
 -- The handles after any frees, and the generation of a handle.
 use Rattle.std.specs.Prelude.{ℕ, zero, suc, ◌+◌, List, [], ◌∷◌, cond, nat_eq, nat_lt}
-use Rattle.held_heap.specs.Handles.{raised}
+use Rattle.c_base.specs.Handles.{raised}
 
 -- the handles after the objects with these numbers were freed, the first of the list first
 abbrev pub raised_all : List ℕ → List ℕ → List ℕ

@@ -33,10 +33,10 @@ use Rattle.std_alloc.proofs.BoxSteps.Form as box
 use Rattle.std_alloc.proofs.BoxSteps.Steps.{box_out, box_in}
 use Rattle.std_alloc.specs.contracts.boxed.Box.into_raw_with_allocator as callee
 use Rattle.std_alloc.proofs.boxed.Box.into_raw_with_allocator.Met.{met}
-use Rattle.held_heap.proofs.Parts.{block, box_fits, pair_apart, parts, parts_fit, put_together}
-use Rattle.held_heap.specs.contracts.unboxed.Unboxed.new as f
-use Rattle.held_heap.proofs.unboxed.Unboxed.new.Statement.{statement}
-use Rattle.held_heap.proofs.unboxed.Unboxed.new.Code as code
+use Rattle.c_base.proofs.Parts.{block, box_fits, pair_apart, parts, parts_fit, put_together}
+use Rattle.c_base.specs.contracts.unboxed.Unboxed.new as f
+use Rattle.c_base.proofs.unboxed.Unboxed.new.Statement.{statement}
+use Rattle.c_base.proofs.unboxed.Unboxed.new.Code as code
 
 pub new_spec : {M : Type 1} → statement M
 new_spec 𝓤 𝓛 𝓜 𝓡 wired T A L LA g d dx dd allocator glue glued =

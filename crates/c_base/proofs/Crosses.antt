@@ -7,7 +7,7 @@ use denote.RawPtr.{Ptr}
 use Rattle.std.proofs.Crossing.{frees}
 use Rattle.std.specs.Prelude.{Option, Some, None}
 use Rattle.std_alloc.proofs.SendSync.{lies}
-use Rattle.held_heap.specs.HeapBlock.{place_owns}
+use Rattle.c_base.specs.HeapBlock.{place_owns}
 
 -- if a value of type R may go to another thread, so may what a `HeapBlock` with the address p owns: a value h of this type, or nothing
 pub place-Keyless : (R : RattleType) → IsSend R → (p : Ptr) (h : Option R.Denot) → Keyless (place_owns R p h)

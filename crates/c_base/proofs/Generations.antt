@@ -5,11 +5,11 @@ use Rattle.std.proofs.lemmas.Bool.{cond-true, cond-false, le-ltb, lt-ltb, eq-eqb
 use Rattle.std.proofs.lemmas.Nat.{and_mask, div-add-mod', mod_below, mod-mul-add, mul-le, pow-add, pow_below, same_from_place, shl-shr}
 use Rattle.std.proofs.lemmas.List.{get_or-set_same, get_or-set_other, length-set}
 use Rattle.std.proofs.Math.Nat.{max-eq_right, mod-eq_of_lt}
-use Rattle.held_heap.specs.Frees.{after, raised_all, times}
+use Rattle.c_base.specs.Frees.{after, raised_all, times}
 use Rattle.std.specs.List.{range_with_len}
 use Rattle.std.proofs.lemmas.List.FromFn.{length-range_with_len}
-use Rattle.held_heap.specs.Handles.{base_of, first_handles, handle_of, next, none, number_in, raised}
-use Rattle.held_heap.specs.HandleRules.{AreFirstHandles, AreHandles, IsCount}
+use Rattle.c_base.specs.Handles.{base_of, first_handles, handle_of, next, none, number_in, raised}
+use Rattle.c_base.specs.HandleRules.{AreFirstHandles, AreHandles, IsCount}
 
 -- the generations of `count` numbers fill 32 bits
 pub generations_whole : (count : ℕ) → IsCount count → 2 ^ 32 / count * count ≡ 2 ^ 32

@@ -26,7 +26,7 @@ use Rattle.core.proofs.alloc.Calls.{Al, handle_tells}
 use Rattle.core.proofs.cell.Inside.{Good}
 use Rattle.std_alloc.specs.Box.Ownership.{box_owns}
 use Rattle.std_alloc.proofs.ResultValues.{and_tt}
-use Rattle.held_heap.specs.contracts.unboxed.Unboxed as unboxed
+use Rattle.c_base.specs.contracts.unboxed.Unboxed as unboxed
 
 -- the machine value with the parts h, an allocator, and the address with block b and offset o
 abbrev pub parts : Val → ℕ → ℕ → Val

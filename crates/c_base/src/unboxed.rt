@@ -8,10 +8,10 @@ use std::marker::Model;
 
 /// A value (`value`, known to proofs alone) in a block at the address `at`, which `alloc` allocated and may
 /// free.
-pub(crate) struct Unboxed<T, A: Allocator> {
-    pub(crate) alloc: A,
-    pub(crate) at: *mut T,
-    pub(crate) ghost value: { T },
+pub struct Unboxed<T, A: Allocator> {
+    pub alloc: A,
+    pub at: *mut T,
+    pub ghost value: { T },
 }
 
 impl<T, A: Allocator> Model for Unboxed<T, A> {
@@ -20,7 +20,7 @@ impl<T, A: Allocator> Model for Unboxed<T, A> {
 
 impl<T: Drop, A: Allocator> Unboxed<T, A> {
     /// Takes a box apart. The value stays in its block.
-    pub(crate) fn new(value: Box<T, A>) -> Unboxed<T, A>
+    pub fn new(value: Box<T, A>) -> Unboxed<T, A>
         ensures { result.value ≡ value.value }
     {
         let (at, alloc) = Box::into_raw_with_allocator(value);
@@ -28,7 +28,7 @@ impl<T: Drop, A: Allocator> Unboxed<T, A> {
     }
 
     /// Puts the box together again, over the same block.
-    pub(crate) fn boxed(self) -> Box<T, A>
+    pub fn boxed(self) -> Box<T, A>
         ensures { result.value ≡ self.value }
     {
         let Unboxed { alloc, at } = self;

@@ -2,8 +2,8 @@
 ghost use Rattle.std.specs.Prelude.{◌≡◌, ℕ, ◌*◌, ◌%◌, ◌^◌, ◌<◌, ◌≤◌, IfSome, length};
 ghost use Rattle.std.specs.Int.{IsNextPowerOfTwo};
 ghost use Rattle.cf_base.specs.Needed.{one_block};
-ghost use Rattle.held_heap.specs.HandleRules.{AreFirstHandles};
-ghost use Rattle.held_heap.specs.Handles.{base_of, handle_of, largest, moved_handle, next, number_in, raised};
+ghost use Rattle.c_base.specs.HandleRules.{AreFirstHandles};
+ghost use Rattle.c_base.specs.Handles.{base_of, handle_of, largest, moved_handle, next, number_in, raised};
 
 use crate::codes::NONE;
 use cf_base::{BytesNeeded, Handle, numbers_from};
@@ -13,7 +13,7 @@ use std::marker::Model;
 /// For each number the handle that names it now. There are as many as the low bits of a handle, `mask`, can tell apart. No
 /// handle above `limit` has a next generation.
 #[derive(Drop)]
-pub(crate) struct Handles {
+pub struct Handles {
     of: Vec<u32>,
     mask: u32,
     limit: u32,
@@ -22,7 +22,7 @@ pub(crate) struct Handles {
 impl Model for Handles {
     ghost use Rattle.std.specs.Prelude.{ℕ, List};
     ghost use Rattle.std.specs.Coded.{coded_ℕ, coded_list};
-    ghost use Rattle.held_heap.specs.HandleRules.{AreCounted};
+    ghost use Rattle.c_base.specs.HandleRules.{AreCounted};
 
     ghost Value = { List ℕ };
 
@@ -50,7 +50,7 @@ fn base(count: u32, last: u32) -> u32
 impl Handles {
     /// The handles of a heap with this many proxies that was just opened, all larger than `last`. Returns `None` if
     /// out of memory.
-    pub(crate) fn new(alloc: Global, proxies: u32, last: u32) -> Option<Handles>
+    pub fn new(alloc: Global, proxies: u32, last: u32) -> Option<Handles>
         requires some { 1 ≤ proxies }
         requires few { proxies ≤ 65536 }
         ensures { IfSome result (λ h. AreFirstHandles proxies last h) }
@@ -66,7 +66,7 @@ impl Handles {
     }
 
     /// The memory that `new` asks for.
-    pub(crate) fn bytes_needed(proxies: u32) -> BytesNeeded
+    pub fn bytes_needed(proxies: u32) -> BytesNeeded
         requires some { 1 ≤ proxies }
         requires few { proxies ≤ 65536 }
         ensures needed { (count : ℕ) × IsNextPowerOfTwo proxies count × (result ≡ one_block (4 * count)) }
@@ -84,7 +84,7 @@ impl Handles {
     }
 
     /// The handle that C has for object `number`.
-    pub(crate) fn handle_of(&self, number: u32) -> u32
+    pub fn handle_of(&self, number: u32) -> u32
         ensures { result ≡ handle_of self.now number }
     {
         self.of[self.number(number) as usize]
@@ -92,7 +92,7 @@ impl Handles {
 
     /// The number of the object that a handle of C names; `NONE`, which is never live, if it is not the handle that its
     /// number has now.
-    pub(crate) fn number_in(&self, handle: u32) -> u32
+    pub fn number_in(&self, handle: u32) -> u32
         ensures { result ≡ number_in self.now handle }
     {
         let number = self.number(handle);
@@ -115,7 +115,7 @@ impl Handles {
     }
 
     /// Raises the handle of an object that was freed.
-    pub(crate) fn raise(&mut self, handle: u32)
+    pub fn raise(&mut self, handle: u32)
         ensures { self.new ≡ raised self.old (handle % length self.old) }
     {
         let number = self.number(handle) as usize;
@@ -123,7 +123,7 @@ impl Handles {
     }
 
     /// The handle that C has for the object that moved; `NONE` if no object did.
-    pub(crate) fn of_moved(&self, moved: Option<Handle>) -> u32
+    pub fn of_moved(&self, moved: Option<Handle>) -> u32
         ensures { result ≡ moved_handle self.now moved }
     {
         match moved {
@@ -133,7 +133,7 @@ impl Handles {
     }
 
     /// The largest handle.
-    pub(crate) fn largest(&self) -> u32
+    pub fn largest(&self) -> u32
         ensures { result ≡ largest self.now }
     {
         self.of.iter().fold(0, |most, handle| most.max(*handle))

@@ -1,5 +1,5 @@
-use Rattle.held_heap.proofs.Generations.{names_itself, refused_since_freed}
-use Rattle.held_heap.proofs.laws.a_freed_handle_names_nothing.Goals as goal
+use Rattle.c_base.proofs.Generations.{names_itself, refused_since_freed}
+use Rattle.c_base.proofs.laws.a_freed_handle_names_nothing.Goals as goal
 
 pub returns-clause-names : goal.returns-clause-names
 returns-clause-names c handles n k within = names_itself handles k n within

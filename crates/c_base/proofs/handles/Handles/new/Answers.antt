@@ -2,9 +2,9 @@
 use Rattle.std.proofs.Common.{◌≡◌, length, ap, ◌∙◌, arith}
 use Rattle.std.proofs.lemmas.List.FromFn.{length-range_with_len}
 use Rattle.std.specs.List.{range_with_len}
-use Rattle.held_heap.proofs.Fresh.{ok_value}
-use Rattle.held_heap.proofs.Generations.{first_are, fits_proxies}
-use Rattle.held_heap.proofs.handles.Handles.new.Goals as goal
+use Rattle.c_base.proofs.Opened.{ok_value}
+use Rattle.c_base.proofs.Generations.{first_are, fits_proxies}
+use Rattle.c_base.proofs.handles.Handles.new.Goals as goal
 
 pub base-base-requires-clause-few : goal.base-base-requires-clause-few
 base-base-requires-clause-few c =

@@ -35,10 +35,10 @@ use Rattle.std_alloc.proofs.BoxSteps.Form as box
 use Rattle.std_alloc.proofs.BoxSteps.Steps.{box_out, box_in}
 use Rattle.std_alloc.specs.contracts.boxed.Box.from_raw as callee
 use Rattle.std_alloc.proofs.boxed.Box.from_raw.Met.{met}
-use Rattle.held_heap.proofs.Parts.{U, box_fits, parts, parts_fit, take_apart}
-use Rattle.held_heap.specs.contracts.unboxed.Unboxed.boxed as f
-use Rattle.held_heap.proofs.unboxed.Unboxed.boxed.Statement.{statement}
-use Rattle.held_heap.proofs.unboxed.Unboxed.boxed.Code as code
+use Rattle.c_base.proofs.Parts.{U, box_fits, parts, parts_fit, take_apart}
+use Rattle.c_base.specs.contracts.unboxed.Unboxed.boxed as f
+use Rattle.c_base.proofs.unboxed.Unboxed.boxed.Statement.{statement}
+use Rattle.c_base.proofs.unboxed.Unboxed.boxed.Code as code
 
 pub boxed_spec : {M : Type 1} → statement M
 boxed_spec 𝓤 𝓛 𝓜 𝓡 wired T A L LA g d dx dd allocator glue glued =

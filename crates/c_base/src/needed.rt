@@ -2,7 +2,7 @@
 ghost use Rattle.std.specs.Prelude.{◌≡◌, ℕ, ◌*◌, ◌^◌, ◌<◌, ◌≤◌};
 ghost use Rattle.std.specs.Int.{IsNextPowerOfTwo};
 ghost use Rattle.cf_base.specs.Needed.{both, one_block};
-ghost use Rattle.held_heap.specs.Needed.{shown_bytes};
+ghost use Rattle.c_base.specs.Needed.{shown_bytes};
 
 use crate::answers::NphNeeded;
 use crate::handles::Handles;
@@ -10,7 +10,7 @@ use cf_base::BytesNeeded;
 
 /// What `nph_open` asks for: what the manager does (`manager`), the handles of this many proxies, and a block of
 /// `held_bytes` bytes for the open heap.
-pub(crate) fn needed_with(manager: BytesNeeded, proxies: u32, held_bytes: u64) -> NphNeeded
+pub fn needed_with(manager: BytesNeeded, proxies: u32, held_bytes: u64) -> NphNeeded
     requires some { 1 ≤ proxies }
     requires low { proxies ≤ 65536 }
     requires few { manager.blocks < 2 ^ 31 }

@@ -1,7 +1,7 @@
 -- The low bits of a handle.
 use Rattle.std.proofs.Common.{◌≡◌, ◌-◌, ◌%◌, List, ℕ, length, bit_and, ap, ◌∙◌, arith}
-use Rattle.held_heap.proofs.Generations.{low_bits}
-use Rattle.held_heap.proofs.handles.Handles.number.Goals as goal
+use Rattle.c_base.proofs.Generations.{low_bits}
+use Rattle.c_base.proofs.handles.Handles.number.Goals as goal
 
 pub returns-clause-value : goal.returns-clause-value
 returns-clause-value c =

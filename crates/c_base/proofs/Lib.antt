@@ -1,0 +1,5 @@
+pub mod Opened
+pub mod Parts
+pub mod Crosses
+pub mod Generations
+pub mod HandleLaws

@@ -1,0 +1,34 @@
+-- What is true of the handles of a heap: when it is opened, and in every state.
+use Rattle.std.specs.Prelude.{◌≡◌, ℕ, ◌/◌, ◌*◌, ◌^◌, ◌+◌, ◌<◌, ◌≤◌, List, length, slice_index}
+use Rattle.c_base.specs.Handles.{first_handles}
+
+-- a count of handles: a power of two, at most 65,536
+pub record IsCount (count : ℕ) : Type 0 where
+  pub bits : ℕ
+  pub power : count ≡ 2 ^ bits
+  pub some : 1 ≤ count
+  pub few : count < 131072
+
+-- the mask of the low bits of these handles, and the largest handle that has a next generation
+pub record AreCounted (handles : List ℕ) (mask limit : ℕ) : Type 0 where
+  pub count : IsCount (length handles)
+  pub mask_is : mask + 1 ≡ length handles
+  pub limit_is : limit + 2 * length handles + 1 ≡ 2 ^ 32
+
+-- The handles of a heap with this many proxies that was just opened. There are as many as the least power of two that is not below `proxies`, and all are larger than `last`.
+pub record AreFirstHandles (proxies last : ℕ) (handles : List ℕ) : Type 0 where
+  pub count : IsCount (length handles)
+  pub enough : proxies ≤ length handles
+  pub least : length handles < 2 * proxies
+  pub whole : handles ≡ first_handles (length handles) last
+
+-- this is a handle of number n among `count`: its low bits are n, the others its generation, which is not the last of 32 bits. So it is not `none`
+pub record IsHandleOf (count n handle : ℕ) : Type 0 where
+  pub generation : ℕ
+  pub whole : handle ≡ generation * count + n
+  pub in_range : generation + 1 < 2 ^ 32 / count
+
+-- each number below their count has a handle
+pub record AreHandles (handles : List ℕ) : Type 0 where
+  pub count : IsCount (length handles)
+  pub each : (n : ℕ) → n < length handles → IsHandleOf (length handles) n (slice_index handles n)

@@ -1,0 +1,7 @@
+pub mod Codes
+pub mod Handles
+pub mod Frees
+pub mod HandleRules
+pub mod HeapBlock
+pub mod Needed
+pub mod Version

@@ -1,0 +1,22 @@
+//! What each library for C needs, whatever its heap: the codes that calls return, the handles that C has, the structures
+//! into which calls write, and a box taken apart, for a heap whose address C has.
+#![tactic(auto)]
+
+mod answers;
+mod codes;
+mod handles;
+pub mod laws;
+mod needed;
+mod place;
+mod unboxed;
+
+pub use answers::{NphClass, NphFreed, NphHeapTotals, NphNeeded, NphResized};
+pub use codes::{
+    BOUND, CLOSED, DONE, ENTRIES, KIND, LENT, MEMORY, NONE, NOT_LENT, OPEN, PAGE_BYTES, PAGES,
+    PROXIES, PROXY, RANGE, REGION, SIZE, SPACE, UNKNOWN, VERSION, of_access, of_refusal, of_resize,
+    of_setting,
+};
+pub use handles::Handles;
+pub use needed::needed_with;
+pub use place::Sealed;
+pub use unboxed::Unboxed;
