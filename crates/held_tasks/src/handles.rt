@@ -69,7 +69,8 @@ impl TaskHandles {
         requires { task < 16 }
         ensures { result ≡ handle_of (handles_by self.now task) number }
     {
-        self.of[task as usize].handle_of(number)
+        let handles = &self.of[task as usize];
+        handles.handle_of(number)
     }
 
     /// The number of the object of a task that a handle of C names; `NONE` if it names none.
@@ -77,7 +78,8 @@ impl TaskHandles {
         requires { task < 16 }
         ensures { result ≡ number_in (handles_by self.now task) handle }
     {
-        self.of[task as usize].number_in(handle)
+        let handles = &self.of[task as usize];
+        handles.number_in(handle)
     }
 
     /// Raises the handle of an object of a task that was freed.
@@ -85,7 +87,8 @@ impl TaskHandles {
         requires { task < 16 }
         ensures { self.new ≡ slice_set self.old task (raised (handles_by self.old task) (handle % length (handles_by self.old task))) }
     {
-        self.of[task as usize].raise(handle);
+        let handles = &mut self.of[task as usize];
+        handles.raise(handle);
     }
 
     /// The handle that C has for the object of a task that moved; `NONE` if none did.
@@ -93,7 +96,8 @@ impl TaskHandles {
         requires { task < 16 }
         ensures { result ≡ moved_handle (handles_by self.now task) moved }
     {
-        self.of[task as usize].of_moved(moved)
+        let handles = &self.of[task as usize];
+        handles.of_moved(moved)
     }
 
     /// The largest handle of all tasks.

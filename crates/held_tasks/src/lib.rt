@@ -6,7 +6,6 @@ mod answers;
 mod handles;
 mod heap;
 mod held;
-pub mod laws;
 
 pub use answers::NphTask;
 pub use heap::NphHeap;

@@ -16,5 +16,5 @@ read-requires c = record { within = place_in (owns c.requires.shared_pages c.req
 
 pub returns-clause-value : goal.returns-clause-value
 returns-clause-value c =
-    ap Some (c.unpack-length.ensures.length ∙ ap (λ w. w / 2 ^ 32) c.read.ensures.value ∙ sym (bytes_long c.args.self.now.region c.in-Some.place))
+    ap Some (c.unpack.ensures.length ∙ ap (λ w. w / 2 ^ 32) c.read.ensures.value ∙ sym (bytes_long c.args.self.now.region c.in-Some.place))
     ∙ sym (ap (option_map (λ (x : Placed). length x.bytes)) (held (owns c.requires.shared_pages c.requires.kept.1) c.args.h.0 c.in-Some.place (sym c.in-Some.ensures.found)))
