@@ -16,6 +16,9 @@ ADA = {'u8': 'Unsigned_8', 'u32': 'Unsigned_32', 'u64': 'Unsigned_64', 'bool': '
        '[u8]': 'Bytes', '[NphNeed]': 'Needs', 'NphHeap': 'Heap', 'NphNeeded': 'Needed', 'NphNeed': 'Need', 'NphFreed': 'Freed', 'NphResized': 'Resized', 'NphClass': 'Class', 'NphHeapTotals': 'Heap_Totals'}
 # The names of each library begin with this; its heap is named so too.
 PREFIXES = {'norphuen': 'nph_', 'norphuen_nonmoving': 'nph_nm_', 'norphuen_tlsf': 'nph_tlsf_'}
+# The library of the heap of tasks has calls of its own, without short names.
+TASKS = 'norphuen_tasks'
+PREFIXES[TASKS] = 'nph_tasks_'
 # The exports that a library may lack, if an object's words are not side by side there.
 LOAN = {'place', 'lend', 'return'}
 # The exports of a library with pages.
@@ -94,10 +97,10 @@ def c_parameters(parameters):
 def structs(crate):
     """Each #[repr(C)] struct that the crate uses: its fields in their order; a ghost field is none."""
     text = Path('crates', crate, 'src/lib.rt').read_text()
-    module = (re.search(r'use held_heap::(\w+)::(?:NphHeap|\{[^}]*\bNphHeap\b)', text) or fail(f'{crate}: no NphHeap'))[1]
+    folder, module = (re.search(r'use (held_\w+)::(\w+)::(?:NphHeap|\{[^}]*\bNphHeap\b)', text) or fail(f'{crate}: no NphHeap')).groups()
     found = {}
     aliases = {(file, there): here for here, (file, there) in ELSEWHERE.items()}
-    for file in [*sorted(BASE.glob('*.rt')), *sorted(HELD.glob('*.rt')), *{file for file, _ in aliases}]:
+    for file in [*sorted(BASE.glob('*.rt')), *sorted(Path('crates', folder, 'src').glob('*.rt')), *{file for file, _ in aliases}]:
         if 'pub struct NphHeap {' in file.read_text() and file.stem != module:
             continue
         for name, inside in re.findall(r'#\[repr\(C\)\]\n(?:#\[[^\n]*\]\n)*pub struct (\w+) \{\n(.*?)\n\}', file.read_text(), re.S):
@@ -133,8 +136,9 @@ def declarations(text):
             continue
         if attribute != {'nph_status': call, 'void': '__attribute__((nonnull)) ', 'uint32_t': '', 'uint64_t': ''}[kind]:
             fail(f'the header declares {name} with another attribute')
-        if not re.search(rf'\*/\n(?:NPH_\w+ )?{kind} nph_{bare(name)}\(', text):
-            fail(f'the header has no comment above nph_{bare(name)}')
+        shown = name if crate == TASKS else 'nph_' + bare(name)
+        if not re.search(rf'\*/\n(?:NPH_\w+ )?{kind} {shown}\(', text):
+            fail(f'the header has no comment above {shown}')
         found[name] = [re.search(r'(\w+)$', part)[1] for part in inside.split(', ') if part != 'void']
     return found
 
@@ -167,7 +171,7 @@ def header(crate):
     if set(declared) != {name for name, _, _ in exported}:
         fail(f'the header declares {sorted(declared)}, {crate} exports {sorted(name for name, _, _ in exported)}')
     short = set(re.findall(r'^#define nph_(\w+) NPH_NAME\(\1\)$', text, re.M))
-    if missing := {'heap', *map(bare, declared)} - short:
+    if missing := ({'heap', *map(bare, declared)} if crate != TASKS else set()) - short:
         fail(f'the header has no short names of {sorted(missing)}')
     for name, parameters, _ in exported:
         if declared[name] != c_names(parameters):

@@ -1,8 +1,8 @@
 # Link norphuen::norphuen, norphuen::norphuen_nonmoving or norphuen::norphuen_tlsf, or several. The memory functions are in
 # norphuen::malloc and norphuen::arena, which compile a file of C in the program that links them. norphuen::arena needs the
-# definition NPH_ARENA_BYTES.
+# definition NPH_ARENA_BYTES. norphuen::norphuen_tasks is the heap of tasks.
 get_filename_component(norphuen_prefix "${CMAKE_CURRENT_LIST_DIR}/../../.." ABSOLUTE)
-foreach(library norphuen norphuen_nonmoving norphuen_tlsf)
+foreach(library norphuen norphuen_nonmoving norphuen_tlsf norphuen_tasks)
   if(NOT TARGET norphuen::${library})
     add_library(norphuen::${library} STATIC IMPORTED)
     set_target_properties(norphuen::${library} PROPERTIES

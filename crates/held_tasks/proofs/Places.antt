@@ -1,4 +1,4 @@
--- For `HeapBlock` of `heap.rt`, which owns the block of an open heap: its machine value is the block's address; how to put it together from the address
+-- For `HeapBlock` of `tasks.rt`, which owns the block of an open heap: its machine value is the block's address; how to put it together from the address
 -- and the heap there, and to take it apart.
 use Rattle.std.proofs.Common.{◌≡◌, ℕ, List, [], ◌∷◌, ◌++◌, refl, subst, Option, Some, None, IsSome, sym}
 use seplogic.Ra.Ura.{Ura}
@@ -19,7 +19,7 @@ use Rattle.std.specs.contracts.prelude.GlobalAllocator.TheImpl.{ghosts}
 use Rattle.held_tasks.specs.TasksState.{TasksState}
 use Rattle.held_tasks.specs.Tasks.{open_heap}
 use Rattle.c_base.specs.HeapBlock.{lies_in_block, place_owns}
-use Rattle.held_tasks.specs.contracts.heap.HeapBlock as P
+use Rattle.held_tasks.specs.contracts.tasks.HeapBlock as P
 
 -- the machine value of a `HeapBlock` with the address p
 abbrev pub place_val : Ptr → Val

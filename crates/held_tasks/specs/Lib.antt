@@ -7,3 +7,4 @@ pub mod Needed
 pub mod Tasks
 pub mod Loan
 pub mod Place
+pub mod LeavesAlone

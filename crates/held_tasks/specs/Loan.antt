@@ -1,11 +1,11 @@
--- For `HeapBlock::lend` of `heap.rt`, which borrows the open heap that a `HeapBlock` owns: when the borrow ends, the `HeapBlock` has the same address, and
+-- For `HeapBlock::lend` of `tasks.rt`, which borrows the open heap that a `HeapBlock` owns: when the borrow ends, the `HeapBlock` has the same address, and
 -- the heap the state in which the borrow leaves it.
 use Rattle.std.specs.Prelude.{Some}
 use Rattle.std.specs.Borrow.{Fml, Lends, MutBor}
 use Rattle.held_tasks.specs.TasksState.{TasksState}
 use Rattle.held_tasks.specs.Tasks.{open_heap}
-use Rattle.held_tasks.specs.declared.heap.HeapBlock.{HeapBlock}
-use Rattle.held_tasks.specs.contracts.heap.HeapBlock.{the_row}
+use Rattle.held_tasks.specs.declared.tasks.HeapBlock.{HeapBlock}
+use Rattle.held_tasks.specs.contracts.tasks.HeapBlock.{the_row}
 
 -- the `HeapBlock` p, at the same address, after the heap there got the state h
 abbrev pub with_heap : HeapBlock → TasksState → HeapBlock

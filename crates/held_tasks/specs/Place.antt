@@ -1,12 +1,12 @@
--- For `NphHeap` of `heap.rt`, the struct that a caller in C has for its heap: the heap that it owns, and the struct when a borrow of that heap ends.
+-- For `NphHeap` of `tasks.rt`, the struct that a caller in C has for its heap: the heap that it owns, and the struct when a borrow of that heap ends.
 use Rattle.std.specs.Prelude.{refl, true}
 use Rattle.std.specs.Borrow.{Fml, Lends, MutBor}
 use Rattle.held_tasks.specs.CallerTasks.{CallerTasks, heap_of}
 use Rattle.held_tasks.specs.TasksState.{TasksState}
 use Rattle.held_tasks.specs.Tasks.{open_heap}
 use Rattle.held_tasks.specs.Loan.{with_heap}
-use Rattle.held_tasks.specs.declared.heap.NphHeap.{NphHeap}
-use Rattle.held_tasks.specs.contracts.heap.NphHeap.{the_row}
+use Rattle.held_tasks.specs.declared.tasks.NphHeap.{NphHeap}
+use Rattle.held_tasks.specs.contracts.tasks.NphHeap.{the_row}
 
 -- the heap of the struct: closed or open
 abbrev pub held_in : NphHeap → CallerTasks

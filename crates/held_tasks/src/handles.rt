@@ -83,6 +83,7 @@ impl TaskHandles {
     }
 
     /// Raises the handle of an object of a task that was freed.
+    #[tactic(auto, using(crate::proofs::Tables::read_is))]
     pub(crate) fn raise(&mut self, task: u32, handle: u32)
         requires { task < 16 }
         ensures { self.new ≡ slice_set self.old task (raised (handles_by self.old task) (handle % length (handles_by self.old task))) }

@@ -4,9 +4,9 @@
 
 mod answers;
 mod handles;
-mod heap;
 mod held;
+pub mod laws;
+pub mod tasks;
 
 pub use answers::NphTask;
-pub use heap::NphHeap;
 pub use quota_model::Need as NphNeed;

@@ -13,7 +13,8 @@ ghost use Rattle.held_tasks.specs.Needed.{IsNeededCall};
 ghost use Rattle.held_tasks.specs.Place.{held_in};
 
 use c_base::{CLOSED, NphClass, NphFreed, NphNeeded, VERSION};
-use held_tasks::{NphHeap, NphNeed, NphTask};
+use held_tasks::tasks::NphHeap;
+use held_tasks::{NphNeed, NphTask};
 use std::rt::Memory;
 
 /// Opens the heap with these settings: `pages` pages of `page_bytes` bytes, and at most `proxies` live objects in each of sixteen

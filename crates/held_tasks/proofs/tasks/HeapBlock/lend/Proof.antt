@@ -28,10 +28,10 @@ use Rattle.std.specs.contracts.prelude.GlobalAllocator.TheImpl.{ghosts}
 use Rattle.held_tasks.specs.TasksState.{TasksState}
 use Rattle.held_tasks.specs.Tasks.{open_heap as T}
 use Rattle.held_tasks.specs.Loan.{with_heap}
-use Rattle.held_tasks.specs.contracts.heap.HeapBlock.{the_row as R}
-use Rattle.held_tasks.specs.contracts.heap.HeapBlock.lend as f
-use Rattle.held_tasks.proofs.heap.HeapBlock.lend.Statement.{statement}
-use Rattle.held_tasks.proofs.heap.HeapBlock.lend.Code as code
+use Rattle.held_tasks.specs.contracts.tasks.HeapBlock.{the_row as R}
+use Rattle.held_tasks.specs.contracts.tasks.HeapBlock.lend as f
+use Rattle.held_tasks.proofs.tasks.HeapBlock.lend.Statement.{statement}
+use Rattle.held_tasks.proofs.tasks.HeapBlock.lend.Code as code
 use Rattle.held_tasks.proofs.Places.{place_val, place_in, place_out}
 
 -- the rest of the `HeapBlock` while its heap is borrowed: the right to free the block, and the address

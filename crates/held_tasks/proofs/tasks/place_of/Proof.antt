@@ -24,9 +24,9 @@ use Rattle.std.specs.contracts.prelude.GlobalAllocator.TheImpl.{ghosts}
 use Rattle.held_tasks.specs.Tasks.{open_heap as R}
 use Rattle.c_base.proofs.Parts.{U, parts, parts_fit, take_apart}
 use Rattle.held_tasks.proofs.Places.{place_val, place_in}
-use Rattle.held_tasks.specs.contracts.heap.place_of as f
-use Rattle.held_tasks.proofs.heap.place_of.Statement.{statement}
-use Rattle.held_tasks.proofs.heap.place_of.Code as code
+use Rattle.held_tasks.specs.contracts.tasks.place_of as f
+use Rattle.held_tasks.proofs.tasks.place_of.Statement.{statement}
+use Rattle.held_tasks.proofs.tasks.place_of.Code as code
 
 abbrev stayed : Stays f.ended.signature.params f.ended.kept
 stayed = (stay_dropped (plain (λ _. U R Z LZ ghosts)) f.ended.kept.0, tt)

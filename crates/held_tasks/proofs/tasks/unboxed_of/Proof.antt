@@ -23,12 +23,12 @@ use Rattle.std.specs.contracts.alloc.Global.{the_row as Z}
 use Rattle.std.proofs.alloc.Global.TheLaws.{the_row_laws as LZ}
 use Rattle.std.specs.contracts.prelude.GlobalAllocator.TheImpl.{ghosts}
 use Rattle.held_tasks.specs.Tasks.{open_heap as R}
-use Rattle.held_tasks.specs.contracts.heap.HeapBlock.{the_row as P}
+use Rattle.held_tasks.specs.contracts.tasks.HeapBlock.{the_row as P}
 use Rattle.c_base.proofs.Parts.{allocator_of, parts, parts_fit, put_together}
 use Rattle.held_tasks.proofs.Places.{place_val, place_out}
-use Rattle.held_tasks.specs.contracts.heap.unboxed_of as f
-use Rattle.held_tasks.proofs.heap.unboxed_of.Statement.{statement}
-use Rattle.held_tasks.proofs.heap.unboxed_of.Code as code
+use Rattle.held_tasks.specs.contracts.tasks.unboxed_of as f
+use Rattle.held_tasks.proofs.tasks.unboxed_of.Statement.{statement}
+use Rattle.held_tasks.proofs.tasks.unboxed_of.Code as code
 
 abbrev stayed : Stays f.ended.signature.params f.ended.kept
 stayed = (stay_dropped (plain (λ _. P)) f.ended.kept.0, (stay_dropped (plain (λ _. Z)) f.ended.kept.1.0, tt))

@@ -19,9 +19,9 @@ use denote.Steps.{nothing}
 use denote.Triple.Walked.{walk_of}
 use Rattle.held_tasks.specs.TasksState.{TasksState}
 use Rattle.held_tasks.proofs.Places.{place_val, place_in}
-use Rattle.held_tasks.specs.contracts.heap.HeapBlock.nowhere as f
-use Rattle.held_tasks.proofs.heap.HeapBlock.nowhere.Statement.{statement}
-use Rattle.held_tasks.proofs.heap.HeapBlock.nowhere.Code as code
+use Rattle.held_tasks.specs.contracts.tasks.HeapBlock.nowhere as f
+use Rattle.held_tasks.proofs.tasks.HeapBlock.nowhere.Statement.{statement}
+use Rattle.held_tasks.proofs.tasks.HeapBlock.nowhere.Code as code
 
 pub nowhere_spec : {M : Type 1} → statement M
 nowhere_spec 𝓤 𝓛 𝓜 𝓡 wired =
