@@ -2,3 +2,4 @@ pub mod Tables
 pub mod Places
 pub mod Sent
 pub mod TaskLaws
+pub mod Admissions

@@ -57,7 +57,7 @@ impl TaskHandles {
         requires some { 1 ≤ proxies }
         requires few { proxies ≤ 65536 }
         ensures needed { (count : ℕ) × IsNextPowerOfTwo proxies count × (result ≡ handles_bytes count) }
-        ensures few { result.total < 2 ^ 33 }
+        ensures few { result.total < 2 ^ 40 }
         ensures blocks { result.blocks ≡ 17 }
     {
         BytesNeeded::block(u64::from(TASKS) * HANDLES_BYTES)
