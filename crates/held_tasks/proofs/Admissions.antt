@@ -1,7 +1,7 @@
 -- For `admit` and `least_quota`: what is said of the settings that the heap returns is said of the profile that contracts show.
-use Rattle.std.proofs.Common.{◌≡◌, ℕ, ◌<◌, ◌≤◌, List, None, arith, sym, subst, inl, inr}
-use Rattle.std.specs.Prelude.{IsSome}
-use Rattle.std.proofs.lemmas.Bool.{cases_lt}
+use Rattle.std.proofs.Common.{◌≡◌, ℕ, ◌<◌, ◌≤◌, List, None, arith, refl, sym, ◌∙◌, subst, inl, inr}
+use Rattle.std.specs.Prelude.{Bool, IsSome, Option, Some, false, is_some}
+use Rattle.std.proofs.lemmas.Bool.{cases_lt, false≢true}
 use Rattle.cf_base.specs.Settings.{Profile}
 use Rattle.quota_model.specs.Admission.{CanBeAsked, IsAdmission, IsEnough, declared_in_all, first_large}
 use Rattle.quota_model.specs.declared.answers.Admission.{Admission}
@@ -26,7 +26,12 @@ module _ (q : Profile) (s : QuotaState) (e : q ≡ s.profile) (needs : List Need
 
   -- if no object is larger than a page and the needs can't be asked, they are more objects than there are proxies
   pub many_at : first_large q needs ≡ None → ¬ CanBeAsked q needs → s.profile.proxies < declared_in_all needs
-  many_at none no = subst (λ (p : Profile). p.proxies < declared_in_all needs) e (elim (cases_lt q.proxies (declared_in_all needs)) [
+  many_at none never = subst (λ (p : Profile). p.proxies < declared_in_all needs) e (elim (cases_lt q.proxies (declared_in_all needs)) [
     | inl lt ↦ lt
-    | inr le ↦ absurd (no (record { none_large = none; few = le }))
+    | inr le ↦ absurd (never (record { none_large = none; few = le }))
   ])
+
+-- if the test whether there is a value is false, there is none
+pub not_some : {X : Type 0} (o : Option X) (b : Bool) → b ≡ is_some o → b ≡ false → o ≡ None
+not_some None b is fails = refl
+not_some (Some x) b is fails = absurd (false≢true (sym fails ∙ is))

@@ -3,3 +3,4 @@ pub mod Places
 pub mod Sent
 pub mod TaskLaws
 pub mod Admissions
+pub mod NeededCall
