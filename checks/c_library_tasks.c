@@ -5,7 +5,7 @@
 #include <stdlib.h>
 #include <string.h>
 
-enum { TASKS = 16, PROXIES = 24, MOST_BYTES = 600, STALE = 64 };
+enum { TASKS = 16, PROXIES = 40, MOST_BYTES = 600, STALE = 64 };
 
 typedef struct object { uint32_t handle, length; uint8_t bytes[MOST_BYTES]; } object;
 typedef struct task { uint32_t quota, live, stale_count; object objects[PROXIES]; uint32_t stale[STALE]; } task;
@@ -84,7 +84,8 @@ static uint32_t any_handle(const task *t) {
 }
 
 static void make(uint32_t n, task *t) {
-    uint32_t bytes = drawn(8) ? drawn(MOST_BYTES) : drawn(2000), handle = 7, counts[128], most = 17;
+    static const uint32_t often[] = {24, 100, 176, 240};
+    uint32_t bytes = drawn(4) ? often[drawn(4)] : drawn(8) ? drawn(MOST_BYTES) : drawn(2000), handle = 7, counts[128], most = 17;
     nph_status wanted = NPH_OK;
     if (1 + (bytes + 7) / 8 > page_words) wanted = NPH_SIZE;
     else if (t->live == PROXIES) wanted = NPH_PROXY;

@@ -173,5 +173,6 @@ length_is_refused old new task handle before after code c is = by_object (get (h
     by_object : (o : Option Placed) → get (held_by old.heap task) n ≡ o → (code ≡ pos 4) × (after ≡ before)
     by_object (Some x) e = absurd (nothing_there old.heap task n x is e)
     by_object None e = (
-        c.by_code ∙ ap (λ (o : Option Placed). found_code (option_map (λ (x : Placed). length x.bytes) o)) e,
-        c.by_length ∙ ap (λ (o : Option Placed). found_number (option_map (λ (x : Placed). length x.bytes) o) before) e)
+      c.by_code ∙ ap (λ (o : Option Placed). found_code (option_map (λ (x : Placed). length x.bytes) o)) e,
+      c.by_length ∙ ap (λ (o : Option Placed). found_number (option_map (λ (x : Placed). length x.bytes) o) before) e,
+    )

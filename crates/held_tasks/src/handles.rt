@@ -60,8 +60,9 @@ impl TaskHandles {
         ensures few { result.total < 2 ^ 40 }
         ensures blocks { result.blocks ≡ 17 }
     {
-        BytesNeeded::block(u64::from(TASKS) * HANDLES_BYTES)
-            .and(Handles::bytes_needed(proxies).times(TASKS))
+        BytesNeeded::block(u64::from(TASKS) * HANDLES_BYTES).and(Handles::bytes_needed(
+            proxies,
+        ).times(TASKS))
     }
 
     /// The handle that C has for object `number` of a task.

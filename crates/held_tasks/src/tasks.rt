@@ -140,7 +140,9 @@ impl NphHeap {
             Err(fault) => of_setting(fault),
             Ok(s) => {
                 let handles = TaskHandles::bytes_needed(s.proxies);
-                let all = QuotaHeap::bytes_needed(&s).and(handles.and(BytesNeeded::block(HELD_BYTES)));
+                let all = QuotaHeap::bytes_needed(&s).and(handles.and(BytesNeeded::block(
+                    HELD_BYTES,
+                )));
                 *needed = NphNeeded {
                     total: all.total,
                     largest: all.largest,

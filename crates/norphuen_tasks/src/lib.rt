@@ -70,7 +70,12 @@ pub extern "C" fn nph_tasks_set_quota(heap: &mut NphHeap, task: u32, pages: u32)
 
 /// Makes an object of `bytes` zeros for a task and writes its handle into `handle` (`HeldTasks::malloc`).
 #[unsafe(no_mangle)]
-pub extern "C" fn nph_tasks_malloc(heap: &mut NphHeap, task: u32, bytes: u32, handle: &mut u32) -> i32
+pub extern "C" fn nph_tasks_malloc(
+    heap: &mut NphHeap,
+    task: u32,
+    bytes: u32,
+    handle: &mut u32,
+) -> i32
     ensures { IsCallOnOpen (held_in heap.old) result (held_in heap.new) (handle.new ≡ handle.old)
         (λ h h2. IsOfTask task h result h2 (handle.new ≡ handle.old) (IsMallocCall h task bytes handle.old result handle.new h2)) }
 {
@@ -84,7 +89,12 @@ pub extern "C" fn nph_tasks_malloc(heap: &mut NphHeap, task: u32, bytes: u32, ha
 /// Frees an object of a task. Writes into `freed` how many words its slot has, and which object of this task moved into
 /// it (`HeldTasks::free`).
 #[unsafe(no_mangle)]
-pub extern "C" fn nph_tasks_free(heap: &mut NphHeap, task: u32, handle: u32, freed: &mut NphFreed) -> i32
+pub extern "C" fn nph_tasks_free(
+    heap: &mut NphHeap,
+    task: u32,
+    handle: u32,
+    freed: &mut NphFreed,
+) -> i32
     ensures { IsCallOnOpen (held_in heap.old) result (held_in heap.new) (freed.new ≡ freed.old)
         (λ h h2. IsOfTask task h result h2 (freed.new ≡ freed.old) (IsFreeCall h task handle freed.old result freed.new h2)) }
 {
@@ -97,7 +107,13 @@ pub extern "C" fn nph_tasks_free(heap: &mut NphHeap, task: u32, handle: u32, fre
 
 /// Writes `bytes` into an object of a task, from its byte `at` on (`HeldTasks::write`).
 #[unsafe(no_mangle)]
-pub extern "C" fn nph_tasks_write(heap: &mut NphHeap, task: u32, handle: u32, at: u32, bytes: &[u8]) -> i32
+pub extern "C" fn nph_tasks_write(
+    heap: &mut NphHeap,
+    task: u32,
+    handle: u32,
+    at: u32,
+    bytes: &[u8],
+) -> i32
     ensures { IsCallOnOpen (held_in heap.old) result (held_in heap.new) (Unit {0})
         (λ h h2. IsOfTask task h result h2 (Unit {0}) (IsWriteCall h task handle at bytes.now result h2)) }
 {
@@ -110,7 +126,13 @@ pub extern "C" fn nph_tasks_write(heap: &mut NphHeap, task: u32, handle: u32, at
 
 /// Fills `out` with bytes of an object of a task, from its byte `at` on (`HeldTasks::read`).
 #[unsafe(no_mangle)]
-pub extern "C" fn nph_tasks_read(heap: &mut NphHeap, task: u32, handle: u32, at: u32, out: &mut [u8]) -> i32
+pub extern "C" fn nph_tasks_read(
+    heap: &mut NphHeap,
+    task: u32,
+    handle: u32,
+    at: u32,
+    out: &mut [u8],
+) -> i32
     ensures { IsCallOnOpen (held_in heap.old) result (held_in heap.new) (out.new ≡ out.old)
         (λ h h2. IsOfTask task h result h2 (out.new ≡ out.old) (IsReadCall h task handle at out.old result out.new h2)) }
 {
@@ -123,7 +145,12 @@ pub extern "C" fn nph_tasks_read(heap: &mut NphHeap, task: u32, handle: u32, at:
 
 /// Writes the length in bytes of an object of a task into `bytes` (`HeldTasks::length`).
 #[unsafe(no_mangle)]
-pub extern "C" fn nph_tasks_length(heap: &mut NphHeap, task: u32, handle: u32, bytes: &mut u32) -> i32
+pub extern "C" fn nph_tasks_length(
+    heap: &mut NphHeap,
+    task: u32,
+    handle: u32,
+    bytes: &mut u32,
+) -> i32
     ensures { IsCallOnOpen (held_in heap.old) result (held_in heap.new) (bytes.new ≡ bytes.old)
         (λ h h2. IsOfTask task h result h2 (bytes.new ≡ bytes.old) (IsLengthCall h task handle bytes.old result bytes.new h2)) }
 {
@@ -149,7 +176,12 @@ pub extern "C" fn nph_tasks_task(heap: &mut NphHeap, task: u32, figures: &mut Np
 
 /// Writes the figures of a size class of a task, numbered from 0, into `figures` (`HeldTasks::figures`).
 #[unsafe(no_mangle)]
-pub extern "C" fn nph_tasks_figures(heap: &mut NphHeap, task: u32, class: u32, figures: &mut NphClass) -> i32
+pub extern "C" fn nph_tasks_figures(
+    heap: &mut NphHeap,
+    task: u32,
+    class: u32,
+    figures: &mut NphClass,
+) -> i32
     ensures { IsCallOnOpen (held_in heap.old) result (held_in heap.new) (figures.new ≡ figures.old)
         (λ h h2. IsOfTask task h result h2 (figures.new ≡ figures.old) (IsFiguresCall h task class figures.old result figures.new h2)) }
 {
@@ -188,7 +220,11 @@ pub extern "C" fn nph_tasks_admit(heap: &mut NphHeap, task: u32, needs: &[NphNee
 
 /// Writes the least quota that is enough for a task with these `needs` into `pages` (`HeldTasks::least_quota`).
 #[unsafe(no_mangle)]
-pub extern "C" fn nph_tasks_least_quota(heap: &mut NphHeap, needs: &[NphNeed], pages: &mut u32) -> i32
+pub extern "C" fn nph_tasks_least_quota(
+    heap: &mut NphHeap,
+    needs: &[NphNeed],
+    pages: &mut u32,
+) -> i32
     ensures { IsCallOnOpen (held_in heap.old) result (held_in heap.new) (pages.new ≡ pages.old)
         (λ h h2. IsLeastCall h needs.now result pages.old pages.new h2) }
 {

@@ -18,10 +18,21 @@ returns-then-is_some c =
 pub returns : goal.returns
 returns c =
     let q = profile_of c.settings-s.result in let s = c.args.self.now.heap in
-    let e : q ≡ s.profile = c.settings-s.ensures ∙ ap (λ (t : TasksState). t.heap.profile) c.self.view_is in
-    (elim c.match-least_pages.branch [
-      | in-Some w ↦ inl (w.result-is, subst (IsLeastQuota s c.args.needs.now) (sym w.pages-is)
-          (least_at q s e c.args.needs.now w.in-Some.found (at_some c.least_pages.result _ (c.least_pages.ensures.quota refl) w.in-Some.found w.in-Some.is)))
-      | in-None w ↦ inr (inr (inr (many_at q s e c.args.needs.now (sym c.first_large.ensures ∙ not_some c.first_large.result c.is_some.result c.is_some.ensures c.if-is_some.false)
-          (λ asked. false≢true (sym (ap is_some w.in-None.is) ∙ c.least_pages.ensures.some.1 asked)), w.result-is)), w.pages-is)
-    ], refl)
+    let e : q ≡ s.profile = c.settings-s.ensures ∙ ap (λ (t : TasksState). t.heap.profile) c.self.view_is in (
+      elim c.match-least_pages.branch [
+        | in-Some w ↦ inl (
+          w.result-is,
+          subst (IsLeastQuota s c.args.needs.now) (sym w.pages-is)
+              (least_at q s e c.args.needs.now w.in-Some.found (at_some c.least_pages.result _ (c.least_pages.ensures.quota refl) w.in-Some.found w.in-Some.is)),
+        )
+        | in-None w ↦ inr (
+          inr (inr (
+            many_at q s e c.args.needs.now (sym c.first_large.ensures ∙ not_some c.first_large.result c.is_some.result c.is_some.ensures c.if-is_some.false)
+                (λ asked. false≢true (sym (ap is_some w.in-None.is) ∙ c.least_pages.ensures.some.1 asked)),
+            w.result-is,
+          )),
+          w.pages-is,
+        )
+      ],
+      refl,
+    )
