@@ -1,5 +1,5 @@
 -- For `bytes_needed`: the settings are in range, and the numbers are theirs.
-use Rattle.std.proofs.Common.{◌≡◌, ℕ, pos, None, refl, sym, ◌∙◌, ap, subst}
+use Rattle.std.proofs.Common.{◌≡◌, ℕ, pos, None, refl, ◌∙◌, ap, subst}
 use Rattle.std.specs.Prelude.{Option}
 use Rattle.std.specs.Int.{IsNextPowerOfTwo}
 use Rattle.cf_base.specs.Settings.{Profile}

@@ -1,5 +1,5 @@
 -- For `laws`: what a call of one task leaves of another; what an admission says; a handle that names no object is refused.
-use Rattle.std.proofs.Common.{◌≡◌, ◌≢◌, ℕ, ℤ, pos, List, [], Some, None, Result, Ok, Err, length, arith, refl, sym, ◌∙◌, ap, subst, inl, inr}
+use Rattle.std.proofs.Common.{◌≡◌, ◌≢◌, ℕ, ℤ, pos, List, [], Some, None, Result, Ok, Err, length, arith, refl, sym, ◌∙◌, ap, inl, inr}
 use Rattle.std.specs.Prelude.{Option, option_map}
 use Rattle.std.proofs.lemmas.List.{get_or-set_other}
 use Rattle.std.specs.FinMap.{get}
@@ -9,9 +9,9 @@ use Rattle.cf_base.specs.declared.answers.Freed.{Freed}
 use Rattle.cf_base.specs.declared.answers.Handle.{Handle}
 use Rattle.cf_base.specs.declared.answers.NotLive.{NotLive}
 use Rattle.cf_base.specs.declared.answers.Refusal.{Refusal}
-use Rattle.cf_model.specs.Steps.{Position, number_of}
+use Rattle.cf_model.specs.Steps.{number_of}
 use Rattle.page_model.specs.Bytes.{written}
-use Rattle.page_model.specs.Held.{Held, Placed}
+use Rattle.page_model.specs.Held.{Placed}
 use Rattle.page_model.specs.Paging.{class_for}
 use Rattle.page_model.proofs.CallerLemmas.{length-written}
 use Rattle.quota_model.specs.Admission.{IsAdmission, IsEnough, Share}
@@ -26,7 +26,7 @@ use Rattle.quota_heap.specs.Steps.{IsFreeStep, IsMallocStep, IsQuotaStep, IsRead
 use Rattle.c_base.specs.Codes.{access_code, free_code}
 use Rattle.c_base.specs.Handles.{none, number_in, raised_by}
 use Rattle.c_base.specs.declared.answers.NphFreed.{NphFreed}
-use Rattle.held_tasks.specs.Calls.{IsAdmitCall, IsAdmitted, IsFreeCall, IsLengthCall, IsMallocCall, IsQuotaCall, IsReadCall, IsWriteCall, found_number, freed_shown, share_of}
+use Rattle.held_tasks.specs.Calls.{IsAdmitCall, IsFreeCall, IsLengthCall, IsMallocCall, IsQuotaCall, IsReadCall, IsWriteCall, found_number, freed_shown, share_of}
 use Rattle.held_tasks.specs.Codes.{admission_code, found_code}
 use Rattle.held_tasks.specs.Handles.{handles_by, raised_of}
 use Rattle.held_tasks.specs.LeavesAlone.{LeavesAlone}

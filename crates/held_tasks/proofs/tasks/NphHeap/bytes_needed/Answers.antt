@@ -1,6 +1,4 @@
-use Rattle.std.proofs.Common.{sym, ap, ◌∙◌}
 use Rattle.cf_base.specs.Settings.{profile_from, profile_of, setting_fault}
-use Rattle.std.specs.Result.{result_err}
 use Rattle.held_tasks.proofs.NeededCall.{needed_is}
 use Rattle.held_tasks.proofs.tasks.NphHeap.bytes_needed.Goals as goal
 
