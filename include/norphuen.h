@@ -431,8 +431,8 @@ NPH_CALL nph_status nph_tasks_figures(nph_tasks_heap *heap, uint32_t task, uint3
 NPH_CALL nph_status nph_tasks_unassigned(nph_tasks_heap *heap, uint32_t *pages);
 
 /* Tests whether the quota of a task is enough for `count` needs: returns NPH_OK if no nph_tasks_malloc of the task fails with
- * NPH_SPACE, whatever the order of its calls, while its live objects are within the needs. Else fails with NPH_SPACE, or as
- * nph_tasks_least_quota does. The task's present objects do not count. */
+ * NPH_SPACE, whatever the order of its calls, if it begins without objects and its live objects stay within the needs. Else
+ * fails with NPH_SPACE, or as nph_tasks_least_quota does. */
 NPH_CALL nph_status nph_tasks_admit(nph_tasks_heap *heap, uint32_t task, const nph_need *needs, size_t count);
 
 /* Writes the least quota for which nph_tasks_admit returns NPH_OK. Fails with NPH_ENTRIES if there are more than 64 needs, with
