@@ -11,13 +11,15 @@ from pathlib import Path
 
 HEADER, BASE, HELD = Path('include/norphuen.h'), Path('crates/c_base/src'), Path('crates/held_heap/src')
 # The library with slices has calls of its own: no short names, no bindings.
-SLICED = 'norphuen_sliced'
+SLICED, TASKS = 'norphuen_sliced', 'norphuen_tasks'
+# Libraries with calls of their own, without short names.
+OWN = (SLICED, TASKS)
 NUMBERS = {'u8': 'uint8_t', 'u32': 'uint32_t', 'u64': 'uint64_t', 'i32': 'nph_status', 'usize': 'size_t', 'bool': 'bool', '': 'void'}
 RUST = {'NphHeap': 'RawHeap', 'NphNeeded': 'Needed', 'NphNeed': 'Need', 'NphFreed': 'RawFreed', 'NphResized': 'RawResized', 'NphClass': 'Class', 'NphHeapTotals': 'HeapTotals'}
 ADA = {'u8': 'Unsigned_8', 'u32': 'Unsigned_32', 'u64': 'Unsigned_64', 'bool': 'Unsigned_8', '*mut u64': 'System.Address',
        '[u8]': 'Bytes', '[NphNeed]': 'Needs', 'NphHeap': 'Heap', 'NphNeeded': 'Needed', 'NphNeed': 'Need', 'NphFreed': 'Freed', 'NphResized': 'Resized', 'NphClass': 'Class', 'NphHeapTotals': 'Heap_Totals'}
 # The names of each library begin with this; its heap is named so too.
-PREFIXES = {'norphuen': 'nph_', 'norphuen_nonmoving': 'nph_nm_', 'norphuen_tlsf': 'nph_tlsf_', SLICED: 'nph_sliced_'}
+PREFIXES = {'norphuen': 'nph_', 'norphuen_nonmoving': 'nph_nm_', 'norphuen_tlsf': 'nph_tlsf_', SLICED: 'nph_sliced_', TASKS: 'nph_tasks_'}
 # The exports that a library may lack, if an object's words are not side by side there.
 LOAN = {'place', 'lend', 'return'}
 # The exports of a library with pages.
@@ -135,7 +137,7 @@ def declarations(text):
             continue
         if attribute != {'nph_status': call, 'void': '__attribute__((nonnull)) ', 'uint32_t': '', 'uint64_t': ''}[kind]:
             fail(f'the header declares {name} with another attribute')
-        shown = name if crate == SLICED else 'nph_' + bare(name)
+        shown = name if crate in OWN else 'nph_' + bare(name)
         if not re.search(rf'\*/\n(?:NPH_\w+ )?{kind} {shown}\(', text):
             fail(f'the header has no comment above {shown}')
         found[name] = [re.search(r'(\w+)$', part)[1] for part in inside.split(', ') if part != 'void']
@@ -170,7 +172,7 @@ def header(crate):
     if set(declared) != {name for name, _, _ in exported}:
         fail(f'the header declares {sorted(declared)}, {crate} exports {sorted(name for name, _, _ in exported)}')
     short = set(re.findall(r'^#define nph_(\w+) NPH_NAME\(\1\)$', text, re.M))
-    if missing := ({'heap', *map(bare, declared)} if crate != SLICED else set()) - short:
+    if missing := ({'heap', *map(bare, declared)} if crate not in OWN else set()) - short:
         fail(f'the header has no short names of {sorted(missing)}')
     for name, parameters, _ in exported:
         if declared[name] != c_names(parameters):

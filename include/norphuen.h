@@ -2,7 +2,7 @@
  * handle, and asks for the object's address.
  *
  * A heap has one region. nph_open takes all memory, so that later calls take none. Each call on an open heap takes a
- * bounded number of steps (docs/CALLS.md); nph_last_steps returns the steps of the last one. There are three libraries, and a
+ * bounded number of steps (docs/CALLS.md); nph_last_steps returns the steps of the last one. There are five libraries, and a
  * program may link several:
  *
  *   libnorphuen.a            Compact-fit, moving: a free may move one object, whose handle stays the same
@@ -10,9 +10,11 @@
  *                            an object's words are not side by side
  *   libnorphuen_tlsf.a       TLSF, for comparison: blocks in place of pages. No object moves or changes its length
  *   libnorphuen_sliced.a     Compact-fit, moving, with frees in slices of a set length: "Frees in slices" below. Lends nothing
+ *   libnorphuen_tasks.a      Compact-fit, moving, shared by sixteen tasks with quotas: "Heaps of tasks" below. Lends nothing
  *
  * Each has names and a type of heap of its own: nph_open and nph_heap, nph_nm_open and nph_nm_heap, nph_tlsf_open and
- * nph_tlsf_heap, nph_sliced_open and nph_sliced_heap, and so on. The comments below speak of the short names, those of the moving library. With the macro
+ * nph_tlsf_heap, nph_sliced_open and nph_sliced_heap, nph_tasks_open and nph_tasks_heap, and so on. The comments below speak
+ * of the short names, those of the moving library. With the macro
  * NPH_USE_NONMOVING or NPH_USE_TLSF, defined before the header is included, the short names mean that library instead.
  *
  * The program defines the three functions rattle_alloc, rattle_realloc and rattle_dealloc, by which the library takes
@@ -61,6 +63,7 @@ typedef struct nph_heap { void *at; uint32_t last; bool is_open; bool is_lent; }
 typedef struct nph_nm_heap { void *at; uint32_t last; bool is_open; bool is_lent; } nph_nm_heap;
 typedef struct nph_tlsf_heap { void *at; uint32_t last; bool is_open; bool is_lent; } nph_tlsf_heap;
 typedef struct nph_sliced_heap { void *at; uint32_t last; bool is_open; } nph_sliced_heap;
+typedef struct nph_tasks_heap { void *at; uint32_t last; bool is_open; } nph_tasks_heap;
 
 /* A closed heap, to initialize or to assign. A static heap is closed without it; with it gcc -pedantic warns. */
 #ifdef __cplusplus
@@ -68,11 +71,13 @@ typedef struct nph_sliced_heap { void *at; uint32_t last; bool is_open; } nph_sl
 #define NPH_NM_HEAP nph_nm_heap{}
 #define NPH_TLSF_HEAP nph_tlsf_heap{}
 #define NPH_SLICED_HEAP nph_sliced_heap{}
+#define NPH_TASKS_HEAP nph_tasks_heap{}
 #else
 #define NPH_HEAP (nph_heap){ NULL, 0, false, false }
 #define NPH_NM_HEAP (nph_nm_heap){ NULL, 0, false, false }
 #define NPH_TLSF_HEAP (nph_tlsf_heap){ NULL, 0, false, false }
 #define NPH_SLICED_HEAP (nph_sliced_heap){ NULL, 0, false }
+#define NPH_TASKS_HEAP (nph_tasks_heap){ NULL, 0, false }
 #endif
 
 /* What a call returns. A call that does not return NPH_OK writes nothing through its pointers. */
@@ -81,7 +86,7 @@ typedef enum nph_status {
     NPH_SIZE = 1,    /* the object with its header needs more words than a page has */
     NPH_PROXY = 2,   /* every proxy is in use */
     NPH_SPACE = 3,   /* no free slot of the class and no free page; with TLSF no free block that serves */
-    NPH_UNKNOWN = 4, /* the handle is not live; there is no such class (TLSF has none) */
+    NPH_UNKNOWN = 4, /* the handle is not live; there is no such class (TLSF has none) or task */
     NPH_RANGE = 5,   /* the range passes the end of the object */
     NPH_KIND = 6,    /* nph_resize: TLSF does not resize */
     NPH_CLOSED = 7,  /* the heap is not open */
@@ -451,6 +456,80 @@ NPH_OR_NULL_OF(nph_tlsf)
 #define nph_return NPH_NAME(return)
 #define nph_bytes NPH_NAME(bytes)
 #endif
+
+/* Heaps of tasks: libnorphuen_tasks.a. Sixteen tasks, numbered 0 to 15, share the pages of a heap. Each has its own objects and
+ * handles, and a quota, the most pages that it may use; no page has objects of two tasks. So what a task's calls return and write
+ * does not depend on the others: a task may hit its quota, and no other task notices. Each class of a task has at most one
+ * partly full page. A handle means the object of the task that the call names, and two tasks may have equal handles. A call that
+ * names another task than these sixteen fails with NPH_UNKNOWN. The calls with a handle and nph_tasks_malloc count steps; the
+ * others leave the count as it was. */
+
+/* A task: its quota, the pages that have its objects, and its live objects. */
+typedef struct nph_task {
+    uint32_t quota;
+    uint32_t pages;
+    uint32_t live;
+} nph_task;
+
+/* Opens a heap as nph_open does, with at most `proxies` live objects in each task. The quotas are 0. */
+NPH_CALL nph_status nph_tasks_open(nph_tasks_heap *heap, uint32_t pages, uint32_t page_bytes, uint32_t proxies);
+
+/* As nph_bytes_needed, for nph_tasks_open. */
+NPH_CALL nph_status nph_tasks_bytes_needed(uint32_t pages, uint32_t page_bytes, uint32_t proxies, nph_needed *needed);
+
+/* As nph_close. */
+NPH_NONNULL void nph_tasks_close(nph_tasks_heap *heap);
+
+/* Sets the quota of a task. Fails with NPH_PAGES if all quotas would sum to more pages than the heap has, or with NPH_SPACE if
+ * the task uses more than `pages` pages. */
+NPH_CALL nph_status nph_tasks_set_quota(nph_tasks_heap *heap, uint32_t task, uint32_t pages);
+
+/* Makes an object of a task, as nph_malloc. Fails with NPH_SPACE if and only if the task's objects with this one need more pages
+ * than its quota. */
+NPH_CALL nph_status nph_tasks_malloc(nph_tasks_heap *heap, uint32_t task, uint32_t bytes, uint32_t *handle);
+
+/* Frees an object of a task, as nph_free. What moves is of the same task. */
+NPH_CALL nph_status nph_tasks_free(nph_tasks_heap *heap, uint32_t task, uint32_t handle, nph_freed *freed);
+
+/* As nph_write. */
+NPH_CALL nph_status nph_tasks_write(nph_tasks_heap *heap, uint32_t task, uint32_t handle, uint32_t at, const void *bytes, size_t count);
+
+/* As nph_read. */
+NPH_CALL nph_status nph_tasks_read(nph_tasks_heap *heap, uint32_t task, uint32_t handle, uint32_t at, void *bytes, size_t count);
+
+/* As nph_length. */
+NPH_CALL nph_status nph_tasks_length(nph_tasks_heap *heap, uint32_t task, uint32_t handle, uint32_t *bytes);
+
+/* Writes the figures of a task. */
+NPH_CALL nph_status nph_tasks_task(nph_tasks_heap *heap, uint32_t task, nph_task *figures);
+
+/* Writes the figures of a size class of a task, as nph_figures. */
+NPH_CALL nph_status nph_tasks_figures(nph_tasks_heap *heap, uint32_t task, uint32_t size_class, nph_class *figures);
+
+/* Writes how many pages are in no quota. */
+NPH_CALL nph_status nph_tasks_unassigned(nph_tasks_heap *heap, uint32_t *pages);
+
+/* Tests whether the quota of a task is enough for `count` needs: returns NPH_OK if no nph_tasks_malloc of the task fails with
+ * NPH_SPACE, whatever the order of its calls, if it begins without objects and its live objects stay within the needs. Else
+ * fails with NPH_SPACE, or as nph_tasks_least_quota does. */
+NPH_CALL nph_status nph_tasks_admit(nph_tasks_heap *heap, uint32_t task, const nph_need *needs, size_t count);
+
+/* Writes the least quota for which nph_tasks_admit returns NPH_OK. Fails with NPH_ENTRIES if there are more than 64 needs, with
+ * NPH_SIZE, or with NPH_PROXIES if the needs are more objects than a task may have. */
+NPH_CALL nph_status nph_tasks_least_quota(nph_tasks_heap *heap, const nph_need *needs, size_t count, uint32_t *pages);
+
+/* Writes the steps of the last call on the heap that counts them. */
+NPH_CALL nph_status nph_tasks_last_steps(nph_tasks_heap *heap, uint64_t *steps);
+
+/* As nph_version. */
+uint32_t nph_tasks_version(void);
+
+/* Lets `freed` be NULL. */
+NPH_CALL_OR_NULL static inline nph_status nph_tasks_free_or_null(nph_tasks_heap *heap, uint32_t task, uint32_t handle, nph_freed *freed) {
+    nph_freed ignored;
+    return nph_tasks_free(heap, task, handle, freed ? freed : &ignored);
+}
+#define nph_tasks_free(heap, task, handle, freed) nph_tasks_free_or_null(heap, task, handle, freed)
 
 /* A block of memory at the address `at`. If out of memory, `ok` is false and `at` is any address but null. */
 typedef struct nph_block {

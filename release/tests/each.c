@@ -30,6 +30,37 @@ int main(void) {
     MUST(nph_sliced_most_access(3, 2) > 2 && nph_sliced_most_has_room() > 0 && nph_sliced_most_length() > 1);
     nph_sliced_close(&heap);
     MUST(nph_sliced_last_steps(&heap, &steps) == NPH_CLOSED);
+#ifdef EACH_TASKS
+int main(void) {
+    nph_tasks_heap heap = NPH_TASKS_HEAP;
+    nph_needed needed;
+    nph_freed freed;
+    nph_class figures;
+    nph_task task;
+    static const nph_need needs[2] = {{200, 2}, {24, 20}};
+    uint32_t object, other, number;
+    uint64_t steps;
+    char back[6] = "";
+    MUST(nph_tasks_version() == NPH_VERSION);
+    MUST(nph_tasks_set_quota(&heap, 0, 1) == NPH_CLOSED);
+    MUST(nph_tasks_open(&heap, 4, 500, 8) == NPH_PAGE_BYTES && nph_tasks_open(&heap, 4, 512, 30) == NPH_OK);
+    MUST(nph_tasks_open(&heap, 4, 512, 30) == NPH_OPEN);
+    MUST(nph_tasks_bytes_needed(4, 512, 30, &needed) == NPH_OK && needed.total > 4 * 512 && needed.largest <= needed.total);
+    MUST(nph_tasks_least_quota(&heap, needs, 2, &number) == NPH_OK && number == 3 && nph_tasks_admit(&heap, 0, needs, 2) == NPH_SPACE);
+    MUST(nph_tasks_set_quota(&heap, 0, 3) == NPH_OK && nph_tasks_admit(&heap, 0, needs, 2) == NPH_OK);
+    MUST(nph_tasks_set_quota(&heap, 1, 2) == NPH_PAGES && nph_tasks_set_quota(&heap, 1, 1) == NPH_OK);
+    MUST(nph_tasks_unassigned(&heap, &number) == NPH_OK && number == 0);
+    MUST(nph_tasks_malloc(&heap, 0, 200, &object) == NPH_OK && nph_tasks_malloc(&heap, 1, 500, &other) == NPH_OK);
+    MUST(nph_tasks_malloc(&heap, 1, 8, &number) == NPH_SPACE && nph_tasks_malloc(&heap, 16, 8, &number) == NPH_UNKNOWN);
+    MUST(nph_tasks_last_steps(&heap, &steps) == NPH_OK && steps == 1);
+    MUST(nph_tasks_write(&heap, 0, object, 194, "hello", 6) == NPH_OK && nph_tasks_read(&heap, 0, object, 194, back, 6) == NPH_OK);
+    MUST(strcmp(back, "hello") == 0);
+    MUST(nph_tasks_length(&heap, 1, other, &number) == NPH_OK && number == 500);
+    MUST(nph_tasks_task(&heap, 1, &task) == NPH_OK && task.quota == 1 && task.pages == 1 && task.live == 1);
+    MUST(nph_tasks_figures(&heap, 0, 0, &figures) == NPH_OK && figures.slot_words == 4);
+    MUST(nph_tasks_free(&heap, 0, object, &freed) == NPH_OK && freed.moved == NPH_NONE && nph_tasks_free(&heap, 0, object, NULL) == NPH_UNKNOWN);
+    nph_tasks_close(&heap);
+    MUST(nph_tasks_last_steps(&heap, &steps) == NPH_CLOSED);
     printf("%d.%d.%d\n", NPH_VERSION / 10000, NPH_VERSION / 100 % 100, NPH_VERSION % 100);
     return 0;
 }

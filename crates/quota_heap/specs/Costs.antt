@@ -60,6 +60,11 @@ abbrev pub access_steps : Result Unit AccessFault → ℕ → ℕ → ℕ
 access_steps (Ok done) from count = most_of_access from count
 access_steps (Err e) from count = fault_steps e
 
+-- a call for the length of an object: the proxy and, if the handle is live, the header
+abbrev pub length_steps : Option ℕ → ℕ
+length_steps None = 1
+length_steps (Some bytes) = 2
+
 -- a peek: 1 step for the word, 0 past the region's end
 abbrev pub peek_steps : Option ℕ → ℕ
 peek_steps None = 0

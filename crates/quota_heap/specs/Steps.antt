@@ -1,5 +1,5 @@
 -- What each call of a task, by its result, does to the state of the heap that tasks share: `old` is the state before the call, `new` after it.
-use Rattle.std.specs.Prelude.{◌≡◌, ℕ, ◌+◌, ◌<◌, ◌≤◌, List, Option, Some, None, Result, Ok, Err, length, take, drop, if◌then◌else◌, nat_lt, slice_set}
+use Rattle.std.specs.Prelude.{◌≡◌, ℕ, ◌+◌, ◌<◌, ◌≤◌, List, Option, Some, None, Result, Ok, Err, length, option_map, take, drop, if◌then◌else◌, nat_lt, slice_set}
 use Rattle.std.specs.FinMap.{get, insert}
 use Rattle.cf_base.specs.declared.answers.AccessFault.{AccessFault}
 use Rattle.cf_base.specs.declared.answers.AccessFault.TheVariants.{Unknown, Range}
@@ -95,3 +95,7 @@ IsReadAnswer s task position old (Err e) out = IsFault s task position (length o
 -- the figures of class c of a task; none if there is no such class
 abbrev pub figures_by : QuotaState → ℕ → ℕ → Option Figures
 figures_by s task c = if nat_lt c (classes (task_paging s.profile)) then Some (figures_of (task_paging s.profile) (held_by s task) c) else None
+
+-- the number of bytes of the task's object h; none if it is not live
+abbrev pub length_by : QuotaState → ℕ → ℕ → Option ℕ
+length_by s task h = option_map (λ (x : Placed). length x.bytes) (get (held_by s task) h)

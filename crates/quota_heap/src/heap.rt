@@ -1,14 +1,15 @@
 //! The heap that sixteen tasks share, closed or open, with its public calls: quotas, malloc, free, read, write,
 //! figures and `peek`. `OpenTasks` does all the work.
 ghost use Rattle.std.specs.Prelude.{◌≡◌, ◌+◌, ◌^◌, ◌<◌, ◌≤◌, IsTrue, IfErr, IfOk, false, length, slice_get, sum};
+ghost use Rattle.std.specs.FinMap.{len};
 ghost use Rattle.step_ledger.specs.Counting.{RoseAtMost, RoseBy};
 ghost use Rattle.cf_base.specs.Settings.{profile_of};
 ghost use Rattle.page_model.specs.Arrangement.{pages_needed, used_pages};
 ghost use Rattle.quota_model.specs.Refusals.{task_paging};
-ghost use Rattle.quota_heap.specs.Costs.{access_steps, free_cost, free_steps, malloc_cost, most_of_malloc, peek_steps};
+ghost use Rattle.quota_heap.specs.Costs.{access_steps, free_cost, free_steps, length_steps, malloc_cost, most_of_malloc, peek_steps};
 ghost use Rattle.quota_heap.specs.Needed.{quota_bytes};
 ghost use Rattle.quota_heap.specs.State.{KeepsTasks, closed_state, empty_state, held_by, objects_by, quota_of};
-ghost use Rattle.quota_heap.specs.Steps.{IsFreeStep, IsMallocStep, IsQuotaStep, IsReadAnswer, IsWriteStep, figures_by};
+ghost use Rattle.quota_heap.specs.Steps.{IsFreeStep, IsMallocStep, IsQuotaStep, IsReadAnswer, IsWriteStep, figures_by, length_by};
 
 use crate::open_tasks::OpenTasks;
 use cf_base::{
@@ -66,7 +67,8 @@ impl QuotaHeap {
 
     /// The memory that `open_heap` asks for. The bytes of the `QuotaHeap` itself, which its owner keeps, aren't counted.
     pub fn bytes_needed(s: &Settings) -> BytesNeeded
-        ensures { result ≡ quota_bytes (profile_of s.now) }
+        ensures needed { result ≡ quota_bytes (profile_of s.now) }
+        ensures few { result.total < 2 ^ 44 }
     {
         OpenTasks::bytes_needed(s)
     }
@@ -78,6 +80,17 @@ impl QuotaHeap {
         ensures rules { IsTrue result → KeepsTasks self.now }
     {
         self.inner.is_some()
+    }
+
+    /// The settings with which the heap was opened.
+    pub fn settings(&self) -> Settings
+        requires { IsTrue self.now.is_open }
+        ensures { profile_of result ≡ self.now.profile }
+    {
+        match &self.inner {
+            Some(open) => open.shared_pages.settings,
+            None => unreachable!(),
+        }
     }
 
     /// A task's quota: the most pages that it may use.
@@ -102,6 +115,18 @@ impl QuotaHeap {
     {
         match &self.inner {
             Some(open) => open.pages(task),
+            None => unreachable!(),
+        }
+    }
+
+    /// The number of live objects of a task.
+    pub fn live(&self, task: u32) -> u32
+        requires opened { IsTrue self.now.is_open }
+        requires sixteen { task < 16 }
+        ensures { result ≡ len (objects_by self.now task) }
+    {
+        match &self.inner {
+            Some(open) => open.live(task),
             None => unreachable!(),
         }
     }
@@ -212,6 +237,20 @@ impl QuotaHeap {
     {
         match &self.inner {
             Some(open) => open.read(task, h, at, out, steps),
+            None => unreachable!(),
+        }
+    }
+
+    /// The length of object `h` of a task in bytes. `None` if the handle is not live in this task.
+    pub fn length(&self, task: u32, h: Handle, steps: &mut Steps) -> Option<u32>
+        requires opened { IsTrue self.now.is_open }
+        requires sixteen { task < 16 }
+        requires room { steps.old ≤ 2 ^ 63 }
+        ensures value { result ≡ length_by self.now task h.0 }
+        ensures steps { RoseBy steps.old steps.new (length_steps result) }
+    {
+        match &self.inner {
+            Some(open) => open.length(task, h, steps),
             None => unreachable!(),
         }
     }

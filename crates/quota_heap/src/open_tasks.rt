@@ -1,7 +1,7 @@
 //! The body of an open heap of sixteen tasks, with all calls and their tests for refusals. Each call works on
 //! its task's own tables and on the pages that all tasks share.
-ghost use Rattle.std.specs.Prelude.{◌≡◌, ℕ, ◌+◌, ◌<◌, ◌≤◌, None, Some, IfNone, IfOk, IfSome, if◌then◌else◌, is_some, length, slice_get, slice_set, sum};
-ghost use Rattle.std.specs.FinMap.{get};
+ghost use Rattle.std.specs.Prelude.{◌≡◌, ℕ, ◌+◌, ◌^◌, ◌<◌, ◌≤◌, None, Some, IfNone, IfOk, IfSome, if◌then◌else◌, is_some, length, slice_get, slice_set, sum};
+ghost use Rattle.std.specs.FinMap.{get, len};
 ghost use Rattle.step_ledger.specs.Counting.{RoseBy};
 ghost use Rattle.cf_base.specs.Classes.{need};
 ghost use Rattle.cf_base.specs.Settings.{profile_of};
@@ -11,12 +11,12 @@ ghost use Rattle.page_model.specs.Paging.{class_for, classes};
 ghost use Rattle.quota_model.specs.Refusals.{malloc_refusal, quota_refusal};
 ghost use Rattle.page_slots.specs.Owner.{IsObjectAt};
 ghost use Rattle.quota_heap.specs.Calls.{IsFoundIn, find_steps};
-ghost use Rattle.quota_heap.specs.Costs.{access_steps, free_cost, malloc_cost, peek_steps};
+ghost use Rattle.quota_heap.specs.Costs.{access_steps, free_cost, length_steps, malloc_cost, peek_steps};
 ghost use Rattle.quota_heap.specs.Layout.{IsValid, as_owner, paging_at, state_of};
 ghost use Rattle.quota_heap.specs.Needed.{quota_bytes};
 ghost use Rattle.quota_heap.specs.declared.task.Task.{Task};
 ghost use Rattle.quota_heap.specs.State.{empty_state, held_by, objects_by, quota_of};
-ghost use Rattle.quota_heap.specs.Steps.{IsFreeStep, IsMallocStep, IsQuotaStep, IsReadAnswer, IsWriteStep, figures_by};
+ghost use Rattle.quota_heap.specs.Steps.{IsFreeStep, IsMallocStep, IsQuotaStep, IsReadAnswer, IsWriteStep, figures_by, length_by};
 
 use crate::shared_pages::{Found, SharedPages};
 use crate::task::{Task, first_tasks, tasks_bytes};
@@ -58,7 +58,8 @@ impl OpenTasks {
 
     /// The memory that `new` asks for.
     pub(crate) fn bytes_needed(s: &Settings) -> BytesNeeded
-        ensures { result ≡ quota_bytes (profile_of s.now) }
+        ensures needed { result ≡ quota_bytes (profile_of s.now) }
+        ensures few { result.total < 2 ^ 44 }
     {
         let layout = Layout::Words;
         let shared_pages = PageTables::bytes_needed(s, layout).and(Region::bytes_needed(
@@ -104,6 +105,16 @@ impl OpenTasks {
     {
         let task = &self.tasks[t as usize];
         task.pages
+    }
+
+    /// The number of live objects of task `t`.
+    pub(crate) fn live(&self, t: u32) -> u32
+        requires kept { IsValid self.now }
+        requires sixteen { t < 16 }
+        ensures { result ≡ len (objects_by (state_of self.now) t) }
+    {
+        let task = &self.tasks[t as usize];
+        task.proxies.live()
     }
 
     /// The number of the region's pages less the sum of all quotas.
@@ -202,6 +213,17 @@ impl OpenTasks {
     {
         let task = &self.tasks[t as usize];
         self.shared_pages.object(task, h, steps)
+    }
+
+    /// The length of object `h` of task `t` in bytes. `None` if the handle is not live in this task.
+    pub(crate) fn length(&self, t: u32, h: Handle, steps: &mut Steps) -> Option<u32>
+        requires kept { IsValid self.now }
+        requires sixteen { t < 16 }
+        ensures value { result ≡ length_by (state_of self.now) t h.0 }
+        ensures steps { RoseBy steps.old steps.new (length_steps result) }
+    {
+        let task = &self.tasks[t as usize];
+        self.shared_pages.length(task, h, steps)
     }
 
     /// Returns the address of object `h` of task `t`. Fails with `Unknown` if the handle is not live in

@@ -1,12 +1,14 @@
 //! What all tasks share (`SharedPages`): the settings, the region, the used slots of each page, and the free
 //! pages. Also the lookup of a task's object.
-ghost use Rattle.std.specs.Prelude.{◌≡◌, ℕ, ◌*◌, ◌+◌, ◌<◌, ◌≤◌, false, length, replicate, slice_get, slice_index, None, IfNone, IfOk, IfSome, if◌then◌else◌, is_some};
+ghost use Rattle.std.specs.Prelude.{◌≡◌, ℕ, ◌*◌, ◌+◌, ◌<◌, ◌≤◌, false, length, option_map, replicate, slice_get, slice_index, None, IfNone, IfOk, IfSome, if◌then◌else◌, is_some};
 ghost use Rattle.std.specs.List.{range_with_len};
 ghost use Rattle.std.specs.FinMap.{get};
 ghost use Rattle.step_ledger.specs.Counting.{RoseBy};
+ghost use Rattle.page_model.specs.Held.{Placed};
 ghost use Rattle.page_slots.specs.Owner.{IsObjectAt};
 ghost use Rattle.quota_heap.specs.Calls.{IsFound, find_steps};
-ghost use Rattle.quota_heap.specs.Layout.{AreFirstPages, ArePages, IsTask, as_owner};
+ghost use Rattle.quota_heap.specs.Costs.{length_steps};
+ghost use Rattle.quota_heap.specs.Layout.{AreFirstPages, ArePages, IsTask, as_owner, held_of};
 
 use crate::task::Task;
 use cf_base::{AccessFault, Handle, Layout, OutOfMemory, Settings};
@@ -66,6 +68,19 @@ impl SharedPages {
             length,
             class,
         })
+    }
+
+    /// The length of object `h` of a task in bytes. `None` if the handle is not live in this task.
+    pub(crate) fn length(&self, task: &Task, h: Handle, steps: &mut Steps) -> Option<u32>
+        requires shared_pages { ArePages self.now }
+        requires kept { (t : ℕ) × IsTask self.now t task.now }
+        ensures value { result ≡ option_map (λ (x : Placed). length x.bytes) (get (held_of self.now task.now) h.0) }
+        ensures steps { RoseBy steps.old steps.new (length_steps result) }
+    {
+        let Some(place) = task.proxies.lookup(h, steps) else {
+            return None;
+        };
+        Some(Header::unpack(self.region.read(place, steps)).length)
     }
 
     /// Returns the address of object `h` of a task. Fails with `Unknown` if the handle is not live in this

@@ -1,0 +1,6 @@
+pub mod Tables
+pub mod Places
+pub mod Sent
+pub mod TaskLaws
+pub mod Admissions
+pub mod NeededCall

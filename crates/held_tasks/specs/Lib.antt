@@ -1,0 +1,10 @@
+pub mod Handles
+pub mod TasksState
+pub mod Codes
+pub mod Calls
+pub mod CallerTasks
+pub mod Needed
+pub mod Tasks
+pub mod Loan
+pub mod Place
+pub mod LeavesAlone
