@@ -48,9 +48,13 @@ front_is [] page e = absurd (let lt = slice_get_within [] 0 page e in omega arit
 front_is (x ∷ xs) page e = (let same : Some x ≡ Some page = e in let is : x ≡ page = cc in ap (λ y. y ∷ xs) is)
 
 -- a list without a head is empty, and one with a head isn't
-pub front_none : (xs : List ℕ) → None ≡ slice_get xs 0 → xs ≡ []
+front_none : (xs : List ℕ) → None ≡ slice_get xs 0 → xs ≡ []
 front_none [] e = refl
 front_none (x ∷ xs) e = absurd (let none : is_some (slice_get (x ∷ xs) 0) ≡ false = ap is_some (sym e) in false≢true (sym none))
+
+pub none_listed : (xs : List ℕ) → length xs ≡ 0 → xs ≡ []
+none_listed [] e = refl
+none_listed (x ∷ xs) e = absurd (omega arith)
 
 pub front_some : (xs : List ℕ) → 1 ≤ length xs → None ≡ slice_get xs 0 → ⊥
 front_some xs some none = (let e = ap (λ (ys : List ℕ). length ys) (front_none xs none) in omega arith)

@@ -80,6 +80,8 @@ impl PageTables {
     /// Returns the address of the object that moves into a freed slot of class c, as `filler` does, and
     /// frees the slot at this address. The slot that the object moves into stays marked as used. A page
     /// that is then empty returns to the pool.
+    // Inlined, so that a caller with a ledger of its own keeps its count in a register.
+    #[inline(always)]
     pub fn fill_slot(&mut self, lists: &mut ClassLists, c: u32, steps: &mut Steps) -> u32
         requires tables { AreTables self.old.classes (tables_with self.old lists.old) }
         requires class { c < length self.old.classes.sizes }

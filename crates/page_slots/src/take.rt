@@ -31,14 +31,16 @@ impl PageTables {
         ensures steps { RoseBy steps.old steps.new (steps_to_take self.old.classes (tables_with self.old lists.old) c) }
         ensures bound { RoseAtMost steps.old steps.new 13 }
     {
-        match lists.front(c, Which::NotFull, steps) {
-            Some(page) => {
-                let slot = take_least(&mut self.maps, page, steps);
-                leave_if_filled(&self.maps, lists, c, page, steps);
-                Some(address_of(&self.classes, c, page, slot))
-            }
-            None => self.take_on_free_page(lists, c, steps),
+        if lists.len(c, Which::NotFull) == 0 {
+            steps.tick(1); // finding that the class has no partly full page
+            return self.take_on_free_page(lists, c, steps);
         }
+        let Some(page) = lists.front(c, Which::NotFull, steps) else {
+            unreachable!();
+        };
+        let slot = take_least(&mut self.maps, page, steps);
+        leave_if_filled(&self.maps, lists, c, page, steps);
+        Some(address_of(&self.classes, c, page, slot))
     }
 
     /// Takes the first slot of the first page of the pool, which becomes a page of class c, and

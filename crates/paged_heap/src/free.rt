@@ -91,12 +91,12 @@ impl OpenHeap {
     {
         let slot_words = self.tables.classes.slot_words(c);
         self.proxies.release(h, steps);
-        self.count_out(c, length);
-        let moved = self.leave_slot::<A>(c, place, moves, steps);
+        self.count_out(c, slot_words, length);
+        let moved = self.leave_slot::<A>(c, place, slot_words, moves, steps);
         Freed { slot_words, moved }
     }
 
-    /// Leaves the used slot of class c at the address `place`, whose object is freed or has moved
+    /// Leaves the used slot of class c, of `slot_words` words, at the address `place`, whose object is freed or has moved
     /// away. If `moves`, the object of the class that the tables choose moves there, and its own slot
     /// becomes free; returns its handle. Else the slot is cleared and becomes free.
     #[inline(always)]
@@ -104,9 +104,11 @@ impl OpenHeap {
         &mut self,
         c: u32,
         place: u32,
+        slot_words: u32,
         moves: bool,
         steps: &mut Steps,
     ) -> Option<Handle>
+        requires words { slot_words ≡ slice_index self.old.tables.classes.sizes c }
         requires laid { FitTable A.kind self.old.blocks self.old.region }
         requires may { MayLeave (seen A.kind self.old) place c moves }
         ensures moved { is_some result ≡ moves }
@@ -117,7 +119,6 @@ impl OpenHeap {
         ensures most { RoseAtMost steps.old steps.new (13 + word_steps A.kind + slot_steps A.kind (slice_index self.old.tables.classes.sizes c)) }
         ensures steps { RoseBy steps.old steps.new (leaving_steps (seen A.kind self.old) place c result) }
     {
-        let slot_words = self.tables.classes.slot_words(c);
         if moves {
             let from = self.tables.fill_slot(&mut self.lists, c, steps);
             let other = Header::unpack(A::read(&self.region, &self.blocks, from, steps)).handle;
@@ -171,8 +172,9 @@ impl OpenHeap {
     }
 
     /// Takes an object of `bytes` bytes out of the counts: the live objects of class c, the bytes
-    /// asked, and the bytes taken, which are those of its slot. Costs no step.
-    pub(crate) fn count_out(&mut self, c: u32, bytes: u32)
+    /// asked, and the bytes taken, which are those of its slot of `slot_words` words. Costs no step.
+    pub(crate) fn count_out(&mut self, c: u32, slot_words: u32, bytes: u32)
+        requires words { slot_words ≡ slice_index self.old.tables.classes.sizes c }
         requires class { c < length self.old.tables.classes.sizes }
         requires listed { c < length self.old.live }
         requires live { 1 ≤ slice_index self.old.live c }
@@ -186,6 +188,6 @@ impl OpenHeap {
     {
         self.live[c as usize] -= 1;
         self.asked -= u64::from(bytes);
-        self.taken -= 8 * u64::from(self.tables.classes.slot_words(c));
+        self.taken -= 8 * u64::from(slot_words);
     }
 }

@@ -93,7 +93,7 @@ impl OpenHeap {
         let Some(c) = self.tables.classes.class_of(bytes, steps) else {
             return Err(Refusal::Size);
         };
-        if self.proxies.live() == self.settings.proxies {
+        if self.proxies.is_full() {
             return Err(Refusal::Proxy);
         }
         if self.has_slot(c) {

@@ -90,7 +90,7 @@ impl OpenHeap {
         let Some(_to) = self.enter_class::<A>(x, steps) else {
             return Err(ResizeFault::Space);
         };
-        let moved = self.leave_slot::<A>(x.class, x.place, moves, steps);
+        let moved = self.leave_slot::<A>(x.class, x.place, old_slot_words, moves, steps);
         Ok(Resized {
             old_slot_words,
             slot_words,
@@ -117,7 +117,8 @@ impl OpenHeap {
             unreachable!();
         };
         self.copy_to_slot::<A>(x, to, steps);
-        self.count_out(x.class, x.length);
+        let old_slot_words = self.tables.classes.slot_words(x.class);
+        self.count_out(x.class, old_slot_words, x.length);
         self.count_in(x.to, x.bytes);
         Some(to)
     }

@@ -2,7 +2,7 @@
 //! changes its address here and nowhere else.
 #![tactic(auto)]
 
-ghost use Rattle.std.specs.Prelude.{◌≡◌, ◌∷◌, ◌<◌, ◌↔◌, IfNone, IfOk, IfSome, IsNone, IsSome, None, Some, if◌then◌else◌, is_some};
+ghost use Rattle.std.specs.Prelude.{◌≡◌, ◌∷◌, ◌<◌, ◌↔◌, IfNone, IfOk, IfSome, IsNone, IsSome, IsTrue, None, Some, if◌then◌else◌, is_some};
 ghost use Rattle.std.specs.FinMap as map;
 ghost use Rattle.step_ledger.specs.Counting.{RoseBy};
 ghost use Rattle.proxy_table.specs.Proxies.{AreBelowLimit, no_proxies, with_place, without_place};
@@ -75,6 +75,14 @@ impl ProxyTable {
         ensures kept { AreBelowLimit self.now }
     {
         self.places.len() as u32 - self.left
+    }
+
+    /// Returns whether every number is live.
+    pub fn is_full(&self) -> bool
+        ensures value { IsTrue result ↔ (map.len self.now.places ≡ self.now.limit) }
+        ensures kept { AreBelowLimit self.now }
+    {
+        self.left == 0
     }
 
     /// Returns the address of number `h`; none if it isn't live. Costs one step.

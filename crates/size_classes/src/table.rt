@@ -7,7 +7,7 @@ ghost use Rattle.size_classes.specs.Table.{table_of};
 ghost use Rattle.size_classes.specs.Needed.{class_table_bytes};
 
 use crate::needs::classes_by_need;
-use cf_base::{BytesNeeded, Layout, OutOfMemory, class_count, need_of, slot_sizes};
+use cf_base::{BytesNeeded, Layout, OutOfMemory, class_count, slot_sizes};
 use std::alloc::Global;
 use std::marker::Model;
 use step_ledger::{Cells, Steps};
@@ -124,8 +124,9 @@ impl Classes {
         ensures within { IfSome result (λ c. c < length self.now.sizes) }
         ensures steps { RoseBy steps.old steps.new 1 }
     {
-        let words = need_of(bytes);
-        if words > self.page_words {
+        // The words that it needs (`need_of`), by one division.
+        let words = (u64::from(bytes) + 15) / 8;
+        if words > u64::from(self.page_words) {
             // A refused size reads an entry too, so that each call costs one step.
             let _class = self.by_need.get(0, steps);
             return None;

@@ -1,9 +1,9 @@
 -- The first partly full page has a free slot.
-use Rattle.std.proofs.Common.{ap, inl, refl, sym}
+use Rattle.std.proofs.Common.{ap, arith, inl, refl, sym}
 use Rattle.slot_bitmap.specs.Maps.{SlotTable}
 use Rattle.class_lists.specs.PageLists.{pages_in}
 use Rattle.class_lists.specs.declared.Which.TheVariants.{NotFull}
-use Rattle.page_slots.proofs.Calls.{front_none, front_there, front_inside, read_back, front_small, front_room, front_slot, took_open_steps}
+use Rattle.page_slots.proofs.Calls.{front_there, front_inside, read_back, front_small, front_room, front_slot, none_listed, took_open_steps}
 use Rattle.page_slots.proofs.TablesAfterTake.{taken_gains, taken_others}
 use Rattle.page_slots.proofs.page_tables.PageTables.take_slot.Goals as goal
 
@@ -24,10 +24,10 @@ pub address_of-requires-clause-small : goal.address_of-requires-clause-small
 address_of-requires-clause-small c = front_small _ _ c.requires.tables c.args.c c.in-Some.page c.in-Some.ensures.front
 
 pub take_on_free_page-requires-clause-none : goal.take_on_free_page-requires-clause-none
-take_on_free_page-requires-clause-none c = front_none (pages_in c.args.lists.now c.args.c NotFull) c.in-None.ensures.front
+take_on_free_page-requires-clause-none c = none_listed (pages_in c.args.lists.now c.args.c NotFull) (omega (arith, c.len.ensures.len, c.if-len-eq0.true))
 
-pub returns-in-Some-clause-taken : goal.returns-in-Some-clause-taken
-returns-in-Some-clause-taken c = record {
+pub returns-clause-taken : goal.returns-clause-taken
+returns-clause-taken c = record {
   page = c.in-Some.page;
   slot = c.take_least-slot.result;
   address = c.address_of.ensures;
@@ -42,17 +42,17 @@ returns-in-Some-clause-taken c = record {
   });
 }
 
-pub returns-in-Some-clause-others : goal.returns-in-Some-clause-others
-returns-in-Some-clause-others c =
-    taken_others _ _ c.requires.tables c.args.c c.requires.class _ _ (returns-in-Some-clause-taken c) c.leave_if_filled.ensures.kept c.requires.tables.pool
+pub returns-clause-others : goal.returns-clause-others
+returns-clause-others c =
+    taken_others _ _ c.requires.tables c.args.c c.requires.class _ _ (returns-clause-taken c) c.leave_if_filled.ensures.kept c.requires.tables.pool
 
-pub returns-in-Some-clause-kept : goal.returns-in-Some-clause-kept
-returns-in-Some-clause-kept c =
-    (taken_gains _ _ c.requires.tables c.args.c c.requires.class _ _ (returns-in-Some-clause-taken c) c.leave_if_filled.ensures.kept
+pub returns-clause-kept : goal.returns-clause-kept
+returns-clause-kept c =
+    (taken_gains _ _ c.requires.tables c.args.c c.requires.class _ _ (returns-clause-taken c) c.leave_if_filled.ensures.kept
     c.requires.tables.pool).kept
 
-pub returns-in-Some-clause-steps : goal.returns-in-Some-clause-steps
-returns-in-Some-clause-steps c =
+pub returns-clause-steps : goal.returns-clause-steps
+returns-clause-steps c =
     let inside = front_inside _ _ c.requires.tables c.args.c c.in-Some.page c.in-Some.ensures.front in
     took_open_steps _ _ c.requires.tables c.args.c c.in-Some.page c.in-Some.ensures.front c.take_least-slot.result _ c.take_least-slot.ensures.free
     (read_back _ _ _ _ c.take_least-slot.ensures.map inside) c.args.steps.now _ _ _

@@ -27,6 +27,11 @@ pub leave_slot-moved-requires-clause-may : goal.leave_slot-moved-requires-clause
 leave_slot-moved-requires-clause-may g c =
     may_leave c.requires.kept.kept c.requires.change c.in-Some.ensures.entered c.args.moves c.requires.due
 
+pub leave_slot-moved-requires-clause-words : goal.leave_slot-moved-requires-clause-words
+leave_slot-moved-requires-clause-words g c =
+    let e = ap (λ (t : ClassTable). get_or t.sizes c.args.x.class 0) c.in-Some.ensures.entered.classes in
+    omega (arith, e, c.slot_words-old_slot_words.ensures.value)
+
 pub returns-clause-step : goal.returns-clause-step
 returns-clause-step g c =
     let kind = g.A.Mapping.kind in let k = c.requires.kept.kept in let is = c.requires.change in let en = c.in-Some.ensures.entered in

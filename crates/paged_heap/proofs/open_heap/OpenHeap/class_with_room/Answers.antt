@@ -1,5 +1,6 @@
 -- The refusals, in the order in which the code tests their causes.
 use Rattle.std.proofs.Common.{arith, sym, ◌∙◌}
+use Rattle.std.proofs.lemmas.Bool.{true≢false}
 use Rattle.paged_heap.specs.Heap.{seen}
 use Rattle.paged_heap.specs.Layout.{paging_at}
 use Rattle.paged_heap.proofs.LayoutFacts.{tables_ok, table_is, paging_ok}
@@ -15,12 +16,12 @@ has_slot-requires g c =
     let all = (tables_ok h c.requires.kept).classes in
     omega arith
 
-pub returns-then-live-self-clause-cause : goal.returns-then-live-self-clause-cause
-returns-then-live-self-clause-cause g c =
+pub returns-then-is_full-clause-cause : goal.returns-then-is_full-clause-cause
+returns-then-is_full-clause-cause g c =
     lacks_proxy (seen g.A.Mapping.kind c.args.self.now) c.requires.kept c.args.bytes c.in-Some.c c.in-Some.ensures.found
-    (sym c.live.ensures.count ∙ c.if-live-self.true)
+    (c.is_full.ensures.value.0 c.if-is_full.true ∙ c.requires.kept.numbers)
 
 pub returns-else-has_slot-clause-cause : goal.returns-else-has_slot-clause-cause
 returns-else-has_slot-clause-cause g c =
     lacks_space (seen g.A.Mapping.kind c.args.self.now) c.requires.kept c.args.bytes c.in-Some.c c.in-Some.ensures.found
-    (λ e. c.if-live-self.false (c.live.ensures.count ∙ e)) (c.has_slot.ensures.none c.if-has_slot.false)
+    (λ e. true≢false (sym (c.is_full.ensures.value.1 (e ∙ sym c.requires.kept.numbers)) ∙ c.if-is_full.false)) (c.has_slot.ensures.none c.if-has_slot.false)

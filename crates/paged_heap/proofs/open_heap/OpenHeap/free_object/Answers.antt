@@ -25,6 +25,10 @@ count_out-requires-clause-taken g c =
     let l = taken_some c.requires.kept.kept c.requires.object in
     omega arith
 
+pub leave_slot-moved-requires-clause-words : goal.leave_slot-moved-requires-clause-words
+leave_slot-moved-requires-clause-words g c =
+    c.slot_words-slot_words.ensures.value ∙ sym (ap (λ (x : OpenHeap). get_or x.tables.classes.sizes c.args.c 0) c.count_out.ensures)
+
 pub leave_slot-moved-requires-clause-laid : goal.leave_slot-moved-requires-clause-laid
 leave_slot-moved-requires-clause-laid g c =
     laid_same g.A.Mapping.kind c.args.self.now c.count_out.new.self (ap (λ (x : OpenHeap). x.blocks) c.count_out.ensures)

@@ -43,20 +43,20 @@ move_to-requires-clause-source g c =
     let mv = c.requires.may.mover c.if-moves.true c.fill_slot-from.result _ c.fill_slot-from.ensures.filled c.fill_slot-from.ensures.kept in
     let l = mv.source in
     let i = in_region g.A.Mapping.kind c.args.self.now c.requires.laid in
-    let w = c.slot_words-slot_words.ensures.value in
+    let w = c.requires.words in
     omega arith
 
 pub move_to-requires-clause-target : goal.move_to-requires-clause-target
 move_to-requires-clause-target g c =
     let l = c.requires.may.inside in
     let i = in_region g.A.Mapping.kind c.args.self.now c.requires.laid in
-    let w = c.slot_words-slot_words.ensures.value in
+    let w = c.requires.words in
     omega arith
 
 pub move_to-requires-clause-apart : goal.move_to-requires-clause-apart
 move_to-requires-clause-apart g c =
     let mv = c.requires.may.mover c.if-moves.true c.fill_slot-from.result _ c.fill_slot-from.ensures.filled c.fill_slot-from.ensures.kept in
-    subst (λ w. (c.fill_slot-from.result + w ≤ c.args.place) ⊎ (c.args.place + w ≤ c.fill_slot-from.result)) (sym c.slot_words-slot_words.ensures.value) mv.apart
+    subst (λ w. (c.fill_slot-from.result + w ≤ c.args.place) ⊎ (c.args.place + w ≤ c.fill_slot-from.result)) (sym c.requires.words) mv.apart
 
 pub move_to-requires-clause-whole_source : goal.move_to-requires-clause-whole_source
 move_to-requires-clause-whole_source g c =
@@ -69,13 +69,13 @@ move_to-requires-clause-whole_target g c =
 
 pub move_to-requires-clause-whole : goal.move_to-requires-clause-whole
 move_to-requires-clause-whole g c =
-    subst (IsWhole g.A.Mapping.kind) (sym c.slot_words-slot_words.ensures.value) c.requires.may.whole_words
+    subst (IsWhole g.A.Mapping.kind) (sym c.requires.words) c.requires.may.whole_words
 
 pub clear-requires-clause-within : goal.clear-requires-clause-within
 clear-requires-clause-within g c =
     let l = c.requires.may.inside in
     let i = in_region g.A.Mapping.kind c.args.self.now c.requires.laid in
-    let w = c.slot_words-slot_words.ensures.value in
+    let w = c.requires.words in
     omega arith
 
 pub drop_slot-requires-clause-tables : goal.drop_slot-requires-clause-tables
@@ -106,7 +106,7 @@ returns-then-moves-clause-left g c =
         frames = n.frames;
       }) (sym e);
       free = c.move_to.ensures.free;
-      moves = subst (MovesSlot old n c.fill_slot-from.result c.args.place) c.slot_words-slot_words.ensures.value
+      moves = subst (MovesSlot old n c.fill_slot-from.result c.args.place) c.requires.words
           (record { long = m.long; words = m.words; frames = m.frames });
     }
 
@@ -124,21 +124,21 @@ returns-else-moves-clause-left g c =
     record {
       rest = retabled kind (record c.args.self.now { region = c.clear.new.region }) c.drop_slot.new.self c.drop_slot.new.lists c.drop_slot.ensures.classes;
       freed = c.drop_slot.ensures.freed;
-      words = subst (λ s. Clears old.words (words_of kind blocks c.clear.new.region) (record { from = c.args.place; count = s })) c.slot_words-slot_words.ensures.value c.clear.ensures.words;
+      words = subst (λ s. Clears old.words (words_of kind blocks c.clear.new.region) (record { from = c.args.place; count = s })) c.requires.words c.clear.ensures.words;
       long = laid_long kind blocks c.clear.new.region c.clear.ensures.laid ∙ c.clear.ensures.len
           ∙ sym (laid_long kind blocks c.args.self.now.region c.requires.laid);
     }
 
 pub returns-then-moves-clause-most : goal.returns-then-moves-clause-most
 returns-then-moves-clause-most g c =
-    let e = ap (slot_steps g.A.Mapping.kind) c.slot_words-slot_words.ensures.value in
+    let e = ap (slot_steps g.A.Mapping.kind) c.requires.words in
     let a = c.fill_slot-from.ensures.bound in let b = c.read.ensures.steps in let d = c.move_to.ensures.steps in
     record { kept = omega (arith, a.kept, b.kept, d.kept); bound = omega (arith, e, a.bound, b.bound, d.bound) }
 
 pub returns-else-moves-clause-most : goal.returns-else-moves-clause-most
 returns-else-moves-clause-most g c =
-    let e = ap (slot_steps g.A.Mapping.kind) c.slot_words-slot_words.ensures.value in
-    let m = clear_most g.A.Mapping.kind c.args.place c.slot_words-slot_words.result in
+    let e = ap (slot_steps g.A.Mapping.kind) c.requires.words in
+    let m = clear_most g.A.Mapping.kind c.args.place c.args.slot_words in
     let a = c.clear.ensures.steps in let b = c.drop_slot.ensures.bound in
     record { kept = omega (arith, a.kept, b.kept); bound = omega (arith, e, m, a.bound, b.bound) }
 
@@ -146,10 +146,10 @@ pub returns-then-moves-clause-steps : goal.returns-then-moves-clause-steps
 returns-then-moves-clause-steps g c =
     let kind = g.A.Mapping.kind in
     subst (λ s. RoseBy c.args.steps.now c.move_to.new.steps (steps_to_fill (tables_in (seen kind c.args.self.now)) c.args.c + word_steps kind + (slot_steps kind s + 1)))
-    c.slot_words-slot_words.ensures.value (rose_both _ _ _ _ _ (rose_both _ _ _ _ _ c.fill_slot-from.ensures.steps c.read.ensures.steps) c.move_to.ensures.steps)
+    c.requires.words (rose_both _ _ _ _ _ (rose_both _ _ _ _ _ c.fill_slot-from.ensures.steps c.read.ensures.steps) c.move_to.ensures.steps)
 
 pub returns-else-moves-clause-steps : goal.returns-else-moves-clause-steps
 returns-else-moves-clause-steps g c =
     let kind = g.A.Mapping.kind in let old = seen kind c.args.self.now in
     subst (λ s. RoseBy c.args.steps.now c.drop_slot.new.steps (run_steps kind c.args.place s + steps_to_drop (tables_in old) (page_at old.classes c.args.place)))
-    c.slot_words-slot_words.ensures.value (rose_both _ _ _ _ _ c.clear.ensures.steps c.drop_slot.ensures.steps)
+    c.requires.words (rose_both _ _ _ _ _ c.clear.ensures.steps c.drop_slot.ensures.steps)
