@@ -67,6 +67,31 @@ module _ (f : ℕ → ℕ) (at d n : ℕ) (bytes : List ℕ) (fits : d + n ≤ l
 pub overwritten_same : (f g : ℕ → ℕ) (at : ℕ) (part : List ℕ) (k : ℕ) → f k ≡ g k → overwritten f at part k ≡ overwritten g at part k
 overwritten_same f g at part k e = ap (λ (z : ℕ). if nat_le at k && nat_lt k (at + length part) then get_or part (k - at) 0 else z) e
 
+-- byte k of a list of bytes after those of `part` replaced its bytes from byte `at` on
+written_byte : (v : List ℕ) (at : ℕ) (part : List ℕ) → at + length part ≤ length v → (k : ℕ)
+    → get_or (written v at part) k 0 ≡ overwritten (λ i. get_or v i 0) at part k
+written_byte v at part fits k = elim (cases_lt k at) [
+  | inl before ↦ written_before v at part fits k before ∙ sym (overwritten_before (λ i. get_or v i 0) at part k before)
+  | inr from ↦ elim (cases_lt k (at + length part)) [
+    | inl inside ↦ (
+        let e : at + (k - at) ≡ k = omega arith in
+        ap (λ i. get_or (written v at part) i 0) (sym e) ∙ written_inside v at part fits (k - at) (omega arith)
+        ∙ sym (overwritten_inside (λ i. get_or v i 0) at part k from inside))
+    | inr behind ↦ written_behind v at part fits k behind ∙ sym (overwritten_behind (λ i. get_or v i 0) at part k behind)
+  ]
+]
+
+-- two words after some of their bytes, `cells`, are overwritten
+pub pair_overwritten : (words new cells after : List ℕ) (at : ℕ) (part : List ℕ) → length words ≡ 2 → length new ≡ 2 → length cells ≡ 16
+    → at + length part ≤ 16 → ((k : ℕ) → k < 16 → get_or cells k 0 ≡ byte_in words k) → after ≡ written cells at part
+    → ((k : ℕ) → k < 16 → byte_in new k ≡ get_or after k 0) → (k : ℕ) → byte_in new k ≡ overwritten (byte_in words) at part k
+pair_overwritten words new cells after at part two too long fits has is put k = elim (cases_lt k 16) [
+  | inl lt ↦ put k lt ∙ ap (λ xs. get_or xs k 0) is ∙ written_byte cells at part (omega arith) k
+      ∙ overwritten_same (λ i. get_or cells i 0) (byte_in words) at part k (has k lt)
+  | inr past ↦ ap (byte_of (k % 8)) (get_or_past new (k / 8) 0 (omega arith) ∙ sym (get_or_past words (k / 8) 0 (omega arith)))
+      ∙ sym (overwritten_behind (byte_in words) at part k (omega arith))
+]
+
 -- bytes are written in three parts: those before byte x of them, those before byte y, and the rest
 pub all_overwritten : (f g h i : ℕ → ℕ) (at x y : ℕ) (bytes : List ℕ) → x ≤ y → y ≤ length bytes
     → ((k : ℕ) → g k ≡ overwritten f at (take x bytes) k) → ((k : ℕ) → h k ≡ overwritten g (at + x) (take (y - x) (drop x bytes)) k)

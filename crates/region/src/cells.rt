@@ -81,6 +81,38 @@ pub(crate) fn put_words(words: &mut [u64], bytes: &[u8])
     }
 }
 
+/// How many bytes two words have.
+const PAIR_BYTES: usize = 16;
+
+/// Fills `out` with the bytes of two words from byte `at` on. Counts no step.
+fn read_pair(words: &[u64], at: usize, out: &mut [u8])
+    requires two { length words.now ≡ 2 }
+    requires within { at + length out.old ≤ 16 }
+    ensures { (k : ℕ) → k < length out.new → slice_index out.new k ≡ byte_in words.now (at + k) }
+{
+    let mut cells = [0; PAIR_BYTES];
+    copy_words(words, &mut cells);
+    // A copy of a constant length compiles to one load and one store.
+    if out.len() == WORD_BYTES {
+        out.copy_from_slice(&cells[at..at + WORD_BYTES]);
+    } else {
+        out.copy_from_slice(&cells[at..at + out.len()]);
+    }
+}
+
+/// Replaces the bytes of two words from byte `at` on by `bytes`. Every other byte stays. Counts no
+/// step.
+fn write_pair(words: &mut [u64], at: usize, bytes: &[u8])
+    requires two { length words.old ≡ 2 }
+    requires within { at + length bytes.now ≤ 16 }
+    ensures { (k : ℕ) → byte_in words.new k ≡ overwritten (byte_in words.old) at bytes.now k }
+{
+    let mut cells = [0; PAIR_BYTES];
+    copy_words(words, &mut cells);
+    overwrite(&mut cells, at, bytes);
+    put_words(words, &cells);
+}
+
 /// Fills `out` with bytes of one word, those from byte `at` of the words on.
 fn copy_part(words: &[u64], at: usize, out: &mut [u8])
     requires one { at % 8 + length out.old ≤ 8 }
@@ -108,13 +140,26 @@ fn put_part(words: &mut [u64], at: usize, part: &[u8])
 fn before_word(at: usize, count: usize) -> usize
     ensures { result ≡ min ((8 - at % 8) % 8) count }
 {
-    ((WORD_BYTES - at % WORD_BYTES) % WORD_BYTES).min(count)
+    (at.wrapping_neg() % WORD_BYTES).min(count)
 }
 
 /// Fills `out` with the bytes of the words from byte `at` on. Counts no step.
 // Not inlined, so that callers which take a shorter path for one word save no registers for this one.
 #[inline(never)]
 pub(crate) fn read_bytes(words: &[u64], at: usize, out: &mut [u8])
+    requires { at + length out.old ≤ 8 * length words.now }
+    ensures { (k : ℕ) → k < length out.new → slice_index out.new k ≡ byte_in words.now (at + k) }
+{
+    if words.len() == 2 {
+        read_pair(words, at, out);
+    } else {
+        read_parts(words, at, out);
+    }
+}
+
+/// Does what `read_bytes` does, in three parts: the bytes before the first whole word, the whole
+/// words, and the bytes after them.
+fn read_parts(words: &[u64], at: usize, out: &mut [u8])
     requires { at + length out.old ≤ 8 * length words.now }
     ensures { (k : ℕ) → k < length out.new → slice_index out.new k ≡ byte_in words.now (at + k) }
 {
@@ -132,6 +177,18 @@ pub(crate) fn read_bytes(words: &[u64], at: usize, out: &mut [u8])
 // Not inlined, as `read_bytes`.
 #[inline(never)]
 pub(crate) fn write_bytes(words: &mut [u64], at: usize, bytes: &[u8])
+    requires { at + length bytes.now ≤ 8 * length words.old }
+    ensures { (k : ℕ) → byte_in words.new k ≡ overwritten (byte_in words.old) at bytes.now k }
+{
+    if words.len() == 2 {
+        write_pair(words, at, bytes);
+    } else {
+        write_parts(words, at, bytes);
+    }
+}
+
+/// Does what `write_bytes` does, in three parts, as `read_parts`.
+fn write_parts(words: &mut [u64], at: usize, bytes: &[u8])
     requires { at + length bytes.now ≤ 8 * length words.old }
     ensures { (k : ℕ) → byte_in words.new k ≡ overwritten (byte_in words.old) at bytes.now k }
 {

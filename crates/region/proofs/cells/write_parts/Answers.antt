@@ -6,7 +6,7 @@ use Rattle.region.specs.Cells.{byte_in}
 use borrow.Rule.Slice.PartMut.{put_mid}
 use Rattle.region.proofs.Overwriting.{all_overwritten}
 use Rattle.region.proofs.Pieces.{words_put}
-use Rattle.region.proofs.cells.write_bytes.Goals as goal
+use Rattle.region.proofs.cells.write_parts.Goals as goal
 
 pub returns : goal.returns
 returns c =

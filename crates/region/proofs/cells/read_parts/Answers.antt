@@ -4,7 +4,7 @@ use Rattle.page_model.specs.Bytes.{byte_of}
 use Rattle.region.specs.Cells.{byte_in}
 use Rattle.region.proofs.Pieces.{all_filled}
 use Rattle.region.proofs.RunLemmas.{lent_byte}
-use Rattle.region.proofs.cells.read_bytes.Goals as goal
+use Rattle.region.proofs.cells.read_parts.Goals as goal
 
 pub returns : goal.returns
 returns c = λ k lt.
