@@ -10,8 +10,8 @@ use cf_base::{BytesNeeded, Handle, numbers_from};
 use std::alloc::Global;
 use std::marker::Model;
 
-/// For each number the handle that names it now. There are as many as the low bits of a handle, `mask`, can tell apart. No
-/// handle above `limit` has a next generation.
+/// For each number the handle that names it now. The low bits of a handle, those of `mask`, are its number, and each number
+/// that they can be is in the list. A handle above `limit` is of the last generation.
 #[derive(Drop)]
 pub struct Handles {
     of: Vec<u32>,

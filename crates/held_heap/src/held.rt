@@ -15,8 +15,8 @@ use std::rt::Memory;
 use step_ledger::Meter;
 
 /// An open heap, the steps of its last call, and the handle of each number: what C has for an object. A call on a handle that
-/// its number does not have now is a call on `NONE`, which is never live. Only `figures` and `last_steps` count none, and leave this
-/// number unchanged. Each other call makes a ledger of its own from `memory`, so that the compiler keeps the
+/// its number does not have now is a call on `NONE`, which is never live. Lending, returning, `figures` and `last_steps` count none,
+/// and leave this number unchanged. Each other call makes a ledger of its own from `memory`, so that the compiler keeps the
 /// count in a register.
 #[derive(Drop)]
 pub struct Held<H: OfKind> {

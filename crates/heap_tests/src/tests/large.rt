@@ -163,8 +163,8 @@ enum Call {
 static CALLS: [(Call, u64); 18] = [
     (Call::Malloc(232), 15),
     (Call::Malloc(176), 15),
-    // Object 2 has 44 parts, of which 43 are whole. Its spine, of 176 bytes, and its last part, of 232, fill a page
-    // each. Each part has its handle written, in three steps.
+    // Object 2 has 43 whole parts and a shorter one. The spine, of 176 bytes, and the shorter part, of 232, fill the
+    // pages of their classes. The spine gets the handle of each part, in three steps.
     (Call::Malloc(21_904), 17 + 43 * (15 + 3) + (17 + 3)),
     (Call::Malloc(232), 15),
     (Call::Malloc(176), 15),
