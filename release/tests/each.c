@@ -30,7 +30,10 @@ int main(void) {
     MUST(nph_sliced_most_access(3, 2) > 2 && nph_sliced_most_has_room() > 0 && nph_sliced_most_length() > 1);
     nph_sliced_close(&heap);
     MUST(nph_sliced_last_steps(&heap, &steps) == NPH_CLOSED);
-#ifdef EACH_TASKS
+    printf("%d.%d.%d\n", NPH_VERSION / 10000, NPH_VERSION / 100 % 100, NPH_VERSION % 100);
+    return 0;
+}
+#elif defined EACH_TASKS
 int main(void) {
     nph_tasks_heap heap = NPH_TASKS_HEAP;
     nph_needed needed;
