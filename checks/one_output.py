@@ -2,12 +2,15 @@
 
 It computes each address, number, word and count of steps from the rules alone: which page, slot, number, object and free
 block comes first (`page_model/specs/Order`), and what a call costs (`cf_model/specs/ExactCosts`, `block_model/specs/Costs`).
-In modes `large`, `quota` and `slice` it computes each reply but that to `p` from how many objects each class has. It counts what
-the scripts make the tool do, and fails if they leave out something that is listed in `MET`, `MET_BLOCKS` or `MET_MODES`.
+In modes `large`, `quota` and `slice` it computes each reply but that to `p` from how many objects each class has. It reads
+scripts by the rules of docs/USING.md, so that it knows the first bad line of a damaged one. It counts what the scripts make
+the tool do, and fails if they leave out something that is listed in `MET`, `MET_BLOCKS`, `MET_MODES` or `MET_DAMAGE`.
 """
+import contextlib
 import itertools
 import os
 import random
+import re
 import select
 import subprocess
 import sys
@@ -782,7 +785,111 @@ def wanted(kind, lines):
         else:
             replies.append(answer(heap, ids, words))
             seen[f"{words[0]} {replies[-1][0]}"] += replies[-1][0].split()[0] in ("live", "unknown", "range", "none", "refused")
-    return replies, Counter({f"{kind}: {what}": n for what, n in (seen + heap.seen).items()})
+    if heap:
+        seen += heap.seen
+    return replies, Counter({f"{kind}: {what}": n for what, n in seen.items()})
+
+
+# The most that each number of a command may be.
+MOST = {
+    "heap": (4096, 131_072, 64, 65_536), "k": (NONE, 64), "m": (65_535, NONE), "f": (65_535,), "w": (65_535, NONE),
+    "r": (65_535, NONE, 4096), "z": (65_535, NONE), "q": (65_535,), "b": (65_535, NONE), "p": (NONE,), "walk": (), "frag": (),
+    "steps": (), "s": (), "t": (15,), "quota": (15, NONE), "need": (15, NONE, NONE), "admit": (15,),
+}
+
+
+def is_command(name, texts):
+    """Whether these tokens may follow that first token of a line."""
+    count = len(MOST.get(name, ())) + (name == "w")
+    if name not in MOST or len(texts) != count:
+        return False
+    if name == "w" and not re.fullmatch(r"([0-9a-fA-F]{2}){1,4096}", texts.pop()):
+        return False
+    if not all(re.fullmatch(r"0*[0-9]{1,10}", text) and int(text[-10:]) <= most for text, most in zip(texts, MOST[name])):
+        return False
+    if name == "heap":
+        pages, page_bytes, k, proxies = (int(text[-10:]) for text in texts)
+        return page_bytes in {512 << i for i in range(9)} and 0 < pages <= 67_108_864 // page_bytes and k > 0 and proxies > 0
+    return name != "k" or int(texts[1][-10:]) > 0
+
+
+def commands_of(script):
+    """The command of each line of a script, `None` for a line without one, up to the first bad line; and its number, or `None`."""
+    lines, commands, stage = script.split(b"\n"), [], 0  # 0: before `heap`; 1: `k` may follow; 2: after another command
+    for number, line in enumerate(lines if lines[-1] else lines[:-1], 1):
+        tokens = [it for it in re.split("[ \t]", line.removesuffix(b"\r").decode("latin-1")) if it]
+        is_silent = not tokens or tokens[0].startswith("#")
+        is_due = is_silent or {"heap": stage == 0, "k": stage == 1}.get(tokens[0], stage > 0)
+        if len(line) > 8999 or not is_due or not (is_silent or is_command(tokens[0], tokens[1:])):
+            return commands, number
+        commands.append(None if is_silent else " ".join(tokens))
+        if not is_silent:
+            stage = 1 if tokens[0] in ("heap", "k") else 2
+    return commands, None
+
+
+HEADS = (b"heap 2 512 1 4\n", b"heap 1 512 2 8\r\n", b"heap 3 1024 1 3\n", b"\theap 4 512 64  08\n")
+
+# A line for each command, the last one without its line feed.
+EACH_COMMAND = (
+    b"heap 2 512 1 4\nk 23 1\nm 0 176\nm 1 176\r\nm 2 176\nw 1 2 a1B2c3\nr 1 0 6\nf 0\n\tq 1\n# note\n\nb 1 0\np 64\nz 1 200\n"
+    b"z 2 24\nwalk\nfrag\nsteps\ns\nt 3\nquota 3 1\nneed 3 8 1\nadmit 3\nf 1\nr 2 0 24\nwalk"
+)
+LINES = (
+    b"m 0 24", b"m 0 176", b"m 1 0", b"m 2 504", b"m 3 505", b"m 3 4294967296", b"m 65535 8\r", b"f 0", b"f 1", b"f 2", b"f 65536",
+    b"w 0 0 00ff10EF", b"w 1 170 a1b2c3d4e5f6", b"w 2 7 616", b"r 0 0 24", b"r 1 168 8", b"r 3 4294967295 1", b"r 2 0 4097",
+    b"q 1", b"b 2 3", b"p 64", b"z 0 176", b"z 2 1016", b"k 23 2", b"k 23 65", b"walk", b" frag ", b"steps", b"steps 1", b"t 16",
+    b"quota 3 1", b"need 3 8", b"admit 3", b"# a comment\n", b"#" * 8999, b"#" * 9000, b"\r", b"\x0bf 0",
+)
+
+
+GOOD_LINES = [line for line in LINES if not commands_of(HEADS[0] + line)[1]]
+
+
+def damaged_script(draw):
+    """Draws a few lines or random bytes. One line may be missing, come twice or stand elsewhere; bits may be flipped."""
+    if draw.random() < 0.25:
+        bytes_ = [draw.choice((draw.randrange(256), *b"heapmfwrqbzkst0123456789 \t\r\n\n#")) for _ in range(draw.randrange(200))]
+        script = bytearray(draw.choice((b"", *HEADS)) + bytes(bytes_))
+    else:
+        lines = [draw.choice(HEADS), *(line + b"\n" for line in draw.choices(draw.choice((LINES, GOOD_LINES, GOOD_LINES)), k=draw.randint(1, 24)))]
+        at, to, change = draw.randrange(len(lines)), draw.randrange(len(lines)), draw.choice(("none", "missing", "twice", "swapped"))
+        if change == "missing":
+            del lines[at]
+        elif change == "twice":
+            lines.insert(at, lines[to])
+        elif change == "swapped":
+            lines[at], lines[to] = lines[to], lines[at]
+        script = bytearray(b"".join(lines))
+    for _ in range(draw.randrange(3) if script else 0):
+        script[draw.randrange(len(script))] ^= 1 << draw.randrange(8)
+    return bytes(script)
+
+
+def damage_differs(program, seed):
+    """
+    Runs a beginning of `EACH_COMMAND`, or a damaged script, in mode `compare`, and on one manager in chunks. Returns the first
+    difference from what must be printed, `None` if there is none, and what was met: the first token of the bad line, if any.
+    """
+    draw = random.Random(seed)
+    script = EACH_COMMAND[:seed] if seed <= len(EACH_COMMAND) else damaged_script(draw)
+    commands, bad = commands_of(script)
+    each = [wanted(kind, [it for it in commands if it])[0] for kind in KINDS]
+    kind, lines, last = list(KINDS)[seed % 4], script.split(b"\n"), [b"bad line %d\n" % bad] if bad else []
+    # What is printed after each line; after a line without a command nothing.
+    both, one = ([next(texts) if it else b"" for it in commands] + last for texts in map(iter, (compare_text(each), run_text(each[seed % 4]))))
+    ended = subprocess.run([program, "compare"], input=script, capture_output=True)
+    read = b"\n".join(lines[:bad] + [b""] * (len(lines) > bad)) if bad else script
+    seen = Counter(["bad " + "".join(lines[bad - 1].decode("latin-1").split()[:1]) if bad else "whole"])
+    for name, right, printed in (("compare", both, ended.stdout), (kind, one, in_chunks([program, "--manager", kind], read, one, draw))):
+        if printed != b"".join(right):
+            return f"damaged script {seed}, {name}: {first_difference(b''.join(right), printed)}", seen
+    wrong = ended.returncode != (3 if bad else 0) or ended.stderr != (b"cf_tool: bad script\n" if bad else b"")
+    return f"damaged script {seed}: status {ended.returncode}, {ended.stderr}" if wrong else None, seen
+
+
+# What must be met among the damaged scripts.
+MET_DAMAGE = ["whole", "bad", *(f"bad {name}" for name in MOST)]
 
 
 # The bytes of the replies to each line.
@@ -805,8 +912,9 @@ def in_chunks(command, text, replies, draw):
         ends = [0, *itertools.accumulate(map(len, replies))]
         while at < len(text):
             end = at + draw.choice((1, 2, 7, 40, 200, 200, 4000))
-            child.stdin.write(text[at:end])
-            child.stdin.flush()
+            with contextlib.suppress(BrokenPipeError):  # (a line that has grown too long is bad before its end)
+                child.stdin.write(text[at:end])
+                child.stdin.flush()
             whole += text[at:end].count(b"\n")
             due, at = ends[whole], end
             while len(printed) < due and select.select([child.stdout], [], [], 20)[0]:
@@ -817,7 +925,8 @@ def in_chunks(command, text, replies, draw):
             if len(printed) < due:
                 child.kill()
                 return printed
-        child.stdin.close()
+        with contextlib.suppress(BrokenPipeError):
+            child.stdin.close()
         return printed + child.stdout.read()
 
 
@@ -891,7 +1000,7 @@ def example_differs(path):
 # Compares the examples, then this many drawn scripts, and prints the first five differences, or what was compared.
 def main(program, count):
     with ProcessPoolExecutor(os.cpu_count()) as pool:
-        drawn = pool.map(differs, [program] * count, range(count))
+        drawn = [*pool.map(differs, [program] * count, range(count)), *pool.map(damage_differs, [program] * count * 5, range(count * 5))]
         wrong, counts = map(list, zip(*map(example_differs, sorted(Path("examples").glob("*.cf")))))
         seen = Counter()
         for difference, more in drawn:
@@ -901,13 +1010,13 @@ def main(program, count):
     if count >= 200:
         met = [*itertools.product(("cf", "nm"), MET), *itertools.product(("nm",), MET_BLOCKS)]
         wrong += [f"no drawn script has with {kind}: {what}" for kind, what in met if not seen[f"{kind}: {what}"]]
-        wrong += [f"no drawn script has {what}" for what in MET_MODES if not seen[what]]
+        wrong += [f"no drawn script has {what}" for what in MET_MODES + MET_DAMAGE if not seen[what]]
     for it in wrong[:5]:
         print(f"checks/one_output: {it}", file=sys.stderr)
     if wrong:
         sys.exit(1)
     lines = f"{seen['lines']:,} lines, {seen['replies']:,} of replies"
-    print(f"checks/one_output: {count} drawn scripts and {sum(counts)} examples, {lines}; of them with cf and nm:")
+    print(f"checks/one_output: {count} drawn scripts, {5 * count} damaged ones, and {sum(counts)} examples, {lines}; of them with cf and nm:")
     print(", ".join(f"{what} {seen['cf: ' + what]:,} {seen['nm: ' + what]:,}" for what in [*MET, *MET_BLOCKS]))
     print(", ".join(f"{what} {seen[what]:,}" for what in MET_MODES))
 

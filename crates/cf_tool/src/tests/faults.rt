@@ -1,15 +1,22 @@
 //! Tests of modes `run` and `compare` on each kind: each call of the source, then each call of the sink, fails
 //! in turn, while the script `MOVE` runs.
 
-use super::rows::{MOVE, MOVED};
-use super::{ROOM, answer_by, answer_on, answered_from, closed_managers, failing_sink};
+use super::{ROOM, answer_on, closed_managers};
 use boxed_managers::Boxed;
 use cf_base::{Handle, Kind, Status};
-use cf_io::{MemSink, MemSource, SureSource};
+use cf_io::{MemSink, MemSource};
 use cf_model::Manager;
 use std::alloc::{AllocError, Global};
 use std::test::Fail;
 use step_ledger::Meter;
+
+/// A script with a free that moves an object into the freed slot and returns a page to the pool.
+pub const MOVE: &[u8] =
+    b"heap 2 512 1 8\nm 1 176\nm 2 176\nm 3 176\nm 4 176\nm 5 176\nw 2 0 a1b2\nf 1\nq 2\nq 3\nf 3\nq 2\nm 6 504\nr 2 0 2\n";
+
+/// What `MOVE` prints on the moving manager.
+pub const MOVED: &[u8] =
+    b"ok\nok\nok\nok\nok\nrefused space\nok\nok\nat 23\nat 64\nok\nat 64\nok\n=a1b2\n";
 
 /// The state of an open manager: the number of its live objects, and the address in words of the object with
 /// handle 1 (id 2), if it is live.
@@ -279,39 +286,5 @@ fn a_write_fault_leaves_a_prefix_of_the_text(rt: HostRuntime) -> Result<(), Fail
         let whole = whole(&answers, None, Some(call));
         assert!(rt; leaves_so(&rt, &answers, &whole)?, "{whole:?}");
     }
-    Ok(())
-}
-
-/// A script of two lines. The reply to the first one is written before the fault.
-const TWO_LINES: &[u8] = b"heap 1 512 1 4\nm 1 8\n";
-
-/// Returns whether a source that fails within the second line ends the run after the reply to the first one.
-fn ends_at_the_second_line(rt: &HostRuntime) -> Result<bool, Fail> {
-    let alloc = rt.alloc();
-    let (cuts, fails) = (vec![in alloc; 18; 1]?, vec![in alloc; 1; 1]?);
-    let source = MemSource::new(TWO_LINES.to_vec(alloc)?, cuts, fails);
-    let got = answered_from(rt, &[], source)?;
-    Ok(got.is(Status::ReadFault, b"ok\n"))
-}
-
-/// If only the beginning of a line was read before a fault, the line takes no effect.
-#[test]
-fn a_part_of_a_line_is_not_done(rt: HostRuntime) -> Result<(), Fail> {
-    assert!(rt; ends_at_the_second_line(&rt)?);
-    Ok(())
-}
-
-/// Returns whether a sink that fails at the second reply ends the run, and has the first one.
-fn ends_at_the_second_reply(rt: &HostRuntime) -> Result<bool, Fail> {
-    let mut source = SureSource::new(TWO_LINES.to_vec(rt.alloc())?);
-    let mut sink = failing_sink(rt, 1)?;
-    let status = answer_by(rt, &[], &mut source, &mut sink)?;
-    Ok(status == Status::WriteFault && sink.written() == b"ok\n".as_slice())
-}
-
-/// A sink that fails at a reply ends the run with `WriteFault`.
-#[test]
-fn a_reply_that_is_not_taken_ends_the_run(rt: HostRuntime) -> Result<(), Fail> {
-    assert!(rt; ends_at_the_second_reply(&rt)?);
     Ok(())
 }

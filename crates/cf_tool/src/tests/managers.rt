@@ -1,12 +1,10 @@
 //! Tests with managers that the caller passes in: what modes `run`, `compare` and `bench` print, and how many
-//! live objects these managers have afterwards. One more test: `load` prints again the script whose image `save`
-//! wrote.
+//! live objects these managers have afterwards.
 
-use super::rows::{MOVE, MOVED};
-use super::{OutputOn, answer_with, answered, answered_on, failing_sink};
+use super::faults::{MOVE, MOVED};
+use super::{OutputOn, answer_with, answered_on, failing_sink};
 use cf_base::{Kind, Status};
-use cf_io::{Line, MemSink, SureSource};
-use generator::{Generator, command_text};
+use cf_io::SureSource;
 use std::test::Fail;
 
 /// A call of `cf_main`: what it shows, the arguments, the kinds of the managers passed in, which are closed,
@@ -23,11 +21,8 @@ struct Case {
     live: &'static [Option<u32>],
 }
 
-/// The kinds of the program's managers, in its order.
-const FOUR: [Kind; 4] = [Kind::Moving, Kind::NonMoving, Kind::Tlsf, Kind::HalfFit];
-
 /// Calls in modes `run`, `compare` and `bench`.
-static CASES: [Case; 16] = [
+static CASES: [Case; 8] = [
     Case {
         shows: "the first of the kind answers, and no other one is touched",
         words: &[],
@@ -36,15 +31,6 @@ static CASES: [Case; 16] = [
         status: Status::Done,
         text: MOVED,
         live: &[None, Some(3), None],
-    },
-    Case {
-        shows: "blocks stay while an object moves",
-        words: &["--manager", "nm"],
-        managers: &[Kind::Moving, Kind::NonMoving],
-        script: b"heap 2 512 1 8\nm 1 176\nm 2 176\nm 3 176\nm 4 176\nm 5 176\nb 2 0\nf 1\nf 3\nq 2\nb 2 0\np 64\nm 6 504\nb 6 6\nb 6 16\n",
-        status: Status::Done,
-        text: b"ok\nok\nok\nok\nok\nrefused space\nblock 6\nok\nok\nat 64\nblock 6\n000000b000000001\nok\nblock 16\nrange\n",
-        live: &[None, Some(3)],
     },
     Case {
         shows: "a manager is made if none of the kind is passed in",
@@ -74,15 +60,6 @@ static CASES: [Case; 16] = [
         live: &[None, None],
     },
     Case {
-        shows: "two managers side by side",
-        words: &["compare"],
-        managers: &[Kind::Moving, Kind::NonMoving],
-        script: b"heap 1 512 1 4\nm 1 256\nm 2 176\nfrag\nwalk\n",
-        status: Status::Done,
-        text: b"cf ok\nnm ok\ncf ok\nnm ok\ncf refused space\nnm refused space\ncf frag asked 256 taken 272 held 512\nnm frag asked 256 taken 288 held 512\ncf class 34 slots 1 live 1 pages 1 notfull 0\ncf total live 1 pages 1 free 0\nnm class 36 slots 1 live 1 pages 1 notfull 0\nnm total live 1 pages 1 free 0\n",
-        live: &[Some(1), Some(1)],
-    },
-    Case {
         shows: "a move on each of two managers",
         words: &["compare", "--manager", "nm"],
         managers: &[Kind::NonMoving, Kind::Moving],
@@ -110,67 +87,13 @@ static CASES: [Case; 16] = [
         live: &[None],
     },
     Case {
-        shows: "a need is rounded up, and free blocks are joined",
-        words: &["--manager", "tlsf"],
-        managers: &[Kind::Moving, Kind::Tlsf],
-        script: b"heap 1 512 1 4\nm 1 232\nwalk\nm 2 248\nm 2 240\nf 1\nf 2\nwalk\n",
-        status: Status::Done,
-        text: b"ok\nok\nblocks used 1 free 1 largest 33\nrefused space\nok\nok\nok\nblocks used 0 free 1 largest 64\n",
-        live: &[None, Some(0)],
-    },
-    Case {
-        shows: "a single word that is over stays with its block",
-        words: &["run", "--manager=tlsf"],
-        managers: &[],
-        script: b"heap 1 512 1 4\nm 1 504\nm 1 488\nfrag\n",
-        status: Status::Done,
-        text: b"ok\nrefused space\nok\nfrag asked 488 taken 512 held 512\n",
-        live: &[],
-    },
-    Case {
-        shows: "four managers side by side",
-        words: &["compare"],
-        managers: &FOUR,
-        script: b"heap 1 512 1 4\nm 1 256\nm 2 176\nfrag\n",
-        status: Status::Done,
-        text: b"cf ok\nnm ok\ntlsf ok\nhalf ok\ncf ok\nnm ok\ntlsf ok\nhalf ok\ncf refused space\nnm refused space\ntlsf ok\nhalf refused space\ncf frag asked 256 taken 272 held 512\nnm frag asked 256 taken 288 held 512\ntlsf frag asked 432 taken 464 held 512\nhalf frag asked 256 taken 272 held 512\n",
-        live: &[Some(1), Some(1), Some(2), Some(1)],
-    },
-    Case {
         shows: "a bench of the moving manager reads nothing and touches no manager",
         words: &["bench", "--seed", "0", "--count", "4"],
-        managers: &FOUR,
+        managers: &[Kind::Moving, Kind::NonMoving],
         script: MOVE,
         status: Status::Done,
         text: b"bench commands 4 ok 1 refused 0 live 1 pages 1 moves 0\n",
-        live: &[None, None, None, None],
-    },
-    Case {
-        shows: "a bench of the non-moving manager",
-        words: &["bench", "--manager=nm", "--count=4"],
-        managers: &[],
-        script: b"",
-        status: Status::Done,
-        text: b"bench commands 4 ok 1 refused 0 live 1 pages 1 moves 0\n",
-        live: &[],
-    },
-    Case {
-        shows: "a bench of TLSF",
-        words: &["bench", "--manager=tlsf", "--count=4"],
-        managers: &[],
-        script: b"",
-        status: Status::Done,
-        text: b"bench commands 4 ok 1 refused 0 live 1 pages 1 moves 0\n",
-        live: &[],
-    },
-    Case {
-        shows: "a bench of Half-Fit",
-        words: &["bench", "--manager=half", "--count=4"],
-        managers: &[],
-        script: b"",
-        status: Status::Done,
-        text: b"bench commands 4 ok 1 refused 0 live 1 pages 1 moves 0\n",
-        live: &[],
+        live: &[None, None],
     },
 ];
 
@@ -194,34 +117,6 @@ fn first_other(rt: &HostRuntime, cases: &[Case]) -> Result<&'static str, Fail> {
 #[test]
 fn a_mode_answers_on_the_managers_that_it_names(rt: HostRuntime) -> Result<(), Fail> {
     assert_eq!(rt; first_other(&rt, CASES.as_slice())?, "");
-    Ok(())
-}
-
-/// Returns a script as mode `load` prints it. It makes an object of more bytes than one `w` line can hold,
-/// and an empty one.
-fn long_script(rt: &HostRuntime) -> Result<Vec<u8>, Fail> {
-    let alloc = rt.alloc();
-    let mut script = b"heap 2 32768 1 2\nm 3 4098\nw 3 0 ".to_vec(alloc)?;
-    for _i in 0..4_096 {
-        script.extend_from_slice(b"a5")?;
-    }
-    script.extend_from_slice(b"\nw 3 4096 00ff\nm 9 0\n")?;
-    Ok(script)
-}
-
-/// Returns whether mode `save` ends with `Done` on a script, and mode `load` prints the same script for the image
-/// that `save` wrote.
-fn is_loaded_again(rt: &HostRuntime, script: &[u8]) -> Result<bool, Fail> {
-    let saved = answered(rt, &["save"], script)?;
-    let image = saved.sink.written();
-    let is_again = super::is_answered_so(rt, &["load"], image, Status::Done, script)?;
-    Ok(is_again && saved.status == Status::Done)
-}
-
-#[test]
-fn what_is_saved_is_loaded_as_its_script(rt: HostRuntime) -> Result<(), Fail> {
-    let script = long_script(&rt)?;
-    assert!(rt; is_loaded_again(&rt, script.as_slice())?);
     Ok(())
 }
 
@@ -259,71 +154,5 @@ fn a_cut_stops_between_two_managers(rt: HostRuntime) -> Result<(), Fail> {
     for (call, text, live) in CUTS {
         assert!(rt; is_cut_so(&rt, call, text, live.as_slice())?, "call {call}");
     }
-    Ok(())
-}
-
-/// Returns a script of a `heap` line and then the first `count` commands that the generator draws from `seed`.
-fn generated_script(rt: &HostRuntime, seed: u64, count: u32) -> Result<Vec<u8>, Fail> {
-    let mut script = b"heap 1024 16384 1 4096\n".to_vec(rt.alloc())?;
-    let mut generator = Generator::new(seed);
-    let mut line = Line::new();
-    for _i in 0..count {
-        line.clear();
-        let command = generator.next_command();
-        command_text(&command, &mut line).map_err(|_| "full")?;
-        script.extend_from_slice(line.bytes())?;
-    }
-    Ok(script)
-}
-
-/// The lead of each manager's lines in mode `compare`, in the order of the managers.
-const NAMES: [&[u8]; 4] = [b"cf ", b"nm ", b"tlsf ", b"half "];
-
-/// Returns how many lines `text` has, the output of four managers that take turns; `None` unless all four printed
-/// the same replies, none of them `refused space`.
-fn lines_alike(text: &[u8]) -> Option<u32> {
-    let mut count = 0u32;
-    let mut reply: &[u8] = b"";
-    for line in text.strip_suffix(b"\n")?.split(|b| *b == b'\n') {
-        let shown = line.strip_prefix(NAMES[count as usize % 4])?;
-        if count % 4 == 0 {
-            reply = shown;
-        }
-        if shown != reply || shown == b"refused space".as_slice() {
-            return None;
-        }
-        count = count.wrapping_add(1);
-    }
-    Some(count)
-}
-
-/// Returns a sink whose every call takes all bytes that it is passed, and that can hold 1,048,576 bytes.
-fn wide_sink(rt: &HostRuntime) -> Result<MemSink, Fail> {
-    let alloc = rt.alloc();
-    let sink = MemSink::new(alloc, 1 << 20, Vec::new(alloc), Vec::new(alloc)).map_err(|_| "room")?;
-    Ok(sink)
-}
-
-/// Runs a script on four managers side by side.
-fn compared(rt: &HostRuntime, script: Vec<u8>) -> Result<OutputOn, Fail> {
-    let mut source = SureSource::new(script);
-    let mut sink = wide_sink(rt)?;
-    let left = answer_with(rt, &["compare"], &FOUR, &mut source, &mut sink)?;
-    Ok(OutputOn { left, sink })
-}
-
-/// Returns whether four managers run a generated script of 3,000 commands to its end, and print the same replies,
-/// `lines` lines in all.
-fn prints_alike(rt: &HostRuntime, lines: u32) -> Result<bool, Fail> {
-    let script = generated_script(rt, 1, 3_000)?;
-    let got = compared(rt, script)?;
-    Ok(got.left.status == Status::Done && lines_alike(got.sink.written()) == Some(lines))
-}
-
-// 3,000 commands and the `heap` line: each of the four managers prints the same 3,001 replies, since no malloc
-// is refused space. So there are 12,004 lines.
-#[test]
-fn four_managers_answer_a_long_script_alike(rt: HostRuntime) -> Result<(), Fail> {
-    assert!(rt; prints_alike(&rt, 12_004)?);
     Ok(())
 }

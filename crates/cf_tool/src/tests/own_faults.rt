@@ -2,8 +2,7 @@
 //! sink, fails in turn, and no call follows it. In each mode with replies a line is answered before the next
 //! one is read.
 
-use super::own_heaps::{IMAGES, LARGES, QUOTAS, SLICES};
-use super::rows::{MOVE, MOVED};
+use super::faults::MOVE;
 use super::watched::{Log, WatchedSink, WatchedSource};
 use super::{ROOM, closed_managers, command_line};
 use cf_base::{Kind, Status};
@@ -15,28 +14,35 @@ use top_call::cf_main;
 /// line of the input gets one line of output; it is false if the output is written at the end.
 type Case = (&'static [&'static str], &'static [u8], &'static [u8], bool);
 
-/// The first script of `LARGES` without its last line, whose reply has three lines.
-const LARGE: &[u8] =
-    b"heap 4 512 1 16\nm 1 1000\nm 2 505\nm 3 505\nw 1 500 0102030405060708\nr 1 500 8\nr 1 996 5\nf 1\nm 3 505\n";
+/// An image of a heap with the three bytes `abc` under the id 7.
+const IMAGE: &[u8] = b"CFI1\x01\0\0\0\0\x02\0\0\x04\0\0\0\x01\0\0\0\x07\0\x03\0\0\0abc";
 
-/// The replies to `LARGE`.
-const LARGE_REPLIES: &[u8] = b"ok\nok\nok\nrefused space\nok\n=0102030405060708\nrange\nok\nok\n";
+/// A script that makes what `IMAGE` has, as mode `load` prints it.
+const IMAGED: &[u8] = b"heap 1 512 1 4\nm 7 3\nw 7 0 616263\n";
 
-/// Returns a case for each of five modes.
-fn cases() -> [Case; 5] {
-    let (slice, slice_read, _, slice_text) = SLICES[0];
-    let (quota, quota_read, _, quota_text) = QUOTAS[0];
-    let (large, _, _, _) = LARGES[0];
-    let (save, save_read, _, save_text) = IMAGES[0];
-    let (load, load_read, _, load_text) = IMAGES[3];
-    [
-        (slice, slice_read, slice_text, true),
-        (quota, quota_read, quota_text, true),
-        (large, LARGE, LARGE_REPLIES, true),
-        (save, save_read, save_text, false),
-        (load, load_read, load_text, false),
-    ]
-}
+/// A case for each of five modes. `checks/documents/replies.md` explains the replies of such scripts.
+const CASES: [Case; 5] = [
+    (
+        &["slice", "--quantum", "8"],
+        b"heap 2 512 1 8\nm 1 176\nm 2 176\nm 3 176\nm 4 176\nw 2 0 a1\nf 1\nf 3\ns\ns\nf 3\nr 2 0 1\nm 6 504\n",
+        b"ok\nok\nok\nok\nok\nok\nok\nbusy\nleft 7\nleft 0\nok\n=a1\nbusy\n",
+        true,
+    ),
+    (
+        &["quota"],
+        b"heap 3 512 1 8\nquota 0 2\nquota 1 1\nquota 2 1\nt 0\nm 1 504\nm 2 504\nm 3 504\nt 1\nm 1 504\nm 2 8\n",
+        b"ok\nok\nok\nrefused sum\nok\nok\nok\nrefused space\nok\nok\nrefused space\n",
+        true,
+    ),
+    (
+        &["large"],
+        b"heap 4 512 1 16\nm 1 1000\nm 2 505\nm 3 505\nw 1 500 0102030405060708\nr 1 500 8\nr 1 996 5\nf 1\nm 3 505\n",
+        b"ok\nok\nok\nrefused space\nok\n=0102030405060708\nrange\nok\nok\n",
+        true,
+    ),
+    (&["save"], IMAGED, IMAGE, false),
+    (&["load"], IMAGE, IMAGED, false),
+];
 
 /// How a call ended: its status, the sink with what was written, and whether no call of source or sink came
 /// after one that failed (`stopped`).
@@ -166,7 +172,7 @@ fn write_faults(rt: &HostRuntime, case: &Case) -> Result<Option<u64>, Fail> {
 /// a script of n bytes takes n / 7 calls, rounded up, and one more that finds the end.
 #[test]
 fn each_fault_ends_the_run_in_the_other_modes(rt: HostRuntime) -> Result<(), Fail> {
-    for case in cases() {
+    for case in CASES {
         let (words, read, _, by_line) = case;
         let takes = read_faults(&rt, &case)?;
         let puts = write_faults(&rt, &case)?;
@@ -242,7 +248,7 @@ fn each_line_is_answered_before_the_next_is_taken(rt: HostRuntime) -> Result<(),
     let four = [Kind::Moving, Kind::NonMoving, Kind::Tlsf, Kind::HalfFit];
     assert!(rt; is_in_turn(&rt, &[], MOVE, 1, four.as_slice())?);
     assert!(rt; is_in_turn(&rt, &["compare"], MOVE, 4, four.as_slice())?);
-    for case in cases() {
+    for case in CASES {
         let (words, read, _, by_line) = case;
         if by_line {
             assert!(rt;
