@@ -62,6 +62,3 @@ impl Counts {
         }
     }
 }
-
-#[cfg(test)]
-mod tests;

@@ -193,6 +193,3 @@ fn number_of(c: u32, which: Which) -> u32
         Which::NotFull => 2 * c + 1,
     }
 }
-
-#[cfg(test)]
-mod tests;

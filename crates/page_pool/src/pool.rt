@@ -92,6 +92,3 @@ impl PagePool {
         self.stack.set(self.first, page, steps);
     }
 }
-
-#[cfg(test)]
-mod tests;

@@ -326,6 +326,3 @@ impl PagedHeap<Mapped> {
         let _open = self.open();
     }
 }
-
-#[cfg(test)]
-mod tests;

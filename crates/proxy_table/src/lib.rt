@@ -167,6 +167,3 @@ fn falling(alloc: Global, n: u32) -> Result<Vec<u32>, AllocError>
     }
     Ok(numbers)
 }
-
-#[cfg(test)]
-mod tests;

@@ -281,6 +281,3 @@ impl QuotaHeap {
         }
     }
 }
-
-#[cfg(test)]
-mod tests;

@@ -134,6 +134,3 @@ impl Classes {
         Some(u32::from(self.by_need.get(words as usize, steps)))
     }
 }
-
-#[cfg(test)]
-mod tests;

@@ -253,6 +253,3 @@ impl SlicedHeap {
         }
     }
 }
-
-#[cfg(test)]
-mod tests;

@@ -175,6 +175,3 @@ impl SlotMap {
         self.summary.used -= 1;
     }
 }
-
-#[cfg(test)]
-mod tests;

@@ -225,6 +225,3 @@ fn free_table(alloc: Global, pages: u32, width: u32) -> Result<SlotMaps, AllocEr
         width,
     })
 }
-
-#[cfg(test)]
-mod tests;
