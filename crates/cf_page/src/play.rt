@@ -4,10 +4,9 @@ ghost use Rattle.cf_model.specs.State.{closed_state};
 ghost use Rattle.cf_page.specs.PageRun.{IsPlayed, OrKept, all_kinds, shown_in};
 
 use crate::growing_sink::GrowingSink;
-use boxed_managers::Boxed;
 use cf_base::{Kind, Status};
 use cf_io::SureSource;
-use cf_model::Manager;
+use cf_model::{Boxed, Manager};
 use half_fit_heap::HalfFitHeap;
 use moving_heap::MovingHeap;
 use nonmoving_heap::NonMovingHeap;

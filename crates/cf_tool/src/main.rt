@@ -5,7 +5,7 @@
 ghost use Rattle.std.specs.Prelude.{◌≡◌, option_map};
 ghost use Rattle.cf_tool.specs.Complaints.{complaint_at};
 
-use boxed_managers::Boxed;
+use cf_model::Boxed;
 use cf_base::Status;
 use cf_io::{StdSink, StdSource};
 use half_fit_heap::HalfFitHeap;

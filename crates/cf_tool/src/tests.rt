@@ -8,10 +8,9 @@ mod own_faults;
 mod requested;
 mod watched;
 
-use boxed_managers::Boxed;
 use cf_base::{Kind, Status};
 use cf_io::{LoopSource, MemSink, Source, SureSource};
-use cf_model::Manager;
+use cf_model::{Boxed, Manager};
 use half_fit_heap::HalfFitHeap;
 use moving_heap::MovingHeap;
 use nonmoving_heap::NonMovingHeap;

@@ -7,10 +7,9 @@ ghost use Rattle.cf_base.specs.declared.kind.Kind.TheVariants.{Moving};
 ghost use Rattle.cf_model.specs.State.{closed_state};
 ghost use Rattle.manager_modes.specs.Outcomes.{EndsBeside, Loads, Saves};
 
-use boxed_managers::Boxed;
 use cf_base::Status;
 use cf_io::{Sink, Source};
-use cf_model::Manager;
+use cf_model::{Boxed, Manager};
 use cf_session::Session;
 use image_run::{load_script, save_script};
 use moving_heap::MovingHeap;

@@ -5,10 +5,9 @@ ghost use Rattle.run_model.specs.Sessions.{fresh_session};
 ghost use Rattle.manager_modes.specs.Outcomes.{EndsWithCause, RunsChosen, RunsOwn, seen};
 
 use crate::first_of_kind::first_of;
-use boxed_managers::Boxed;
 use cf_base::{Kind, Status};
 use cf_io::{Sink, Source};
-use cf_model::Manager;
+use cf_model::{Boxed, Manager};
 use cf_session::Session;
 use half_fit_heap::HalfFitHeap;
 use moving_heap::MovingHeap;

@@ -2,10 +2,9 @@
 //! in turn, while the script `MOVE` runs.
 
 use super::{ROOM, answer_on, closed_managers};
-use boxed_managers::Boxed;
 use cf_base::{Handle, Kind, Status};
 use cf_io::{MemSink, MemSource};
-use cf_model::Manager;
+use cf_model::{Boxed, Manager};
 use std::alloc::{AllocError, Global};
 use std::test::Fail;
 use step_ledger::Meter;

@@ -4,7 +4,7 @@ use cf_base::{
     AccessFault, Figures, Freed, Handle, Kind, NotLive, OutOfMemory, Refusal, ResizeFault, Resized,
     Settings, Totals,
 };
-use cf_model::{Manager, StepBounds, Usage};
+use crate::{Manager, StepBounds, Usage};
 use step_ledger::Steps;
 
 /// A manager of any kind, behind a box. Each call of `Boxed` makes the same call of `inner`, and its state is

@@ -2,7 +2,7 @@ use Rattle.std.proofs.Common.{subst}
 use Rattle.std.specs.Prelude.{IfOk}
 use Rattle.cf_base.specs.declared.answers.Refusal.{Refusal}
 use Rattle.cf_model.specs.Steps.{IsRefusedBy}
-use Rattle.boxed_managers.proofs.boxed.BoxedManager.has_room.Goals as goal
+use Rattle.cf_model.proofs.boxed.BoxedManager.has_room.Goals as goal
 
 pub returns-clause-ok : goal.returns-clause-ok
 returns-clause-ok g c =
