@@ -5,9 +5,9 @@
 ghost use Rattle.std.specs.Prelude.{◌≡◌, option_map};
 ghost use Rattle.cf_tool.specs.Complaints.{complaint_at};
 
-use cf_model::Boxed;
 use cf_base::Status;
 use cf_io::{StdSink, StdSource};
+use cf_model::Boxed;
 use half_fit_heap::HalfFitHeap;
 use moving_heap::MovingHeap;
 use nonmoving_heap::NonMovingHeap;
