@@ -12,6 +12,7 @@ import os
 import random
 import re
 import select
+import struct
 import subprocess
 import sys
 import tempfile
@@ -774,8 +775,8 @@ def largest_lines(draw, pages, proxies, bound):
     yield from ("walk", "frag")
 
 
-def wanted(kind, lines):
-    """What the manager must print for the script, by its lines, each a list of lines; and how often it did what."""
+def played(kind, lines):
+    """The manager and the ids that a script leaves, what it must print by its lines, each a list of lines, and how often it did what."""
     heap, ids, replies, seen = None, {}, [], Counter()
     for line in lines:
         words = line.split()
@@ -787,7 +788,23 @@ def wanted(kind, lines):
             seen[f"{words[0]} {replies[-1][0]}"] += replies[-1][0].split()[0] in ("live", "unknown", "range", "none", "refused")
     if heap:
         seen += heap.seen
-    return replies, Counter({f"{kind}: {what}": n for what, n in seen.items()})
+    return heap, ids, replies, Counter({f"{kind}: {what}": n for what, n in seen.items()})
+
+
+# The last two of these.
+def wanted(kind, lines):
+    return played(kind, lines)[2:]
+
+
+def image_of(lines):
+    """The heap image of what a script leaves on the moving manager, and the script that makes its objects."""
+    heap, ids, *_ = played("cf", lines)
+    settings, objects = (heap.pages, 8 * heap.page_words, heap.proxies), [(some, heap.held[number][1]) for some, number in sorted(ids.items())]
+    image = b"".join(struct.pack("<HI", some, len(bytes_)) + bytes_ for some, bytes_ in objects)
+    script = ["heap {} {} 1 {}".format(*settings)]
+    for some, bytes_ in objects:
+        script += [f"m {some} {len(bytes_)}", *(f"w {some} {at} {bytes_[at:at + 4096].hex()}" for at in range(0, len(bytes_), 4096))]
+    return b"CFI1" + struct.pack("<4I", *settings, len(objects)) + image, "".join(f"{line}\n" for line in script).encode()
 
 
 # The most that each number of a command may be.
@@ -843,7 +860,7 @@ LINES = (
 )
 
 
-GOOD_LINES = [line for line in LINES if not commands_of(HEADS[0] + line)[1]]
+GOOD_LINES = [line for line in LINES if not commands_of(HEADS[0] + b"m 1 8\n" + line)[1]]
 
 
 def damaged_script(draw):
@@ -880,7 +897,7 @@ def damage_differs(program, seed):
     both, one = ([next(texts) if it else b"" for it in commands] + last for texts in map(iter, (compare_text(each), run_text(each[seed % 4]))))
     ended = subprocess.run([program, "compare"], input=script, capture_output=True)
     read = b"\n".join(lines[:bad] + [b""] * (len(lines) > bad)) if bad else script
-    seen = Counter(["bad " + "".join(lines[bad - 1].decode("latin-1").split()[:1]) if bad else "whole"])
+    seen = Counter(["bad " + (lines[bad - 1].decode("latin-1")[:8999].split() or [""])[0] if bad else "whole"])
     for name, right, printed in (("compare", both, ended.stdout), (kind, one, in_chunks([program, "--manager", kind], read, one, draw))):
         if printed != b"".join(right):
             return f"damaged script {seed}, {name}: {first_difference(b''.join(right), printed)}", seen
@@ -889,7 +906,7 @@ def damage_differs(program, seed):
 
 
 # What must be met among the damaged scripts.
-MET_DAMAGE = ["whole", "bad", *(f"bad {name}" for name in MOST)]
+MET_DAMAGE = ["whole", "bad " + 8999 * "#", *(f"bad {name}" for name in MOST)]
 
 
 # The bytes of the replies to each line.
@@ -932,7 +949,7 @@ def in_chunks(command, text, replies, draw):
 
 # A text that names the first line in which two outputs differ.
 def first_difference(right, printed):
-    right, printed = right.decode().split("\n"), printed.decode().split("\n")
+    right, printed = right.decode("latin-1").split("\n"), printed.decode("latin-1").split("\n")
     line = next((i for i, (a, b) in enumerate(zip(right, printed)) if a != b), min(len(right), len(printed)) - 1)
     return f"line {line + 1} of the output is {printed[line]!r}, not {right[line]!r}"
 
@@ -946,8 +963,8 @@ def from_file(command, text):
 
 def differs(program, seed):
     """
-    Draws a script, and runs it in mode `compare` from a file, and on one of the managers through a pipe and in chunks. Then draws
-    one for mode `large`, `quota` or `slice`. Returns the first difference from what must be printed, `None` if there is none, and
+    Draws a script, and runs it in mode `compare` from a file, and on one of the managers through a pipe and in chunks. Saves and loads
+    what it leaves. Then draws a script for mode `large`, `quota` or `slice`. Returns the first difference from what must be printed, `None` if there is none, and
     how often each manager did what.
     """
     draw = random.Random(seed)
@@ -966,6 +983,8 @@ def differs(program, seed):
             (kind, "a pipe", b"".join(one), subprocess.run(run, input=text, capture_output=True).stdout),
             (kind, "chunks", b"".join(one), in_chunks(run, text, one, draw)),
         ]
+        image, script = image_of(lines)
+        ways += [("save", "a file", image, from_file([program, "save"], text)), ("load", "a file", script, from_file([program, "load"], image))]
         mode, quantum = draw.choice(list(MODES)), draw.choice((1, 8, 16, 64))
         lines = list(mode_lines(draw, mode))
         replies, more = mode_replies(mode, quantum, lines)
