@@ -23,8 +23,8 @@
 
 namespace norphuen {
 
-// The handle of an object that holds a T, or of none, in a library's heap and if it has tasks of one Task. An object may hold
-// handles, its own type's too.
+// The handle of an object that holds a T, or of none. Its type also names the library's heap and, for a heap of tasks, the Task.
+// An object may hold handles, its own type's too.
 template <class Raw, class T, uint32_t... Task> struct object_of {
     static_assert(((Task < 16) && ...), "tasks are 0 to 15");
 
@@ -35,7 +35,7 @@ template <class Raw, class T, uint32_t... Task> struct object_of {
     friend bool operator!=(object_of a, object_of b) { return a.handle != b.handle; }
 };
 
-// What the heaps of all libraries share, over the calls of one. A heap is closed at first. It can't be copied.
+// What the heaps of all libraries share, over the calls of one library. A heap is closed at first, and can't be copied.
 template <class Raw, auto Close, auto Malloc, auto Write, auto Read> class heap_of {
   public:
     heap_of(const heap_of &) = delete;
@@ -151,7 +151,7 @@ template <class... T> class scope {
 
 } // namespace NPH_NAMESPACE
 
-// Frees in slices.
+// Frees in slices. The other calls of the header are made with `raw`.
 namespace sliced {
 
 template <class T> using object = object_of<nph_sliced_heap, T>;
@@ -184,7 +184,8 @@ class heap : public heap_of<nph_sliced_heap, nph_sliced_close, nph_sliced_malloc
 
 } // namespace sliced
 
-// Heaps of tasks. The handle of one task has another type than that of another task.
+// Heaps of tasks. The handles of two tasks have different types, so a call for one task takes no handle of another. `make`, `write`,
+// `read` and `drop` take the task's number from the handle's type; the other calls of the header are made with `raw`.
 namespace tasks {
 
 template <class T, uint32_t Task> using object = object_of<nph_tasks_heap, T, Task>;
